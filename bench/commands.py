@@ -380,12 +380,37 @@ def exports(cases, folder):
         for call, at, fault, name in rows:
             cases.show(f"export where {name} fails", failing(call, at, 1, words), refusal(fault))
             cases.show("the goal is as it was, with nothing beside", (content(goal)[0], os.path.exists(goal + ".part")), (b"old", False))
+        cases.show("export where each read of the disk fails", failing("pread64", disk, "1+", words), refusal(b"Device"))
+        cases.show("the goal is as it was, with nothing beside", (content(goal)[0], os.path.exists(goal + ".part")), (b"old", False))
     cases.show("the disk is left as it is, and serves", (content(disk)[0] == before, vtserve(["pipe", disk], GET)), (True, (0, reply(TEXT, TILE), b"")))
 
 
 def write(path, held):
     with open(path, "wb") as file:
         file.write(held)
+
+
+def damaged_exports(cases, folder):
+    """The archive of a disk whose snapshot or journal is damaged, and none of one whose format sector or root is."""
+    disk, archive = published(folder, "whole")
+    layout, goal, path = disks.Layout(64), os.path.join(folder, "saved.pmtiles"), os.path.join(folder, "damaged")
+    saved, lost = (0, b"%d bytes\n" % ARCHIVE, b""), refusal(b"Damaged")
+    rows = [
+        ("snapshot", layout.area_at(1), b"\xff" * disks.SECTOR, saved),
+        ("journal", layout.place(1), disks.front(0, 2, 0, disks.LAST_VERSION), saved),
+        ("format sector", 0, b"VTILEDSK\0", lost),
+        ("root", 2, b"VTROOT02", lost),
+    ]
+    for name, sector, held, wanted in rows:
+        found = bytearray(content(disk)[0])
+        disks.put_at(found, sector, held)
+        write(path, found)
+        cases.show(f"pipe of a disk whose {name} is damaged", vtserve(["pipe", path], GET), refusal(b"Damaged"))
+        cases.show("export of it", vtserve(["export", path, goal]), wanted)
+        there = content(goal)[0] if os.path.exists(goal) else None
+        cases.show("what the file has then", there, archive if wanted == saved else None)
+        cases.show("the disk is left as it is", content(path)[0], bytes(found))
+        remove(goal)
 
 
 def remove(*paths):
@@ -764,6 +789,7 @@ def main():
         refuses_unusual_files(cases, folder)
         after_a_failed_sync(cases, folder)
         exports(cases, folder)
+        damaged_exports(cases, folder)
         stopped_exports(cases, folder)
         stopped_formats(cases, folder)
         upgrades(cases, folder)

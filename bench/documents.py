@@ -9,9 +9,9 @@ any lines, `[..]` in a line any characters. Blocks marked `sh` are commands that
 registry, the network); they are counted, and not run.
 
 The commands of a page run in one bash, in order, in a fresh folder with copies of examples/, docs/ and crates/vtserve/stdin, as in a
-clone, with PROGRAM in crates/vtserve/out/ and on the PATH. Each page has its own network, processes, /etc, /usr/local and /var/lib (`unshare` and an overlay, so
-this needs root on Linux): ports and paths are as written, and nothing of the machine changes. Prints each difference and the counts,
-and ends with 1 if there is a difference. --show prints all that the commands print.
+clone, with PROGRAM in crates/vtserve/out/ and on the PATH. Each page has its own network, processes, /etc, /usr/local and /var/lib
+(`unshare` and an overlay, so this needs root on Linux): ports and paths are as written, and nothing of the machine changes. Prints
+each difference and the counts, and ends with 1 if there is a difference. --show prints all that the commands print.
 """
 import argparse
 import os

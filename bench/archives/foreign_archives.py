@@ -6,7 +6,8 @@
 Nothing here is taken from the product. The writer follows the PMTiles specification, version 3, and takes the freedom
 that it leaves: sections in any order with gaps between them, contents in any order, leaf directories below leaf
 directories, numbers longer than need be. What is expected comes from the same page, twice: it is written beside each
-archive, and `judged` (`bench/model/archives.py`, as the writer) reads it from the archive's bytes. Where the two differ, the script stops before it runs anything.
+archive, and `judged` (`bench/model/archives.py`, as the writer) reads it from the archive's bytes. Where the two differ,
+the script stops before it runs anything.
 
 A last part changes bytes of headers and directories at random, with a fixed seed, and compares what `judged` reads
 with what the program prints.

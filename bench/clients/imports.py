@@ -14,7 +14,7 @@ import subprocess
 import threading
 import time
 
-from stand import EXAMPLES, HERE, SYSTEM_PYTHON, Nginx, Server, curl, feature, field, status_of
+from stand import EXAMPLES, HERE, PROGRAM, SYSTEM_PYTHON, Nginx, Server, curl, feature, field, status_of
 
 TOOL = [SYSTEM_PYTHON, os.path.join(EXAMPLES, "import_features.py")]
 BACKUP = [SYSTEM_PYTHON, os.path.join(EXAMPLES, "map_backup.py")]
@@ -454,43 +454,53 @@ def interrupted(cases, folder):
 # ---- a full file system
 
 def disk_full(cases, folder):
-    """A sparse disk of 32 MiB on a file system of 1 MiB: what is acknowledged is kept, the failure is seen, and edits go on after it."""
+    """A disk of 32 MiB on a file system of 1 MiB, which has no room for its journal, and of 9 MiB, which has none for the areas: `format`
+    fails in the first; in the second what is acknowledged is kept, the failure is seen, and edits go on after it."""
     small = os.path.join(folder, "small")
     os.mkdir(small)
     if os.geteuid() != 0 or subprocess.run(["mount", "-t", "tmpfs", "-o", "size=1m", "tmpfs", small], capture_output=True).returncode != 0:
         cases.say("no tmpfs can be mounted (not root?): no full file system is tried")
         return
     try:
+        full_at_format(cases, small)
+        subprocess.run(["mount", "-o", "remount,size=9m", small], check=True)
         full_file_system(cases, folder, small)
     finally:
         subprocess.run(["umount", "-l", small], check=False)
 
 
+def full_at_format(cases, small):
+    done = subprocess.run([PROGRAM, "format", os.path.join(small, "full.disk"), "--sectors", "65536"], capture_output=True)
+    cases.show("disk full: format", (done.returncode, done.stdout, done.stderr, os.listdir(small)), (1, b"", b"vtserve: Device\n", []))
+
+
 def full_file_system(cases, folder, small):
     text = feature(last=0, tags={f"k{at}": "x" * 1000 for at in range(30)})
     with Server(small, "full.disk", 65536) as server:
-        taken, reply = 0, None
-        for number in range(200):
-            reply = curl(f"{server.url}/features/{number}", "-X", "PUT", body=text)
-            if status_of(reply) != 200:
-                break
-            taken += 1
-        cases.show("disk full: an edit that the file system has no room for", (status_of(reply), reply[2], taken > 5), (500, b"Device\n", True))
+        taken = sum(status_of(curl(f"{server.url}/features/{number}", "-X", "PUT", body=text)) == 200 for number in range(100))
+        cases.show("disk full: edits, for which the journal has room", taken, 100)
+        cases.show("disk full: a publication without room", parsed_error(curl(server.url + "/publish", "-X", "POST")), (500, b"Device\n"))
         again = curl(f"{server.url}/features/0", "-X", "PUT", body=text)
-        cases.show("disk full: the next edit", (status_of(again), again[2]), (500, b"Broken\n"))
+        cases.show("disk full: the next edit", parsed_error(again), (500, b"Broken\n"))
         cases.show("disk full: reads are served", (status_of(curl(f"{server.url}/features/0")), status_of(curl(server.url + "/map/0/0/0.mvt"))), (200, 200))
-        cases.show("disk full: a publication is refused", curl(server.url + "/publish", "-X", "POST")[2], b"Broken\n")
+        cases.show("disk full: another publication", parsed_error(curl(server.url + "/publish", "-X", "POST")), (500, b"Broken\n"))
         if has_gdal(cases):
             path = written(folder, "points2.geojson", point_rows())
             status, lines = imported(path, server.url, "--layer", "p", "--first", "900", "--publish")
             cases.show("disk full: an import stops and says why", (status, lines[-2].startswith("stopped at feature 900: Broken (")), (1, True))
-    subprocess.run(["mount", "-o", "remount,size=64m", small], check=True)
     with Server(small, "full.disk") as server:
         there = [number for number in range(taken) if shown(server, number) == json.loads(text)]
-        cases.show("disk full: with more room, a new process has each acknowledged edit", len(there), taken)
+        cases.show("disk full: a new process has each acknowledged edit", len(there), taken)
         reply = curl(f"{server.url}/features/{taken}", "-X", "PUT", body=text)
-        cases.show("disk full: and takes the one in doubt again", status_of(reply), 200)
-        cases.say(f"{taken} edits of 30 KB were acknowledged before the file system was full")
+        cases.show("disk full: and takes another", status_of(reply), 200)
+    subprocess.run(["mount", "-o", "remount,size=64m", small], check=True)
+    with Server(small, "full.disk") as server:
+        there = [number for number in range(taken + 1) if shown(server, number) == json.loads(text)]
+        cases.show("disk full: with more room", (len(there), status_of(curl(server.url + "/publish", "-X", "POST"))), (taken + 1, 200))
+
+
+def parsed_error(reply):
+    return status_of(reply), reply[2]
 
 
 # ---- killed servers

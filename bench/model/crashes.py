@@ -35,8 +35,9 @@ class Memory:
 
 
 def every_choice(memory):
-    """Each choice of a crash, as the numbers for `crash`."""
-    return itertools.product(*(range(len(memory.writes[at]) + 1) for at in sorted(memory.writes)))
+    """Each choice of a crash, as the numbers for `crash`. A sector to which nothing was written but what it has counts as not written."""
+    versions = ((at, [memory.settled.get(at, bytes(512)), *memory.writes[at]]) for at in sorted(memory.writes))
+    return itertools.product(*(range(len(of) if set(of) != {of[0]} else 1) for _, of in versions))
 
 
 NONE, FROM, NOT_MADE, MADE = "none", "from", "not_made", "made"

@@ -87,12 +87,12 @@ def state_of(disk):
 
 def format_crashes():
     yield from heading(
-        "A format of a used disk fails at each of its 29 calls, then crashes by every choice: the old disk, an unformatted one or a fresh one is left.",
-        "Calls 1 and 2 are zeros in sector 0 and a sync, 3 to 24 reads and zeros of sectors 1 to 18, 25 a sync, 26 and 27 the root and a sync, 28",
-        "and 29 the mark and a sync.",
+        "A format of a used disk fails at each of its 25 calls, then crashes by every choice: the old disk, an unformatted one or a fresh one is left.",
+        "Calls 1 and 2 are zeros in sector 0 and a sync, 3 to 20 zeros in sectors 1 to 18, 21 a sync, 22 and 23 the root and a sync, 24 and 25",
+        "the mark and a sync. Zeros over zeros leave the same sector in either case, so a crash has no choice there.",
     )
     choices_tried = 0
-    for stop in stops(29):
+    for stop in stops(25):
         lines_made, trial = [*old_disk(), stop, "format", "stop"], Trial()
         yield from lines_made
         for line in lines_made:

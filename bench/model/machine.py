@@ -214,19 +214,21 @@ class Service:
             raise Refused("Idle")
         return self.publication
 
-    def step(self):
+    def step(self, pauses=True):
         going = self.going()
         left = going.sectors - going.written
-        self.changed(lambda: self.advance(going, min(left, STEP_SECTORS)))
+        self.changed(lambda: self.advance(going, min(left, STEP_SECTORS), pauses))
         return left - STEP_SECTORS + 1 if left > STEP_SECTORS else 0
 
-    def advance(self, going, more):
-        """Writes the next `more` sectors and syncs; after the last one it installs the root, and reclaims the places of its edits."""
+    def advance(self, going, more, pauses):
+        """Writes the next `more` sectors, and syncs them if an edit may come before the next; after the last one it installs the root,
+        and reclaims the places of its edits."""
         generation = self.root.generation + 1
         write_area(self.disk, self.layout, generation, going.held, range(going.written, going.written + more))
         going.written += more
         if going.written < going.sectors:
-            self.disk.sync()
+            if pauses:
+                self.disk.sync()
             return
         root = Root(generation, going.edits, going.place, *going.lengths)
         install(self.disk, root)
@@ -241,7 +243,7 @@ class Service:
         left = self.begin()
         edits = self.publication.edits
         while left:
-            left = self.step()
+            left = self.step(pauses=False)
         return self.root.generation, edits, self.root.archive_len
 
     # ---- what it shows

@@ -297,7 +297,8 @@ def directory_lines():
     yield from ((f"directory {data}", name) for data, name in DIRECTORY_FAULTS)
     yield "# Ids and runs up to the last id, numbers of ten bytes, and what passes 32 or 64 bits."
     for entries in [[DirectoryEntry(ALL_IDS - 1, 1, 1, 0)], [DirectoryEntry(ALL_IDS - 2, 2, 1, 0)], [DirectoryEntry(5, 2**32 - 1, 2**32 - 1, LAST - 1)],
-                    [DirectoryEntry(ALL_IDS - 1, 2, 1, 0)], [DirectoryEntry(ALL_IDS, 1, 1, 0)], [DirectoryEntry(ALL_IDS, 0, 1, 0)], [DirectoryEntry(0, 2**32, 1, 0)],
+                    [DirectoryEntry(ALL_IDS - 1, 2, 1, 0)], [DirectoryEntry(ALL_IDS, 1, 1, 0)], [DirectoryEntry(ALL_IDS, 0, 1, 0)],
+                    [DirectoryEntry(0, 2**32, 1, 0)],
                     [DirectoryEntry(3, 1, 2, 9), DirectoryEntry(4, 1, 2, 11)]]:
         yield f"directory {directory(entries).hex()}"
         yield f"directory {directory(entries, 10).hex()}"

@@ -1,5 +1,5 @@
 """Blocks of `service_script.py` about disks with one byte changed, or with a sector that ends early: its format sector, its live root, the head and the
-body of a record, and the snapshot. Each is opened, or refused for the fault that it has."""
+body of a record, and the snapshot. Each is exported and opened, or refused for the fault that it has."""
 from disk import VERSIONS, LAST_VERSION, SECTOR, Change, Layout, Record, Root, format_sector, put_records, read_disk, root_sector, snapshot_text
 from disk import Fault, put_at, versions_and_texts
 from service_lines import heading, long_point, looks, write_words
@@ -34,9 +34,9 @@ def opens(held):
 
 
 def tried(held, at, sector):
-    """Lines that write a sector of a disk, open it, and show what it holds."""
+    """Lines that write a sector of a disk, export its archive, open it, and show what it holds."""
     yield from write_words(at, sector.rstrip(b"\0") or b"\0")
-    yield "open"
+    yield from ["export", "open"]
     if opens(held[: SECTOR * at] + sector + held[SECTOR * (at + 1) :]):
         yield from [looks(7, 8, 9, 10), "stop", "resume"]
 

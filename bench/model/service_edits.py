@@ -42,8 +42,8 @@ def greatest_zoom():
     edge = f"{WORLD_END - 1},{WORLD_END - 1}"
     yield from heading("A point at the last corner of the world on all 20 zooms, in its last tiles, after a crash, and in an archive.")
     yield from [*opened(), f"put 7 p 0 19 points {edge}", "tile 0 0 0", "tile 16 65535 65535", "tile 19 524287 524287", "tile 19 524286 524287", "tile 19 0 0"]
-    yield from ["tile 20 1048575 1048575", "stop", *crashed(), "look 7", "tile 19 524287 524287", "publish", "archive", "verify", "export", "metadata"]
-    yield from ["stop", "resume", "open", "tile 19 524287 524287", "tile 19 524287 524286", "tile 18 262143 262143", "tile 20 1048575 1048575"]
+    yield from ["tile 20 1048575 1048575", "stop", *crashed(), "look 7", "tile 19 524287 524287", "publish", "archive", "verify", "metadata"]
+    yield from ["stop", "resume", "export", "open", "tile 19 524287 524287", "tile 19 524287 524286", "tile 18 262143 262143", "tile 20 1048575 1048575"]
     yield from heading("Features with the most tiles, 262,144, and with more: a line along the edge of the world, and boxes of zoom 19.")
     yield from [*opened(), f"put 1 l 18 18 lines 0,0 {WORLD_END - 1},0", "tile 18 0 0", "tile 18 262143 0", "tile 18 262143 1", "tile 17 0 0"]
     yield from [f"put 1 l 17 18 lines 0,0 {WORLD_END - 1},0", f"put 1 l 19 19 lines 0,0 {WORLD_END - 1},0", "tile 18 262143 0"]

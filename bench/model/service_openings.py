@@ -109,7 +109,7 @@ EARLIER = {
 
 def earlier():
     yield from heading("A disk that an earlier version wrote.")
-    yield from ["disk 64", *(f"write {at} = {words}" for at, words in EARLIER.items()), "open", looks(7, 8, 9), "archive", "tile 0 0 0", put(7)]
+    yield from ["disk 64", *(f"write {at} = {words}" for at, words in EARLIER.items()), "export", "open", looks(7, 8, 9), "archive", "tile 0 0 0", put(7)]
 
 
 # ---- archives and tiles
@@ -126,20 +126,17 @@ def with_any():
 
 def archives():
     yield from heading("Parts of an archive, which begins after the two sectors of the snapshot.")
-    yield from [*with_any(), "open", *(f"archive {at} {count}" for at, count in PARTS), "archive 1100 1", "archive 1101 0", "export"]
+    yield from [*with_any(), "open", *(f"archive {at} {count}" for at, count in PARTS), "archive 1100 1", "archive 1101 0"]
     yield from heading("Edits leave it unchanged.")
-    yield from [put(7, 467), "delete 8", "archive"]
+    yield from [put(7, 467), "delete 8", "archive", "stop", "resume", "export"]
     yield from heading("Each sector is read once. Opening takes 7 calls.")
-    for part in ("", "archive 0 1100", "archive 511 2", "archive 512 512", "archive 1100 0", "export"):
+    for part in ("", "archive 0 1100", "archive 511 2", "archive 512 512", "archive 1100 0"):
         yield from [*with_any(), "open", *filter(None, [part]), "stop"]
     yield from heading("A failed read is reported, and the service continues.")
     for stop in [stop for stop in stops(8, 10) if "from" not in stop]:
         yield from [*with_any(), stop, "open", "archive", put(30), "archive"]
-    yield from heading("No archive; an archive copied to a vector, and to writers with enough room and with too little. The metadata of two maps.")
-    yield from [*opened(), "archive", "archive 0 0", "export", put(7), "publish", "export", "export 223", "export 222", "export 0", "metadata"]
-    yield from ["delete 7", "metadata"]
-    yield from heading("A read fails while an archive is copied.")
-    yield from [*opened(), put(7), "publish", "stop", "resume", "fail_not_made 7", "open", "export", "export"]
+    yield from heading("No archive, and an archive. The metadata of two maps.")
+    yield from [*opened(), "archive", "archive 0 0", put(7), "publish", "archive", "metadata", "delete 7", "metadata"]
 
 
 def published_tiles():

@@ -16,12 +16,12 @@ HIDDEN = "l 0 5 lines 0,0 16384,0"
 def publications():
     yield from heading("The documented archive: three tiles in two entries with one content, 223 bytes.")
     yield from [*opened(), "archive", put(7), "begin", "step", "archive", "archive 0 127", "archive 127 9", "archive 136 66", "archive 202 21"]
-    yield from ["verify", "export"]
+    yield from ["verify", "stop", "resume", "export"]
     yield from heading("The second publication uses the other area, the third the first area again.")
     yield from [*opened(), put(7), "begin; step", put(8), "begin; step", "archive", "stop", "resume", "sector 1", "sector 2", "sectors"]
     yield from ["open", put(9), "publish", "archive", "stop", "resume", "sector 1", "sector 2"]
     yield from heading("An empty map and a map without tiles have no archive.")
-    yield from [*opened(), "begin; step", "archive", "export", "stop", "resume", "sector 2"]
+    yield from [*opened(), "begin; step", "archive", "stop", "resume", "sector 2", "export"]
     yield from [*opened(), f"put 7 {HIDDEN}", "begin; step", "archive", "stop", "resume", "sector 2", "open", "look 7"]
     yield from heading("A map that doesn't fit the area: nothing changes, and edits continue.")
     yield from [*opened(), put(7), "begin; step", "delete 7", f"put 1 {DEEP}", "begin", "publish", "step", put(2), "archive", "stop", "resume"]

@@ -101,7 +101,7 @@ def random_session(chance, trial, random_events):
     for _ in range(1 + chance.below(3)):
         yield "; ".join(random_events(chance) for _ in range(1 + chance.below(6)))
     yield from ["; ".join([looks(*range(8)), "tile 0 0 0"]), "archive", "stop"]
-    yield f"crash{words_of(chance.below(3) for _ in range(chance.below(9)))}"
+    yield from [f"crash{words_of(chance.below(3) for _ in range(chance.below(9)))}", "export"]
 
 
 def random_turn(chance, trial, turn):

@@ -2,6 +2,7 @@
 import service_batches
 import service_damage
 import service_edits
+import service_exports
 import service_openings
 import service_publications
 import service_random
@@ -11,7 +12,7 @@ from service_stand import Trial
 
 CRATE = "service_runs"
 BLOCKS = [*service_edits.BLOCKS, *service_batches.BLOCKS, *service_publications.BLOCKS, *service_openings.BLOCKS, *service_versions.BLOCKS]
-BLOCKS += [*service_damage.BLOCKS, *service_random.BLOCKS]
+BLOCKS += [*service_exports.BLOCKS, *service_damage.BLOCKS, *service_random.BLOCKS]
 
 
 def lines():

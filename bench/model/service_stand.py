@@ -1,7 +1,7 @@
 """A model of a service on a disk in memory, which answers the lines of `service_script.py`."""
 from collections import namedtuple
 
-from calls import format_disk, upgrade
+from calls import find_archive, format_disk, pieces, upgrade
 from crashes import FROM, MADE, NONE, NOT_MADE, Failed, Faulty, Memory
 from disk import LAST_VERSION, SECTOR, VERSIONS, Change, Fault
 from machine import NO_NEGATIVE, Refused, Service
@@ -15,9 +15,10 @@ Published = namedtuple("Published", "generation edits archive_len")
 Report = namedtuple("Report", "tiles entries contents")
 
 LONGEST = 240
-CALLS = ("publish", "archive", "export", "verify", "metadata", "version", "nothing")
+CALLS = ("publish", "archive", "verify", "metadata", "version", "nothing")
 EVENTS = ("put", "delete", "batch", "tile", "look", "begin", "step", "cancel")
 SERVICE_WORDS = CALLS + EVENTS
+CLOSED_WORDS = ("write", "sector", "sectors", "export")
 
 
 # ---- values as they are printed
@@ -103,6 +104,23 @@ def changes_read(text):
     return [change_read(change) for change in text.split(" & ")] if text else []
 
 
+# ---- archives as they are copied
+
+
+def copied(disk, first, length, room):
+    """The outcome of copying an archive to a writer, which has room for so many bytes or for all, and the bytes that are written."""
+    written = b""
+    try:
+        for piece in pieces(disk, first, length):
+            left = len(piece) if room is None else room - len(written)
+            written += piece[:left]
+            if left < len(piece):
+                return f"Err(Write) {briefly(written)}"
+    except Failed:
+        return f"Err(Device) {briefly(written)}"
+    return f"Ok(()) {briefly(written)}"
+
+
 # ---- the state of a script
 
 
@@ -162,6 +180,16 @@ class Trial:
     def do_upgrade(self):
         return self.worked(upgrade)
 
+    def do_export(self, room=None):
+        disk = self.faulty(self.session)
+        try:
+            outcome = copied(disk, *find_archive(disk), room)
+        except Failed:
+            outcome = "Err(Device)"
+        except Fault as fault:
+            outcome = f"Err({fault})"
+        return f"{outcome} in {disk.calls}"
+
     def fail(self, kind, call, name):
         self.failing = kind, call
         return f"{name}({call})"
@@ -217,16 +245,6 @@ class Trial:
         except Refused as refused:
             return debug(fault_shown(refused))
 
-    def do_export(self, room=None):
-        """The archive, or as much of it as there is room for. No archive here is so long that a part is written before a read fails."""
-        try:
-            held = self.session.read(0, self.session.root.archive_len)
-        except Refused:
-            return "Err(Device) "
-        if room is not None and room < len(held):
-            return f"Err(Write) {briefly(held[:room])}"
-        return f"{debug(ok(len(held)))} {briefly(held)}"
-
     def do_verify(self):
         self.session.read(0, self.session.root.archive_len)
         runs = runs_of(tiles_of(self.session.snapshot))
@@ -272,7 +290,7 @@ class Trial:
         if not line or line.startswith("#"):
             return line
         word = line.split("; ")[0].split()[0]
-        if word in SERVICE_WORDS and not isinstance(self.session, Service):
+        if word in (CLOSED_WORDS if isinstance(self.session, Service) else SERVICE_WORDS):
             return f"? {line}"
         if word in EVENTS:
             return "; ".join(self.event(text) for text in line.split("; "))

@@ -1,1 +1,2 @@
-pub mod Joined
+mod Finds
+mod Joined

@@ -1,14 +1,14 @@
 //! The archive, piece by piece.
-ghost use Rattle.std.specs.Prelude.{◌≡◌, ◌≤◌, ◌+◌, length, Ok, OnOk};
+ghost use Rattle.std.specs.Prelude.{◌≡◌, ◌≤◌, ◌+◌, length, OnOk};
 ghost use Rattle.archive_export.specs.Copies.{CopiesBytes, CopiesArchive, TellsDevice};
+ghost use Rattle.generations.specs.Areas.{sectors_of};
 ghost use Rattle.sector_disk.specs.Asked.{OnlyReads};
-ghost use Rattle.tile_service.specs.Service.{IsUp};
-ghost use Rattle.tile_service.specs.Stored.{Stored};
 
-use sector_disk::Sectors;
+use published_tiles::ArchivePlace;
+use sector_bytes::read_bytes;
+use sector_disk::{DiskFault, Sectors};
 use std::io::Write;
 use thiserror::Error;
-use tile_service::Service;
 
 /// How many bytes are read and written at once.
 const PIECE_SIZE: usize = 65_536;
@@ -25,25 +25,24 @@ pub enum CopyFault {
 }
 
 /// Reads the bytes of the archive from one on, as many as the piece has, and writes them.
-fn copy_piece<D: Sectors + Drop, W: Write>(
-    service: &mut Service<D>,
+fn copy_piece<D: Sectors, W: Write>(
+    disk: &mut D,
+    archive: ArchivePlace,
     at: u64,
     piece: &mut [u8],
     into: &mut W,
 ) -> Result<(), CopyFault>
-    requires within { at + length piece.old ≤ service.old.archive_len }
-    ensures same { service.new ≡ record service.old { disk = service.new.disk } }
-    ensures disk { OnlyReads D.sectors D.honest D.history service.old.disk service.new.disk }
-    ensures failed { TellsDevice result (D.faults service.old.disk) (D.faults service.new.disk) }
+    requires within { at + length piece.old ≤ archive.len }
+    requires on_disk { archive.first + sectors_of archive.len ≤ D.sectors disk.old }
+    ensures disk { OnlyReads D.sectors D.honest D.history disk.old disk.new }
+    ensures failed { TellsDevice result (D.faults disk.old) (D.faults disk.new) }
     ensures length { length piece.new ≡ length piece.old }
-    ensures copied { OnOk result (CopiesBytes D.honest D.history service.old at (length piece.old) service.new
+    ensures copied { OnOk result (CopiesBytes D.honest D.history archive disk.old at (length piece.old) disk.new
         (W.contents into.old) (W.contents into.new)) }
-    ensures up { (stored : Stored) → IsUp (D.sectors service.old.disk) (D.history service.old.disk) stored service.old → D.honest service.new.disk
-        → IsUp (D.sectors service.new.disk) (D.history service.new.disk) stored service.new }
 {
-    match service.archive_read(at, piece) {
+    match read_bytes(disk, archive.first, at, piece) {
         Ok(()) => {}
-        Err(_) => return Err(CopyFault::Device),
+        Err(DiskFault) => return Err(CopyFault::Device),
     }
     match into.write_all(piece) {
         Ok(()) => Ok(()),
@@ -51,31 +50,27 @@ fn copy_piece<D: Sectors + Drop, W: Write>(
     }
 }
 
-/// Writes the last published archive, and returns its length in bytes, 0 if there is none. It allocates nothing and writes nothing to
-/// the disk, and the service continues as before. A broken service writes its archive too.
+/// Writes the bytes of an archive on a disk, piece by piece. It allocates nothing and writes nothing to the disk.
 ///
 /// # Errors
 ///
 /// `Device` and `Write`. A first part of the archive may have been written then.
-pub fn copy_archive<D: Sectors + Drop, W: Write>(
-    service: &mut Service<D>,
+pub fn copy_archive<D: Sectors, W: Write>(
+    disk: &mut D,
+    archive: ArchivePlace,
     into: &mut W,
-) -> Result<u64, CopyFault>
-    ensures size { OnOk result (result ≡ Ok service.old.archive_len) }
-    ensures copied { OnOk result (CopiesArchive D.honest D.history service.old service.new (W.contents into.old) (W.contents into.new)) }
-    ensures same { service.new ≡ record service.old { disk = service.new.disk } }
-    ensures disk { OnlyReads D.sectors D.honest D.history service.old.disk service.new.disk }
-    ensures failed { TellsDevice result (D.faults service.old.disk) (D.faults service.new.disk) }
-    ensures up { (stored : Stored) → IsUp (D.sectors service.old.disk) (D.history service.old.disk) stored service.old → D.honest service.new.disk
-        → IsUp (D.sectors service.new.disk) (D.history service.new.disk) stored service.new }
+) -> Result<(), CopyFault>
+    requires on_disk { archive.first + sectors_of archive.len ≤ D.sectors disk.old }
+    ensures disk { OnlyReads D.sectors D.honest D.history disk.old disk.new }
+    ensures failed { TellsDevice result (D.faults disk.old) (D.faults disk.new) }
+    ensures copied { OnOk result (CopiesArchive D.honest D.history archive disk.old disk.new (W.contents into.old) (W.contents into.new)) }
 {
-    let size = service.archive_len();
     let mut piece = [0; PIECE_SIZE];
     let mut at = 0;
-    while at < size {
-        let count = (size - at).min(PIECE_SIZE as u64);
-        copy_piece(service, at, &mut piece[..count as usize], into)?;
+    while at < archive.len {
+        let count = (archive.len - at).min(PIECE_SIZE as u64);
+        copy_piece(disk, archive, at, &mut piece[..count as usize], into)?;
         at += count;
     }
-    Ok(size)
+    Ok(())
 }

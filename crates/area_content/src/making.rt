@@ -26,8 +26,6 @@ fn archive_for(
     ensures bounded { IfOk result (λ bytes. IsBoundedFor store.now.features (length metadata.now) bytes.items) }
     ensures fault { IfErr result (IsContentFault store.now.features (length metadata.now) area) }
 {
-    // The contract of this call states that the features satisfy the invariants of a map.
-    let _count = store.len();
     let mut tiles = match store.tiles() {
         Ok(tiles) => tiles,
         Err(_) => return Err(ContentFault::Memory),

@@ -13,6 +13,7 @@ pub covers_all_part : (a b : Span) (es : List IndexEntry) → Covers a b → Cov
 covers_all_part a b es ab all = All-weaker (λ e. Covers b e.span) (λ e. Covers a e.span) (λ e h. covers_part a b e.span ab h) es all
 
 -- one entry more, and a wider span
-pub covers_all_more : (a b : Span) (es : List IndexEntry) (i : ℕ) (d : IndexEntry) → i < length es → Covers a b → Covers a (get_or es i d).span → CoversAll b (take i es)
+pub covers_all_more : (a b : Span) (es : List IndexEntry) (i : ℕ) (d : IndexEntry) → i < length es → Covers a b → Covers a (get_or es i d).span
+    → CoversAll b (take i es)
     → CoversAll a (take (i + 1) es)
 covers_all_more a b es i d lt ab ae all = All-more (λ x. Covers a x.span) es i d lt (covers_all_part a b (take i es) ab all) ae

@@ -1,5 +1,6 @@
 -- Where the two positions of a range stand.
-use Rattle.std.proofs.Common.{◌≡◌, ℕ, ◌+◌, ◌<◌, ◌≤◌, ◌^◌, List, [], ◌∷◌, ◌++◌, true, false, length, take, drop, get_or, drop-cons, length-append, length-drop, take_all, ◌-◌, refl, sym, ◌∙◌, ap, subst, arith, suc}
+use Rattle.std.proofs.Common.{◌≡◌, ℕ, suc, ◌+◌, ◌-◌, ◌<◌, ◌≤◌, ◌^◌, List, [], ◌∷◌, ◌++◌, true, false, length, take, drop, get_or}
+use Rattle.std.proofs.Common.{drop-cons, length-append, length-drop, take_all, refl, sym, ◌∙◌, ap, subst, arith}
 use Rattle.std.specs.Prelude.{Bool, cond, nat_lt, nat_eq, Option, Some, None, MatchOption, ◌↔◌, codes}
 use Rattle.std.specs.Cmp.Lexicographic.{pointwise, same_text, other_text}
 use Rattle.std.proofs.lemmas.List.{append_cancel_left, take-append-drop}

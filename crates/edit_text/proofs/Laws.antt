@@ -43,7 +43,8 @@ change_to c is short = change_of c (one_from [] c is).0 short
 
 pub limited_change : Limited MAX_EDIT_BYTES decode_change_at spelled_change IsChange (EndsInChange [])
 unfolding decode_change_at
-limited_change = limited MAX_EDIT_BYTES (change_at []) spelled_change (IsOfTable []) IsChange (EndsInChange []) (codec_change []) change_to table_from short_from
+limited_change =
+    limited MAX_EDIT_BYTES (change_at []) spelled_change (IsOfTable []) IsChange (EndsInChange []) (codec_change []) change_to table_from short_from
 
 -- No two changes have one text, and no text of a change begins another's: where the same bytes begin with the texts of two
 -- changes, these are the same change, and the same bytes follow.

@@ -39,7 +39,8 @@ one_record version cs ds text is too =
 pub one_recorded : (e f : RecordedEdit) → IsRecorded e → IsRecorded f → e.version ≡ f.version → recorded_text e ≡ recorded_text f → e ≡ f
 one_recorded e f is too version same =
     let text : text_in e.version e.changes ≡ text_in e.version f.changes = same ∙ ap (λ v. text_in v f.changes) (sym version) in
-    let changes = by_version e.version e.changes f.changes is.fits.is (λ first. (is.fits.one first, too.fits.one (sym version ∙ first))) is.edit too.edit text in
+    let changes = by_version e.version e.changes f.changes is.fits.is (λ first. (is.fits.one first, too.fits.one (sym version ∙ first)))
+    is.edit too.edit text in
     λ i. record { version = version i; changes = changes i }
 
 -- ---- edits of one change

@@ -10,7 +10,8 @@ use Rattle.feature_model.specs.declared.feature.World.{World}
 use Rattle.feature_model.specs.Data.{TagData, ChangeData}
 use Rattle.feature_model.specs.Limits.{IsName, IsCount, AreZooms, CountFits, NumberFits, GeometryFits, ValueFits, HasAscendingKeys, keys_of}
 use Rattle.feature_model.specs.Limits.{AreEnough, IsNew, AreDistinct, ChangeFits}
-use Rattle.feature_model.specs.Spelled.{two_bytes, eight_bytes, spelled_list, spelled_point, spelled_line, spelled_geometry, spelled_name, spelled_tag, spelled_change}
+use Rattle.feature_model.specs.Spelled.{two_bytes, eight_bytes, spelled_list, spelled_point, spelled_line, spelled_geometry}
+use Rattle.feature_model.specs.Spelled.{spelled_name, spelled_tag, spelled_change}
 use Rattle.feature_model.specs.Types.{IsOfWorld, LiesInWorld, TagFitsTypes, ChangeFitsTypes}
 
 -- ---- ends

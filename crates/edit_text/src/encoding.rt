@@ -4,9 +4,11 @@ ghost use Rattle.std.specs.Prelude.{◌≡◌, ℕ, ◌<◌, ◌≤◌, ◌^◌,
 ghost use Rattle.std.specs.Str.{IsUtf8};
 ghost use Rattle.feature_model.specs.declared.limits.TheConstants.{MAX_ELEMENTS, MAX_TEXT_BYTES};
 ghost use Rattle.feature_model.specs.Data.{put, delete, feature_data, geometry_data, value_data, tag_data, change_data, edit_data};
-ghost use Rattle.feature_model.specs.Limits.{IsName, LayerFits, GeometryFits, TagsFit, ValueFits, ValuesFit, IsAllowed, IsAllowedChange, IsAllowedEdit, NumberFits};
+ghost use Rattle.feature_model.specs.Limits.{IsName, LayerFits, GeometryFits, TagsFit, ValueFits, ValuesFit};
+ghost use Rattle.feature_model.specs.Limits.{IsAllowed, IsAllowedChange, IsAllowedEdit, NumberFits};
 ghost use Rattle.feature_model.specs.Spelled.{two_bytes, eight_bytes, spelled_name, spelled_list, spelled_point, spelled_line};
-ghost use Rattle.feature_model.specs.Spelled.{spelled_geometry, spelled_value, spelled_tag, spelled_tags, spelled_feature, spelled_change, spelled_changes, spelled};
+ghost use Rattle.feature_model.specs.Spelled.{spelled_geometry, spelled_value, spelled_tag, spelled_tags, spelled_feature};
+ghost use Rattle.feature_model.specs.Spelled.{spelled_change, spelled_changes, spelled};
 ghost use Rattle.feature_model.specs.Types.{IsOfWorld, LiesInWorld, ValueFitsTypes, TagFitsTypes, FeatureFitsTypes, IsChange, IsEdit};
 
 use feature_model::{

@@ -5,7 +5,8 @@ ghost use Rattle.feature_model.specs.declared.limits.TheConstants.{MAX_ELEMENTS,
 ghost use Rattle.feature_model.specs.Lengths.{line_most, lines_most, polygons_most, value_most, tag_most, tags_most, change_most};
 ghost use Rattle.feature_model.specs.Data.{feature_data, geometry_data, value_data, tag_data, put, change_data};
 ghost use Rattle.feature_model.specs.Limits.{LayerFits, GeometryFits, TagsFit, ValueFits, ValuesFit, IsName, ChangeFits};
-ghost use Rattle.feature_model.specs.Spelled.{spelled_list, spelled_line, spelled_geometry, spelled_value, spelled_tag, spelled_tags, spelled_change, spelled_changes};
+ghost use Rattle.feature_model.specs.Spelled.{spelled_list, spelled_line, spelled_geometry, spelled_value, spelled_tag, spelled_tags};
+ghost use Rattle.feature_model.specs.Spelled.{spelled_change, spelled_changes};
 
 use crate::feature::{Change, EditValue, Feature, Geometry, Tag, World};
 

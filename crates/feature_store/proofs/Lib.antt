@@ -1,4 +1,5 @@
 pub mod Below
+mod Allowed
 mod Boxes
 mod Chosen
 mod Covered

@@ -1,6 +1,7 @@
-ghost use Rattle.std.specs.Prelude.{◌≡◌, ◌⊎◌, ℕ, [], ◌∷◌, ◌+◌, ◌*◌, ◌<◌, ◌≤◌, ◌≢◌, ◌↔◌, length, map, Some, IsSome, None, IfOk, IfErr};
+ghost use Rattle.std.specs.Prelude.{◌≡◌, ◌⊎◌, ℕ, [], ◌∷◌, ◌+◌, ◌*◌, ◌<◌, ◌≤◌, ◌≢◌, ◌↔◌, length, map, Some, IsSome, IfSome, None, IfOk, IfErr};
 ghost use Rattle.std.specs.Prelude.{OnOk, OnErr, IsTrue, option_map};
 ghost use Rattle.feature_model.specs.Data.{feature_data, geometry_data, put, change_data};
+ghost use Rattle.feature_model.specs.Limits.{IsAllowed};
 ghost use Rattle.feature_model.specs.Types.{IsChange};
 ghost use Rattle.mvt_layer.specs.Tile.{layer_views};
 ghost use Rattle.mvt_write.specs.CanWrite.{CanWriteAll};
@@ -101,7 +102,8 @@ impl Store {
 
     /// The feature with this number, by two binary searches.
     pub fn get(&self, id: u64) -> Option<&Feature>
-        ensures { option_map (λ f. feature_data f.now) result ≡ feature_at self.now.features id }
+        ensures found { option_map (λ f. feature_data f.now) result ≡ feature_at self.now.features id }
+        ensures allowed { IfSome result (λ f. IsAllowed id (feature_data f.now)) }
     {
         self.features.get(id)
     }
@@ -209,6 +211,7 @@ impl Store {
     /// The tiles that show something of the map, in ascending order of their ids, each with its bytes (Mapbox Vector Tile 2.1) and
     /// made when it is asked for, without a list of them. The only error is out of memory.
     pub fn tiles(&self) -> Result<Tiles<'_>, AllocError>
+        ensures is_map { IsMap self.now.features }
         ensures map { IfOk result (λ tiles. tiles.features ≡ self.now.features) }
         ensures start { IfOk result (λ tiles. tiles.from ≡ 0) }
     {
@@ -231,7 +234,8 @@ impl Store {
     /// `Bad` where no map has this snapshot, and `Memory`.
     pub fn from_snapshot(alloc: Global, text: &[u8]) -> Result<Store, SnapshotFault>
         requires { length text.now < TEXTS_END }
-        ensures map { IfOk result (λ store. snapshot store.features ≡ text.now) }
+        ensures map { IfOk result (λ store. IsMap store.features) }
+        ensures text { IfOk result (λ store. snapshot store.features ≡ text.now) }
         ensures fault { IfErr result (λ fault. (fault ≡ Memory) ⊎ ((fault ≡ Bad) × IsNoSnapshot text.now)) }
     {
         read_map(alloc, text)

@@ -36,18 +36,6 @@ module _ (start : History) (at : ℕ) (bytes : List ℕ) (result : Result (Unit 
       (fits_image new (IsOldOr start at bytes) OldOr
       (sync_within written new (IsOldOr start at bytes) (any_sync told written new syncs) wrote_within) (λ image fits. fits))
 
--- a read leaves what there was
-pub read_leaves : (start read : History) (at : ℕ) (bytes : List ℕ) → read ≡ start
-    → LeavesOnly start read (λ image. (index : ℕ) → IsOldOr start at bytes index (image index))
-read_leaves start read at bytes same = subst (λ (h : History). LeavesOnly start h (λ image. (index : ℕ) → IsOldOr start at bytes index (image index)))
-    (sym same) (started start _ (λ image may index. inl (may index)))
-
--- a call counts a failure, after one that didn't fail
-pub failed_call : (result : Result (Unit {0}) DiskFault) (start old new : ℕ) → old ≡ start → CountsFault result old new
-    → TellsFailure result start new
-failed_call (Ok done) start old new same counts = counts ∙ same
-failed_call (Err fault) start old new same counts = search (rules, same, counts)
-
 -- ---- zeros in each sector
 
 module _ (start : History) where

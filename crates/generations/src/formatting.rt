@@ -6,7 +6,7 @@ ghost use Rattle.sector_disk.specs.Disk.History.{wrote, synced};
 ghost use Rattle.sector_disk.specs.Moments.{Within, LeavesOnly};
 ghost use Rattle.generations.specs.Areas.{IsSize};
 ghost use Rattle.generations.specs.Disks.{HasNoMark, IsFresh};
-ghost use Rattle.generations.specs.Faults.{TellsDevice};
+ghost use Rattle.generations.specs.Faults.{EndsFormat, TellsDevice};
 ghost use Rattle.generations.specs.Written.{IsOldOr, IsOldOrEmpty};
 ghost use Rattle.generations.specs.Sectors.{zeros, IsVersion};
 ghost use Rattle.generations.specs.declared.fault.StoreFault.TheVariants.{TooSmall, Device, Damaged};
@@ -51,7 +51,7 @@ pub(crate) fn write_and_sync<D: Sectors>(
     Ok(())
 }
 
-// Zeros in a sector, written only where a read gives something else.
+// Zeros in a sector. They are written even where it has them, so that a file has room for it from then on.
 fn empty_sector<D: Sectors>(disk: &mut D, at: u64) -> Result<(), DiskFault>
     requires { at < D.sectors disk.old }
     ensures disk { MayWrite D.sectors D.honest disk.old disk.new }
@@ -62,14 +62,9 @@ fn empty_sector<D: Sectors>(disk: &mut D, at: u64) -> Result<(), DiskFault>
     ensures empty { D.honest disk.new → OnOk result (seen (D.history disk.new) at ≡ zeros) }
     ensures others { D.honest disk.new
         → (index : ℕ) → (index ≡ at → ⊥) → seen (D.history disk.new) index ≡ seen (D.history disk.old) index }
-    ensures spared { D.honest disk.new → seen (D.history disk.old) at ≡ zeros → D.history disk.new ≡ D.history disk.old }
 {
-    let mut sector = [0; 512];
-    disk.read(at, &mut sector)?;
-    if sector == EMPTY {
-        return Ok(());
-    }
-    disk.write(at, &EMPTY)
+    disk.write(at, &EMPTY)?;
+    Ok(())
 }
 
 // Zeros in each sector from the second one to the one before the end.
@@ -125,9 +120,7 @@ fn clear<D: Sectors>(disk: &mut D, end: u64) -> Result<(), DiskFault>
 /// What it held is lost: after a fault of the disk or a crash it holds what it held before, or has no format, or is formatted.
 pub fn format_version<D: Sectors>(disk: &mut D, version: u32) -> Result<(), StoreFault>
     requires { IsVersion version }
-    ensures small { (result ≡ Err TooSmall) ↔ (D.sectors disk.old < MIN_SECTORS) }
-    ensures large { (result ≡ Err (Damaged Size)) ↔ (MAX_SECTORS < D.sectors disk.old) }
-    ensures only { IfErr result (λ fault. (fault ≡ TooSmall) ⊎ (fault ≡ Damaged Size) ⊎ (fault ≡ Device)) }
+    ensures ends { EndsFormat (D.sectors disk.old) result }
     ensures untouched { (IsSize (D.sectors disk.old) → ⊥) → disk.new ≡ disk.old }
     ensures disk { MayWrite D.sectors D.honest disk.old disk.new }
     ensures failed { TellsDevice result (D.faults disk.old) (D.faults disk.new) }
@@ -155,9 +148,7 @@ pub fn format_version<D: Sectors>(disk: &mut D, version: u32) -> Result<(), Stor
 /// Formats a disk of `MIN_SECTORS` to `MAX_SECTORS` sectors in the last version of the format, and else leaves it untouched.
 /// What it held is lost: after a fault of the disk or a crash it holds what it held before, or has no format, or is formatted.
 pub fn format<D: Sectors>(disk: &mut D) -> Result<(), StoreFault>
-    ensures small { (result ≡ Err TooSmall) ↔ (D.sectors disk.old < MIN_SECTORS) }
-    ensures large { (result ≡ Err (Damaged Size)) ↔ (MAX_SECTORS < D.sectors disk.old) }
-    ensures only { IfErr result (λ fault. (fault ≡ TooSmall) ⊎ (fault ≡ Damaged Size) ⊎ (fault ≡ Device)) }
+    ensures ends { EndsFormat (D.sectors disk.old) result }
     ensures untouched { (IsSize (D.sectors disk.old) → ⊥) → disk.new ≡ disk.old }
     ensures disk { MayWrite D.sectors D.honest disk.old disk.new }
     ensures failed { TellsDevice result (D.faults disk.old) (D.faults disk.new) }

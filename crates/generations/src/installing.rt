@@ -29,8 +29,7 @@ pub fn write_area<D: Sectors>(
     ensures writes { D.honest disk.new
         → Writes result (area_start layout.sectors generation + index) sector.now (D.history disk.old) (D.history disk.new) }
 {
-    let first = 3 + layout.journal + generation % 2 * layout.area;
-    disk.write(first + index, sector)
+    disk.write(layout.area_start(generation) + index, sector)
 }
 
 /// Makes a root the one that counts, once all that was written before outlives a crash: syncs, writes the root, and syncs. At a

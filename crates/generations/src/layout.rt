@@ -1,8 +1,9 @@
 //! How the sectors of a disk are divided.
 ghost use Rattle.std.specs.Prelude.{◌≡◌, ◌≤◌, ◌+◌, ◌*◌, MatchOption};
-ghost use Rattle.generations.specs.Areas.{IsSize, journal_sectors, area_sectors};
+ghost use Rattle.generations.specs.Areas.{IsSize, journal_sectors, area_sectors, area_start, sectors_of};
 
 use crate::sizes::{MAX_SECTORS, MIN_SECTORS};
+use sector_disk::SECTOR_BYTES;
 
 /// How many sectors each part of a disk has. Behind the format's sector and two sectors of roots lies the journal, and
 /// behind the journal lie the areas of the even and of the odd generations, one as long as the other.
@@ -36,4 +37,18 @@ impl Layout {
             area,
         })
     }
+
+    /// The first sector of the area of a generation.
+    pub fn area_start(self, generation: u64) -> u64
+        ensures { result ≡ area_start self.sectors generation }
+    {
+        3 + self.journal + generation % 2 * self.area
+    }
+}
+
+/// How many sectors so many bytes take.
+pub fn sectors_for(bytes: u64) -> u64
+    ensures { result ≡ sectors_of bytes }
+{
+    bytes.div_ceil(SECTOR_BYTES as u64)
 }

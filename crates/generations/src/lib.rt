@@ -16,7 +16,7 @@ mod upgrading;
 pub use fault::{StoreFault, What};
 pub use formatting::{format, format_version};
 pub use installing::{install, write_area};
-pub use layout::Layout;
+pub use layout::{Layout, sectors_for};
 pub use reading::{Found, read_root};
 pub use root::Root;
 pub use sizes::{FIRST_VERSION, LAST_VERSION, MAX_SECTORS, MIN_SECTORS};

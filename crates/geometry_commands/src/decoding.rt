@@ -115,6 +115,7 @@ fn walk<'a>(
     ensures full { IfErr result (λ fault. fault ≡ GeometryFault.Memory → vec_capacity before < vec_len before + length ints.entry.now / 2) }
 {
     let mut points = before;
+    points.reserve((count as usize).min(ints.len() / 2))?;
     let mut at = from;
     let mut rest = ints;
     for i in 0..count {

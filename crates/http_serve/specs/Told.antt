@@ -1,5 +1,5 @@
 -- The outcome of a connection.
-use Rattle.std.specs.Prelude.{◌≡◌, ◌<◌, ◌≤◌, ◌+◌, ◌-◌, ◌*◌, ℕ, List, length, Some, None, Option, Ok, Err, Result, ⊤}
+use Rattle.std.specs.Prelude.{◌≡◌, ◌<◌, ◌≤◌, ◌+◌, ◌-◌, ◌*◌, ℕ, List, length, Some, None, Option, Ok, Err, Result, IfOk, IfErr, ⊤}
 use Rattle.std.specs.Io.KnownBytes.{Consumes, Appends}
 use Rattle.http_serve.specs.declared.connection.End.{End}
 use Rattle.http_serve.specs.declared.connection.End.TheVariants.{Closed, Asked, Refused, Turns}
@@ -112,3 +112,19 @@ module _ {S : Type 0} (replies fails : S → RequestView → ReplyView → S →
       IsServedInPart replies (RepliesNext replies (MayFollow leaves)) old left held requests new leaves holds
   IsServedUpTo old left held (Content requests) new leaves holds =
       IsServedInPart replies (AnswersNext fails) old left held requests new leaves holds
+
+-- the same handler, with what its content has left, what a reader has left and what a writer holds
+module _ {S R W : Type 0} (replies fails : S → RequestView → ReplyView → S → Type 0) (size : S → ℕ)
+    (remaining : R → Option (List ℕ)) (contents : W → Option (List ℕ)) where
+  -- A connection is served in at most limit reads.
+  pub record Serves (limit : ℕ) (old : S) (reader : R) (writer : W) (result : Result Served ServeFault)
+      (new : S) (next_reader : R) (next_writer : W) : Type 0 where
+    -- all requests of a known input are answered, unless the limit on reads was reached
+    pub input : IfOk result (λ served. AnswersInput replies old (remaining reader) (contents writer) served new (contents next_writer))
+    pub served : IfOk result (λ served. IsServed replies old (remaining reader) (contents writer) served
+        new (remaining next_reader) (contents next_writer))
+    pub fault : IfErr result (λ fault. IsServedUpTo replies fails old (remaining reader) (contents writer) fault
+        new (remaining next_reader) (contents next_writer))
+    pub content : IfErr result (HasContent (size new))
+    pub turns : IfOk result (λ served. MeetsTurns remaining limit reader next_reader served.end)
+    pub reads : KeepsTurns limit result (remaining reader) (remaining next_reader)

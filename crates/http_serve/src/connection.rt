@@ -10,7 +10,7 @@ ghost use Rattle.http_serve.specs.Sent.{Sends};
 ghost use Rattle.http_serve.specs.Steps.{IsPaused, IsBroken, IsFinished, IsUnfinished};
 ghost use Rattle.http_serve.specs.declared.connection.TheConstants.{MAX_READS};
 ghost use Rattle.http_serve.specs.declared.handlers.TheConstants.{PART_SIZE};
-ghost use Rattle.http_serve.specs.Told.{IsServed, IsServedUpTo, HasContent, MeetsTurns, KeepsTurns, AnswersInput};
+ghost use Rattle.http_serve.specs.Told.{IsServed, IsServedUpTo, HasContent, MeetsTurns, KeepsTurns, Serves};
 ghost use Rattle.http_serve.specs.Parts.{GivesOrFails, IsCutIn};
 
 use crate::contents::{SendFault, send_reply};
@@ -275,6 +275,20 @@ fn serve_session<R: Read, W: Write, H: Handler>(
     Ok(Served { requests, end })
 }
 
+/// The same, with all that it promises of a connection.
+fn serve_in<R: Read, W: Write, H: Handler>(
+    session: &mut Session,
+    reader: &mut R,
+    writer: &mut W,
+    handler: &mut H,
+    turns: u64,
+) -> Result<Served, ServeFault>
+    ensures { Serves H.replies H.fails H.size R.remaining W.contents turns handler.old reader.old writer.old result
+        handler.new reader.new writer.new }
+{
+    serve_session(session, reader, writer, handler, turns)
+}
+
 /// Serves a connection with at most `turns` reads. After them, the whole requests in the bytes read are answered.
 pub fn serve_turns<R: Read, W: Write, H: Handler>(
     alloc: Global,
@@ -283,16 +297,11 @@ pub fn serve_turns<R: Read, W: Write, H: Handler>(
     handler: &mut H,
     turns: u64,
 ) -> Result<Served, ServeFault>
-    ensures served { IfOk result (λ served. IsServed H.replies handler.old (R.remaining reader.old) (W.contents writer.old) served
-        handler.new (R.remaining reader.new) (W.contents writer.new)) }
-    ensures fault { IfErr result (λ fault. IsServedUpTo H.replies H.fails handler.old (R.remaining reader.old) (W.contents writer.old) fault
-        handler.new (R.remaining reader.new) (W.contents writer.new)) }
-    ensures content { IfErr result (HasContent (H.size handler.new)) }
-    ensures turns { IfOk result (λ served. MeetsTurns R.remaining turns reader.old reader.new served.end) }
-    ensures reads { KeepsTurns turns result (R.remaining reader.old) (R.remaining reader.new) }
+    ensures { Serves H.replies H.fails H.size R.remaining W.contents turns handler.old reader.old writer.old result
+        handler.new reader.new writer.new }
 {
     match Session::new(alloc) {
-        Ok(mut session) => serve_session(&mut session, reader, writer, handler, turns),
+        Ok(mut session) => serve_in(&mut session, reader, writer, handler, turns),
         Err(_) => Err(ServeFault::Memory),
     }
 }
@@ -307,15 +316,8 @@ pub fn serve<R: Read, W: Write, H: Handler>(
     writer: &mut W,
     handler: &mut H,
 ) -> Result<Served, ServeFault>
-    ensures input { IfOk result (λ served. AnswersInput H.replies handler.old (R.remaining reader.old) (W.contents writer.old) served
-        handler.new (W.contents writer.new)) }
-    ensures served { IfOk result (λ served. IsServed H.replies handler.old (R.remaining reader.old) (W.contents writer.old) served
-        handler.new (R.remaining reader.new) (W.contents writer.new)) }
-    ensures fault { IfErr result (λ fault. IsServedUpTo H.replies H.fails handler.old (R.remaining reader.old) (W.contents writer.old) fault
-        handler.new (R.remaining reader.new) (W.contents writer.new)) }
-    ensures content { IfErr result (HasContent (H.size handler.new)) }
-    ensures turns { IfOk result (λ served. MeetsTurns R.remaining MAX_READS reader.old reader.new served.end) }
-    ensures reads { KeepsTurns MAX_READS result (R.remaining reader.old) (R.remaining reader.new) }
+    ensures { Serves H.replies H.fails H.size R.remaining W.contents MAX_READS handler.old reader.old writer.old result
+        handler.new reader.new writer.new }
 {
     serve_turns(alloc, reader, writer, handler, MAX_READS)
 }
@@ -327,20 +329,13 @@ pub fn serve_with<R: Read, W: Write, H: Handler>(
     writer: &mut W,
     handler: &mut H,
 ) -> Result<Served, ServeFault>
-    ensures input { IfOk result (λ served. AnswersInput H.replies handler.old (R.remaining reader.old) (W.contents writer.old) served
-        handler.new (W.contents writer.new)) }
-    ensures served { IfOk result (λ served. IsServed H.replies handler.old (R.remaining reader.old) (W.contents writer.old) served
-        handler.new (R.remaining reader.new) (W.contents writer.new)) }
-    ensures fault { IfErr result (λ fault. IsServedUpTo H.replies H.fails handler.old (R.remaining reader.old) (W.contents writer.old) fault
-        handler.new (R.remaining reader.new) (W.contents writer.new)) }
-    ensures content { IfErr result (HasContent (H.size handler.new)) }
-    ensures turns { IfOk result (λ served. MeetsTurns R.remaining MAX_READS reader.old reader.new served.end) }
-    ensures reads { KeepsTurns MAX_READS result (R.remaining reader.old) (R.remaining reader.new) }
+    ensures { Serves H.replies H.fails H.size R.remaining W.contents MAX_READS handler.old reader.old writer.old result
+        handler.new reader.new writer.new }
 {
     let Ok(mut session) = buffers.take() else {
         return Err(ServeFault::Memory);
     };
-    let outcome = serve_session(&mut session, reader, writer, handler, MAX_READS);
+    let outcome = serve_in(&mut session, reader, writer, handler, MAX_READS);
     buffers.keep(session);
     outcome
 }

@@ -2,6 +2,7 @@
 ghost use Rattle.std.specs.Prelude.{◌≡◌, ◌<◌, ◌≤◌, ℕ, List, [], option_map};
 ghost use Rattle.http_serve.specs.Reply.{content_bytes, reply_view, head_view, HasShortWords, IsWhole};
 ghost use Rattle.tile_service.specs.declared.fault.ServiceFault.TheVariants.{Device};
+ghost use Rattle.map_replies.specs.declared.parts.TheConstants.{FIRST_BYTES};
 ghost use Rattle.map_replies.specs.Parts.{range_for, IsPart, octets_type, range_word, part_reply};
 ghost use Rattle.map_replies.specs.Words.{text_type, service_refusal};
 
@@ -63,18 +64,18 @@ pub(crate) struct Sending {
     pub(crate) length: u64,
 }
 
-/// How many sectors of the archive are read before a reply is made, and sent with its head: 16 KiB.
-const FIRST_SECTORS: u64 = 32;
+/// How many bytes of the archive are read at most before a reply is made, and sent with its head: those of 32 sectors.
+pub(crate) const FIRST_BYTES: u64 = 16_384;
 
 /// How many of `length` bytes from `first` on are read before a reply is made: those in the first sectors, or 0 if `bare`.
 pub(crate) fn begin_size(first: u64, length: u64, bare: bool) -> u64
-    ensures { result ≤ length }
+    ensures within { result ≤ length }
+    ensures most { result ≤ FIRST_BYTES }
 {
     if bare {
         return 0;
     }
-    let sector = SECTOR_BYTES as u64;
-    (FIRST_SECTORS * sector - first % sector).min(length)
+    (FIRST_BYTES - first % SECTOR_BYTES as u64).min(length)
 }
 
 /// The reply with the whole archive.

@@ -1,7 +1,8 @@
 //! Lines over an index of boxes.
-use crate::lines::{Line, byte, short};
+use crate::lines::{Line, byte};
 use box_index::{BoxIndex, IndexEntry, Span};
 use feature_model::WorldBox;
+use script_bytes::short;
 use std::alloc::{AllocError, Global};
 use std::mem;
 

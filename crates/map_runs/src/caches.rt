@@ -1,7 +1,8 @@
 //! Lines over the newest edits of the world's cells, and over tiles that are kept.
-use crate::lines::{Line, byte, short};
+use crate::lines::{Line, byte};
 use feature_model::WorldBox;
 use hilbert_id::TileAt;
+use script_bytes::short;
 use std::alloc::{AllocError, Global};
 use tile_cache::{CachedTile, Origin, TileCache, TouchGrid};
 

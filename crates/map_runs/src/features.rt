@@ -1,9 +1,10 @@
 //! Lines about one feature.
 use crate::limits::batch_text;
-use crate::lines::{Line, expanded, number_in, parted};
+use crate::lines::Line;
 use edit_json::{batch_from_json, feature_from_json, feature_to_json};
 use edit_text::encode_change;
 use feature_model::{Change, EditFault, Feature, MAX_ZOOM, check, copy};
+use script_bytes::{expanded, number_in, parted};
 use serde_json::Value;
 use std::alloc::{AllocError, Global};
 use std::fmt;

@@ -1,10 +1,11 @@
 //! Lines about features and edits that no JSON says, and their limits.
-use crate::lines::{Line, byte, expanded, number_in, parted, short, times};
+use crate::lines::{Line, byte, times};
 use edit_text::{decode_record, delete_edit_text, delete_text, encode, encode_record};
 use feature_model::{
     Change, Edit, EditFault, EditValue, Feature, Geometry, NUMBER_END, Tag, World, check,
     check_batch,
 };
+use script_bytes::{expanded, number_in, parted, short};
 use std::alloc::{AllocError, Global};
 
 /// A text of so many bytes, of which all but the first are `e`.

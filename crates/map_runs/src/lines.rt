@@ -1,5 +1,5 @@
 //! What a line says.
-use std::alloc::{AllocError, Global};
+use script_bytes::{number_in, parted};
 
 /// A line: its first word, what stands behind it, and the numbers in that, 0 where there are fewer.
 #[derive(Clone, Copy)]
@@ -11,24 +11,6 @@ pub(crate) struct Line<'a> {
 
 /// The most repetitions that a line may ask for.
 const MAX_TIMES: usize = 100_000;
-
-/// The text up to the first blank, and what stands behind it.
-pub(crate) fn parted(text: &str) -> (&str, &str) {
-    match text.split_once(' ') {
-        Some(parts) => parts,
-        None => (text, ""),
-    }
-}
-
-/// The number that a word writes, or 0.
-pub(crate) fn number_in(word: &str) -> u64 {
-    word.parse::<u64>().unwrap_or(0)
-}
-
-/// A number as one of 32 bits, the greatest where it is greater.
-pub(crate) fn short(number: u64) -> u32 {
-    u32::try_from(number).unwrap_or(u32::MAX)
-}
 
 /// A number as a byte, the greatest where it is greater.
 pub(crate) fn byte(number: u64) -> u8 {
@@ -56,54 +38,4 @@ pub(crate) fn line_in(text: &str) -> Line<'_> {
         rest,
         numbers: numbers_in(rest),
     }
-}
-
-/// Adds what stands behind `<` up to the next one: a count, `:`, a text that is repeated so often, `>`, and a text.
-fn push_repeated(out: &mut String, part: &str) -> Result<(), AllocError> {
-    let Some((count, others)) = part.split_once(':') else {
-        return out.push_str(part);
-    };
-    let Some((piece, behind)) = others.split_once('>') else {
-        return out.push_str(part);
-    };
-    for _ in 0..times(number_in(count)) {
-        out.push_str(piece)?;
-    }
-    out.push_str(behind)
-}
-
-/// A text with each `<COUNT:TEXT>` in it written out.
-pub(crate) fn expanded(alloc: Global, text: &str) -> Result<String, AllocError> {
-    let mut out = String::new(alloc);
-    for (index, part) in text.split('<').enumerate() {
-        if index == 0 {
-            out.push_str(part)?;
-        } else {
-            push_repeated(&mut out, part)?;
-        }
-    }
-    Ok(out)
-}
-
-/// The most bytes of an answer that is written whole.
-const WHOLE: usize = 10_000;
-
-/// A number that bytes make: 31 times that of those before the last one, plus this one, modulo 2^64.
-fn digest(bytes: &[u8]) -> u64 {
-    let mut sum = 0u64;
-    for byte in bytes {
-        sum = sum.wrapping_mul(31).wrapping_add(u64::from(*byte));
-    }
-    sum
-}
-
-/// An answer as it is written: a long one by its first bytes, its length, and a number that all its bytes make.
-pub(crate) fn clipped(alloc: Global, text: String) -> Result<String, AllocError> {
-    let len = text.len();
-    if len <= WHOLE {
-        return Ok(text);
-    }
-    let digest = digest(text.as_str().as_bytes());
-    let front = text.as_str().get(..100).unwrap_or("");
-    format!(in alloc; "{front}.. {len} bytes, digest {digest}")
 }

@@ -6,7 +6,7 @@ ghost use Rattle.feature_model.specs.Types.{IsChange};
 ghost use Rattle.feature_model.specs.declared.limits.TheConstants.{MAX_EDIT_BYTES};
 
 use crate::features::{feature_in, shown};
-use crate::lines::{Line, byte, number_in, parted, short};
+use crate::lines::{Line, byte};
 use cached_map::CachedMap;
 use edit_text::{decode, encode_change};
 use feature_model::{Change, Edit, Feature, check};
@@ -15,6 +15,7 @@ use hilbert_id::TileAt;
 use map_metadata::{metadata, metadata_text};
 use mvt_layer::Layer;
 use mvt_write::write_tile;
+use script_bytes::{number_in, parted, short};
 use std::alloc::{AllocError, Global};
 
 /// The most features of a map, and the most bytes of a snapshot that is read.

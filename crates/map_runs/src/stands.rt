@@ -1,10 +1,11 @@
 //! What lines work on.
 use crate::boxes::Boxes;
 use crate::caches::Caches;
-use crate::lines::{Line, clipped, line_in};
+use crate::lines::{Line, line_in};
 use crate::{areas, features, limits, maps, numbers};
 use cached_map::CachedMap;
 use number_map::NumberMap;
+use script_bytes::clipped;
 use std::alloc::{AllocError, Global};
 
 /// A map, and parts of maps.

@@ -54,7 +54,8 @@ items_begin (suc more) at (b ∷ bs) (f ∷ fs) others e = go (λ k rest. items_
     fault_first : (w : WireFault) (c : FieldData) (xs ys : List Item) → Err w ∷ xs ≡ Ok c ∷ ys → ⊥
     fault_first w c xs ys h = cc
 
-    go : ((k : ℕ) (rest : List ℕ) → items_in more k rest ≡ fine fs ++ others → BeginsWith rest fs) → (r : Result (FieldData × ℕ) FaultKind) → field_at (b ∷ bs) ≡ r
+    go : ((k : ℕ) (rest : List ℕ) → items_in more k rest ≡ fine fs ++ others → BeginsWith rest fs)
+        → (r : Result (FieldData × ℕ) FaultKind) → field_at (b ∷ bs) ≡ r
         → item_then at (λ len. items_in more (at + len) (drop len (b ∷ bs))) r ≡ Ok f ∷ (fine fs ++ others) → BeginsWith (b ∷ bs) (f ∷ fs)
     go next (Err kind) read h = absurd (fault_first (record { at = at; kind = kind }) f [] (fine fs ++ others) h)
     go next (Ok x) read h =

@@ -44,7 +44,8 @@ Seen bytes (Some g) = HasField bytes g × (is_known g.number ≡ true)
 abbrev chosen : Option FieldData → FieldData → Read TileFault (Option FieldData)
 chosen s f = cond (has_kind f.number f.value) (cond (may_follow s f.number) (Ok (Some f)) (Err faults.Value)) (Err faults.Kind)
 
-chosen_err : (bytes : List ℕ) (s : Option FieldData) (f : FieldData) (d : TileFault) → HasField bytes f → is_known f.number ≡ true → Seen bytes s → chosen s f ≡ Err d
+chosen_err : (bytes : List ℕ) (s : Option FieldData) (f : FieldData) (d : TileFault) → HasField bytes f → is_known f.number ≡ true → Seen bytes s
+    → chosen s f ≡ Err d
     → ValueHas bytes d
 chosen_err bytes s f d here known seen e = go (has_kind f.number f.value) refl s seen e
   where
@@ -66,7 +67,8 @@ chosen_ok s next f e =
     let follows = pass_ok (may_follow s f.number) faults.Value (Ok (Some f)) next kind.1 in
     same_value {Fault = TileFault} (Some f) next follows.1
 
-value_met : (bytes : List ℕ) (d : TileFault) (items : List Item) (front : List FieldData) (s : Option FieldData) → items_of bytes ≡ fine front ++ items → Seen bytes s
+value_met : (bytes : List ℕ) (d : TileFault) (items : List Item) (front : List FieldData) (s : Option FieldData) → items_of bytes ≡ fine front ++ items
+    → Seen bytes s
     → folded value_after s items ≡ Err d → ValueHas bytes d
 unfolding folded
 value_met bytes d [] front s all seen e = absurd cc

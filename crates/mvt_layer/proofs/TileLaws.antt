@@ -96,7 +96,8 @@ tag_value_says bytes v e =
     let whole = whole_of value_after (λ s w. refl) (items_of bytes) None last.0 last.1 in
     go last.0 whole.0 (fields_message bytes whole.0 whole.1) (value_says whole.0 None last.0 (ap (folded value_after None) (sym whole.1) ∙ last.1)) last.2
   where
-    go : (last : Option FieldData) (fields : List FieldData) → IsMessage bytes fields → LastValue None (filter (λ f. is_known f.number) fields) last → meant last ≡ Ok v
+    go : (last : Option FieldData) (fields : List FieldData) → IsMessage bytes fields → LastValue None (filter (λ f. is_known f.number) fields) last
+        → meant last ≡ Ok v
         → SaysValue bytes v
     go None fields message is e = absurd cc
     go (Some f) fields message is e = record { fields = fields; message = message; field = f; last = is; means = e }
@@ -290,7 +291,8 @@ parts_of number bytes fields raw e h =
     let G : List (List ℕ) → Type 0 = λ k. AreParts (values_of number fields) k in
     subst G (sym p.1) p.2
 
-parts_back : (number : ℕ) (bytes : List ℕ) (fields : List FieldData) (raw : List (List ℕ)) → items_of bytes ≡ fine fields → AreParts (values_of number fields) raw
+parts_back : (number : ℕ) (bytes : List ℕ) (fields : List FieldData) (raw : List (List ℕ)) → items_of bytes ≡ fine fields
+    → AreParts (values_of number fields) raw
     → parts_in number bytes ≡ Ok raw
 parts_back number bytes fields raw e h = pass_at number parts_after bytes fields [] e ∙ (ap (folded parts_after []) h ∙ parts_read raw [])
 

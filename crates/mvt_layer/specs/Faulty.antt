@@ -83,7 +83,8 @@ pub data ValueHas (bytes : List ℕ) (d : TileFault) : Type 0 where
   two_kinds : d ≡ faults.Value → (f : FieldData) → (g : FieldData) → HasField bytes f → HasField bytes g → is_known f.number ≡ true → is_known g.number ≡ true
       → (f.number ≡ g.number → ⊥) → ValueHas bytes d
   no_kind : d ≡ faults.Value → (fields : List FieldData) → IsMessage bytes fields → filter (λ f. is_known f.number) fields ≡ [] → ValueHas bytes d
-  value_text : d ≡ faults.Utf8 → (fields : List FieldData) → IsMessage bytes fields → (f : FieldData) → LastValue None (filter (λ f. is_known f.number) fields) (Some f)
+  value_text : d ≡ faults.Utf8 → (fields : List FieldData) → IsMessage bytes fields → (f : FieldData)
+      → LastValue None (filter (λ f. is_known f.number) fields) (Some f)
       → (part : List ℕ) → f.value ≡ some_bytes part → (IsUtf8 part → ⊥) → ValueHas bytes d
 
 -- a part among others

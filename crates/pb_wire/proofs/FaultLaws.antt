@@ -242,7 +242,8 @@ fault_there : (w fault : WireFault) → ending w ≡ ending fault → w ≡ faul
 fault_there w fault e = cc
 
 go_faulty : (more start : ℕ) (bytes : List ℕ) (fields : List FieldData) (fault : WireFault) → 0 < length bytes → length bytes ≤ suc more → GoesOn more
-    → (r : Result (FieldData × ℕ) FaultKind) → field_at bytes ≡ r → item_then start (λ len. items_in more (start + len) (drop len bytes)) r ≡ faulty fields fault
+    → (r : Result (FieldData × ℕ) FaultKind) → field_at bytes ≡ r
+    → item_then start (λ len. items_in more (start + len) (drop len bytes)) r ≡ faulty fields fault
     → FaultyFrom start bytes fields fault
 unfolding item_then
 go_faulty more start bytes [] fault some short next (Ok x) read e = absurd (no_fault x.0 (items_in more (start + x.1) (drop x.1 bytes)) fault e)

@@ -188,7 +188,8 @@ go_message more at bytes (f ∷ fs) short next (Ok x) read e =
     (take x.1 bytes, drop x.1 bytes, sym (take-append-drop x.1 bytes), subst (IsField (take x.1 bytes)) h.0 t.1, next (at + x.1) (drop x.1 bytes) fs left h.1)
 go_message more at bytes fields short next (Err kind) read e = absurd (fault_left (record { at = at; kind = kind }) fields e)
 
-pub items_message : (more at : ℕ) (bytes : List ℕ) (fields : List FieldData) → length bytes ≤ more → items_in more at bytes ≡ whole fields → IsMessage bytes fields
+pub items_message : (more at : ℕ) (bytes : List ℕ) (fields : List FieldData) → length bytes ≤ more → items_in more at bytes ≡ whole fields
+    → IsMessage bytes fields
 unfolding items_in item_then
 items_message zero at [] [] short e = refl
 items_message zero at [] (f ∷ fs) short e = absurd (nothing_left f fs e)

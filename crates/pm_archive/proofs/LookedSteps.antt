@@ -1,5 +1,5 @@
 -- Looking step by step.
-use Rattle.std.proofs.Common.{◌≡◌, ℕ, zero, suc, ◌≤◌, false, ltb, List, Some, Result, Ok, Err, Option, refl, sym, ap, subst, ◌∙◌}
+use Rattle.std.proofs.Common.{◌≡◌, ℕ, zero, suc, ◌-◌, ◌≤◌, false, ltb, List, Some, Result, Ok, Err, Option, refl, sym, ap, subst, ◌∙◌, arith}
 use Rattle.std.proofs.lemmas.Bool.{le-ltb}
 use Rattle.pm_header.specs.declared.header.Header.{Header}
 use Rattle.pm_directory.specs.declared.entry.DirectoryEntry.{DirectoryEntry}
@@ -20,6 +20,18 @@ reached_fault bytes h id zero leaf d names some = absurd (some refl)
 reached_fault bytes h id (suc more) leaf d names some =
     let none : ltb 0 leaf.run ≡ false = le-ltb 0 leaf.run names in
     unless_on IsOutside d (leading_at bytes h id leaf) (reached_at bytes h id (suc more) (Some leaf)) (λ f e. rw (none, e) refl)
+
+-- what is answered for the entry to which a leaf directory leads is what is answered for the entry that names it
+pub reached_on : {X : Type 0} (bytes : List ℕ) (h : Header) (id : ℕ) (view : X → Option DirectoryEntry) (r : Result X ArchiveFault) (more : ℕ)
+    (leaf : DirectoryEntry) (below : Option DirectoryEntry) → leaf.run ≤ 0 → (more ≡ 0 → ⊥) → leading_at bytes h id leaf ≡ Ok below
+    → GivesUnless IsOutside view r (reached_at bytes h id (more - 1) below) → GivesUnless IsOutside view r (reached_at bytes h id more (Some leaf))
+unfolding reached_at
+reached_on {X} bytes h id view r zero leaf below names some leads a = absurd (some refl)
+reached_on {X} bytes h id view r (suc more) leaf below names some leads a =
+    let none : ltb 0 leaf.run ≡ false = le-ltb 0 leaf.run names in
+    let less : suc more - 1 ≡ more = omega arith in
+    let same : reached_at bytes h id (suc more) (Some leaf) ≡ reached_at bytes h id (suc more - 1) below = rw (none, leads, less) refl in
+    subst (λ (reading : Read ArchiveFault (Option DirectoryEntry)). GivesUnless IsOutside view r reading) (sym same) a
 
 -- ---- a content
 

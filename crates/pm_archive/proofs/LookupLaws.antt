@@ -1,5 +1,6 @@
 -- What is looked up below the root directory of an archive is the content of the id.
-use Rattle.std.proofs.Common.{◌≡◌, ◌∙◌, ℕ, List, Ok, Option, sym, ap, subst}
+use Rattle.std.proofs.Common.{◌≡◌, ◌∙◌, ℕ, List, [], Ok, Option, sym, ap, subst}
+use Rattle.std.proofs.lemmas.List.Elements.{All-nil}
 use Rattle.reader.proofs.Steps.{then_is}
 use Rattle.hilbert_id.specs.declared.number.TheConstants.{TILE_IDS}
 use Rattle.pm_header.specs.declared.header.Header.{Header}
@@ -10,6 +11,7 @@ use Rattle.pm_archive.specs.Sections.{HasSections, section_bytes}
 use Rattle.pm_archive.specs.Entries.{HasEntries, entry_of}
 use Rattle.pm_archive.specs.Archive.{IsArchiveOf, content_of}
 use Rattle.pm_archive.specs.Looked.{leading_of, reached_at, content_at, looked_at}
+use Rattle.pm_archive.specs.Lookup.{LeafView, IsLeafOf, IsKeptOf}
 use Rattle.pm_archive.proofs.ListedClauses.{has_each}
 use Rattle.pm_archive.proofs.LookedLaws.{reaches, content_found}
 use Rattle.pm_archive.proofs.OpenedLaws.{one_header}
@@ -29,3 +31,7 @@ looked_content bytes h root content id has dir archive =
     let entries = subst (λ (g : Header). HasEntries bytes g archive.1) same archive.2.entries in
     let told : content_of bytes h archive.1 id ≡ content id = ap (λ (g : Header). content_of bytes g archive.1 id) (sym same) ∙ sym (archive.3 id) in
     looked_below bytes h root archive.1 id dir entries ∙ ap (λ (c : Option (List ℕ)). Ok c) told
+
+-- where no leaf directory is kept, each that is kept is the one that its entry names
+pub none_kept : (bytes : List ℕ) (h : Header) (leaves : List LeafView) → leaves ≡ [] → IsKeptOf bytes h leaves
+none_kept bytes h leaves none = subst (λ (ls : List LeafView). IsKeptOf bytes h ls) (sym none) (All-nil (IsLeafOf bytes h))

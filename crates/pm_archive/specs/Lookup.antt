@@ -1,9 +1,10 @@
 -- What is kept of an archive between look-ups.
-use Rattle.std.specs.Prelude.{◌≡◌, ℕ, ◌≤◌, List, Ok, Option, IfSome}
+use Rattle.std.specs.Prelude.{◌≡◌, ℕ, ◌+◌, ◌≤◌, ◌⊎◌, List, [], ◌∷◌, ◌++◌, Ok, if◌then◌else◌, nat_le}
+use Rattle.std.specs.List.{All, sum_by}
 use Rattle.pm_header.specs.declared.header.Header.{Header}
 use Rattle.pm_directory.specs.declared.entry.DirectoryEntry.{DirectoryEntry}
 use Rattle.pm_directory.specs.Directory.{IsDirectory}
-use Rattle.pm_archive.specs.declared.limits.TheConstants.{KEPT_LEAF_BYTES}
+use Rattle.pm_archive.specs.declared.limits.TheConstants.{KEPT_LEAF_BYTES, KEPT_LEAVES_BYTES}
 use Rattle.pm_archive.specs.Sections.{HasSections, section_bytes}
 use Rattle.pm_archive.specs.Reading.{directory_of_entry}
 
@@ -12,23 +13,45 @@ pub record LeafView : Type 0 where
   pub entry : DirectoryEntry
   pub entries : List DirectoryEntry
 
--- what is kept of an archive in so many bytes: its header, the entries of its root directory, and a leaf directory, if one is
+-- what is kept of an archive in so many bytes: its header, the entries of its root directory, and leaf directories, the latest at the end
 pub record LookupView : Type 0 where
   pub count : ℕ
   pub header : Header
   pub root : List DirectoryEntry
-  pub leaf : Option LeafView
+  pub leaves : List LeafView
 
--- the leaf directory that is kept, if one is, is the one that its entry names
-abbrev pub IsKeptOf : List ℕ → Header → Option LeafView → Type 0
-IsKeptOf bytes h kept = IfSome kept (λ leaf. directory_of_entry bytes h leaf.entry ≡ Ok leaf.entries)
+-- the leaf directory is the one that its entry names
+abbrev pub IsLeafOf : List ℕ → Header → LeafView → Type 0
+IsLeafOf bytes h leaf = directory_of_entry bytes h leaf.entry ≡ Ok leaf.entries
 
--- it has few enough bytes to be kept
-abbrev pub IsSmall : Option LeafView → Type 0
-IsSmall kept = IfSome kept (λ leaf. leaf.entry.length ≤ KEPT_LEAF_BYTES)
+-- each leaf directory that is kept is the one that its entry names
+abbrev pub IsKeptOf : List ℕ → Header → List LeafView → Type 0
+IsKeptOf bytes h leaves = All (IsLeafOf bytes h) leaves
+
+-- the stored length of a leaf directory in bytes
+abbrev pub leaf_bytes : LeafView → ℕ
+leaf_bytes leaf = leaf.entry.length
+
+-- the sum of the stored lengths of leaf directories
+abbrev pub bytes_of : List LeafView → ℕ
+bytes_of leaves = sum_by leaf_bytes leaves
+
+-- each leaf directory has few enough bytes to be kept, and so have all together
+pub record IsSmall (leaves : List LeafView) : Type 0 where
+  pub each : All (λ leaf. leaf_bytes leaf ≤ KEPT_LEAF_BYTES) leaves
+  pub all : bytes_of leaves ≤ KEPT_LEAVES_BYTES
+
+-- what is left before one of this length is added: all of them if it fits beside them, else none
+abbrev pub left_beside : ℕ → List LeafView → List LeafView
+left_beside length leaves = if nat_le (bytes_of leaves + length) KEPT_LEAVES_BYTES then leaves else []
+
+-- what is kept after a small one was read: it is the last one, or memory was refused for it
+abbrev pub IsKeptBeside : LeafView → List LeafView → List LeafView → Type 0
+IsKeptBeside leaf old new =
+    (new ≡ left_beside (leaf_bytes leaf) old ++ leaf ∷ []) ⊎ (new ≡ left_beside (leaf_bytes leaf) old)
 
 -- what is kept is of the archive in these bytes
 pub record IsLookupOf (bytes : List ℕ) (l : LookupView) : Type 0 where
   pub sections : HasSections bytes l.header
   pub root : IsDirectory (section_bytes l.header.root bytes) l.root
-  pub leaf : IsKeptOf bytes l.header l.leaf
+  pub leaves : IsKeptOf bytes l.header l.leaves

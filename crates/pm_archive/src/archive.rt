@@ -1,6 +1,6 @@
 //! Archives that are open.
 
-ghost use Rattle.std.specs.Prelude.{◌≡◌, ℕ, List, Option, None, slice_get, IfOk, IfErr, MatchResult, option_map};
+ghost use Rattle.std.specs.Prelude.{◌≡◌, ℕ, List, Option, slice_get, IfOk, IfErr, MatchResult, option_map};
 ghost use Rattle.reader.specs.Reading.{GivesUnless};
 ghost use Rattle.std.specs.List.{AllByRecursion};
 ghost use Rattle.pm_header.specs.declared.header.Header.{Header};
@@ -18,6 +18,7 @@ ghost use Rattle.pm_archive.specs.Verified.{IsSound, VerifyingHas};
 ghost use Rattle.pm_archive.specs.Answers.{IsOutside, UnlessOutside};
 
 use crate::fault::ArchiveFault;
+use crate::leaves::Leaves;
 use crate::listing::entries_below;
 use crate::looking::content_below;
 use crate::opening::header_and_root;
@@ -128,7 +129,7 @@ impl<B: Bytes + Drop> Archive<B> {
         ensures read { result ≡ Err ArchiveFault.Read → B.fails self.old.source }
         ensures memory { result ≡ Err ArchiveFault.Memory → LiesInside self.old.header (leading_of id self.old.root) }
     {
-        let mut kept = None;
+        let mut kept = Leaves::none(alloc);
         content_below(
             alloc,
             &mut self.source,

@@ -1,6 +1,6 @@
-//! The leaf directory that is kept between look-ups.
+//! A leaf directory that was read.
 
-ghost use Rattle.std.specs.Prelude.{◌≡◌, ◌↔◌, ℕ, ◌≤◌, List, Err, IfOk, OnOk, IsTrue, Option, None};
+ghost use Rattle.std.specs.Prelude.{◌≡◌, ◌↔◌, ℕ, ◌≤◌, List, Err, IfOk, OnOk, IsTrue};
 ghost use Rattle.reader.specs.Reading.{GivesUnless};
 ghost use Rattle.pm_directory.specs.declared.entry.DirectoryEntry.{DirectoryEntry};
 ghost use Rattle.pm_directory.specs.Directory.{IsAscending};
@@ -9,11 +9,10 @@ ghost use Rattle.pm_archive.specs.Sections.{end_of};
 ghost use Rattle.pm_archive.specs.Entries.{LiesIn};
 ghost use Rattle.pm_archive.specs.Reading.{directory_of_entry};
 ghost use Rattle.pm_archive.specs.Answers.{IsOutside};
-ghost use Rattle.pm_archive.specs.Looked.{leading_of, leading_at};
-ghost use Rattle.pm_archive.specs.Lookup.{LeafView, IsKeptOf, IsSmall};
+ghost use Rattle.pm_archive.specs.Looked.{leading_of};
+ghost use Rattle.pm_archive.specs.Lookup.{LeafView, leaf_bytes};
 
 use crate::fault::ArchiveFault;
-use crate::limits::KEPT_LEAF_BYTES;
 use crate::reading::directory_of;
 use byte_source::Bytes;
 use pm_directory::{DirectoryEntry, find};
@@ -47,7 +46,7 @@ impl Model for Leaf {
 
 impl Leaf {
     // The leaf directory that an entry names.
-    fn read<B: Bytes>(
+    pub(crate) fn read<B: Bytes>(
         alloc: Global,
         source: &mut B,
         header: &Header,
@@ -69,48 +68,23 @@ impl Leaf {
     }
 
     // It is the one that this entry names.
-    fn is_of(&self, entry: DirectoryEntry) -> bool
+    pub(crate) fn is_of(&self, entry: DirectoryEntry) -> bool
         ensures { IsTrue result ↔ (self.now.entry ≡ entry) }
     {
         self.entry == entry
     }
 
+    // Its stored length in bytes.
+    pub(crate) fn len(&self) -> u32
+        ensures { result ≡ leaf_bytes self.now }
+    {
+        self.entry.length
+    }
+
     // Its entry that leads to an id.
-    fn leading(&self, id: u64) -> Option<DirectoryEntry>
+    pub(crate) fn leading(&self, id: u64) -> Option<DirectoryEntry>
         ensures { result ≡ leading_of id self.now.entries }
     {
         leading(&self.entries, id)
     }
-}
-
-// The entry that leads to an id, of the leaf directory that an entry names. It is the kept one, or is read, and then kept.
-#[tactic(auto, unfolding(crate::specs::Looked::leading_at))]
-pub(crate) fn leading_below<B: Bytes>(
-    alloc: Global,
-    source: &mut B,
-    header: &Header,
-    entry: DirectoryEntry,
-    kept: &mut Option<Leaf>,
-    id: u64,
-) -> Result<Option<DirectoryEntry>, ArchiveFault>
-    requires { end_of header.now.leaves ≤ B.count source.old }
-    ensures source { Keeps B.count B.holds B.fails B.unchanged source.old source.new }
-    ensures still { (bytes : List ℕ) → B.holds source.new bytes → IsKeptOf bytes header.now kept.old → IsKeptOf bytes header.now kept.new }
-    ensures room { IsSmall kept.old → IsSmall kept.new }
-    ensures first { (bytes : List ℕ) → B.holds source.new bytes → IsKeptOf bytes header.now kept.old
-        → GivesUnless IsOutside (λ found. found) result (leading_at bytes header.now id entry) }
-    ensures read { result ≡ Err ArchiveFault.Read → B.fails source.old }
-    ensures memory { result ≡ Err ArchiveFault.Memory → LiesIn header.now.leaves entry }
-    ensures inside { kept.old ≡ None → OnOk result (LiesIn header.now.leaves entry) }
-{
-    match &*kept {
-        Some(leaf) if leaf.is_of(entry) => return Ok(leaf.leading(id)),
-        _ => {}
-    }
-    let leaf = Leaf::read(alloc, source, header, entry)?;
-    let found = leaf.leading(id);
-    if entry.length <= KEPT_LEAF_BYTES {
-        *kept = Some(leaf);
-    }
-    Ok(found)
 }

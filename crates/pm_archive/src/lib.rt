@@ -10,6 +10,7 @@ mod checking;
 mod counting;
 mod fault;
 mod leaf;
+mod leaves;
 mod limits;
 mod listing;
 mod looking;

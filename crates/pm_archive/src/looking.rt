@@ -1,6 +1,6 @@
 //! The content of one tile id.
 
-ghost use Rattle.std.specs.Prelude.{◌≡◌, ℕ, ◌<◌, ◌≤◌, List, Ok, Err, OnOk, Option, Some, None, option_map};
+ghost use Rattle.std.specs.Prelude.{◌≡◌, ℕ, ◌<◌, ◌≤◌, List, [], Ok, Err, OnOk, Option, Some, None, option_map};
 ghost use Rattle.reader.specs.Reading.{GivesUnless};
 ghost use Rattle.pm_directory.specs.declared.entry.DirectoryEntry.{DirectoryEntry};
 ghost use Rattle.pm_directory.specs.Directory.{IsAscending};
@@ -13,7 +13,8 @@ ghost use Rattle.pm_archive.specs.Looked.{leading_of, reached_at, content_at, lo
 ghost use Rattle.pm_archive.specs.Lookup.{IsKeptOf, IsSmall};
 
 use crate::fault::ArchiveFault;
-use crate::leaf::{Leaf, leading, leading_below};
+use crate::leaf::leading;
+use crate::leaves::{Leaves, leading_below};
 use crate::limits::MAX_LEAVES;
 use crate::reading::content_of;
 use byte_source::Bytes;
@@ -28,7 +29,7 @@ fn tile_entry<B: Bytes>(
     source: &mut B,
     header: &Header,
     entry: Option<DirectoryEntry>,
-    kept: &mut Option<Leaf>,
+    kept: &mut Leaves,
     id: u64,
     more: u8,
 ) -> Result<Option<DirectoryEntry>, ArchiveFault>
@@ -41,8 +42,8 @@ fn tile_entry<B: Bytes>(
     ensures read { result ≡ Err ArchiveFault.Read → B.fails source.old }
     ensures none { entry ≡ None → result ≡ Ok None }
     ensures tile { (tile : DirectoryEntry) → entry ≡ Some tile → 0 < tile.run → result ≡ Ok (Some tile) }
-    ensures inside { kept.old ≡ None → (leaf : DirectoryEntry) → entry ≡ Some leaf → leaf.run ≡ 0 → OnOk result (LiesIn header.now.leaves leaf) }
-    ensures memory { kept.old ≡ None → result ≡ Err ArchiveFault.Memory
+    ensures inside { kept.old ≡ [] → (leaf : DirectoryEntry) → entry ≡ Some leaf → leaf.run ≡ 0 → OnOk result (LiesIn header.now.leaves leaf) }
+    ensures memory { kept.old ≡ [] → result ≡ Err ArchiveFault.Memory
         → (leaf : DirectoryEntry) × (entry ≡ Some leaf) × (leaf.run ≡ 0) × (0 < more) × LiesIn header.now.leaves leaf }
 {
     let leaf = match entry {
@@ -81,13 +82,13 @@ fn content_in<B: Bytes>(
     Ok(Some(content))
 }
 
-// The content of an id, by the directories on the way to its entry: the kept leaf directory, and those that are read.
+// The content of an id, by the directories on the way to its entry: the leaf directories that are kept, and those that are read.
 pub(crate) fn content_below<B: Bytes>(
     alloc: Global,
     source: &mut B,
     header: &Header,
     root: &[DirectoryEntry],
-    kept: &mut Option<Leaf>,
+    kept: &mut Leaves,
     id: u64,
 ) -> Result<Option<Vec<u8>>, ArchiveFault>
     requires placed { ArePlaced (B.count source.old) header.now }
@@ -98,7 +99,7 @@ pub(crate) fn content_below<B: Bytes>(
     ensures first { (bytes : List ℕ) → B.holds source.new bytes → IsKeptOf bytes header.now kept.old
         → GivesUnless IsOutside (option_map (λ v. v.items)) result (looked_at bytes header.now root.now id) }
     ensures read { result ≡ Err ArchiveFault.Read → B.fails source.old }
-    ensures memory { kept.old ≡ None → result ≡ Err ArchiveFault.Memory → LiesInside header.now (leading_of id root.now) }
+    ensures memory { kept.old ≡ [] → result ≡ Err ArchiveFault.Memory → LiesInside header.now (leading_of id root.now) }
 {
     let entry = tile_entry(
         alloc,

@@ -1,6 +1,6 @@
 //! Look-ups of tiles in an archive whose source is passed to each.
 
-ghost use Rattle.std.specs.Prelude.{◌≡◌, ℕ, List, Option, None, Err, IfOk, IfErr, MatchResult, option_map};
+ghost use Rattle.std.specs.Prelude.{◌≡◌, ℕ, List, [], Option, Err, IfOk, IfErr, MatchResult, option_map};
 ghost use Rattle.reader.specs.Reading.{GivesUnless};
 ghost use Rattle.pm_header.specs.declared.header.Header.{Header};
 ghost use Rattle.pm_directory.specs.declared.entry.DirectoryEntry.{DirectoryEntry};
@@ -14,7 +14,7 @@ ghost use Rattle.pm_archive.specs.Lookup.{LookupView, IsLookupOf, IsSmall};
 ghost use Rattle.pm_archive.specs.Answers.{IsOutside, UnlessOutside};
 
 use crate::fault::ArchiveFault;
-use crate::leaf::Leaf;
+use crate::leaves::Leaves;
 use crate::looking::content_below;
 use crate::opening::header_and_root;
 use byte_source::Bytes;
@@ -23,22 +23,23 @@ use pm_header::Header;
 use std::alloc::Global;
 use std::marker::Model;
 
-/// What is kept of an archive between look-ups: its header, its root directory, and the leaf directory that was read last,
-/// where that has at most 65,536 bytes. It owns no source: each call is passed it.
+/// What is kept of an archive between look-ups: its header, its root directory, and leaf directories that were read. One of more
+/// than 65,536 stored bytes isn't kept. If one more would take them over 1,048,576 stored bytes together, all others are dropped
+/// first. It owns no source: each call is passed it.
 #[derive(Drop)]
 pub struct Lookup {
     count: u64,
     header: Header,
     root: Vec<DirectoryEntry>,
-    leaf: Option<Leaf>,
+    leaves: Leaves,
 }
 
 impl Model for Lookup {
     ghost Value = { LookupView };
 
-    ghost view = { λ l. record { count = l.count; header = l.header; root = l.root.items; leaf = l.leaf } };
+    ghost view = { λ l. record { count = l.count; header = l.header; root = l.root.items; leaves = l.leaves } };
 
-    ghost invariant = { λ l. ArePlaced l.count l.header × IsAscending l.root.items × IsSmall l.leaf };
+    ghost invariant = { λ l. ArePlaced l.count l.header × IsAscending l.root.items × IsSmall l.leaves };
 }
 
 impl Lookup {
@@ -51,7 +52,7 @@ impl Lookup {
     pub fn open<B: Bytes>(alloc: Global, source: &mut B) -> Result<Lookup, ArchiveFault>
         ensures source { Keeps B.count B.holds B.fails B.unchanged source.old source.new }
         ensures count { IfOk result (λ l. l.count ≡ B.count source.old) }
-        ensures leaf { IfOk result (λ l. l.leaf ≡ None) }
+        ensures leaves { IfOk result (λ l. l.leaves ≡ []) }
         ensures found { (bytes : List ℕ) → B.holds source.new bytes → IfOk result (IsLookupOf bytes) }
         ensures only { (bytes : List ℕ) (h : Header) (root : List DirectoryEntry) → HasSections bytes h → IsDirectory (section_bytes h.root bytes) root
             → B.holds source.new bytes → MatchResult result (λ l. (l.header ≡ h) × (l.root ≡ root)) IsOutside }
@@ -64,7 +65,7 @@ impl Lookup {
                 count: source.len(),
                 header,
                 root,
-                leaf: None,
+                leaves: Leaves::none(alloc),
             }),
             Err(fault) => Err(fault),
         }
@@ -89,13 +90,20 @@ impl Lookup {
         ensures header { self.new.header ≡ self.old.header }
         ensures root { self.new.root ≡ self.old.root }
         ensures still { (bytes : List ℕ) → B.holds source.new bytes → IsLookupOf bytes self.old → IsLookupOf bytes self.new }
-        ensures room { IsSmall self.new.leaf }
+        ensures room { IsSmall self.new.leaves }
         ensures content { (bytes : List ℕ) (content : ℕ → Option (List ℕ)) → B.holds source.new bytes → IsLookupOf bytes self.old
             → IsArchiveOf bytes content → MatchResult result (λ found. option_map (λ v. v.items) found ≡ content id) IsOutside }
         ensures first { (bytes : List ℕ) → B.holds source.new bytes → IsLookupOf bytes self.old
             → GivesUnless IsOutside (option_map (λ v. v.items)) result (looked_at bytes self.old.header self.old.root id) }
         ensures read { result ≡ Err ArchiveFault.Read → B.fails source.old }
     {
-        content_below(alloc, source, &self.header, &self.root, &mut self.leaf, id)
+        content_below(
+            alloc,
+            source,
+            &self.header,
+            &self.root,
+            &mut self.leaves,
+            id,
+        )
     }
 }

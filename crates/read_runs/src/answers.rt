@@ -1,7 +1,8 @@
 //! What a line comes to.
 use crate::inputs::Inputs;
-use crate::lines::{Line, clipped, line_in, parted};
+use crate::lines::{Line, line_in};
 use crate::{archives, builds, messages, numbers};
+use script_bytes::{clipped, parted};
 use std::alloc::{AllocError, Global};
 
 fn unknown(alloc: Global, line: Line<'_>) -> Result<String, AllocError> {

@@ -1,9 +1,9 @@
 //! Lines about the bytes of archives.
-use crate::lines::number_in;
 use archive_commands::{Verdict, show, verify};
 use pm_archive::{Archive, ArchiveFault, Lookup, is_metadata};
 use pm_directory::{find, read_directory};
 use pm_header::{HEADER_BYTES, Header};
+use script_bytes::number_in;
 use std::alloc::{AllocError, Global};
 
 /// The header, and whether it is written as it was read.

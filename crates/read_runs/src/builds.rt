@@ -1,8 +1,9 @@
 //! Lines about archives that are built.
-use crate::lines::{Line, number_in, parted, place};
+use crate::lines::{Line, place};
 use archive_commands::{Verdict, verify};
 use pm_archive::is_metadata;
 use pm_build::{ArchiveBuilder, BuildFault};
+use script_bytes::{number_in, parted};
 use std::alloc::{AllocError, Global};
 
 /// The metadata of a map of one point.

@@ -1,5 +1,6 @@
 //! The bytes that a line is about.
-use crate::lines::{expanded, number_in, place};
+use crate::lines::place;
+use script_bytes::{expanded, number_in};
 use std::alloc::{AllocError, Global};
 
 /// Bytes that lines gave names.

@@ -1,10 +1,11 @@
 //! Lines about numbers: of shapes, signed ones, ids of tiles, and those that texts write.
-use crate::lines::{Line, number_in, parted, short};
+use crate::lines::Line;
 use byte_range::byte_range;
 use decimal_number::{are_digits, digits_number, push_number, push_text};
 use geometry_commands::{ShapeKind, decode, encode_lines, encode_rings};
 use hilbert_id::{TileAt, id_of, tile_of};
 use pb_wire::{put_varint, unzigzag, zigzag};
+use script_bytes::{number_in, parted, short};
 use std::alloc::{AllocError, Global};
 
 fn kind_in(word: &str) -> ShapeKind {

@@ -1,13 +1,15 @@
-//! How the scripts of test programs spell numbers, bytes and sectors.
+//! How the scripts of test programs spell words, numbers, bytes and sectors.
 //!
 //! The functions have no contracts: each answer of a script is compared with the answer that a model in `bench/model` wrote for it.
 #![tactic(auto)]
 
+mod lines;
 mod numbers;
 mod reading;
 mod sectors;
 mod writing;
 
+pub use lines::{clipped, expanded, number_in, parted, short};
 pub use numbers::{choices_of, numbers_in, push_number};
 pub use reading::add_bytes;
 pub use sectors::{sector_of, used_part};

@@ -3,7 +3,6 @@ use crate::answers::{answers_text, briefly};
 use crate::events::events_in;
 use crate::lines::CallVerb;
 use crate::sessions::{Served, Session, Trial};
-use archive_export::copy_archive;
 use pm_archive::Archive;
 use script_bytes::spelled_briefly;
 use std::alloc::{AllocError, Global};
@@ -105,25 +104,6 @@ fn verify(alloc: Global, service: &mut Served) -> Result<Option<String>, AllocEr
     }
 }
 
-fn export(alloc: Global, service: &mut Served) -> Result<Option<String>, AllocError> {
-    let mut bytes = Vec::new(alloc);
-    let outcome = copy_archive(service, &mut bytes);
-    let copied = spelled_briefly(alloc, &bytes)?;
-    Ok(Some(format!(in alloc; "{outcome:?} {copied}")?))
-}
-
-/// Copies the archive to a writer with room for `room` bytes.
-fn export_into(
-    alloc: Global,
-    service: &mut Served,
-    room: u64,
-) -> Result<Option<String>, AllocError> {
-    let mut bytes = vec![in alloc; 0; room.min(MAX_READ) as usize]?;
-    let outcome = copy_archive(service, &mut bytes.as_mut_slice());
-    let copied = spelled_briefly(alloc, &bytes)?;
-    Ok(Some(format!(in alloc; "{outcome:?} {copied}")?))
-}
-
 fn metadata(alloc: Global, service: &Served) -> Result<Option<String>, AllocError> {
     match service.metadata() {
         Ok(value) => Ok(Some(briefly(alloc, value.to_string(alloc)?)?)),
@@ -142,8 +122,6 @@ fn call_answered(
         (CallVerb::Publish, []) => publish(alloc, service),
         (CallVerb::Archive, []) => archive(alloc, service),
         (CallVerb::Archive, [at, count]) => part(alloc, service, *at, *count),
-        (CallVerb::Export, []) => export(alloc, service),
-        (CallVerb::Export, [room]) => export_into(alloc, service, *room),
         (CallVerb::Verify, []) => verify(alloc, service),
         (CallVerb::Metadata, []) => metadata(alloc, service),
         (CallVerb::Version, []) => outcome_text(alloc, service.version()),

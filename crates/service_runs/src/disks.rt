@@ -1,4 +1,5 @@
 //! Commands on the sectors of a closed disk.
+use crate::exports;
 use crate::lines::{DiskVerb, Line};
 use crate::sessions::{Session, Trial};
 use generations::{FIRST_VERSION, LAST_VERSION, StoreFault, format_version};
@@ -135,6 +136,8 @@ pub(crate) fn answered(
         (DiskVerb::Format, []) => work_answered(alloc, trial, Work::Format),
         (DiskVerb::FormatVersion, [version]) => format_in(alloc, trial, *version),
         (DiskVerb::Upgrade, []) => work_answered(alloc, trial, Work::Upgrade),
+        (DiskVerb::Export, []) => exports::answered(alloc, trial, None),
+        (DiskVerb::Export, [room]) => exports::answered(alloc, trial, Some(*room)),
         _ => match &mut trial.session {
             Session::Closed(disk) => closed_answered(alloc, disk, verb, line),
             Session::Open(_) => Ok(None),

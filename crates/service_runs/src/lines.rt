@@ -12,6 +12,7 @@ pub(crate) enum DiskVerb {
     Format,
     FormatVersion,
     Upgrade,
+    Export,
 }
 
 /// Commands that open, close and crash a disk.
@@ -31,7 +32,6 @@ pub(crate) enum SessionVerb {
 pub(crate) enum CallVerb {
     Publish,
     Archive,
-    Export,
     Verify,
     Metadata,
     Version,
@@ -63,6 +63,7 @@ fn disk_verb_in(word: &str) -> Option<Verb> {
         "format" => Some(Verb::Disk(DiskVerb::Format)),
         "format_version" => Some(Verb::Disk(DiskVerb::FormatVersion)),
         "upgrade" => Some(Verb::Disk(DiskVerb::Upgrade)),
+        "export" => Some(Verb::Disk(DiskVerb::Export)),
         _ => None,
     }
 }
@@ -84,7 +85,6 @@ fn call_verb_in(word: &str) -> Option<Verb> {
     match word {
         "publish" => Some(Verb::Call(CallVerb::Publish)),
         "archive" => Some(Verb::Call(CallVerb::Archive)),
-        "export" => Some(Verb::Call(CallVerb::Export)),
         "verify" => Some(Verb::Call(CallVerb::Verify)),
         "metadata" => Some(Verb::Call(CallVerb::Metadata)),
         "version" => Some(Verb::Call(CallVerb::Version)),

@@ -10,10 +10,11 @@
 //! | `disk N` | makes a disk of N sectors of zeros |
 //! | `write AT = BYTES` | writes a sector: these bytes, padded with zeros |
 //! | `sector AT`, `sectors` | prints a sector up to its last nonzero byte; the numbers of the sectors that are not all zeros |
-//! | `fail_from N` | after the next `format`, `upgrade` or `open`, all calls of the disk from number N on fail |
+//! | `fail_from N` | after the next `format`, `upgrade`, `export` or `open`, all calls of the disk from number N on fail |
 //! | `fail_not_made N`, `fail_made N` | the same of call N alone, before or after its work is done |
 //! | `format`, `format_version V` | formats the disk for the empty map, in the last version of the format or in version V |
 //! | `upgrade` | upgrades the disk to the last version of the format |
+//! | `export`, `export N` | copies the published archive of the disk, which isn't opened; to a writer that has room for N bytes |
 //! | `open` | opens the disk as a service |
 //! | `stop` | takes the disk away with its unsynced writes, and prints the number of calls since it was opened |
 //! | `resume` | brings the stopped disk back |
@@ -24,7 +25,6 @@
 //! | `publish` | publishes the map by one call |
 //! | `archive`, `archive AT N` | reads the published archive, or N bytes of it |
 //! | `verify` | verifies the published archive |
-//! | `export`, `export N` | copies the archive, to a writer that has room for N bytes |
 //! | `metadata`, `version` | prints the metadata of the map; the version of the disk |
 #![tactic(auto)]
 
@@ -32,6 +32,7 @@ mod answers;
 mod calls;
 mod disks;
 mod events;
+mod exports;
 mod features;
 mod lines;
 mod sessions;

@@ -49,6 +49,10 @@ impl Trial {
         }
     }
 
+    pub(crate) fn is_open(&self) -> bool {
+        matches!(self.session, Session::Open(_))
+    }
+
     /// The failing calls of the next session. No call of a later one fails.
     pub(crate) fn take_failing(&mut self) -> FailingCalls {
         mem::replace(&mut self.failing, NONE)

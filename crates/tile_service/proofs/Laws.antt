@@ -19,7 +19,7 @@ use Rattle.tile_service.specs.Stored.{Stored, Holds, CanRecord, root_of, HasByte
 pub use Rattle.tile_service.proofs.Appends.{append_leaves}
 use Rattle.tile_service.proofs.Bytes.{one_bytes}
 pub use Rattle.tile_service.proofs.Fresh.{fresh_holds}
-use Rattle.tile_service.proofs.Roots.{lives}
+pub use Rattle.tile_service.proofs.Roots.{lives}
 
 abbrev head : List RecordData → RecordData
 head [] = record_of 0 []

@@ -33,41 +33,11 @@ use Rattle.tile_service.specs.Machine.{ServiceState, single, batched, recorded_i
 
 -- ---- numbers
 
-at_other : (id other : ℕ) → (id ≡ other → ⊥) → is_at (nat_cmp id) other ≡ false
-at_other id other apart = grind (arith, nat_tests)
-
-at_same : (id other : ℕ) → id ≡ other → is_at (nat_cmp id) other ≡ true
-at_same id other same = grind (arith, nat_tests)
-
-looked_up : (m : FeatureMap) (id : ℕ) → All (λ e. IsChange (put e.0 e.1)) m → IfSome (lookup (is_at (nat_cmp id)) m) (IsAllowed id)
-looked_up [] id edits = tt
-looked_up (e ∷ m) id edits =
-    let holds : Bool → Type 0 = λ b. IfSome (cond b (Some e.1) (lookup (is_at (nat_cmp id)) m)) (IsAllowed id) in
-    ⊎_elim
-    (λ (same : id ≡ e.0). subst holds (sym (at_same id e.0 same))
-    (subst (λ (n : ℕ). IsAllowed n e.1) (sym same) (All-head (λ e. IsChange (put e.0 e.1)) e m edits).0))
-    (λ (apart : id ≡ e.0 → ⊥). subst holds (sym (at_other id e.0 apart))
-    (looked_up m id (All-tail (λ e. IsChange (put e.0 e.1)) e m edits)))
-    (cases_eq id e.0)
-
--- the feature of an id is within the limits
-pub allowed_there : (m : FeatureMap) (id : ℕ) → IsMap m → IfSome (feature_at m id) (IsAllowed id)
-unfolding feature_at
-allowed_there m id is_map = looked_up m id is_map.edits
-
-fits_of : (id : ℕ) (f : Option FeatureData) → IfSome f (IsAllowed id) → IsSome f → NumberFits id
-fits_of id None allowed is = absurd (false≢true is)
-fits_of id (Some f) allowed is = allowed.number
-
--- what has a feature is a number of one
-pub number_there : (m : FeatureMap) (id : ℕ) → IsMap m → IsSome (feature_at m id) → NumberFits id
-number_there m id is_map = fits_of id (feature_at m id) (allowed_there m id is_map)
-
--- what holds of the value of each item holds of the item
-pub of_value : {A B : Type 0} (value : A → B) (Holds : B → Type 0) (item : Option A) → IfSome (option_map value item) Holds
-    → IfSome item (λ a. Holds (value a))
-of_value value Holds None holds = tt
-of_value value Holds (Some a) holds = holds
+-- what has a feature within the limits is a number of one
+pub fits_there : {A : Type 0} (value : A → FeatureData) (id : ℕ) (found : Option A) → IfSome found (λ a. IsAllowed id (value a)) → IsSome found
+    → NumberFits id
+fits_there value id None allowed is = absurd (false≢true is)
+fits_there value id (Some a) allowed is = allowed.number
 
 -- ---- the limits of edits
 

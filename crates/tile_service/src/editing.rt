@@ -82,8 +82,6 @@ fn has(store: &Store, id: u64) -> bool
     ensures found { IsTrue result ↔ IsSome (feature_at store.now.features id) }
     ensures number { IsTrue result → NumberFits id }
 {
-    // `len` states `IsMap`, so each id in it fits.
-    let _count = store.len();
     store.get(id).is_some()
 }
 

@@ -6,7 +6,7 @@ ghost use Rattle.sector_disk.specs.Disk.History.{synced};
 ghost use Rattle.sector_disk.specs.Moments.{LeavesOnly};
 ghost use Rattle.generations.specs.Areas.{IsSize};
 ghost use Rattle.generations.specs.Disks.{HasNoMark, IsFaultOf};
-ghost use Rattle.generations.specs.Faults.{TellsDevice};
+ghost use Rattle.generations.specs.Faults.{EndsFormat, TellsDevice};
 ghost use Rattle.generations.specs.Sectors.{version_from};
 ghost use Rattle.generations.specs.declared.fault.StoreFault.TheVariants.{NotFormatted, TooSmall, Device, Damaged};
 ghost use Rattle.generations.specs.declared.fault.What.TheVariants.{Size};
@@ -21,9 +21,7 @@ impl<D: Sectors + Drop> Service<D> {
     /// Formats a disk of `MIN_SECTORS` to `MAX_SECTORS` sectors with the empty map; any other is left untouched. Its content is lost:
     /// after a fault of the disk or a crash it holds its earlier content, or has no format, or holds the empty map.
     pub fn format(disk: &mut D) -> Result<(), StoreFault>
-        ensures small { (result ≡ Err TooSmall) ↔ (D.sectors disk.old < MIN_SECTORS) }
-        ensures large { (result ≡ Err (Damaged Size)) ↔ (MAX_SECTORS < D.sectors disk.old) }
-        ensures only { IfErr result (λ fault. (fault ≡ TooSmall) ⊎ (fault ≡ Damaged Size) ⊎ (fault ≡ Device)) }
+        ensures ends { EndsFormat (D.sectors disk.old) result }
         ensures untouched { (IsSize (D.sectors disk.old) → ⊥) → disk.new ≡ disk.old }
         ensures disk { MayWrite D.sectors D.honest disk.old disk.new }
         ensures failed { TellsDevice result (D.faults disk.old) (D.faults disk.new) }

@@ -1,24 +1,16 @@
 //! The last published archive.
 ghost use Rattle.std.specs.Prelude.{◌≡◌, ◌≤◌, ◌+◌, ℕ, List, length, slice_range, IfErr, OnOk};
 ghost use Rattle.sector_disk.specs.Asked.{OnlyReads};
-ghost use Rattle.generations.specs.Areas.{sectors_of};
 ghost use Rattle.tile_service.specs.Service.{IsUp, ShowsArchive, TellsDevice, archive_of};
 ghost use Rattle.tile_service.specs.Stored.{Stored};
 ghost use Rattle.tile_service.specs.declared.fault.ServiceFault.TheVariants.{Device};
 
 use crate::fault::ServiceFault;
 use crate::service::Service;
-use crate::snapshot_reading::area_of;
+use generations::sectors_for;
 use published_tiles::ArchivePlace;
 use sector_bytes::read_bytes;
-use sector_disk::{DiskFault, SECTOR_BYTES, Sectors};
-
-/// How many sectors `bytes` bytes take.
-fn sectors_for(bytes: u64) -> u64
-    ensures { result ≡ sectors_of bytes }
-{
-    bytes.div_ceil(SECTOR_BYTES as u64)
-}
+use sector_disk::{DiskFault, Sectors};
 
 impl<D: Sectors + Drop> Service<D> {
     /// The length of the published archive in bytes, 0 if none.
@@ -34,7 +26,8 @@ impl<D: Sectors + Drop> Service<D> {
     {
         ArchivePlace {
             generation: self.root.generation,
-            first: area_of(self.layout, self.root.generation) + sectors_for(self.root.snapshot_len),
+            first: self.layout.area_start(self.root.generation)
+                + sectors_for(self.root.snapshot_len),
             len: self.root.archive_len,
         }
     }

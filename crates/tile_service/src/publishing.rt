@@ -39,6 +39,8 @@ pub(crate) struct Publication {
     pub(crate) places: u64,
     /// How many sectors of the content are written.
     pub(crate) written: u64,
+    /// Whether each step syncs what it wrote, since an edit may come before the next.
+    pub(crate) pauses: bool,
 }
 
 impl Model for Publication {
@@ -83,8 +85,8 @@ fn content_for(alloc: Global, store: &Store, area: u64) -> Result<AreaContent, S
     }
 }
 
-/// Writes the sectors `from..to` of the content into the area of a generation. Unless they are the last, it syncs them, so that the
-/// sync of an edit before the next step doesn't write them.
+/// Writes the sectors `from..to` of the content into the area of a generation. If a pause follows and they aren't the last, it syncs
+/// them, so that the sync of an edit before the next step doesn't write them.
 fn write_sectors<D: Sectors>(
     disk: &mut D,
     layout: Layout,
@@ -92,6 +94,7 @@ fn write_sectors<D: Sectors>(
     content: &AreaContent,
     from: u64,
     to: u64,
+    pauses: bool,
 ) -> Result<(), DiskFault>
     requires order { from ≤ to }
     requires within { to ≤ sectors_taken content.now }
@@ -122,7 +125,7 @@ fn write_sectors<D: Sectors>(
     for index in from..to {
         write_area(disk, layout, generation, index, &content.sector(index))?;
     }
-    if to < content.sectors() {
+    if pauses && to < content.sectors() {
         disk.sync()?;
     }
     Ok(())
@@ -208,6 +211,7 @@ impl<D: Sectors + Drop> Service<D> {
             &publication.content,
             publication.written,
             written,
+            publication.pauses,
         ) {
             Ok(()) => {}
             Err(DiskFault) => {
@@ -220,6 +224,7 @@ impl<D: Sectors + Drop> Service<D> {
             start: publication.start,
             places: publication.places,
             written,
+            pauses: publication.pauses,
         };
         if left <= STEP_SECTORS {
             return self.install_now(publication);
@@ -262,6 +267,7 @@ impl<D: Sectors + Drop> Service<D> {
                     start: self.journal.next(),
                     places: self.journal.used,
                     written: 0,
+                    pauses: true,
                 });
                 Ok(left)
             }

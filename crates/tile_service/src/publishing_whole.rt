@@ -6,6 +6,7 @@ ghost use Rattle.tile_service.specs.Service.{KeepsArchive, TellsDevice};
 ghost use Rattle.tile_service.specs.declared.fault.ServiceFault.TheVariants.{Broken, Busy, Device};
 
 use crate::fault::ServiceFault;
+use crate::publishing::Publication;
 use crate::service::Service;
 use sector_disk::Sectors;
 
@@ -20,8 +21,30 @@ pub struct Published {
     pub archive_len: u64,
 }
 
+impl Publication {
+    /// The same, whose steps follow each other without a pause.
+    fn without_pauses(self) -> Publication
+        ensures { result ≡ self }
+    {
+        Publication {
+            content: self.content,
+            start: self.start,
+            places: self.places,
+            written: self.written,
+            pauses: false,
+        }
+    }
+}
+
 impl<D: Sectors + Drop> Service<D> {
-    /// Publishes the map: begins a publication, and continues it to its end.
+    /// Has the publication that is under way go on without a sync between its steps, since no edit comes before its end.
+    fn go_on(&mut self)
+        ensures { self.new ≡ self.old }
+    {
+        self.publication = self.publication.take().map(Publication::without_pauses);
+    }
+
+    /// Publishes the map: begins a publication, and continues it to its end. What it writes is synced once, before the root.
     ///
     /// # Errors
     ///
@@ -42,6 +65,7 @@ impl<D: Sectors + Drop> Service<D> {
             Ok(told) => told,
             Err(fault) => return Err(fault),
         };
+        self.go_on();
         while rest > 0 {
             rest = match self.publish_step() {
                 Ok(told) => told,

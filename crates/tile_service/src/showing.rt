@@ -34,10 +34,7 @@ impl<D: Sectors + Drop> Service<D> {
         ensures found { option_map (λ f. feature_data f.now) result ≡ feature_at self.now.features id }
         ensures allowed { IfSome result (λ f. IsAllowed id (feature_data f.now)) }
     {
-        let store = self.map.store();
-        // The contract of `len` states that the features are a map, so they are within the limits.
-        let _count = store.len();
-        store.get(id)
+        self.map.store().get(id)
     }
 
     /// The bytes of a tile in the last published archive, `None` if it is empty there.

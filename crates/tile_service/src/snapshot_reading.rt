@@ -3,7 +3,7 @@ ghost use Rattle.std.specs.Prelude.{◌≡◌, ◌⊎◌, ◌≤◌, ◌<◌, �
 ghost use Rattle.sector_disk.specs.Asked.{OnlyReads};
 ghost use Rattle.sector_disk.specs.Disk.{seen};
 ghost use Rattle.sector_bytes.specs.Bytes.{StandsIn};
-ghost use Rattle.generations.specs.Areas.{area_start, sectors_of};
+ghost use Rattle.generations.specs.Areas.{sectors_of};
 ghost use Rattle.generations.specs.Faults.{TellsDevice};
 ghost use Rattle.generations.specs.Sectors.{CanStand};
 ghost use Rattle.generations.specs.declared.fault.StoreFault.TheVariants.{Damaged, Device, Memory};
@@ -19,13 +19,6 @@ use sector_bytes::read_bytes;
 use sector_disk::{DiskFault, Sectors};
 use std::alloc::{AllocError, Global};
 
-/// The first sector of the area of a generation.
-pub(crate) fn area_of(layout: Layout, generation: u64) -> u64
-    ensures { result ≡ area_start layout.sectors generation }
-{
-    3 + layout.journal + generation % 2 * layout.area
-}
-
 /// The map of a snapshot.
 fn map_in(alloc: Global, text: &[u8]) -> Result<Store, StoreFault>
     requires { length text.now < TEXTS_END }
@@ -34,11 +27,7 @@ fn map_in(alloc: Global, text: &[u8]) -> Result<Store, StoreFault>
     ensures fault { IfErr result (λ fault. (fault ≡ Memory) ⊎ ((fault ≡ Damaged Snapshot) × IsNoSnapshot text.now)) }
 {
     match Store::from_snapshot(alloc, text) {
-        Ok(store) => {
-            // The contract of `len` states that it is a map.
-            let _count = store.len();
-            Ok(store)
-        }
+        Ok(store) => Ok(store),
         Err(SnapshotFault::Bad) => Err(StoreFault::Damaged(What::Snapshot)),
         Err(SnapshotFault::Memory) => Err(StoreFault::Memory),
     }
@@ -84,7 +73,7 @@ pub(crate) fn read_snapshot<D: Sectors>(
     ensures fault { (version : ℕ) → D.honest disk.new
         → IfErr result (λ fault. (fault ≡ Device) ⊎ (fault ≡ Memory) ⊎ IsContentFault layout.sectors version root (seen (D.history disk.old)) fault) }
 {
-    let first = area_of(layout, root.generation);
+    let first = layout.area_start(root.generation);
     let text = match read_text(alloc, disk, first, root.snapshot_len) {
         Ok(text) => text,
         Err(fault) => return Err(fault),

@@ -1,16 +1,16 @@
 //! The command that writes the published archive into a file.
-ghost use Rattle.std.specs.Prelude.{◌≡◌, IfOk};
+ghost use Rattle.std.specs.Prelude.{◌≤◌, ◌+◌};
+ghost use Rattle.generations.specs.Areas.{sectors_of};
 
 use crate::fault::CommandFault;
 use crate::files::{OpenedFile, opened_file};
-use archive_export::{CopyFault, copy_archive};
+use archive_export::{ArchivePlace, CopyFault, copy_archive, find_archive};
 use generations::StoreFault;
 use map_disks::sync_folder;
 use sector_disk::{Sectors, Start};
 use std::fs::{self, File, OpenOptions, Permissions};
 use std::io::{self, ErrorKind};
 use std::os::unix::fs::{MetadataExt, OpenOptionsExt, PermissionsExt};
-use tile_service::Service;
 
 /// Whether two paths lead to one file.
 fn is_same_file(rt: &HostRuntime, path: &str, other: &str) -> bool {
@@ -20,18 +20,22 @@ fn is_same_file(rt: &HostRuntime, path: &str, other: &str) -> bool {
     }
 }
 
-/// Copies the archive into a file, and syncs it: how many bytes it has.
-fn copy_into<D: Sectors + Drop>(service: &mut Service<D>, file: File) -> Result<u64, CommandFault>
-    ensures size { IfOk result (λ size. size ≡ service.old.archive_len) }
+/// Copies an archive of a disk into a file, and syncs it.
+fn copy_into<D: Sectors>(
+    disk: &mut D,
+    archive: ArchivePlace,
+    file: File,
+) -> Result<(), CommandFault>
+    requires on_disk { archive.first + sectors_of archive.len ≤ D.sectors disk.old }
 {
     let mut file = file;
-    let size = match copy_archive(service, &mut file) {
-        Ok(size) => size,
+    match copy_archive(disk, archive, &mut file) {
+        Ok(()) => {}
         Err(CopyFault::Device) => return Err(CommandFault::Store(StoreFault::Device)),
         Err(CopyFault::Write) => return Err(CommandFault::File),
-    };
+    }
     match file.sync_all() {
-        Ok(()) => Ok(size),
+        Ok(()) => Ok(()),
         Err(_) => Err(CommandFault::File),
     }
 }
@@ -71,15 +75,15 @@ fn new_file(rt: &HostRuntime, path: &str, permissions: Option<Permissions>) -> i
     }
 }
 
-/// Writes the archive into a new file beside FILE, renames it to FILE, and returns its length in bytes. A crash leaves the old FILE
-/// or the whole archive.
-fn write_beside<D: Sectors + Drop>(
+/// Writes an archive of a disk into a new file beside FILE, and renames it to FILE. A crash leaves the old FILE or the whole archive.
+fn write_beside<D: Sectors>(
     rt: &HostRuntime,
-    service: &mut Service<D>,
+    disk: &mut D,
+    archive: ArchivePlace,
     goal: &str,
     permissions: Option<Permissions>,
-) -> Result<u64, CommandFault>
-    ensures size { IfOk result (λ size. size ≡ service.old.archive_len) }
+) -> Result<(), CommandFault>
+    requires on_disk { archive.first + sectors_of archive.len ≤ D.sectors disk.old }
 {
     let Ok(part) = format!(in rt.alloc(); "{goal}.part") else {
         return Err(CommandFault::Store(StoreFault::Memory));
@@ -87,8 +91,8 @@ fn write_beside<D: Sectors + Drop>(
     let Ok(file) = new_file(rt, part.as_str(), permissions) else {
         return Err(CommandFault::File);
     };
-    let written = match copy_into(service, file) {
-        Ok(size) => rename(rt, part.as_str(), goal).map(|()| size),
+    let written = match copy_into(disk, archive, file) {
+        Ok(()) => rename(rt, part.as_str(), goal),
         Err(fault) => Err(fault),
     };
     if written.is_err() {
@@ -97,50 +101,44 @@ fn write_beside<D: Sectors + Drop>(
     written
 }
 
-/// Writes the archive of a service into a file, unless that is the file at this path, and says how many bytes it has. A file that
-/// is replaced leaves its permissions to the new one.
-fn export_lent<D: Sectors + Drop>(
+/// Writes the archive that was published last on a disk into a file, unless that is the file at this path, and says how many bytes it
+/// has. A file that is replaced leaves its permissions to the new one.
+fn export<D: Sectors>(
     rt: &HostRuntime,
-    service: &mut Service<D>,
+    disk: &mut D,
     path: &str,
     goal: &str,
 ) -> Result<(), CommandFault> {
-    if service.archive_len() == 0 {
+    let archive = match find_archive(disk) {
+        Ok(archive) => archive,
+        Err(fault) => return Err(CommandFault::Store(fault)),
+    };
+    if archive.len == 0 {
         return Err(CommandFault::NoArchive);
     }
     if is_same_file(rt, path, goal) {
         return Err(CommandFault::File);
     }
     let permissions = replaced_permissions(rt, goal)?;
-    let size = write_beside(rt, service, goal, permissions)?;
+    write_beside(rt, disk, archive, goal, permissions)?;
+    let size = archive.len;
     match println!(rt; "{size} bytes") {
         Ok(()) => Ok(()),
         Err(_) => Err(CommandFault::Write),
     }
 }
 
-/// The same of a service that ends then.
-fn export_from<D: Sectors + Drop>(
-    rt: &HostRuntime,
-    service: Service<D>,
-    path: &str,
-    goal: &str,
-) -> Result<(), CommandFault> {
-    let mut service = service;
-    export_lent(rt, &mut service, path, goal)
-}
-
 /// Writes the archive that was published last on the disk in a file, whatever the file had, into another file, and says how many
-/// bytes it has.
+/// bytes it has. Only the disk's format, its roots and the archive are read.
 pub(crate) fn export_file<S: Start>(
     rt: &HostRuntime,
     path: &str,
     goal: &str,
     start: S,
 ) -> Result<(), CommandFault> {
-    let OpenedFile { disk, held: _held } = opened_file(rt, path, start)?;
-    match Service::open(rt.alloc(), disk) {
-        Ok(service) => export_from(rt, service, path, goal),
-        Err((_, fault)) => Err(CommandFault::Store(fault)),
-    }
+    let OpenedFile {
+        mut disk,
+        held: _held,
+    } = opened_file(rt, path, start)?;
+    export(rt, &mut disk, path, goal)
 }

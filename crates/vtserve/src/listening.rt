@@ -7,11 +7,12 @@ ghost use Rattle.tile_service.specs.Runs.{TakesRun};
 
 use crate::fault::CommandFault;
 use clap::ArgMatches;
+use generations::StoreFault;
 use http_listen::ListenFault;
 use map_listen::serve_map_on;
 use map_replies::MapReplies;
 use sector_disk::Sectors;
-use std::io::{self, Write};
+use std::io::{self, LineWriter, Write};
 use std::net::{Ipv4Addr, SocketAddr, TcpListener};
 
 /// Where connections come from, and how many.
@@ -56,18 +57,15 @@ pub(crate) fn serve_connections<D: Sectors + Drop>(
     else {
         return Err(CommandFault::Listen);
     };
+    // Each line of the log is one call of the system.
+    let Ok(mut log) = LineWriter::new(rt.alloc(), rt.stderr()) else {
+        return Err(CommandFault::Store(StoreFault::Memory));
+    };
     let Ok(()) = tell_port(rt, asked.port) else {
         return Err(CommandFault::Write);
     };
     let connections = u64::from(asked.connections);
-    match serve_map_on(
-        rt,
-        rt.alloc(),
-        &listener,
-        connections,
-        service,
-        &mut rt.stderr(),
-    ) {
+    match serve_map_on(rt, rt.alloc(), &listener, connections, service, &mut log) {
         Ok(()) => Ok(()),
         Err(ListenFault::Accept) => Err(CommandFault::Listen),
     }

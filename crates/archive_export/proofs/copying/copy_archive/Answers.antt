@@ -1,4 +1,4 @@
-use Rattle.std.proofs.Common.{◌≤◌, length, drop, arith, rules, ◌∙◌, length-append, length-drop}
+use Rattle.std.proofs.Common.{◌≤◌, length, drop, arith, ◌∙◌, length-append, length-drop}
 use Rattle.std.proofs.lemmas.List.{length-take-le}
 use Rattle.sector_disk.proofs.AskedLaws.{reads_on}
 use Rattle.archive_export.proofs.Joined.{copies_more, copies_all}
@@ -16,16 +16,14 @@ loop-at-preserved g c =
     record {
       within = omega (arith, inv.within);
       length = omega (arith, length-append c.copy_piece.new.piece (drop count c.loop-at.piece), length-drop count c.loop-at.piece, long, ok.length, inv.length);
-      same = search rules;
       disk = reads_on inv.disk ok.disk;
       faults = ok.failed ∙ inv.faults;
-      copied = copies_more g.D.Sectors.honest g.D.Sectors.history c.args.service.now c.loop-at.service c.copy_piece.new.service
-          _ _ _ c.loop-at.at count _ long ok.disk.was_honest inv.same inv.disk.same_history inv.copied ok.copied;
-      up = λ stored was honest. ok.up stored (inv.up stored was (ok.disk.was_honest honest)) honest;
+      copied = copies_more g.D.Sectors.honest g.D.Sectors.history c.args.archive c.args.disk.now c.loop-at.disk c.copy_piece.new.disk
+          _ _ _ c.loop-at.at count _ long ok.disk.was_honest inv.disk.same_history inv.copied ok.copied;
     }
 
 pub returns-clause-copied : goal.returns-clause-copied
 returns-clause-copied g c =
     let inv = c.loop-at.invariant in
-    copies_all g.D.Sectors.honest g.D.Sectors.history c.args.service.now c.loop-at.service _ _ c.loop-at.at
-    (omega (arith, inv.within, c.loop-at-test.false, c.archive_len-size.ensures)) inv.copied
+    copies_all g.D.Sectors.honest g.D.Sectors.history c.args.archive c.args.disk.now c.loop-at.disk _ _ c.loop-at.at
+    (omega (arith, inv.within, c.loop-at-test.false)) inv.copied

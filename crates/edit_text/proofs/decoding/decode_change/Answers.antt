@@ -19,7 +19,8 @@ returns-in_err-change-clause-cut c = λ is.
 pub returns-in_err-change-clause-only_cut : goal.returns-in_err-change-clause-only_cut
 returns-in_err-change-clause-only_cut c = λ cut.
     let same : c.from_residual.result ≡ Err c.in_err-change.field-0.0 = search rules in
-    told_either c.from_residual.result c.in_err-change.field-0.0 same (err_only_cut limited_change c.args.bytes.now c.in_err-change.field-0.0 c.in_err-change.ensures.change cut)
+    let fault = c.in_err-change.field-0.0 in
+    told_either c.from_residual.result fault same (err_only_cut limited_change c.args.bytes.now fault c.in_err-change.ensures.change cut)
 
 pub returns-in_err-change-clause-bad : goal.returns-in_err-change-clause-bad
 returns-in_err-change-clause-bad c = λ is.
@@ -44,7 +45,9 @@ returns-clause-len c =
     omega (arith, found.1, c.min.ensures)
 
 pub returns-clause-only : goal.returns-clause-only
-returns-clause-only c = λ e begins. ok_only limited_change c.args.bytes.now (change_data c.in_ok-change.change) c.in_ok-change.rest.now c.in_ok-change.ensures.change e begins
+returns-clause-only c = λ e begins.
+    ok_only limited_change c.args.bytes.now (change_data c.in_ok-change.change) c.in_ok-change.rest.now c.in_ok-change.ensures.change e begins
 
 pub returns-clause-only_cut : goal.returns-clause-only_cut
-returns-clause-only_cut c = λ cut. absurd (ok_not_cut limited_change c.args.bytes.now (change_data c.in_ok-change.change) c.in_ok-change.rest.now c.in_ok-change.ensures.change cut)
+returns-clause-only_cut c = λ cut.
+    absurd (ok_not_cut limited_change c.args.bytes.now (change_data c.in_ok-change.change) c.in_ok-change.rest.now c.in_ok-change.ensures.change cut)

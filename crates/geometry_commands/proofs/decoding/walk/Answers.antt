@@ -7,7 +7,7 @@ use Rattle.geometry_commands.proofs.decoding.walk.Goals as goal
 
 pub returns-in_err-to-clause-exact : goal.returns-in_err-to-clause-exact
 returns-in_err-to-clause-exact c =
-    let p = err_from_is_err_and c.from_residual.result c.from_residual.ensures.1 in
+    let p = err_from_is_err_and c.from_residual-in_err-to.result c.from_residual-in_err-to.ensures.1 in
     let stopped = walk_step_stop c.loop-i.points.items c.loop-i.at c.loop-i.rest.now c.in_err-to.field-0.0 c.in_err-to.ensures.exact in
     rw (p.1, p.2) (λ _. repeated_stop walk_step c.args.count c.loop-i.i (c.loop-i.points.items, c.loop-i.at, c.loop-i.rest.now) _ _
     c.loop-i-test.true c.loop-i.invariant.spelled stopped)

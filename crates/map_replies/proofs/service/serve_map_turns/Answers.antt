@@ -1,5 +1,4 @@
-use Rattle.http_serve.proofs.ServeLemmas.{if_ok, if_err, served_input}
-use Rattle.map_replies.specs.State.{ServiceReplies}
+use Rattle.http_serve.proofs.ServeLemmas.{if_ok, if_err}
 use Rattle.map_replies.proofs.Connections.{connection_runs, ended_connection_runs}
 use Rattle.map_replies.proofs.service.serve_map_turns.Goals as goal
 
@@ -9,7 +8,7 @@ returns g c =
     let call = c.serve_turns.ensures in
     let result = c.serve_turns.result in
     record {
-      input = if_ok result _ _ (λ end. served_input (ServiceReplies d.sectors d.honest d.history d.faults) _ _ _ end _ _ _) call.served;
+      input = call.input;
       served = if_ok result _ _ (λ end. connection_runs d.sectors d.honest d.history d.faults _ _ _ end _ _ _) call.served;
       fault = if_err result _ _ (λ why. ended_connection_runs d.sectors d.honest d.history d.faults _ _ _ why _ _ _) call.fault;
       content = call.content;

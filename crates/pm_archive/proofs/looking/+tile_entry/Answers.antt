@@ -1,6 +1,14 @@
 use Rattle.std.proofs.lemmas.Result.{err_from_is_err_and}
-use Rattle.pm_archive.proofs.LookedSteps.{reached_fault}
+use Rattle.pm_archive.proofs.LookedSteps.{reached_on, reached_fault}
 use Rattle.pm_archive.proofs.looking.+tile_entry.Goals as goal
+
+pub returns-clause-first : goal.returns-clause-first
+returns-clause-first g t c = λ bytes holds kept.
+    let before = c.tile_entry.ensures.source.no_others bytes holds in
+    rw c.in-Some.is
+    (reached_on bytes c.args.header.now c.args.id (λ e. e) c.tile_entry.result c.args.more c.in-Some.leaf c.in_ok-below.below
+    c.if-leaf-gt0.false c.if-more-eq0.false (c.in_ok-below.ensures.first bytes before kept)
+    (c.tile_entry.ensures.first bytes holds (c.in_ok-below.ensures.still bytes before kept)))
 
 pub returns-in_err-below-clause-first : goal.returns-in_err-below-clause-first
 returns-in_err-below-clause-first g t c =

@@ -11,7 +11,7 @@ pub returns-clause-fault : goal.returns-clause-fault
 returns-clause-fault g c version honest =
     let image = seen (g.D.Sectors.history c.args.disk.now) in
     snapshot_fault c.args.layout.sectors version c.args.root image c.in-Ok.text.items c.map_in.result
-    (subst (λ (first : ℕ). StandsIn first c.in-Ok.text.items image) c.area_of-first.ensures (c.in-Ok.ensures.stands honest))
+    (subst (λ (first : ℕ). StandsIn first c.in-Ok.text.items image) c.area_start-first.ensures (c.in-Ok.ensures.stands honest))
     c.in-Ok.ensures.len
     (subst (λ (text : List ℕ). IfErr c.map_in.result (λ fault. (fault ≡ Memory) ⊎ ((fault ≡ Damaged Snapshot) × IsNoSnapshot text)))
     c.deref.ensures.value c.map_in.ensures.fault)

@@ -23,7 +23,8 @@ after c =
 
 edited : (c : After-remove-found) → IsEdited (before c) (after c) (removal (before c) (after c) c.args.id)
 edited c = removed (before c) (after c) c.args.id c.len-count.ensures.map (rw (← c.self.view_is) at c.requires.later) c.remove-found.ensures.map
-    (λ marks remembers. subst (λ o. Remembers c.mark_some.new.touched (with_mark o c.args.number marks)) c.get.ensures (c.mark_some.ensures marks remembers))
+    (λ marks remembers. subst (λ o. Remembers c.mark_some.new.touched (with_mark o c.args.number marks)) c.get.ensures.found
+    (c.mark_some.ensures marks remembers))
 
 pub invariant_of-self : goal.invariant_of-self
 invariant_of-self c =

@@ -8,6 +8,6 @@ returns-in-Ok-Some-clause-begun g c =
     let d = g.D.Sectors in
     let long = rw c.in-Ok-Some.field-0-is at c.in-Ok-Some.ensures.length in
     let read = rw c.in-Ok-Some.field-0-is at c.in-Ok-Some.ensures.read in
-    let few : length c.in-Ok-Some.begun.items ≤ c.args.length = omega (arith, long, c.begin_size.ensures) in
+    let few : length c.in-Ok-Some.begun.items ≤ c.args.length = omega (arith, long, c.begin_size.ensures.within) in
     begins d.sectors d.honest d.history (asked_service c.args.self.now)
     (asked_service c.archive_bytes.new.self) c.args.first c.args.length c.in-Ok-Some.begun c.requires few read

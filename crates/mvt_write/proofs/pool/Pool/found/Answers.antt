@@ -13,7 +13,8 @@ invariant_of-self-then-index-next g c =
     let last : c.len-next.result ≡ length items = search rules in
     let absent = absent_from g.T.FieldData.spelled items entry _ c.in_ok-index.index c.len-next.result (before.indexed entry) c.in_ok-index.ensures.number
     c.if-index-next.true last in
-    let indexed = indexed_push g.T.FieldData.spelled g.T.Ord.cmp g.met.T.FieldData.same (get g.T.Ord.cmp before.indices) (get g.T.Ord.cmp c.number_of.new.numbers)
+    let indexed = indexed_push g.T.FieldData.spelled g.T.Ord.cmp g.met.T.FieldData.same
+    (get g.T.Ord.cmp before.indices) (get g.T.Ord.cmp c.number_of.new.numbers)
     items entry c.in_ok-index.index (c.if-index-next.true ∙ last) absent before.indexed c.in_ok-index.ensures.updates.0 in
     let placed = placed_push g.T.FieldData.spelled items entry absent before.placed in
     record { indexed = λ q. rw pushed (indexed q); placed = rw pushed placed }

@@ -1,4 +1,5 @@
 use Rattle.std.proofs.Common.{◌≡◌, ℕ, List, Ok, Option, MatchResult, option_map, sym, subst}
+use Rattle.reader.specs.Reading.{GivesUnless}
 use Rattle.reader.proofs.Steps.{gives_found}
 use Rattle.pm_directory.specs.declared.entry.DirectoryEntry.{DirectoryEntry}
 use Rattle.pm_archive.specs.Archive.{IsArchiveOf}
@@ -19,4 +20,13 @@ returns-clause-content g c =
     (looked_at bytes c.self.inside.header c.deref.result.now c.args.id) (content c.args.id)
     (subst (λ (es : List DirectoryEntry). looked_at bytes c.self.inside.header es c.args.id ≡ Ok (content c.args.id)) (sym root)
     (looked_content bytes c.self.inside.header c.self.inside.root.items content c.args.id of.sections of.root archive))
-    (c.content_below.ensures.first bytes holds of.leaf))
+    (c.content_below.ensures.first bytes holds of.leaves))
+
+pub returns-clause-first : goal.returns-clause-first
+returns-clause-first g c =
+    subst (λ (l : LookupView). (bytes : List ℕ) → g.B.Bytes.holds c.content_below.new.source bytes → IsLookupOf bytes l
+    → GivesUnless IsOutside (option_map (λ v. v.items)) c.content_below.result (looked_at bytes l.header l.root c.args.id)) c.self.view_is
+    (λ bytes holds of.
+    subst (λ (root : List DirectoryEntry). GivesUnless IsOutside (option_map (λ v. v.items)) c.content_below.result
+    (looked_at bytes c.self.inside.header root c.args.id)) c.deref.ensures.value
+    (c.content_below.ensures.first bytes holds of.leaves))

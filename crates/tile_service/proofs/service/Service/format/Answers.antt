@@ -8,4 +8,4 @@ returns-clause-any_moment g c honest = formatting_leaves (g.D.Sectors.sectors c.
 
 pub returns-clause-formatted : goal.returns-clause-formatted
 returns-clause-formatted g c honest = formatted_keeps (g.D.Sectors.sectors c.args.disk.now) (g.D.Sectors.history c.format.new.disk) c.format.result
-    c.format.ensures.small c.format.ensures.large (c.format.ensures.fresh honest)
+    c.format.ensures.ends.small c.format.ensures.ends.large (c.format.ensures.fresh honest)

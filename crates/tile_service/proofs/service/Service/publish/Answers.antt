@@ -18,7 +18,7 @@ loop-rest-init g c =
     let goes = begin_step g.D.Sectors.sectors g.D.Sectors.honest g.D.Sectors.history old new (Ok c.in-Ok.told) call.machine call.same call.up in
     let run = run_on g.D.Sectors.sectors g.D.Sectors.honest g.D.Sectors.history old old new [] (begin (Ok c.in-Ok.told))
     (run_begins g.D.Sectors.sectors g.D.Sectors.honest g.D.Sectors.history old) goes in
-    record {
+    rw c.go_on.ensures (record {
       stands = (
         known_after no_known old (begin (Ok c.in-Ok.told)),
         begun_stands (state_of no_known old) (state_of (known_after no_known old (begin (Ok c.in-Ok.told))) new) c.in-Ok.told (call.machine no_known),
@@ -27,7 +27,7 @@ loop-rest-init g c =
       faults = ap (λ s. g.D.Sectors.faults s.disk) call.same;
       archive = λ some. goes.keeps_archive (begin_no_step _ _);
       run = ([], run, (new, goes, refl));
-    }
+    })
 
 pub loop-rest-preserved : goal.loop-rest-preserved
 loop-rest-preserved g c =
