@@ -3,8 +3,10 @@
     python3 bench/scratch.py FOLDER NAME CRATE...
 
 FOLDER gets copies of the product's crates among CRATE... and of all that they stand on, and the folder crates/NAME/src of a new
-crate NAME that stands on CRATE...
+crate NAME that stands on CRATE... Libraries that `rt run` left in the product's out/ are taken with them, so that only the new
+crate is proved if none of their files has changed since; `rt` compares them, and proves the others again.
 """
+import os
 import pathlib
 import shutil
 import sys
@@ -27,13 +29,29 @@ def wanted(crates, below):
     return found
 
 
+def link(source, goal):
+    """A second name of a file, or a copy of it on another file system."""
+    try:
+        os.link(source, goal)
+    except OSError:
+        shutil.copy2(source, goal)
+
+
+def copy(crate, goal):
+    """The crate's files, and the library that was built of them, if there is one."""
+    source = TOP / "crates" / crate
+    shutil.copytree(source, goal, ignore=shutil.ignore_patterns("out"))
+    if (source / "out" / "rlib" / "stamp").is_file():
+        shutil.copytree(source / "out" / "rlib", goal / "out" / "rlib", copy_function=link)
+
+
 def main(folder, name, *crates):
     below = stands_on()
     work = pathlib.Path(folder)
     needed = wanted(crates, below)
     copied = [crate for crate in below if crate in needed]
     for crate in copied:
-        shutil.copytree(TOP / "crates" / crate, work / "crates" / crate, ignore=shutil.ignore_patterns("out"))
+        copy(crate, work / "crates" / crate)
     (work / "crates" / name / "src").mkdir(parents=True)
     lines = [f"{crate}: {' '.join(below[crate])}" for crate in copied] + [f"{name}: {' '.join(crates)}"]
     (work / "crates.txt").write_text("\n".join(lines) + "\n")

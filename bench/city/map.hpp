@@ -274,16 +274,19 @@ inline OpenLayer& layer_of(Layers& layers, const Text& name) {
     return layer;
 }
 
-inline void add_shown(Layers& layers, const MapFeature& feature, const TileAt& at, Shown& shown) {
+// Adds what a tile shows of a feature, and says whether that is anything.
+inline bool add_shown(Layers& layers, const MapFeature& feature, const TileAt& at, Shown& shown) {
     if (at.zoom < feature.minzoom || feature.maxzoom < at.zoom) {
-        return;
+        return false;
     }
     shown.points.clear();
     shown.ends.clear();
     std::visit([&](const auto& geometry) { cut(at, geometry, shown); }, feature.geometry);
-    if (!shown.ends.empty()) {
-        put_feature(layer_of(layers, feature.layer), feature, shown);
+    if (shown.ends.empty()) {
+        return false;
     }
+    put_feature(layer_of(layers, feature.layer), feature, shown);
+    return true;
 }
 
 // Leaves in `bytes` the tile of the layers, which have no features then.

@@ -1,7 +1,7 @@
-// The other program of this benchmark: reads the tiles that main.rt.txt leaves in a folder, and writes them again, with
-// protozero. The bytes that it writes must be those that it has read.
+// The other program of this benchmark: reads the tiles that main.rt.txt leaves in a folder, and writes them again, with protozero; and
+// makes them of the same maps (peer_map.hpp). The bytes that it writes must be those that it has read.
 #include "../peer_clock.hpp"
-#include "../peer_writer.hpp"
+#include "../peer_map.hpp"
 
 #include <cstdio>
 #include <fstream>
@@ -52,8 +52,49 @@ std::string write_tile(const std::vector<Layer>& layers) {
     return bytes;
 }
 
+// A place of the world for each number.
+World place(std::uint64_t number) {
+    return {static_cast<std::uint32_t>((number % 4'096) << 20U), static_cast<std::uint32_t>((number / 4'096 % 4'096) << 20U)};
+}
+
+// A point with five tags, two of which differ from feature to feature.
+MapFeature tagged_point(std::uint64_t number) {
+    return {number, "parcels", 0, 0, Line{place(number)},
+            {{"class", "parcel"}, {"count", number % 100}, {"depth", std::int64_t{-1}}, {"name", "feature " + std::to_string(number)}, {"open", number % 2 == 0}}};
+}
+
+MapFeature long_line(std::uint64_t number) {
+    Line line;
+    for (std::uint64_t at = 0; at < 4'000; ++at) {
+        line.push_back(place(at * 4'097 + number));
+    }
+    return {number, "roads", 0, 0, std::vector<Line>{line}, {}};
+}
+
+// Makes the one tile of a map so often that it meets so many features: the nanoseconds together.
+std::uint64_t made(MapFeature (*feature)(std::uint64_t), const std::string& wanted, std::uint64_t count, std::uint64_t features) {
+    std::vector<MapFeature> listed;
+    for (std::uint64_t number = 0; number < count; ++number) {
+        listed.push_back(feature(number));
+    }
+    EditedMap map;
+    map.put_all(std::move(listed));
+    std::uint64_t took = 0;
+    for (std::uint64_t turn = 0; turn < features / count; ++turn) {
+        std::string bytes;
+        const std::uint64_t start = processor_nanoseconds();
+        map.tile({0, 0, 0}, bytes);
+        took += processor_nanoseconds() - start;
+        if (bytes != wanted) {
+            throw std::runtime_error("another tile");
+        }
+    }
+    return took;
+}
+
 // Reads and writes a tile so often that it meets so many features, and prints what a feature took.
-void measure(const std::string& folder, const char* file, const char* name, std::uint64_t count, std::uint64_t features) {
+void measure(const std::string& folder, const char* file, const char* name, MapFeature (*feature)(std::uint64_t), std::uint64_t count,
+             std::uint64_t features) {
     std::ifstream in{folder + "/" + file + "_" + std::to_string(count) + ".mvt", std::ios::binary};
     const std::string bytes{std::istreambuf_iterator<char>{in}, {}};
     std::uint64_t read = 0;
@@ -74,6 +115,7 @@ void measure(const std::string& folder, const char* file, const char* name, std:
         std::printf("%llu %s, %zu bytes, %s: %llu ns\n", static_cast<unsigned long long>(count), name, bytes.size(), what,
                     static_cast<unsigned long long>(time / features));
     };
+    told("cut and write", made(feature, bytes, count, features));
     told("write", written);
     told("read", read);
 }
@@ -81,10 +123,10 @@ void measure(const std::string& folder, const char* file, const char* name, std:
 int main(int count, char** words) try {
     const std::string folder = count > 1 ? words[1] : ".";
     for (const std::uint64_t features : {1'000, 10'000, 100'000}) {
-        measure(folder, "points", "points with five tags", features, 100'000);
+        measure(folder, "points", "points with five tags", tagged_point, features, 100'000);
     }
     for (const std::uint64_t features : {10, 100, 1'000}) {
-        measure(folder, "lines", "lines of 4,000 points", features, 1'000);
+        measure(folder, "lines", "lines of 4,000 points", long_line, features, 1'000);
     }
     return 0;
 } catch (const std::exception& fault) {

@@ -1,17 +1,20 @@
 #!/usr/bin/env python3
-"""How long replies of `vtserve serve` take beside those of nginx with the same bytes as files: tiles, one after the other and on a
-viewer's walk, the archive whole and in parts; a durable edit beside a bare write and sync of a sector; and what a tile that is kept
-costs the processor as the map grows.
+"""How long replies of `vtserve serve` take beside those of nginx with the same bytes as files: hot tiles, also with a browser's head and
+beside a bare server in C++ (peer.cpp), published tiles in turn and in random order, tiles on a viewer's walk, the archive whole and in
+ranges, connections of one request; durable edits of 1, 3 and 39 sectors beside a raw write and sync of as many; `export` beside `cp` and
+`sync`; and what a tile that is kept costs the processor as the map grows.
 
-    python3 bench/serve/run.py [PROGRAM [FOLDER]]    PROGRAM is crates/vtserve/out/vtserve, which `rt run` leaves there
+    python3 bench/serve/run.py [PROGRAM [FOLDER [PART..]]]    PROGRAM is crates/vtserve/out/vtserve, which `rt run` leaves there
 
-Each server has one connection, which is kept, and both share one processor; the client (client.cpp, g++) asks them by turns from
+Each server has one connection, which is kept, and all share one processor; the client (client.cpp, g++) asks two of them by turns from
 another one, in rounds. A figure is the median of the rounds' medians, with the least and the greatest; the ratio is that of the rounds'
-ratios, and above 1 vtserve is the slower one. Disks and files lie in FOLDER, or in a scratch folder. Needs nginx (Debian: nginx-light).
+ratios, and above 1 vtserve is the slower one. Disks and files lie in a scratch folder in FOLDER, or in the system's. A PART is one of
+tiles, edits, turn, city, walk, growth and archive; without any, all run. Needs nginx (Debian: nginx-light).
 """
 import http.client
 import json
 import os
+import random
 import shutil
 import socket
 import statistics
@@ -21,6 +24,12 @@ import tempfile
 import time
 
 HERE = os.path.dirname(os.path.abspath(__file__))
+sys.path[:0] = [os.path.join(HERE, ".."), os.path.join(HERE, "..", "..", "examples")]
+
+import city_features  # noqa: E402
+import edits  # noqa: E402
+from browser_head import browser_fields  # noqa: E402
+
 PROGRAM = os.path.abspath(sys.argv[1] if len(sys.argv) > 1 else os.path.join(HERE, "..", "..", "crates", "vtserve", "out", "vtserve"))
 ROUNDS = 9
 SERVERS, CLIENT = "1", "2"
@@ -30,6 +39,12 @@ TILES = [(8, 10, 18), (8, 20, 520), (8, 30, 6200)]
 WALK = "eeseeswwinneessooiissweeneoowwnniieesswwoossenniwwssoeenn" * 2
 VIEW = (4, 3)
 KEPT = 256
+# Durable edits: the sectors of the journal that one takes, the points of its line, and how many are put in a round. A sector has 496 bytes
+# of the edit's text, a point 8.
+EDITS = [(1, 2, 300), (3, 150, 200), (39, 2400, 60)]
+JOURNAL_SECTORS = 65536
+# The zooms whose tiles of the city are asked for in random order: 1,615 tiles.
+CITY_ZOOMS = range(12, 16)
 CONFIGURATION = """
 worker_processes 1;
 pid nginx.pid;
@@ -47,6 +62,7 @@ http {
     scgi_temp_path scgi;
     uwsgi_temp_path uwsgi;
     server { listen 127.0.0.1:PORT; root FOLDER/files; }
+    server { listen 127.0.0.1:PLAIN; root FOLDER/files; tcp_nopush off; }
 }
 """
 
@@ -92,6 +108,18 @@ class Vtserve:
                 sys.exit(f"PUT: {reply.status} {said!r}")
         link.close()
 
+    def put_batches(self, features):
+        """Puts these features, in batches."""
+        changes = [edits.put(number, body) for number, body in features]
+        link = http.client.HTTPConnection("127.0.0.1", self.port)
+        for batch in edits.batches(changes):
+            link.request("POST", "/edits", edits.FRAME % b",".join(edits.spelled(change) for change in batch))
+            reply = link.getresponse()
+            said = reply.read()
+            if reply.status != 200:
+                sys.exit(f"POST /edits: {reply.status} {said!r}")
+        link.close()
+
     def bytes_of(self, path, method="GET"):
         link = http.client.HTTPConnection("127.0.0.1", self.port)
         link.request(method, path)
@@ -113,22 +141,41 @@ class Vtserve:
         self.child.wait()
 
 
+class Bare:
+    """The bare server in C++, of the same files as nginx."""
+
+    def __init__(self, folder, files):
+        program = os.path.join(folder, "peer")
+        subprocess.run(["g++", "-O2", "-std=c++17", "-o", program, os.path.join(HERE, "peer.cpp")], check=True)
+        self.port = free_port()
+        self.child = subprocess.Popen(["taskset", "-c", SERVERS, program, str(self.port), files])
+        await_port(self.port)
+
+    def end(self):
+        self.child.kill()
+        self.child.wait()
+
+
+def await_port(port):
+    for _ in range(100):
+        with socket.socket() as probe:
+            if probe.connect_ex(("127.0.0.1", port)) == 0:
+                return
+        time.sleep(0.05)
+    sys.exit(f"nothing listens on port {port}")
+
+
 class Nginx:
     def __init__(self, folder):
         self.files = os.path.join(folder, "files")
         os.mkdir(self.files)
-        self.port = free_port()
+        self.port, self.plain = free_port(), free_port()
         configuration = os.path.join(folder, "nginx.conf")
         with open(configuration, "w", encoding="utf-8") as file:
-            file.write(CONFIGURATION.replace("PORT", str(self.port)).replace("FOLDER", folder))
+            file.write(CONFIGURATION.replace("PORT", str(self.port)).replace("PLAIN", str(self.plain)).replace("FOLDER", folder))
         words = ["taskset", "-c", SERVERS, "nginx", "-p", folder, "-c", configuration, "-g", "daemon off;"]
         self.child = subprocess.Popen(words, stderr=subprocess.DEVNULL)
-        for _ in range(100):
-            with socket.socket() as probe:
-                if probe.connect_ex(("127.0.0.1", self.port)) == 0:
-                    return
-            time.sleep(0.05)
-        sys.exit("nginx doesn't listen")
+        await_port(self.port)
 
     def keep(self, name, content):
         with open(os.path.join(self.files, name), "wb") as file:
@@ -165,7 +212,11 @@ def show(name, client, words, peer):
     """Runs the client, and prints what its rounds told."""
     command = ["taskset", "-c", CLIENT, client, *[str(word) for word in words]]
     printed = subprocess.run(command, check=True, stdout=subprocess.PIPE, text=True).stdout
-    rounds = [[int(number) for number in line.split()] for line in printed.splitlines()]
+    tell(name, [[int(number) for number in line.split()] for line in printed.splitlines()], peer)
+
+
+def tell(name, rounds, peer):
+    """Prints what rounds of pairs of nanoseconds told."""
     ratios = [first / second for first, second in rounds]
     ratio = f"{statistics.median(ratios):.2f} ({min(ratios):.2f} to {max(ratios):.2f})"
     first, second = [told([pair[at] for pair in rounds]) for at in (0, 1)]
@@ -173,8 +224,8 @@ def show(name, client, words, peer):
 
 
 def tiles(folder, client, nginx):
-    """Hot tiles of three sizes."""
-    server = Vtserve(folder, "tiles", 131072)
+    """Hot tiles of three sizes, one of them with a browser's head and by a connection for each, and beside the bare server."""
+    server, bare = Vtserve(folder, "tiles", 131072), Bare(folder, nginx.files)
     number = 0
     for zoom, column, count in TILES:
         rows = []
@@ -182,22 +233,101 @@ def tiles(folder, client, nginx):
             number += 1
             rows.append((number, feature("towns", zoom, [place(zoom, column, column, step)], {"name": f"town number {number}", "people": number * 17})))
         server.put(rows)
-    for zoom, column, _ in TILES:
+    fields = os.path.join(folder, "fields")
+    with open(fields, "w", encoding="utf-8", newline="") as file:
+        file.write(browser_fields(server.port))
+    for at, (zoom, column, _) in enumerate(TILES):
         path = f"/map/{zoom}/{column}/{column}.mvt"
         content = server.bytes_of(path)
         name = f"{column}.mvt"
         nginx.keep(name, content)
-        show(f"a hot tile of {len(content)} bytes", client, ["get", ROUNDS, 300, server.port, path, nginx.port, "/" + name], "nginx")
-    body = os.path.join(folder, "body.json")
-    with open(body, "w", encoding="utf-8") as file:
-        file.write(feature("towns", 3, [[5, 5]], {"name": "a town that moves"}))
-    plain = os.path.join(folder, "plain")
-    with open(plain, "wb") as file:
-        file.write(bytes(512 * 8192))
-        file.flush()
-        os.fsync(file.fileno())
-    show("a durable edit", client, ["put", ROUNDS, 300, server.port, "/features/1000000", body, plain], "a write and a sync of a sector")
+        kind, both = f"a hot tile of {len(content)} bytes", [server.port, path, nginx.port, "/" + name]
+        show(kind, client, ["get", ROUNDS, 300, *both], "nginx")
+        show(kind, client, ["get", ROUNDS, 300, server.port, path, nginx.plain, "/" + name], "nginx without tcp_nopush")
+        show(kind, client, ["get", ROUNDS, 300, server.port, path, bare.port, "/" + name], "a bare server in C++")
+        if at == 0:
+            head = len(f"GET {path} HTTP/1.1\r\n\r\n") + os.path.getsize(fields)
+            show(f"{kind}, asked for with a browser's head of {head} bytes", client, ["get", ROUNDS, 300, *both, fields], "nginx")
+            show(f"{kind}, a connection of one request", client, ["connect", ROUNDS, 300, *both], "nginx")
+    bare.end()
     server.end()
+
+
+def line_of(points):
+    """A line of so many points in some tiles of zoom 14."""
+    line = [[2147483648 + at * 199, 2147483648 + at * at * 61 % 300007] for at in range(points)]
+    return json.dumps({"layer": "roads", "minzoom": 14, "maxzoom": 14, "geometry": {"lines": [line]}, "tags": {}}, separators=(",", ":"))
+
+
+def filled_sectors(disk):
+    """How many sectors of a disk file aren't zeros."""
+    with open(disk, "rb") as file:
+        return sum(any(sector) for sector in iter(lambda: file.read(512), b""))
+
+
+def durable_edits(folder, client, nginx):
+    """Edits of some sectors, on a disk as `format` leaves it and on one whose file has no holes, beside raw writes of as many and a sync."""
+    body, plain, whole = os.path.join(folder, "body.json"), os.path.join(folder, "plain"), os.path.join(folder, "whole")
+    for sectors, points, count in EDITS:
+        with open(body, "w", encoding="utf-8") as file:
+            file.write(feature("towns", 3, [[5, 5]], {"name": "a town that moves"}) if sectors == 1 else line_of(points))
+        size = os.path.getsize(body)
+        for is_whole in (False, True):
+            with open(plain, "wb") as file:
+                file.write(bytes(512 * sectors * ROUNDS * count))
+                file.flush()
+                os.fsync(file.fileno())
+            server = Vtserve(folder, f"edits{sectors}{is_whole}", 4 * JOURNAL_SECTORS)
+            if is_whole:
+                server.end()
+                subprocess.run(["cp", "--sparse=never", server.disk, whole], check=True)
+                os.replace(whole, server.disk)
+                subprocess.run(["sync", server.disk], check=True)
+                server.begin()
+            else:
+                before = filled_sectors(server.disk)
+                server.put([(1000000, open(body, "rb").read())])
+                if filled_sectors(server.disk) != before + sectors:
+                    sys.exit(f"an edit takes {filled_sectors(server.disk) - before} sectors, and not {sectors}")
+            what = f"a durable edit of {sectors} sector{'s' * (sectors > 1)}, a body of {size} bytes"
+            what += ", on a disk file without holes" if is_whole else ""
+            peer = f"a write of {sectors} and a sync"
+            show(what, client, ["put", ROUNDS, count, server.port, "/features/1000000", body, plain, sectors], peer)
+            server.end()
+            os.remove(server.disk)
+    os.remove(plain)
+
+
+def seconds_of(*commands):
+    """How long these commands take, one after the other, each in a process of its own."""
+    begun = time.perf_counter_ns()
+    for words in commands:
+        child = os.posix_spawnp(words[0], words, os.environ, file_actions=[(os.POSIX_SPAWN_OPEN, 1, os.devnull, os.O_WRONLY, 0)])
+        if os.waitpid(child, 0)[1] != 0:
+            sys.exit(f"{words} failed")
+    return time.perf_counter_ns() - begun
+
+
+def city(folder, client, nginx):
+    """The published tiles of a city in random order: far more than are kept; and the export of its archive."""
+    server = Vtserve(folder, "city", 262144)
+    server.put_batches([(number, city_features.city_feature(number)) for number in range(city_features.FEATURES)])
+    server.bytes_of("/publish", "POST")
+    paths = [f"/map/{zoom}/{column}/{row}.mvt" for zoom in CITY_ZOOMS for column, row in city_features.tiles_at(zoom)]
+    random.Random(38).shuffle(paths)
+    listed = nginx.keep_all(folder, "city", server, paths)
+    show(f"{len(paths):,} published tiles of a city in random order", client, ["list", ROUNDS, 50, server.port, listed, nginx.port, "/city"], "nginx")
+    server.end()
+    archive, copied = os.path.join(folder, "city.pmtiles"), os.path.join(folder, "copied.pmtiles")
+    seconds_of([PROGRAM, "export", server.disk, archive])
+    rounds = []
+    for _ in range(ROUNDS):
+        exported = os.path.join(folder, "exported.pmtiles")
+        rounds.append((seconds_of([PROGRAM, "export", server.disk, exported]), seconds_of(["cp", archive, copied], ["sync", copied])))
+        os.remove(exported)
+        os.remove(copied)
+    tell(f"export of the city's archive of {os.path.getsize(archive)} bytes", rounds, "cp and sync of it")
+    os.remove(server.disk)
 
 
 def in_turn(folder, client, nginx):
@@ -295,7 +425,7 @@ def spread(column, row, step):
     return [column * side + (step * 7919 * 64) % side, row * side + (step * 104729 * 64) % side]
 
 
-def growth(folder, client):
+def growth(folder, client, nginx):
     """A tile that is kept, of a map of 1,000 features and of one of 100,000."""
     servers = []
     for count in (1000, 100000):
@@ -329,22 +459,36 @@ def archive(folder, client, nginx):
     content = server.bytes_of("/map.pmtiles")
     nginx.keep("map.pmtiles", content)
     show(f"the archive of {len(content)} bytes, whole", client, ["get", ROUNDS, 5, server.port, "/map.pmtiles", nginx.port, "/map.pmtiles"], "nginx")
-    show("the same in ranges of 4,096 bytes", client, ["range", ROUNDS, 4096, server.port, "/map.pmtiles", nginx.port, "/map.pmtiles"], "nginx")
+    # With tcp_nopush nginx waits for the client's acknowledgement if a reply is somewhat shorter or longer than a segment of 64 KiB.
+    for port, peer in [(nginx.port, "nginx"), (nginx.plain, "nginx without tcp_nopush")]:
+        for size in (4096, 65536):
+            show(f"the same in ranges of {size:,} bytes", client, ["range", ROUNDS, size, server.port, "/map.pmtiles", port, "/map.pmtiles"], peer)
     server.end()
 
 
+PARTS = {
+    "tiles": tiles,
+    "edits": durable_edits,
+    "turn": in_turn,
+    "city": city,
+    "walk": walk,
+    "growth": growth,
+    "archive": archive,
+}
+
+
 def main():
+    wanted = sys.argv[3:] or list(PARTS)
+    if not set(wanted) <= set(PARTS):
+        sys.exit(f"parts are {', '.join(PARTS)}")
     folder = tempfile.mkdtemp(dir=sys.argv[2] if len(sys.argv) > 2 else None)
     os.chmod(folder, 0o755)
     client = os.path.join(folder, "client")
     subprocess.run(["g++", "-O2", "-std=c++17", "-o", client, os.path.join(HERE, "client.cpp")], check=True)
     nginx = Nginx(folder)
     try:
-        tiles(folder, client, nginx)
-        in_turn(folder, client, nginx)
-        walk(folder, client, nginx)
-        growth(folder, client)
-        archive(folder, client, nginx)
+        for part in wanted:
+            PARTS[part](folder, client, nginx)
     finally:
         nginx.end()
         shutil.rmtree(folder)
