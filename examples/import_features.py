@@ -198,17 +198,19 @@ class Plan:
         journal = sum(map(sectors, batches(self.changes(), client.most)))
         for line in self.sizes.lines(journal):
             print(line, flush=True)
-        whole = self.words.sectors
+        status = client.status()
+        whole = self.words.sectors or (status and status["sectors"])
         if whole is None:
             return True
-        used = client.area_used()
+        used, what = (client.area_used(), "the map") if self.words.sectors else (status["area"]["used"], "what was published last")
         need = self.sizes.area() + used
-        print(f"the map takes {used:,} sectors of an area, which has {area_of(whole):,}", flush=True)
+        print(f"{what} takes {used:,} sectors of an area, which has {area_of(whole):,}", flush=True)
         if need > area_of(whole):
             print(f"about {need:,} would be needed: move the map to a disk of {disk_for(need):,} sectors (docs/DEPLOYING.md)")
             return self.words.anyway
-        if journal > whole // 4 and not self.words.publish:
-            print(f"the journal of a disk of {whole:,} sectors has {whole // 4:,}: give --publish")
+        free = whole // 4 - (status["journal"]["used"] if status else 0)
+        if journal > free and not self.words.publish:
+            print(f"the journal has {free:,} of its {whole // 4:,} sectors free: give --publish")
             return self.words.anyway
         return True
 
@@ -271,8 +273,8 @@ def asked():
     parser.add_argument("--no-outlines", action="store_true", help="put no outlines of cut polygons")
     parser.add_argument("--whole", default="whole", metavar="NAME", help="the tag of a piece with the number of the first piece (whole)")
     parser.add_argument("--publish", action="store_true", help="publish by steps when the journal is full")
-    parser.add_argument("--sectors", type=int, metavar="N", help="the sectors of the server's disk: send nothing that can't be published")
-    parser.add_argument("--anyway", action="store_true", help="with --sectors: send it anyway")
+    parser.add_argument("--sectors", type=int, metavar="N", help="the sectors of the server's disk: learn what the map takes now by beginning a publication")
+    parser.add_argument("--anyway", action="store_true", help="send what can't be published, or doesn't fit into the journal, anyway")
     parser.add_argument("--no-batches", action="store_true", help="send each feature in a request of its own")
     words = parser.parse_args()
     if (words.layer is None) == (words.layer_field is None):

@@ -1,15 +1,16 @@
 #!/usr/bin/env python3
 """Saves the features of the map of a running `vtserve serve` in a file, and puts them back into the map of another one.
 
-    python3 examples/map_backup.py save map.geojson --numbers 1-3000 --url http://127.0.0.1:8080
-    python3 examples/map_backup.py save map.geojson --archive --url http://127.0.0.1:8080
+    python3 examples/map_backup.py save map.geojson --url http://127.0.0.1:8080
     python3 examples/map_backup.py load map.geojson --url http://127.0.0.1:8081 --publish
 
 The file is GeoJSON (longitude and latitude, a feature a line), which other programs read too: the member `id` is the feature's number,
 `properties` are its tags, and `layer`, `minzoom` and `maxzoom` are members beside them. `load` puts back exactly the features that `save`
-read: coordinates are the centres of the squares of 9 mm (at the equator) that the map distinguishes.
+read: coordinates are the centres of the squares of 9 mm (at the equator) that the map distinguishes. A file whose name ends in `.jsonl` has
+a line for each feature in place of that, as the server itself writes it: `{"feature":{..},"id":7}`.
 
-The server has no list of its features, so the numbers have to be known:
+`save` asks the server for one feature after the other (`/admin/features/from/`), which a server with `--admin` serves. Of another one the
+numbers have to be known:
     --numbers 1-3000,5000-5999    asks for each of these numbers; complete if the numbers are
     --archive                     publishes the map, downloads the archive, and asks for each number in its tiles. Features that no
                                   tile shows (for instance polygons too small to have an area at their greatest zoom) are missed
@@ -29,6 +30,7 @@ import urllib.parse
 from edits import MOST_CHANGES, Editor, put
 
 WORLD = 2 ** 32
+NUMBER_END = 2 ** 63
 
 
 class Refused(Exception):
@@ -186,36 +188,76 @@ def ranges(text):
         yield from range(int(first), int(last or first) + 1)
 
 
-def save(words, server):
-    """Saves features in the file."""
+def found(server, path):
+    """The value of a reply 200, or None of a reply 404."""
+    status, content = server.ask("GET", path)
+    if status not in (200, 404):
+        raise Refused(f"GET {path}: {status} {content.decode('utf-8', 'replace').strip()}")
+    return json.loads(content) if status == 200 else None
+
+
+def listed(server):
+    """Each feature of the map with its number, in ascending order."""
+    if found(server, "/admin/status") is None:
+        raise Refused("the server doesn't list its features: start it with --admin, or give --numbers or --archive")
+    number = 0
+    while number < NUMBER_END:
+        row = found(server, f"/admin/features/from/{number}")
+        if row is None:
+            return
+        yield row["id"], row["feature"]
+        number = row["id"] + 1
+
+
+def wanted(words, server):
+    """Each number that is asked for, with its feature or None."""
     if words.archive:
         server.publish()
         status, archive = server.ask("GET", "/map.pmtiles")
         numbers = numbers_in(archive if status == 200 else b"")
-    else:
+    elif words.numbers:
         numbers = ranges(words.numbers)
+    else:
+        yield from listed(server)
+        return
+    for number in numbers:
+        yield number, found(server, f"/features/{number}")
+
+
+def is_lines(name):
+    return name.endswith(".jsonl")
+
+
+def save(words, server):
+    """Saves features in the file."""
     saved = missing = 0
+    lines = is_lines(words.file)
     with open(words.file, "w", encoding="utf-8") as file:
-        file.write('{"type":"FeatureCollection","features":[')
-        for number in numbers:
-            status, content = server.ask("GET", f"/features/{number}")
-            if status == 404:
+        file.write("" if lines else '{"type":"FeatureCollection","features":[')
+        for number, feature in wanted(words, server):
+            if feature is None:
                 missing += 1
                 continue
-            if status != 200:
-                raise Refused(f"GET /features/{number}: {status} {content.decode('utf-8', 'replace').strip()}")
-            row = json.dumps(geojson_of(number, json.loads(content)), ensure_ascii=False)
-            file.write((",\n" if saved else "\n") + row)
+            row = {"feature": feature, "id": number} if lines else geojson_of(number, feature)
+            text = json.dumps(row, ensure_ascii=False, separators=(",", ":") if lines else None)
+            file.write(text + "\n" if lines else (",\n" if saved else "\n") + text)
             saved += 1
-        file.write("\n]}\n")
-    print(f"{saved} features saved, {missing} numbers without one")
+        file.write("" if lines else "\n]}\n")
+    print(f"{saved} features saved" + (f", {missing} numbers without one" if words.numbers or words.archive else ""))
+
+
+def saved_in(file, name):
+    """The numbers and features of a file."""
+    if is_lines(name):
+        return [(row["id"], row["feature"]) for row in map(json.loads, file)]
+    return [(row["id"], feature_of(row)) for row in json.load(file)["features"]]
 
 
 def load(words, server):
     """Puts the features of the file back."""
     with open(words.file, encoding="utf-8") as file:
-        rows = json.load(file)["features"]
-    for _, refusal in server.make(put(row["id"], feature_of(row)) for row in rows):
+        rows = saved_in(file, words.file)
+    for _, refusal in server.make(put(number, feature) for number, feature in rows):
         if refusal:
             raise Refused(refusal)
     print(f"{len(rows)} features put")
@@ -224,14 +266,14 @@ def load(words, server):
 def main():
     parser = argparse.ArgumentParser(description="Saves the features of the map of a running vtserve, and puts them back.")
     parser.add_argument("task", choices=["save", "load"])
-    parser.add_argument("file", help="the GeoJSON file")
+    parser.add_argument("file", help="the GeoJSON file, or a file of lines of JSON if its name ends in .jsonl")
     parser.add_argument("--url", default="http://127.0.0.1:8080", help="the server (http://127.0.0.1:8080)")
     parser.add_argument("--numbers", help="save: the numbers to ask for, as in 1-3000,5000")
     parser.add_argument("--archive", action="store_true", help="save: publish, and take the numbers from the archive")
     parser.add_argument("--publish", action="store_true", help="load: publish by steps when the journal is full")
     parser.add_argument("--no-batches", action="store_true", help="load: put each feature in a request of its own")
     words = parser.parse_args()
-    if words.task == "save" and words.archive == (words.numbers is not None):
+    if words.archive and words.numbers is not None:
         parser.error("save takes one of --numbers and --archive")
     try:
         server = Server(words.url, words.publish, 1 if words.no_batches else MOST_CHANGES)

@@ -69,6 +69,11 @@ class Client(Editor):
         finally:
             connection.close()
 
+    def status(self):
+        """What the server tells of itself, or None if it doesn't serve that."""
+        status, content = self.ask("GET", "/admin/status")
+        return json.loads(content) if status == 200 else None
+
     def post(self, path):
         """The sectors that are left after a step of a publication."""
         status, content = self.ask("POST", path)

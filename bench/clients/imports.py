@@ -480,6 +480,8 @@ def full_file_system(cases, folder, small):
         taken = sum(status_of(curl(f"{server.url}/features/{number}", "-X", "PUT", body=text)) == 200 for number in range(100))
         cases.show("disk full: edits, for which the journal has room", taken, 100)
         cases.show("disk full: a publication without room", parsed_error(curl(server.url + "/publish", "-X", "POST")), (500, b"Device\n"))
+        told = [line for line in server.lines() if line.startswith("vtserve: ")]
+        cases.show("disk full: the log tells it once", told, ["vtserve: Device: write: No space left on device (os error 28)"])
         again = curl(f"{server.url}/features/0", "-X", "PUT", body=text)
         cases.show("disk full: the next edit", parsed_error(again), (500, b"Broken\n"))
         cases.show("disk full: reads are served", (status_of(curl(f"{server.url}/features/0")), status_of(curl(server.url + "/map/0/0/0.mvt"))), (200, 200))
@@ -493,6 +495,15 @@ def full_file_system(cases, folder, small):
         cases.show("disk full: a new process has each acknowledged edit", len(there), taken)
         reply = curl(f"{server.url}/features/{taken}", "-X", "PUT", body=text)
         cases.show("disk full: and takes another", status_of(reply), 200)
+    with Server(small, "full.disk", more=["--admin", "--stop-when-broken"]) as server:
+        refused = parsed_error(curl(server.url + "/publish", "-X", "POST"))
+        cases.show("disk full: --stop-when-broken ends it with 1", (refused, server.child.wait(60)), ((500, b"Device\n"), 1))
+        told = [line for line in server.lines() if line.startswith("vtserve: ")]
+        cases.show("disk full: and the log tells it once", told, ["vtserve: Device: write: No space left on device (os error 28)"])
+    with Server(small, "full.disk", more=["--admin"]) as server:
+        curl(server.url + "/publish", "-X", "POST")
+        status = json.loads(curl(server.url + "/admin/status")[2])
+        cases.show("disk full: the status says so", (status["broken"], status["features"], status["left"]), (True, taken + 1, None))
     subprocess.run(["mount", "-o", "remount,size=64m", small], check=True)
     with Server(small, "full.disk") as server:
         there = [number for number in range(taken + 1) if shown(server, number) == json.loads(text)]

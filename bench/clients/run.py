@@ -22,6 +22,7 @@ import sys
 import tempfile
 import time
 
+from admin import admin
 from batches import batches
 from imports import disk_full, imports, kills, large
 from stand import BYTES, EXAMPLES, HALF, JSON, METADATA, MVT, PROGRAM, ROOT, SHOWN, SYSTEM_PYTHON, TEXT, TILE
@@ -573,6 +574,7 @@ def main():
         "gdal": gdal,
         "large": large,
         "import": imports,
+        "admin": admin,
         "batches": batches,
         "steps": steps,
         "disk-full": disk_full,

@@ -238,17 +238,21 @@ ROUTES = [
     (rb"/publish/step", "step", "POST"),
     (rb"/publish/cancel", "cancel", "POST"),
 ]
+ADMIN_ROUTES = [
+    (rb"/admin/status", "status", "GET, HEAD"),
+    (rb"/admin/features/from/" + NUMBER, "from", "GET, HEAD"),
+]
 
 
 def is_in_range(name, numbers):
-    if name == "feature":
+    if name in ("feature", "from"):
         return numbers[0] < 2**63
     return name != "tile" or numbers[0] <= MAX_ZOOM and max(numbers[1:]) < 2 ** numbers[0]
 
 
-def route_of(path):
+def route_of(path, is_admin):
     """What a path asks for, its numbers and its ending, and its methods, or None."""
-    for pattern, name, allow in ROUTES:
+    for pattern, name, allow in ROUTES + (ADMIN_ROUTES if is_admin else []):
         match = re.fullmatch(pattern, path)
         if match:
             words = match.groups()
@@ -336,6 +340,13 @@ def on_feature(service, number, request):
     return json_reply(service.map[number])
 
 
+def first_from(service, number):
+    found = service.first_from(number)
+    if found is None:
+        raise Refused("NotFound")
+    return json_reply({"feature": service.map[found], "id": found})
+
+
 def on_publication(service, name):
     if name == "publish":
         generation, edits, archive = service.publish()
@@ -346,9 +357,9 @@ def on_publication(service, name):
     return json_reply({"left": service.begin() if name == "begin" else service.step()})
 
 
-def reply_to(service, request):
-    """The reply of a service to a request."""
-    route = route_of(request.path)
+def reply_to(service, request, is_admin):
+    """The reply of a service to a request, where the paths under `/admin/` may be served."""
+    route = route_of(request.path, is_admin)
     if route is None:
         return refusal(404, "NotFound")
     name, numbers, ending, allow = route
@@ -361,6 +372,10 @@ def reply_to(service, request):
             return batch(service, request.body)
         if name == "tile":
             return tile_reply(service, numbers, ending)
+        if name == "from":
+            return first_from(service, numbers[0])
+        if name == "status":
+            return json_reply(service.status())
         if name == "metadata":
             return Reply(200, JSON, service.metadata())
         return archive_reply(service, request) if name == "archive" else on_publication(service, name)
@@ -387,8 +402,8 @@ def broken_off(kind, requests):
 class Connection:
     """A connection whose input ends behind these bytes, stays open or isn't read on, and whose output takes so many bytes at most."""
 
-    def __init__(self, service, given, is_open=False, room=None, is_spent=False):
-        self.service, self.given, self.is_open, self.room, self.is_spent = service, given, is_open, room, is_spent
+    def __init__(self, service, given, is_open=False, room=None, is_spent=False, is_admin=False):
+        self.service, self.given, self.is_open, self.room, self.is_spent, self.is_admin = service, given, is_open, room, is_spent, is_admin
         self.at, self.requests, self.written = 0, 0, b""
 
     def write(self, reply, close, bare):
@@ -427,15 +442,15 @@ class Connection:
                     return *self.end(word, bare), len(self.given)
                 return self.refuse(word, bare), 0, self.at + need
             self.at += request.size
-            broken = self.write(reply_to(self.service, request), request.close, request.method == b"HEAD")
+            broken = self.write(reply_to(self.service, request, self.is_admin), request.close, request.method == b"HEAD")
             if broken or request.close:
                 return broken or served(self.requests, "Asked"), 0, self.at
 
 
-def outcome(service, given, size, is_open=False, room=None, turns=None):
+def outcome(service, given, size, is_open=False, room=None, turns=None, is_admin=False):
     """What a connection comes to that is read in pieces of a size, and at most so often. A read that finds the end counts too."""
     is_spent = turns is not None and turns * size <= len(given) + size - 1
     given = given[: turns * size] if is_spent else given
-    connection = Connection(service, given, is_open, room, is_spent)
+    connection = Connection(service, given, is_open, room, is_spent, is_admin)
     result, failed, needed = connection.run()
     return Outcome(result, min(len(given), -(-needed // size) * size), failed, connection.written)

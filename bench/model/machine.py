@@ -298,6 +298,26 @@ class Service:
     def metadata(self):
         return metadata(self.map)
 
+    def first_from(self, number):
+        """The first number from this one on that has a feature, or None."""
+        return min((other for other in self.map if other >= number), default=None)
+
+    def status(self):
+        """What the service tells of itself."""
+        layout, root, going = self.layout, self.root, self.publication
+        return {
+            "archive": root.archive_len,
+            "area": {"sectors": layout.area, "used": whole_sectors(root.snapshot_len) + whole_sectors(root.archive_len)},
+            "broken": self.broken,
+            "edits": self.last,
+            "features": len(self.map),
+            "generation": root.generation,
+            "journal": {"places": layout.places, "used": self.used},
+            "left": going.sectors - going.written + 1 if going else None,
+            "sectors": layout.sectors,
+            "version": self.version,
+        }
+
 
 # ---- cells: the world is 32 of them wide and high
 CELL_BITS = 27

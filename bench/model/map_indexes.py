@@ -11,7 +11,8 @@ def number_lines():
     yield "# Values by number."
     yield from ["numbers", "entries", ("set 7 70", "None"), ("set 3 30", "None"), (f"set {2**64 - 1} 1", "None"), ("set 0 2", "None"),
                 ("set 3 31", "Some(30)"), ("get 0", "Some(2)"), ("get 3", "Some(31)"), ("get 4", "None"), ("get 7", "Some(70)"),
-                (f"get {2**64 - 1}", "Some(1)"), "entries", ("unset 4", "None"), ("unset 3", "Some(31)"), ("unset 3", "None"), ("get 3", "None"),
+                (f"get {2**64 - 1}", "Some(1)"), ("from 0", "Some((0, 2))"), ("from 1", "Some((3, 31))"), ("from 3", "Some((3, 31))"),
+                ("from 4", "Some((7, 70))"), ("from 8", f"Some(({2**64 - 1}, 1))"), (f"from {2**64 - 1}", f"Some(({2**64 - 1}, 1))"), "entries", ("unset 4", "None"), ("unset 3", "Some(31)"), ("unset 3", "None"), ("get 3", "None"),
                 "entries"]
     for way in ("fillup", "filldown"):
         yield f"# 10,000 numbers, {'from the first up' if way == 'fillup' else 'from the last down'}: a full block is halved."
@@ -22,6 +23,10 @@ def number_lines():
     yield from ["numbers", "fillup 10000 3"]
     for one_in, most in [(2, 156), (40, 8), (1, 0)]:
         yield from [f"thin 10000 3 {one_in}", "entries", f"blocks {most}"]
+    yield "# The first number from one on: in every block and between them, where all are full, and where most were taken out."
+    for way in ("fillup", "filldown"):
+        yield from ["numbers", ("from 0", "None"), f"{way} 1000 3", *(f"from {number}" for number in range(0, 3010, 31)), "thin 1000 3 9",
+                    *(f"from {number}" for number in range(0, 3010, 31))]
     yield "# Room once made serves any number, and stays where a number is taken out."
     for number in [0, 1, 297, 298, 600, 2**64 - 1]:
         yield from ["numbers", "fillup 200 3", f"serve {number}", "entries"]
@@ -32,6 +37,8 @@ def number_lines():
         for turn in range(600):
             number = chance.below(2100)
             yield f"set {number} {turn}" if chance.below(4) else f"unset {number}"
+            if turn % 7 == 0:
+                yield f"from {chance.below(2200)}"
             if turn % 100 == 99:
                 yield "entries"
 

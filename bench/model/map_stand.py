@@ -321,6 +321,10 @@ class Numbers:
         was_there = self.held.pop(number, None) is not None
         return f"{debug(was_there)} None Some(1) Some(1)"
 
+    def first_from(self, number, *_):
+        found = min((other for other in self.held if other >= number), default=None)
+        return "None" if found is None else f"Some(({found}, {self.held[found]}))"
+
     def entries(self, *_):
         digest = 0
         for number in sorted(self.held):
@@ -332,8 +336,8 @@ class Numbers:
         return f"at most {most} blocks"
 
     LINES = {
-        "set": set, "unset": unset, "get": get, "fillup": fill, "filldown": fill, "thin": thin, "serve": serve, "entries": entries,
-        "blocks": blocks}
+        "set": set, "unset": unset, "get": get, "from": first_from, "fillup": fill, "filldown": fill, "thin": thin, "serve": serve,
+        "entries": entries, "blocks": blocks}
 
 
 # ---- boxes

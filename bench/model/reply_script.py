@@ -5,6 +5,7 @@
 import sys
 
 import connections
+import reply_admin
 import reply_edits
 import reply_heads
 import reply_hostile
@@ -71,6 +72,10 @@ EXAMPLES = [
     (request("GET", "/edits"), found("text/plain", "Method\n", "405 Method Not Allowed", "allow: POST\r\n")),
     (request("POST", "/map/metadata"), found("text/plain", "Method\n", "405 Method Not Allowed", "allow: GET, HEAD\r\n")),
     (request("PUT", "/features/7", BODY.replace(b'"minzoom":0', b'"minzoom":3')), found("text/plain", "E4 Zoom\n", "400 Bad Request")),
+    (request("GET", "/admin/features/from/8"), found(JSON, f'{{"feature":{SHOWN},"id":8}}')),
+    (request("GET", "/admin/features/from/9"), found("text/plain", "NotFound\n", "404 Not Found")),
+    (request("GET", "/admin/status"), found(JSON, '{"archive":223,"area":{"sectors":94,"used":2},"broken":false,"edits":4,"features":2,'
+                                                  '"generation":2,"journal":{"places":64,"used":3},"left":null,"sectors":256,"version":2}')),
     (b"GET /map/0", found("text/plain", "Head\n", "400 Bad Request").replace(b"\r\n\r\n", b"\r\nconnection: close\r\n\r\n")),
 ]
 
@@ -80,13 +85,13 @@ def hold_to_examples():
     stand = Stand()
     stand.begin(256)
     for asked, wanted in EXAMPLES:
-        answered = connections.outcome(stand.service, asked, 4096).written
+        answered = connections.outcome(stand.service, asked, 4096, is_admin=True).written
         if answered != wanted:
             sys.exit(f"{asked}: {answered}, and the example has {wanted}")
 
 
 BLOCKS = [*reply_heads.BLOCKS, *reply_routes.BLOCKS, *reply_edits.BLOCKS, *reply_publications.BLOCKS, reply_random.at_random, *reply_hostile.BLOCKS]
-BLOCKS += [*reply_hostile_edits.BLOCKS, *reply_turns.BLOCKS]
+BLOCKS += [*reply_hostile_edits.BLOCKS, *reply_turns.BLOCKS, *reply_admin.BLOCKS]
 
 
 def files():

@@ -65,7 +65,7 @@ class Stand:
     """A disk, and the service on it while it is open."""
 
     def __init__(self):
-        self.disk, self.service = Memory(1), None
+        self.disk, self.service, self.is_admin = Memory(1), None, False
 
     def zeros(self, sectors):
         self.disk, self.service = Memory(sectors), None
@@ -102,9 +102,9 @@ class Stand:
         self.service = None
         self.disk.write(at, bytes([first]).ljust(SECTOR, b"\0"))
 
-    def open(self, kind="", number=0):
-        """Opens the disk, so that calls behind the opening fail: `open`, or why it isn't."""
-        self.service = None
+    def open(self, kind="", number=0, is_admin=False):
+        """Opens the disk, so that calls behind the opening fail: `open`, or why it isn't. The paths under `/admin/` may be served."""
+        self.service, self.is_admin = None, is_admin
         counted = Faulty(self.disk)
         try:
             Service(counted)
@@ -154,6 +154,9 @@ class Script:
     def again(self, kind="", number=0):
         self.add(f"again {kind} {number}" if kind else "again", self.stand.open(kind, number))
 
+    def admin(self, kind="", number=0):
+        self.add(f"admin {kind} {number}" if kind else "admin", self.stand.open(kind, number, True))
+
     def writer(self, size=None, room=None, end="fails"):
         self.room = room
         self.add("writer" if size is None else f"writer {size} {room} {end}", "writer")
@@ -166,7 +169,7 @@ class Script:
         """What is told of connections of these bytes."""
         answer, first = "", None
         for size in sizes:
-            found = connections.outcome(self.stand.service, held, size, is_open, self.room, self.most_turns)
+            found = connections.outcome(self.stand.service, held, size, is_open, self.room, self.most_turns, self.stand.is_admin)
             same = first is not None and (found.result, found.written) == (first.result, first.written)
             answer += f" | {size}: " if first else ""
             answer += "same, " if same else f"{found.result}, "

@@ -1,6 +1,6 @@
 -- The features of a map are within the limits.
 use Rattle.std.proofs.Common.{◌≡◌, ⊎_elim, ℕ, Bool, false, true, cond, List, [], ◌∷◌, sym, subst, arith, Option, Some, None}
-use Rattle.std.specs.Prelude.{IfSome, option_map}
+use Rattle.std.specs.Prelude.{nat_le, IfSome, option_map}
 use Rattle.std.specs.List.{All}
 use Rattle.std.specs.Ordering.{nat_cmp}
 use Rattle.std.specs.BTreeMap.{is_at}
@@ -8,10 +8,11 @@ use Rattle.std.specs.Map.{lookup}
 use Rattle.std.proofs.lemmas.Bool.{cases_eq}
 use Rattle.std.proofs.lemmas.Bool.Decides.{nat_tests}
 use Rattle.std.proofs.lemmas.List.Elements.{All-head, All-tail}
+use Rattle.number_map.specs.Blocks.{first_from}
 use Rattle.feature_model.specs.Data.{FeatureData, put}
 use Rattle.feature_model.specs.Limits.{IsAllowed}
 use Rattle.feature_model.specs.Types.{IsChange}
-use Rattle.feature_store.specs.Store.{FeatureMap, IsMap, feature_at}
+use Rattle.feature_store.specs.Store.{FeatureMap, IsMap, feature_at, feature_from}
 
 at_other : (id other : ℕ) → (id ≡ other → ⊥) → is_at (nat_cmp id) other ≡ false
 at_other id other apart = grind (arith, nat_tests)
@@ -34,6 +35,22 @@ looked_up (e ∷ m) id edits =
 pub allowed_there : (m : FeatureMap) (id : ℕ) → IsMap m → IfSome (feature_at m id) (IsAllowed id)
 unfolding feature_at
 allowed_there m id is_map = looked_up m id is_map.edits
+
+found_from : (m : FeatureMap) (id : ℕ) → All (λ e. IsChange (put e.0 e.1)) m → IfSome (first_from id m) (λ e. IsAllowed e.0 e.1)
+found_from [] id edits = tt
+found_from (e ∷ m) id edits =
+    either (nat_le id e.0) (All-head (λ e. IsChange (put e.0 e.1)) e m edits).0
+    (found_from m id (All-tail (λ e. IsChange (put e.0 e.1)) e m edits))
+  where
+    either : (b : Bool) → IsAllowed e.0 e.1 → IfSome (first_from id m) (λ e. IsAllowed e.0 e.1)
+        → IfSome (cond b (Some e) (first_from id m)) (λ e. IsAllowed e.0 e.1)
+    either true here behind = here
+    either false here behind = behind
+
+-- so is the first one from a number on
+pub allowed_from : (m : FeatureMap) (id : ℕ) → IsMap m → IfSome (feature_from m id) (λ e. IsAllowed e.0 e.1)
+unfolding feature_from
+allowed_from m id is_map = found_from m id is_map.edits
 
 -- what holds of the value of each item holds of the item
 pub of_value : {A B : Type 0} (value : A → B) (Holds : B → Type 0) (item : Option A) → IfSome (option_map value item) Holds

@@ -14,18 +14,33 @@ use Rattle.std.proofs.lemmas.List.Elements.{All-head, All-tail}
 use Rattle.number_map.proofs.Entries.{lookup_here, lookup_on}
 use Rattle.std.proofs.lemmas.List.Concat.{flat_map-append}
 use Rattle.std.proofs.lemmas.Map.Made.{lookup-map_values}
-use Rattle.number_map.specs.Blocks.{joined}
+use Rattle.std.specs.Prelude.{nat_le}
+use Rattle.number_map.specs.Blocks.{joined, first_from}
 use Rattle.feature_model.specs.declared.feature.Feature.{Feature}
 use Rattle.feature_model.specs.Data.{FeatureData, feature_data}
 use Rattle.feature_store.specs.Inside.{entry_data, entries_data}
 use Rattle.feature_store.specs.Snapshots.{IsEditOf}
-use Rattle.feature_store.specs.Store.{FeatureMap, feature_at, with_feature, without_feature, entry_text, snapshot}
+use Rattle.feature_store.specs.Store.{FeatureMap, feature_at, feature_from, with_feature, without_feature, entry_text, snapshot}
 use Rattle.feature_store.proofs.Snapshots.{snapshot_more, snapshot_both, All-front, All-behind}
 
 -- the feature of a number
 pub feature_found : (es : List (ℕ × Feature)) (n : ℕ) → feature_at (entries_data es) n ≡ option_map feature_data (lookup (is_at (nat_cmp n)) es)
 unfolding feature_at
 feature_found es n = lookup-map_values feature_data (is_at (nat_cmp n)) es
+
+-- the first one from a number on
+first_data : (es : List (ℕ × Feature)) (n : ℕ) → first_from n (entries_data es) ≡ option_map entry_data (first_from n es)
+first_data [] n = refl
+first_data (e ∷ es) n = by (nat_le n e.0) (first_data es n)
+  where
+    by : (b : Bool) → first_from n (entries_data es) ≡ option_map entry_data (first_from n es)
+        → cond b (Some (entry_data e)) (first_from n (entries_data es)) ≡ option_map entry_data (cond b (Some e) (first_from n es))
+    by true rest = refl
+    by false rest = rest
+
+pub first_found : (es : List (ℕ × Feature)) (n : ℕ) → feature_from (entries_data es) n ≡ option_map entry_data (first_from n es)
+unfolding feature_from
+first_found es n = first_data es n
 
 set_data : (es : List (ℕ × Feature)) (n : ℕ) (f : Feature)
     → entries_data (insert_entry nat_cmp es n f) ≡ insert_entry nat_cmp (entries_data es) n (feature_data f)

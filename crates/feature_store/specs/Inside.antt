@@ -1,5 +1,6 @@
 -- How a store keeps its map.
 use Rattle.std.specs.Prelude.{ℕ, List, map, min}
+use Rattle.std.specs.Borrow.{Bor}
 use Rattle.feature_model.specs.declared.feature.Feature.{Feature}
 use Rattle.feature_model.specs.Data.{FeatureData, feature_data}
 use Rattle.feature_store.specs.declared.store.Store.TheInside.{Inside}
@@ -9,6 +10,10 @@ use Rattle.feature_store.specs.Store.{FeatureMap, StoreView, IsMap}
 -- an entry without where it lies in memory
 abbrev pub entry_data : ℕ × Feature → ℕ × FeatureData
 entry_data e = (e.0, feature_data e.1)
+
+-- a number with a reference to its feature, without where that lies in memory
+abbrev pub numbered_data : ℕ × Bor Feature → ℕ × FeatureData
+numbered_data e = (e.0, feature_data e.1.now)
 
 -- the map that entries keep
 abbrev pub entries_data : List (ℕ × Feature) → FeatureMap

@@ -9,6 +9,7 @@ use Rattle.std.specs.Map.{keys_of, lookup, remove_entry}
 use Rattle.feature_model.specs.Data.{FeatureData, ChangeData, put, delete, EditData}
 use Rattle.feature_model.specs.Spelled.{spelled_change}
 use Rattle.feature_model.specs.Types.{IsChange}
+use Rattle.number_map.specs.Blocks.{first_from}
 use Rattle.feature_store.specs.declared.limit.TheConstants.{TEXTS_END}
 
 -- numbers, each with its feature
@@ -18,6 +19,10 @@ FeatureMap = List (ℕ × FeatureData)
 -- the feature with this number
 unfoldable pub feature_at : FeatureMap → ℕ → Option FeatureData
 feature_at m id = lookup (is_at (nat_cmp id)) m
+
+-- the first feature with this number or a greater one, and its number
+unfoldable pub feature_from : FeatureMap → ℕ → Option (ℕ × FeatureData)
+feature_from m id = first_from id m
 
 -- the number with its feature, or nothing
 abbrev pub entry_at : FeatureMap → ℕ → FeatureMap

@@ -7,12 +7,12 @@ ghost use Rattle.mvt_layer.specs.Tile.{layer_views};
 ghost use Rattle.mvt_write.specs.CanWrite.{CanWriteAll};
 ghost use Rattle.number_map.specs.Blocks.{joined};
 ghost use Rattle.tile_cutter.specs.WorldBox.{bounding_box};
-ghost use Rattle.feature_store.specs.Inside.{entries_data};
+ghost use Rattle.feature_store.specs.Inside.{entries_data, numbered_data};
 ghost use Rattle.feature_store.specs.Layers.{layers};
 ghost use Rattle.feature_store.specs.Pairs.{ArePairsOfMap};
 ghost use Rattle.feature_store.specs.Snapshots.{IsNoSnapshot};
 ghost use Rattle.feature_store.specs.declared.fault.SnapshotFault.TheVariants.{Bad, Memory};
-ghost use Rattle.feature_store.specs.Store.{IsMap, HasRoom, feature_at, with_feature, without_feature, snapshot, puts_in};
+ghost use Rattle.feature_store.specs.Store.{IsMap, HasRoom, feature_at, feature_from, with_feature, without_feature, snapshot, puts_in};
 
 use crate::all_pairs::all_pairs;
 use crate::all_tiles::{Tiles, tile_layers};
@@ -106,6 +106,17 @@ impl Store {
         ensures allowed { IfSome result (λ f. IsAllowed id (feature_data f.now)) }
     {
         self.features.get(id)
+    }
+
+    /// The first feature with this number or a greater one, and its number, by the searches of `get`.
+    pub fn first_from(&self, id: u64) -> Option<(u64, &Feature)>
+        ensures found { option_map numbered_data result ≡ feature_from self.now.features id }
+        ensures allowed { IfSome result (λ e. IsAllowed e.0 (feature_data e.1.now)) }
+    {
+        match self.features.first_from(id) {
+            Some(entry) => Some((entry.0, &entry.1)),
+            None => None,
+        }
     }
 
     /// The features by ascending number, in blocks.

@@ -4,7 +4,7 @@ ghost use Rattle.sector_disk.specs.Asked.{MayWrite};
 ghost use Rattle.sector_disk.specs.Disk.{seen};
 ghost use Rattle.sector_disk.specs.Disk.History.{synced};
 ghost use Rattle.generations.specs.declared.fault.StoreFault.TheVariants.{Device, Memory};
-ghost use Rattle.map_replies.specs.State.{asked_service};
+ghost use Rattle.map_replies.specs.State.{access_of, asked_service};
 ghost use Rattle.tile_service.specs.Opening.{IsOpenFault};
 ghost use Rattle.tile_service.specs.Service.{IsUp};
 ghost use Rattle.tile_service.specs.Stored.{Stored, Holds};
@@ -13,14 +13,17 @@ use generations::StoreFault;
 use map_replies::MapReplies;
 use sector_disk::Sectors;
 use std::alloc::{AllocError, Global};
-use tile_routes::Routes;
+use tile_routes::{Access, Routes};
 use tile_service::Service;
 
-/// A service that continues from what a disk holds; opening writes nothing. A disk that can't be opened is returned.
+/// A service that continues from what a disk holds, and serves these paths; opening writes nothing. A disk that can't be opened is
+/// returned.
 pub fn opened_service<D: Sectors + Drop>(
     alloc: Global,
     disk: D,
+    access: Access,
 ) -> Result<MapReplies<D>, (Option<D>, StoreFault)>
+    ensures access { IfOk result (λ replies. access_of replies ≡ access) }
     ensures disk { IfOk result (λ replies. MayWrite D.sectors D.honest disk (asked_service replies).disk) }
     ensures history { IfOk result (λ replies. D.honest (asked_service replies).disk → D.history (asked_service replies).disk ≡ synced (D.history disk)) }
     ensures fault { IfErr result (λ e. IfSome e.0 D.honest
@@ -41,6 +44,6 @@ pub fn opened_service<D: Sectors + Drop>(
         Ok(routes) => routes,
         Err(AllocError) => return Err((None, StoreFault::Memory)),
     };
-    let replies = MapReplies::new(alloc, routes, service);
+    let replies = MapReplies::new(alloc, routes, access, service);
     Ok(replies)
 }

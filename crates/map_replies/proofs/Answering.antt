@@ -6,11 +6,11 @@ use Rattle.http_serve.specs.declared.replies.Reply.{Reply}
 use Rattle.sector_disk.specs.Disk.{History, HasFailed}
 use Rattle.tile_service.specs.Machine.{OrMemory, got, no_memory, Happening}
 use Rattle.tile_service.specs.Runs.{begin_and_steps, Takes, TakesPublication}
-use Rattle.tile_service.specs.Service.{ServiceView, TellsDevice}
+use Rattle.tile_service.specs.Service.{ServiceView, status_of, TellsDevice}
 use Rattle.tile_service.specs.declared.fault.ServiceFault.TheVariants.{Device}
 use Rattle.tile_service.specs.declared.publishing_whole.Published.{Published}
 use Rattle.tile_service.specs.declared.fault.ServiceFault.{ServiceFault}
-use Rattle.map_replies.specs.Meanings.{numbers_of, MeansCall, MeansChange, OrNoMemory, MeansEdit, MeansPublish, Answers}
+use Rattle.map_replies.specs.Meanings.{MeansCall, MeansChange, OrNoMemory, MeansEdit, MeansPublish, Answers}
 use Rattle.map_replies.specs.Sending.{IsAnswered}
 use Rattle.map_replies.specs.Words.{refusal_of, shown_reply, published_reply, outcome_reply}
 use Rattle.map_replies.specs.declared.fault.RequestFault.{RequestFault}
@@ -84,7 +84,7 @@ module _ {D : Type 0} (sectors : D → ℕ) (honest : D → Type 0) (history : D
   -- a whole publication was made
   pub published : (before after : ℕ) (old new : ServiceView D) (outcome : Result Published ServiceFault) (reply : ReplyView)
       → reply ≡ published_reply outcome → TellsDevice outcome before after → TakesPublication sectors honest history old outcome new
-      → Answers sectors honest history (OrNoMemory (MeansPublish (HasFailed before after) (numbers_of old) (numbers_of new))) old new reply
+      → Answers sectors honest history (OrNoMemory (MeansPublish (HasFailed before after) (status_of old) (status_of new))) old new reply
   published before after old new (Ok p) reply is counts takes = (
     begin_and_steps (takes.before ++ takes.last ∷ []),
     inl (

@@ -10,8 +10,9 @@ use Rattle.tile_service.specs.Machine.{Happening}
 use Rattle.tile_service.specs.Runs.{TakesAll, TakesRun}
 use Rattle.tile_service.proofs.Callers.{HasRun, run_begins, run_on_all, takes_run}
 use Rattle.map_replies.specs.declared.service.MapReplies.{MapReplies}
-use Rattle.map_replies.specs.Meanings.{numbers_of, Means, DiskFailed}
-use Rattle.map_replies.specs.State.{asked_service, ServiceReplies, ServiceFails, Course, course, Tells, TellsCut}
+use Rattle.tile_service.specs.Service.{status_of}
+use Rattle.map_replies.specs.Meanings.{Means, DiskFailed}
+use Rattle.map_replies.specs.State.{access_of, asked_service, ServiceReplies, ServiceFails, Course, course, Tells, TellsCut}
 use Rattle.map_replies.proofs.Along.{served_along, fault_along}
 
 module _ {D : Type 0} (sectors : D → ℕ) (honest : D → Type 0) (history : D → History) (faults : D → ℕ) where
@@ -28,15 +29,16 @@ module _ {D : Type 0} (sectors : D → ℕ) (honest : D → Type 0) (history : D
       → (more : Course D) × Tells sectors honest history faults so request reply more × GoesAlong first new more
   replied first old so request reply new along is =
       let here : so.replies ≡ old = ap (λ (c : Course D). c.replies) along.0 in (
-        course new (so.run ++ is.0),
+        course new (so.run ++ is.0.0),
         (
-          is.0,
-          subst (λ (s : MapReplies D). Means (DiskFailed faults (asked_service s) (asked_service new)) (asked_service s).version
-              (numbers_of (asked_service s)) (numbers_of (asked_service new)) request reply is.0) (sym here) is.1,
-          subst (λ (s : MapReplies D). TakesAll sectors honest history (asked_service s) is.0 (asked_service new)) (sym here) is.2,
+          is.0.0,
+          subst (λ (s : MapReplies D). Means (access_of s) (DiskFailed faults (asked_service s) (asked_service new))
+              (status_of (asked_service s)) (status_of (asked_service new)) request reply is.0.0) (sym here) is.0.1,
+          subst (λ (s : MapReplies D). TakesAll sectors honest history (asked_service s) is.0.0 (asked_service new)) (sym here) is.0.2,
           refl,
+          subst (λ (s : MapReplies D). access_of new ≡ access_of s) (sym here) is.1,
         ),
-        (refl, run_on_all sectors honest history (asked_service first) (asked_service old) (asked_service new) so.run is.0 along.1 is.2),
+        (refl, run_on_all sectors honest history (asked_service first) (asked_service old) (asked_service new) so.run is.0.0 along.1 is.0.2),
       )
 
   -- one reply that was cut short because the disk failed

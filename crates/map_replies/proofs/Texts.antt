@@ -4,7 +4,7 @@ use Rattle.serde_json.specs.Data.{Data}
 use Rattle.serde_json.specs.View.{items_of}
 use Rattle.serde_json.specs.Written.{has_float, items_have_float, members_have_float}
 use Rattle.tile_routes.specs.Methods.{allow_of, name_of}
-use Rattle.tile_routes.specs.Paths.{Asked, asked_tile, asked_feature, asked_view, asked_action, asked_nothing}
+use Rattle.tile_routes.specs.Paths.{Asked, asked_tile, asked_feature, asked_from, asked_view, asked_action, asked_nothing}
 use Rattle.feature_model.specs.declared.feature.World.{World}
 use Rattle.feature_model.specs.Data.{GeometryData, world_points, world_lines, world_polygons, ValueData, text_value}
 use Rattle.feature_model.specs.Data.{natural_value, negative_value, truth_value, TagData, FeatureData}
@@ -17,6 +17,7 @@ pub allow_short : (asked : Asked) → length (allow_of asked) ≤ 64
 unfolding name_of
 allow_short (asked_tile z x y format) = omega arith
 allow_short (asked_feature id) = omega arith
+allow_short (asked_from id) = omega arith
 allow_short (asked_view view) = omega arith
 allow_short (asked_action action) = omega arith
 allow_short asked_nothing = omega arith

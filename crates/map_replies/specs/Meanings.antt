@@ -12,12 +12,15 @@ use Rattle.tile_routes.specs.declared.target.Action.TheVariants as actions
 use Rattle.tile_routes.specs.declared.target.View.{View}
 use Rattle.tile_routes.specs.declared.target.View.TheVariants as views
 use Rattle.tile_routes.specs.Methods.{method_on}
-use Rattle.tile_routes.specs.Paths.{Asked, asked_tile, asked_feature, asked_view, asked_action, asked_nothing, asked_by}
+use Rattle.tile_routes.specs.Paths.{Asked, asked_tile, asked_feature, asked_from, asked_view, asked_action, asked_nothing, asked_by, granted}
+use Rattle.tile_routes.specs.declared.access.Access.{Access}
 use Rattle.feature_model.specs.Data.{FeatureData, EditData, put, delete}
-use Rattle.tile_service.specs.Machine.{Happening, single, batched, recorded_in, recorded_change, edit, begin, step, cancel, tile, look, metadata, read}
+use Rattle.tile_service.specs.Machine.{Happening, single, batched, recorded_in, recorded_change, edit, begin, step, cancel, tile, look, look_from, metadata}
+use Rattle.tile_service.specs.Machine.{read}
 use Rattle.tile_service.specs.Runs.{begin_and_steps, TakesAll}
-use Rattle.tile_service.specs.Service.{ServiceView}
+use Rattle.tile_service.specs.Service.{ServiceView, status_of}
 use Rattle.tile_service.specs.declared.publishing_whole.Published.{Published}
+use Rattle.tile_service.specs.declared.status.Status.{Status}
 use Rattle.tile_service.specs.declared.fault.ServiceFault.{ServiceFault}
 use Rattle.tile_service.specs.declared.fault.ServiceFault.TheVariants.{Device}
 use Rattle.map_replies.specs.declared.fault.RequestFault.{RequestFault}
@@ -27,11 +30,7 @@ use Rattle.map_replies.specs.declared.parts.ArchiveRange.TheVariants.{Beyond}
 use Rattle.map_replies.specs.Bodies.{SaysFeature, SaysChanges, HasBodyFault, HasBatchFault}
 use Rattle.map_replies.specs.Parts.{range_for, IsPart, start_of, size_of, part_reply, bytes_reply}
 use Rattle.map_replies.specs.Words.{refusal_of, not_allowed_reply, outcome_reply, left_reply, published_reply, cancel_reply}
-use Rattle.map_replies.specs.Words.{shown_reply, content_reply, found_reply, metadata_reply}
-
--- What a reply reports of the service besides what happens: its generation, the sequence number of its last edit, and its archive's length in bytes.
-abbrev pub numbers_of : {D : Type 0} → ServiceView D → Published
-numbers_of service = record { generation = service.generation; edits = service.journal.last; archive_len = service.archive_len }
+use Rattle.map_replies.specs.Words.{shown_reply, content_reply, found_reply, numbered_reply, metadata_reply, status_reply}
 
 -- ---- one call of the service
 
@@ -84,10 +83,10 @@ last_outcome (Err fault) = Err fault
 
 -- The reply reports the generation and the archive that are installed, and the last edit before the publication. With the fault Device
 -- the disk has failed.
-abbrev pub MeansPublish : (failed : Type 0) → (old new : Published) → ReplyView → List Happening → Type 0
+abbrev pub MeansPublish : (failed : Type 0) → (old new : Status) → ReplyView → List Happening → Type 0
 MeansPublish failed old new reply happenings = (outcome : Result Published ServiceFault) × (reply ≡ published_reply outcome)
     × IfErr outcome (λ fault. fault ≡ Device → failed)
-    × IfOk outcome (λ p. p ≡ record new { edits = old.edits })
+    × IfOk outcome (λ p. p ≡ record { generation = new.generation; edits = old.edits; archive_len = new.archive_len })
     × (before : List (Result ℕ ServiceFault)) × (happenings ≡ begin_and_steps (before ++ last_outcome outcome ∷ []))
 
 -- ---- the archive
@@ -104,48 +103,57 @@ abbrev pub MeansArchive : (failed : Type 0) → (total : ℕ) → Option (List �
 MeansArchive failed total range reply happenings = ((total ≡ 0) × MeansRefusal NotFound reply happenings)
     ⊎ ((0 < total) × (part : ArchiveRange) × IsPart range total part × MeansPart failed total part reply happenings)
 
--- ---- routed requests: version is that of the service's disk, old and new are the service's numbers before and after, failed says that
--- its disk has failed meanwhile
+-- ---- routed requests: old and new are what the service tells of itself before and after, failed says that its disk has failed meanwhile
 
 abbrev pub MeansOnFeature : (failed : Type 0) → (version : ℕ) → ℕ → Method → List ℕ → ReplyView → List Happening → Type 0
 MeansOnFeature failed version id Put body = MeansPut failed version id body
 MeansOnFeature failed version id Delete body = MeansDelete failed version id
 MeansOnFeature failed version id method body = MeansCall (look id) (shown_reply found_reply)
 
+-- the service's status is told, and nothing happens
+abbrev pub MeansStatus : Status → ReplyView → List Happening → Type 0
+MeansStatus status reply happenings = (reply ≡ status_reply status) × (happenings ≡ [])
+
 -- what GET and HEAD show
-abbrev pub MeansView : (failed : Type 0) → (old : Published) → View → Method → Option (List ℕ) → ReplyView → List Happening → Type 0
+abbrev pub MeansView : (failed : Type 0) → (old : Status) → View → Method → Option (List ℕ) → ReplyView → List Happening → Type 0
 MeansView failed old views.Metadata method range = MeansCall metadata (shown_reply metadata_reply)
 MeansView failed old views.Archive method range = OrNoMemory (MeansArchive failed old.archive_len (range_for method range))
+MeansView failed old views.Status method range = OrNoMemory (MeansStatus old)
 
 -- what POST does
-abbrev pub MeansAction : (failed : Type 0) → (version : ℕ) → (old new : Published) → Action → List ℕ → ReplyView → List Happening → Type 0
-MeansAction failed version old new actions.Edits body = MeansBatch failed version body
-MeansAction failed version old new actions.Publish body = OrNoMemory (MeansPublish failed old new)
-MeansAction failed version old new actions.PublishBegin body = OrNoMemory (MeansCall begin left_reply)
-MeansAction failed version old new actions.PublishStep body = OrNoMemory (MeansChange failed step left_reply)
-MeansAction failed version old new actions.PublishCancel body = OrNoMemory (MeansCall cancel cancel_reply)
+abbrev pub MeansAction : (failed : Type 0) → (old new : Status) → Action → List ℕ → ReplyView → List Happening → Type 0
+MeansAction failed old new actions.Edits body = MeansBatch failed old.version body
+MeansAction failed old new actions.Publish body = OrNoMemory (MeansPublish failed old new)
+MeansAction failed old new actions.PublishBegin body = OrNoMemory (MeansCall begin left_reply)
+MeansAction failed old new actions.PublishStep body = OrNoMemory (MeansChange failed step left_reply)
+MeansAction failed old new actions.PublishCancel body = OrNoMemory (MeansCall cancel cancel_reply)
 
 -- a method that the path allows
-abbrev pub MeansAllowed : (failed : Type 0) → (version : ℕ) → (old new : Published) → Asked → Method → Option (List ℕ) → List ℕ
+abbrev pub MeansAllowed : (failed : Type 0) → (old new : Status) → Asked → Method → Option (List ℕ) → List ℕ
     → ReplyView → List Happening → Type 0
-MeansAllowed failed version old new (asked_tile z x y format) method range body = MeansCall (tile z x y) (shown_reply (content_reply format))
-MeansAllowed failed version old new (asked_feature id) method range body = MeansOnFeature failed version id method body
-MeansAllowed failed version old new (asked_view view) method range body = MeansView failed old view method range
-MeansAllowed failed version old new (asked_action action) method range body = MeansAction failed version old new action body
-MeansAllowed failed version old new asked_nothing method range body = MeansRefusal NotFound
+MeansAllowed failed old new (asked_tile z x y format) method range body = MeansCall (tile z x y) (shown_reply (content_reply format))
+MeansAllowed failed old new (asked_feature id) method range body = MeansOnFeature failed old.version id method body
+MeansAllowed failed old new (asked_from id) method range body = MeansCall (look_from id) (shown_reply numbered_reply)
+MeansAllowed failed old new (asked_view view) method range body = MeansView failed old view method range
+MeansAllowed failed old new (asked_action action) method range body = MeansAction failed old new action body
+MeansAllowed failed old new asked_nothing method range body = MeansRefusal NotFound
 
 -- a method, or why the path refuses it
-abbrev pub MeansMethod : (failed : Type 0) → (version : ℕ) → (old new : Published) → Asked → Result Method RouteFault → Option (List ℕ) → List ℕ
+abbrev pub MeansMethod : (failed : Type 0) → (old new : Status) → Asked → Result Method RouteFault → Option (List ℕ) → List ℕ
     → ReplyView → List Happening → Type 0
-MeansMethod failed version old new asked (Ok method) range body reply happenings =
-    MeansAllowed failed version old new asked method range body reply happenings
-MeansMethod failed version old new asked (Err routes.NotFound) range body reply happenings = MeansRefusal NotFound reply happenings
-MeansMethod failed version old new asked (Err routes.NotAllowed) range body reply happenings = (reply ≡ not_allowed_reply asked) × (happenings ≡ [])
+MeansMethod failed old new asked (Ok method) range body reply happenings =
+    MeansAllowed failed old new asked method range body reply happenings
+MeansMethod failed old new asked (Err routes.NotFound) range body reply happenings = MeansRefusal NotFound reply happenings
+MeansMethod failed old new asked (Err routes.NotAllowed) range body reply happenings = (reply ≡ not_allowed_reply asked) × (happenings ≡ [])
+
+-- what a request asks for by its path, where that is served
+abbrev pub asked_for : Access → RequestView → Asked
+asked_for access request = granted access (asked_by request.path)
 
 -- the reply to a request, which is routed by its method and its path
-abbrev pub Means : (failed : Type 0) → (version : ℕ) → (old new : Published) → RequestView → ReplyView → List Happening → Type 0
-Means failed version old new request =
-    MeansMethod failed version old new (asked_by request.path) (method_on request.method (asked_by request.path)) request.range request.body
+abbrev pub Means : Access → (failed : Type 0) → (old new : Status) → RequestView → ReplyView → List Happening → Type 0
+Means access failed old new request =
+    MeansMethod failed old new (asked_for access request) (method_on request.method (asked_for access request)) request.range request.body
 
 -- ---- a single reply
 
@@ -163,13 +171,13 @@ module _ {D : Type 0} (sectors : D → ℕ) (honest : D → Type 0) (history : D
     -- the reply to a method that the path allows
     abbrev pub AnswersAllowed : Asked → Method → Option (List ℕ) → List ℕ → (old new : ServiceView D) → ReplyView → Type 0
     AnswersAllowed asked method range body old new =
-        Answers (MeansAllowed (DiskFailed faults old new) old.version (numbers_of old) (numbers_of new) asked method range body) old new
+        Answers (MeansAllowed (DiskFailed faults old new) (status_of old) (status_of new) asked method range body) old new
 
     -- the reply to a method, or to one that the path refuses
     abbrev pub AnswersMethod : Asked → Result Method RouteFault → Option (List ℕ) → List ℕ → (old new : ServiceView D) → ReplyView → Type 0
     AnswersMethod asked method range body old new =
-        Answers (MeansMethod (DiskFailed faults old new) old.version (numbers_of old) (numbers_of new) asked method range body) old new
+        Answers (MeansMethod (DiskFailed faults old new) (status_of old) (status_of new) asked method range body) old new
 
     -- the reply to a request
-    abbrev pub Replies : ServiceView D → RequestView → ReplyView → ServiceView D → Type 0
-    Replies old request reply new = Answers (Means (DiskFailed faults old new) old.version (numbers_of old) (numbers_of new) request) old new reply
+    abbrev pub Replies : Access → ServiceView D → RequestView → ReplyView → ServiceView D → Type 0
+    Replies access old request reply new = Answers (Means access (DiskFailed faults old new) (status_of old) (status_of new) request) old new reply

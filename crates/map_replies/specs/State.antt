@@ -5,32 +5,42 @@ use Rattle.http_serve.specs.Reply.{ReplyView}
 use Rattle.sector_disk.specs.Disk.{History}
 use Rattle.tile_service.specs.Machine.{Happening}
 use Rattle.tile_service.specs.Runs.{TakesAll}
-use Rattle.tile_service.specs.Service.{ServiceView}
+use Rattle.tile_service.specs.Service.{ServiceView, status_of}
+use Rattle.map_replies.specs.declared.calls.Calls.{Calls}
 use Rattle.map_replies.specs.declared.service.MapReplies.{MapReplies}
-use Rattle.map_replies.specs.Meanings.{numbers_of, Means, DiskFailed, Replies}
+use Rattle.map_replies.specs.Meanings.{Means, asked_for, DiskFailed, Replies}
 use Rattle.map_replies.specs.Sending.{SendsMethod}
 use Rattle.tile_routes.specs.Methods.{method_on}
-use Rattle.tile_routes.specs.Paths.{asked_by}
+use Rattle.tile_routes.specs.declared.access.Access.{Access}
+
+-- which paths it serves
+abbrev pub access_of : {D : Type 0} → MapReplies D → Access
+access_of s = s.access
 
 -- the service that it calls
 abbrev pub asked_service : {D : Type 0} → MapReplies D → ServiceView D
-asked_service s = s.service
+asked_service s = s.calls.service
 
 -- how many bytes of the archive are being sent
+abbrev pub sent_by : {D : Type 0} → Calls D → ℕ
+sent_by calls = min calls.sending.length (calls.service.archive_len - calls.sending.first)
+
 abbrev pub sending_size : {D : Type 0} → MapReplies D → ℕ
-sending_size s = min s.sending.length ((asked_service s).archive_len - s.sending.first)
+sending_size s = sent_by s.calls
 
 -- over a disk with these sectors, this honesty, this history and this count of faults
 module _ {D : Type 0} (sectors : D → ℕ) (honest : D → Type 0) (history : D → History) (faults : D → ℕ) where
-  -- one reply to one request
+  -- one reply to one request; the same paths are served as before
   abbrev pub ServiceReplies : MapReplies D → RequestView → ReplyView → MapReplies D → Type 0
-  ServiceReplies old request reply new = Replies sectors honest history faults (asked_service old) request reply (asked_service new)
+  ServiceReplies old request reply new =
+      Replies sectors honest history faults (access_of old) (asked_service old) request reply (asked_service new) × (access_of new ≡ access_of old)
 
   -- the same for a reply whose content is being read in parts: the request is for the archive
   abbrev pub ServiceSends : MapReplies D → RequestView → ReplyView → MapReplies D → Type 0
   ServiceSends old request reply new =
-      SendsMethod sectors honest history faults (asked_by request.path) (method_on request.method (asked_by request.path)) request.range
-      (asked_service old) new.sending (asked_service new) reply
+      SendsMethod sectors honest history faults (asked_for (access_of old) request) (method_on request.method (asked_for (access_of old) request))
+      request.range (asked_service old) new.calls.sending (asked_service new) reply
+      × (access_of new ≡ access_of old)
 
   -- the same for a reply whose content couldn't be read to its end: the disk has failed
   abbrev pub ServiceFails : MapReplies D → RequestView → ReplyView → MapReplies D → Type 0
@@ -47,13 +57,14 @@ abbrev pub course : {D : Type 0} → MapReplies D → List Happening → Course 
 course replies run = record { replies = replies; run = run }
 
 module _ {D : Type 0} (sectors : D → ℕ) (honest : D → Type 0) (history : D → History) (faults : D → ℕ) where
-  -- One reply to one request: it reports happenings, the service takes them all, and they are appended to the run.
+  -- One reply to one request: it reports happenings, the service takes them all, and they are appended to the run. The same paths are
+  -- served as before.
   abbrev pub Tells : Course D → RequestView → ReplyView → Course D → Type 0
   Tells old request reply new = (happenings : List Happening)
-      × Means (DiskFailed faults (asked_service old.replies) (asked_service new.replies)) (asked_service old.replies).version
-      (numbers_of (asked_service old.replies)) (numbers_of (asked_service new.replies)) request reply happenings
+      × Means (access_of old.replies) (DiskFailed faults (asked_service old.replies) (asked_service new.replies))
+      (status_of (asked_service old.replies)) (status_of (asked_service new.replies)) request reply happenings
       × TakesAll sectors honest history (asked_service old.replies) happenings (asked_service new.replies)
-      × (new.run ≡ old.run ++ happenings)
+      × (new.run ≡ old.run ++ happenings) × (access_of new.replies ≡ access_of old.replies)
 
   -- the same for a reply whose content couldn't be read to its end: the disk has failed
   abbrev pub TellsCut : Course D → RequestView → ReplyView → Course D → Type 0

@@ -1,5 +1,5 @@
 -- The replies of the service.
-use Rattle.std.specs.Prelude.{ℕ, List, ◌++◌, codes, decimal, Option, Some, None, Result, Ok, Err}
+use Rattle.std.specs.Prelude.{ℕ, List, ◌++◌, codes, decimal, Option, Some, None, Result, Ok, Err, if◌then◌else◌}
 use Rattle.hex.specs.Hex.{encode_lower}
 use Rattle.serde_json.specs.Data.{Data}
 use Rattle.serde_json.specs.Written.{compact_text}
@@ -14,6 +14,7 @@ use Rattle.tile_routes.specs.Methods.{allow_of}
 use Rattle.tile_routes.specs.Paths.{Asked}
 use Rattle.tile_service.specs.Machine.{OrMemory, got, no_memory}
 use Rattle.tile_service.specs.declared.publishing_whole.Published.{Published}
+use Rattle.tile_service.specs.declared.status.Status.{Status}
 use Rattle.tile_service.specs.declared.fault.ServiceFault.{ServiceFault}
 use Rattle.tile_service.specs.declared.fault.ServiceFault.TheVariants as services
 use Rattle.map_replies.specs.declared.fault.RequestFault.{RequestFault}
@@ -173,6 +174,50 @@ metadata_reply d = json_reply (compact_text d)
 abbrev pub found_reply : Option FeatureData → ReplyView
 found_reply None = refusal_of NotFound
 found_reply (Some f) = json_reply (compact_text (json_of f))
+
+-- a feature with its id
+unfoldable pub numbered_body : (feature : List ℕ) → ℕ → List ℕ
+numbered_body feature id = codes "{\"feature\":" ++ feature ++ codes ",\"id\":" ++ decimal id ++ codes "}"
+
+-- the first feature from an id on, or 404 if there is none
+abbrev pub numbered_reply : Option (ℕ × FeatureData) → ReplyView
+numbered_reply None = refusal_of NotFound
+numbered_reply (Some (id, f)) = json_reply (numbered_body (compact_text (json_of f)) id)
+
+-- ---- the status of the service, as members of a JSON object
+
+-- the archive in bytes, the sectors of an area and of what was published last, and whether the service is broken
+unfoldable pub archive_members : Status → List ℕ
+archive_members s =
+    codes "\"archive\":" ++ decimal s.archive_len ++ codes ",\"area\":{\"sectors\":" ++ decimal s.area_sectors ++ codes ",\"used\":"
+    ++ decimal s.area_used ++ codes "},\"broken\":" ++ (if s.broken then codes "true" else codes "false")
+
+-- the number of the last edit, how many features there are, and the generation
+unfoldable pub map_members : Status → List ℕ
+map_members s = codes "\"edits\":" ++ decimal s.edits ++ codes ",\"features\":" ++ decimal s.features ++ codes ",\"generation\":" ++ decimal s.generation
+
+-- what is left of the publication under way
+abbrev pub left_text : Option ℕ → List ℕ
+left_text None = codes "null"
+left_text (Some left) = decimal left
+
+-- the places of the journal, and that
+unfoldable pub journal_members : Status → List ℕ
+journal_members s =
+    codes "\"journal\":{\"places\":" ++ decimal s.journal_places ++ codes ",\"used\":" ++ decimal s.journal_used ++ codes "},\"left\":" ++ left_text s.left
+
+-- the sectors of the disk, and the version of its format
+unfoldable pub disk_members : Status → List ℕ
+disk_members s = codes "\"sectors\":" ++ decimal s.sectors ++ codes ",\"version\":" ++ decimal s.version
+
+unfoldable pub status_body : Status → List ℕ
+status_body s =
+    codes "{" ++ archive_members s ++ codes "," ++ map_members s ++ codes "," ++ journal_members s ++ codes "," ++ disk_members s ++ codes "}"
+
+abbrev pub status_reply : Status → ReplyView
+status_reply s = json_reply (status_body s)
+
+-- ---- tiles
 
 abbrev pub format_type : TileFormat → List ℕ
 format_type Mvt = tile_type

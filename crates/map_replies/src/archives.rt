@@ -6,27 +6,27 @@ ghost use Rattle.tile_service.specs.Machine.{read};
 ghost use Rattle.tile_service.specs.Runs.{Takes};
 ghost use Rattle.map_replies.specs.Meanings.{OrNoMemory, MeansArchive, Answers, DiskFailed};
 ghost use Rattle.map_replies.specs.Sending.{IsAnsweredInParts, read_outcome, BeginsOrFails, AnswersPart, IsSending};
-ghost use Rattle.map_replies.specs.State.{asked_service, sending_size};
+ghost use Rattle.map_replies.specs.State.{sent_by};
 
 use crate::fault::RequestFault;
 use crate::parts::{self, ArchiveRange, Sending, begin_size, part_of};
-use crate::service::MapReplies;
+use crate::calls::Calls;
 use http_serve::{Content, ContentFault, Reply};
 use sector_disk::Sectors;
 use std::alloc::AllocError;
 
-impl<D: Sectors + Drop> MapReplies<D> {
+impl<D: Sectors + Drop> Calls<D> {
     /// `count` bytes of the archive from offset `at` on, or `None` if a disk read fails.
     fn archive_bytes(&mut self, at: u64, count: u64) -> Result<Option<Vec<u8>>, RequestFault>
-        requires { at + count ≤ (asked_service self.old).archive_len }
-        ensures read { IfOk result (λ content. Takes D.sectors D.honest D.history (asked_service self.old)
-            (read at (option_map (λ bytes. bytes.items) content)) (asked_service self.new)) }
+        requires { at + count ≤ self.old.service.archive_len }
+        ensures read { IfOk result (λ content. Takes D.sectors D.honest D.history self.old.service
+            (read at (option_map (λ bytes. bytes.items) content)) self.new.service) }
         ensures failed { IfOk result (λ content. content ≡ None
-            → HasFailed (D.faults (asked_service self.old).disk) (D.faults (asked_service self.new).disk)) }
+            → HasFailed (D.faults self.old.service.disk) (D.faults self.new.service.disk)) }
         ensures unfailed { IfOk result (λ content. IfSome content (λ _.
-            D.faults (asked_service self.new).disk ≡ D.faults (asked_service self.old).disk)) }
+            D.faults self.new.service.disk ≡ D.faults self.old.service.disk)) }
         ensures length { IfOk result (λ content. IfSome content (λ bytes. length bytes.items ≡ count)) }
-        ensures refused { IfErr result (λ fault. (asked_service self.new ≡ asked_service self.old) × (fault ≡ RequestFault.Memory)) }
+        ensures refused { IfErr result (λ fault. (self.new.service ≡ self.old.service) × (fault ≡ RequestFault.Memory)) }
     {
         let Ok(mut bytes) = vec![in self.alloc; 0; count as usize] else {
             return Err(RequestFault::Memory);
@@ -40,14 +40,14 @@ impl<D: Sectors + Drop> MapReplies<D> {
     /// `length` bytes of the archive from offset `first` on, as content sent in parts. Those in the first sectors are read at once,
     /// unless only the head is sent. `None` if a read fails.
     fn send(&mut self, first: u64, length: u64, bare: bool) -> Result<Option<Content>, RequestFault>
-        requires { first + length ≤ (asked_service self.old).archive_len }
-        ensures begun { IfOk result (BeginsOrFails D.sectors D.honest D.history (asked_service self.old) (asked_service self.new) first length) }
+        requires { first + length ≤ self.old.service.archive_len }
+        ensures begun { IfOk result (BeginsOrFails D.sectors D.honest D.history self.old.service self.new.service first length) }
         ensures failed { IfOk result (λ content. content ≡ None
-            → HasFailed (D.faults (asked_service self.old).disk) (D.faults (asked_service self.new).disk)) }
+            → HasFailed (D.faults self.old.service.disk) (D.faults self.new.service.disk)) }
         ensures unfailed { IfOk result (λ content. IfSome content (λ _.
-            D.faults (asked_service self.new).disk ≡ D.faults (asked_service self.old).disk)) }
+            D.faults self.new.service.disk ≡ D.faults self.old.service.disk)) }
         ensures sending { IfOk result (λ content. IfSome content (λ _. self.new.sending ≡ record { first = first; length = length })) }
-        ensures refused { IfErr result (λ fault. (asked_service self.new ≡ asked_service self.old) × (fault ≡ RequestFault.Memory)) }
+        ensures refused { IfErr result (λ fault. (self.new.service ≡ self.old.service) × (fault ≡ RequestFault.Memory)) }
     {
         match self.archive_bytes(first, begin_size(first, length, bare)) {
             Ok(Some(begun)) => {
@@ -64,11 +64,11 @@ impl<D: Sectors + Drop> MapReplies<D> {
 
     /// The whole archive, `total` bytes.
     fn whole_archive(&mut self, total: u64, bare: bool) -> Result<Reply, RequestFault>
-        requires { total ≡ (asked_service self.old).archive_len }
+        requires { total ≡ self.old.service.archive_len }
         ensures answered { IfOk result (AnswersPart D.sectors D.honest D.history D.faults ArchiveRange.Whole
-            (asked_service self.old) self.new.sending (asked_service self.new)) }
+            self.old.service self.new.sending self.new.service) }
         ensures words { IfOk result (λ reply. HasShortWords (head_view reply)) }
-        ensures refused { IfErr result (λ fault. (asked_service self.new ≡ asked_service self.old) × (fault ≡ RequestFault.Memory)) }
+        ensures refused { IfErr result (λ fault. (self.new.service ≡ self.old.service) × (fault ≡ RequestFault.Memory)) }
     {
         match self.send(0, total, bare) {
             Ok(Some(content)) => Ok(parts::whole(content)),
@@ -85,13 +85,13 @@ impl<D: Sectors + Drop> MapReplies<D> {
         total: u64,
         bare: bool,
     ) -> Result<Reply, RequestFault>
-        requires total { total ≡ (asked_service self.old).archive_len }
+        requires total { total ≡ self.old.service.archive_len }
         requires order { first ≤ last }
         requires within { last < total }
         ensures answered { IfOk result (AnswersPart D.sectors D.honest D.history D.faults (ArchiveRange.Between first last)
-            (asked_service self.old) self.new.sending (asked_service self.new)) }
+            self.old.service self.new.sending self.new.service) }
         ensures words { IfOk result (λ reply. HasShortWords (head_view reply)) }
-        ensures refused { IfErr result (λ fault. (asked_service self.new ≡ asked_service self.old) × (fault ≡ RequestFault.Memory)) }
+        ensures refused { IfErr result (λ fault. (self.new.service ≡ self.old.service) × (fault ≡ RequestFault.Memory)) }
     {
         match self.send(first, last + 1 - first, bare) {
             Ok(Some(content)) => Ok(parts::between(first, last, total, content)),
@@ -108,11 +108,11 @@ impl<D: Sectors + Drop> MapReplies<D> {
     ) -> Result<Reply, RequestFault>
         ensures answered { IsAnsweredInParts
             (Answers D.sectors D.honest D.history
-            (OrNoMemory (MeansArchive (DiskFailed D.faults (asked_service self.old) (asked_service self.new)) (asked_service self.old).archive_len
+            (OrNoMemory (MeansArchive (DiskFailed D.faults self.old.service self.new.service) self.old.service.archive_len
             (option_map (λ value. value.now) range.entry)))
-            (asked_service self.old) (asked_service self.new))
+            self.old.service self.new.service)
             (IsSending D.sectors D.honest D.history D.faults (option_map (λ value. value.now) range.entry)
-            (asked_service self.old) self.new.sending (asked_service self.new)) result }
+            self.old.service self.new.sending self.new.service) result }
         ensures words { IfOk result (λ reply. HasShortWords (head_view reply)) }
     {
         let total = self.service.archive_len();
@@ -128,13 +128,13 @@ impl<D: Sectors + Drop> MapReplies<D> {
 
     /// Reads more of what is being sent, from an offset on.
     pub(crate) fn read_sent(&mut self, offset: u64, part: &mut [u8]) -> Result<(), ContentFault>
-        requires { offset + length part.old ≤ sending_size self.old }
+        requires { offset + length part.old ≤ sent_by self.old }
         ensures sending { self.new.sending ≡ self.old.sending }
-        ensures failed { IfErr result (λ fault. HasFailed (D.faults (asked_service self.old).disk) (D.faults (asked_service self.new).disk)) }
-        ensures unfailed { OnOk result (D.faults (asked_service self.new).disk ≡ D.faults (asked_service self.old).disk) }
-        ensures read { Takes D.sectors D.honest D.history (asked_service self.old)
-            (read (self.old.sending.first + offset) (read_outcome result part.new)) (asked_service self.new) }
-        ensures size { sending_size self.new ≡ sending_size self.old }
+        ensures failed { IfErr result (λ fault. HasFailed (D.faults self.old.service.disk) (D.faults self.new.service.disk)) }
+        ensures unfailed { OnOk result (D.faults self.new.service.disk ≡ D.faults self.old.service.disk) }
+        ensures read { Takes D.sectors D.honest D.history self.old.service
+            (read (self.old.sending.first + offset) (read_outcome result part.new)) self.new.service }
+        ensures size { sent_by self.new ≡ sent_by self.old }
         ensures length { length part.new ≡ length part.old }
     {
         if part.is_empty() {

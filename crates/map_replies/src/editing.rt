@@ -3,22 +3,21 @@ ghost use Rattle.std.specs.Prelude.{IfOk};
 ghost use Rattle.http_serve.specs.Reply.{IsWhole};
 ghost use Rattle.map_replies.specs.Meanings.{MeansPut, MeansBatch, MeansDelete, Answers, DiskFailed};
 ghost use Rattle.map_replies.specs.Sending.{IsAnswered};
-ghost use Rattle.map_replies.specs.State.{asked_service};
 
 use crate::bodies::{changes_in, feature_in};
 use crate::fault::RequestFault;
 use crate::replies;
-use crate::service::MapReplies;
+use crate::calls::Calls;
 use http_serve::Reply;
 use sector_disk::Sectors;
 
-impl<D: Sectors + Drop> MapReplies<D> {
+impl<D: Sectors + Drop> Calls<D> {
     /// Sets the feature of an id to the one in the body.
     #[tactic(auto, using(crate::proofs::Answering::body_refused))]
     pub(crate) fn put(&mut self, id: u64, body: &[u8]) -> Result<Reply, RequestFault>
         ensures answered { IsAnswered (Answers D.sectors D.honest D.history
-            (MeansPut (DiskFailed D.faults (asked_service self.old) (asked_service self.new)) (asked_service self.old).version id body.now)
-            (asked_service self.old) (asked_service self.new)) result }
+            (MeansPut (DiskFailed D.faults self.old.service self.new.service) self.old.service.version id body.now)
+            self.old.service self.new.service) result }
         ensures writable { IfOk result IsWhole }
     {
         let feature = match feature_in(self.alloc, body) {
@@ -36,8 +35,8 @@ impl<D: Sectors + Drop> MapReplies<D> {
     #[tactic(auto, using(crate::proofs::Answering::body_refused))]
     pub(crate) fn batch(&mut self, body: &[u8]) -> Result<Reply, RequestFault>
         ensures answered { IsAnswered (Answers D.sectors D.honest D.history
-            (MeansBatch (DiskFailed D.faults (asked_service self.old) (asked_service self.new)) (asked_service self.old).version body.now)
-            (asked_service self.old) (asked_service self.new)) result }
+            (MeansBatch (DiskFailed D.faults self.old.service self.new.service) self.old.service.version body.now)
+            self.old.service self.new.service) result }
         ensures writable { IfOk result IsWhole }
     {
         let changes = match changes_in(self.alloc, body) {
@@ -54,8 +53,8 @@ impl<D: Sectors + Drop> MapReplies<D> {
     /// Deletes the feature of an id.
     pub(crate) fn delete(&mut self, id: u64) -> Result<Reply, RequestFault>
         ensures answered { IsAnswered (Answers D.sectors D.honest D.history
-            (MeansDelete (DiskFailed D.faults (asked_service self.old) (asked_service self.new)) (asked_service self.old).version id)
-            (asked_service self.old) (asked_service self.new)) result }
+            (MeansDelete (DiskFailed D.faults self.old.service self.new.service) self.old.service.version id)
+            self.old.service self.new.service) result }
         ensures writable { IfOk result IsWhole }
     {
         let Ok(text) = replies::outcome_space(self.alloc) else {

@@ -3,6 +3,7 @@
 
 mod archives;
 mod bodies;
+mod calls;
 mod editing;
 mod fault;
 mod parts;
@@ -10,6 +11,7 @@ mod publishing;
 mod replies;
 mod service;
 mod showing;
+mod telling;
 
 pub use fault::RequestFault;
 pub use service::{MapReplies, serve_map, serve_map_turns};

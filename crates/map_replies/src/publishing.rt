@@ -2,24 +2,24 @@
 ghost use Rattle.std.specs.Prelude.{IfOk};
 ghost use Rattle.http_serve.specs.Reply.{IsWhole};
 ghost use Rattle.tile_service.specs.Machine.{begin, step, cancel};
-ghost use Rattle.map_replies.specs.Meanings.{numbers_of, MeansCall, MeansChange, OrNoMemory, MeansPublish, Answers, DiskFailed};
+ghost use Rattle.tile_service.specs.Service.{status_of};
+ghost use Rattle.map_replies.specs.Meanings.{MeansCall, MeansChange, OrNoMemory, MeansPublish, Answers, DiskFailed};
 ghost use Rattle.map_replies.specs.Sending.{IsAnswered};
-ghost use Rattle.map_replies.specs.State.{asked_service};
 ghost use Rattle.map_replies.specs.Words.{left_reply, cancel_reply};
 
 use crate::fault::RequestFault;
 use crate::replies;
-use crate::service::MapReplies;
+use crate::calls::Calls;
 use http_serve::Reply;
 use sector_disk::Sectors;
 
-impl<D: Sectors + Drop> MapReplies<D> {
+impl<D: Sectors + Drop> Calls<D> {
     /// Publishes the whole map.
     pub(crate) fn publish(&mut self) -> Result<Reply, RequestFault>
         ensures answered { IsAnswered (Answers D.sectors D.honest D.history
-            (OrNoMemory (MeansPublish (DiskFailed D.faults (asked_service self.old) (asked_service self.new))
-            (numbers_of (asked_service self.old)) (numbers_of (asked_service self.new))))
-            (asked_service self.old) (asked_service self.new)) result }
+            (OrNoMemory (MeansPublish (DiskFailed D.faults self.old.service self.new.service)
+            (status_of self.old.service) (status_of self.new.service)))
+            self.old.service self.new.service) result }
         ensures writable { IfOk result IsWhole }
     {
         let Ok(text) = replies::outcome_space(self.alloc) else {
@@ -32,7 +32,7 @@ impl<D: Sectors + Drop> MapReplies<D> {
     /// Begins a publication.
     pub(crate) fn publish_begin(&mut self) -> Result<Reply, RequestFault>
         ensures answered { IsAnswered (Answers D.sectors D.honest D.history (OrNoMemory (MeansCall begin left_reply))
-            (asked_service self.old) (asked_service self.new)) result }
+            self.old.service self.new.service) result }
         ensures writable { IfOk result IsWhole }
     {
         let Ok(text) = replies::outcome_space(self.alloc) else {
@@ -45,8 +45,8 @@ impl<D: Sectors + Drop> MapReplies<D> {
     /// Continues a publication.
     pub(crate) fn publish_step(&mut self) -> Result<Reply, RequestFault>
         ensures answered { IsAnswered (Answers D.sectors D.honest D.history
-            (OrNoMemory (MeansChange (DiskFailed D.faults (asked_service self.old) (asked_service self.new)) step left_reply))
-            (asked_service self.old) (asked_service self.new)) result }
+            (OrNoMemory (MeansChange (DiskFailed D.faults self.old.service self.new.service) step left_reply))
+            self.old.service self.new.service) result }
         ensures writable { IfOk result IsWhole }
     {
         let Ok(text) = replies::outcome_space(self.alloc) else {
@@ -59,7 +59,7 @@ impl<D: Sectors + Drop> MapReplies<D> {
     /// Cancels a publication.
     pub(crate) fn publish_cancel(&mut self) -> Result<Reply, RequestFault>
         ensures answered { IsAnswered (Answers D.sectors D.honest D.history (OrNoMemory (MeansCall cancel cancel_reply))
-            (asked_service self.old) (asked_service self.new)) result }
+            self.old.service self.new.service) result }
         ensures writable { IfOk result IsWhole }
     {
         let Ok(text) = replies::outcome_space(self.alloc) else {

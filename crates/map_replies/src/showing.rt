@@ -1,19 +1,22 @@
 //! Reads of the map.
 ghost use Rattle.std.specs.Prelude.{◌≡◌, [], false, Some, IfOk, IfErr};
+ghost use Rattle.edit_json.specs.Json.{json_of};
 ghost use Rattle.feature_model.specs.Data.{feature_data};
 ghost use Rattle.feature_model.specs.Limits.{FeatureFits};
 ghost use Rattle.http_serve.specs.Reply.{reply_view, IsWhole};
 ghost use Rattle.serde_json.specs.View.{view};
 ghost use Rattle.serde_json.specs.Written.{has_float, compact_text};
-ghost use Rattle.tile_service.specs.Machine.{tile, look, metadata};
-ghost use Rattle.map_replies.specs.Meanings.{MeansCall, Answers};
+ghost use Rattle.tile_service.specs.Machine.{tile, look, look_from, metadata};
+ghost use Rattle.tile_service.specs.Service.{status_of};
+ghost use Rattle.map_replies.specs.Meanings.{MeansCall, MeansStatus, OrNoMemory, Answers};
 ghost use Rattle.map_replies.specs.Sending.{IsAnswered};
-ghost use Rattle.map_replies.specs.State.{asked_service};
-ghost use Rattle.map_replies.specs.Words.{json_reply, shown_reply, content_reply, found_reply, metadata_reply};
+ghost use Rattle.map_replies.specs.Words.{json_reply, shown_reply, content_reply, found_reply, numbered_body, numbered_reply, metadata_reply};
 
+use crate::calls::Calls;
 use crate::fault::RequestFault;
 use crate::replies;
-use crate::service::MapReplies;
+use crate::telling;
+use decimal_number::{MAX_DIGITS, push_number, push_text};
 use edit_json::feature_to_json;
 use feature_model::Feature;
 use hilbert_id::TileAt;
@@ -49,11 +52,51 @@ fn feature_value(alloc: Global, feature: &Feature) -> Result<Reply, RequestFault
     }
 }
 
-impl<D: Sectors + Drop> MapReplies<D> {
+/// The text of a feature.
+fn feature_text(alloc: Global, feature: &Feature) -> Result<Vec<u8>, AllocError>
+    requires { FeatureFits (feature_data feature.now) }
+    ensures { IfOk result (λ text. text.items ≡ compact_text (json_of (feature_data feature.now))) }
+{
+    let value = feature_to_json(alloc, feature)?;
+    value.to_vec(alloc)
+}
+
+/// The text of a feature with its id.
+#[tactic(auto, unfolding(crate::specs::Words::numbered_body))]
+fn numbered_body(alloc: Global, feature: &[u8], id: u64) -> Result<Vec<u8>, AllocError>
+    ensures { IfOk result (λ text. text.items ≡ numbered_body feature.now id) }
+{
+    let mut text = Vec::new(alloc);
+    text.extend_from_slice(b"{\"feature\":")?;
+    text.extend_from_slice(feature)?;
+    text.reserve(MAX_DIGITS + 7)?;
+    push_text(&mut text, b",\"id\":");
+    push_number(&mut text, id);
+    push_text(&mut text, b"}");
+    Ok(text)
+}
+
+/// The reply with a feature and its id.
+fn numbered_value(alloc: Global, id: u64, feature: &Feature) -> Result<Reply, RequestFault>
+    requires { FeatureFits (feature_data feature.now) }
+    ensures reply { IfOk result (λ reply. reply_view [] reply ≡ numbered_reply (Some (id, feature_data feature.now))) }
+    ensures writable { IfOk result IsWhole }
+    ensures fault { IfErr result (λ fault. fault ≡ RequestFault.Memory) }
+{
+    let Ok(feature) = feature_text(alloc, feature) else {
+        return Err(RequestFault::Memory);
+    };
+    match numbered_body(alloc, &feature, id) {
+        Ok(text) => Ok(replies::json(text)),
+        Err(AllocError) => Err(RequestFault::Memory),
+    }
+}
+
+impl<D: Sectors + Drop> Calls<D> {
     /// The tile, in this format.
     pub(crate) fn tile(&mut self, at: TileAt, format: TileFormat) -> Result<Reply, RequestFault>
         ensures answered { IsAnswered (Answers D.sectors D.honest D.history
-            (MeansCall (tile at.z at.x at.y) (shown_reply (content_reply format))) (asked_service self.old) (asked_service self.new)) result }
+            (MeansCall (tile at.z at.x at.y) (shown_reply (content_reply format))) self.old.service self.new.service) result }
         ensures writable { IfOk result IsWhole }
     {
         let Ok(content) = self.service.tile(at) else {
@@ -68,7 +111,7 @@ impl<D: Sectors + Drop> MapReplies<D> {
     /// The feature of an id.
     pub(crate) fn feature(&mut self, id: u64) -> Result<Reply, RequestFault>
         ensures answered { IsAnswered (Answers D.sectors D.honest D.history (MeansCall (look id) (shown_reply found_reply))
-            (asked_service self.old) (asked_service self.new)) result }
+            self.old.service self.new.service) result }
         ensures writable { IfOk result IsWhole }
     {
         match self.service.feature(id) {
@@ -77,10 +120,34 @@ impl<D: Sectors + Drop> MapReplies<D> {
         }
     }
 
+    /// The first feature with an id or a greater one.
+    pub(crate) fn feature_from(&mut self, id: u64) -> Result<Reply, RequestFault>
+        ensures answered { IsAnswered (Answers D.sectors D.honest D.history (MeansCall (look_from id) (shown_reply numbered_reply))
+            self.old.service self.new.service) result }
+        ensures writable { IfOk result IsWhole }
+    {
+        match self.service.feature_from(id) {
+            Some((number, feature)) => numbered_value(self.alloc, number, feature),
+            None => Err(RequestFault::NotFound),
+        }
+    }
+
+    /// What the service tells of itself.
+    pub(crate) fn status(&mut self) -> Result<Reply, RequestFault>
+        ensures answered { IsAnswered (Answers D.sectors D.honest D.history (OrNoMemory (MeansStatus (status_of self.old.service)))
+            self.old.service self.new.service) result }
+        ensures writable { IfOk result IsWhole }
+    {
+        match telling::told(self.alloc, self.service.status()) {
+            Ok(reply) => Ok(reply),
+            Err(AllocError) => Err(RequestFault::Memory),
+        }
+    }
+
     /// The metadata of the map.
     pub(crate) fn metadata(&mut self) -> Result<Reply, RequestFault>
         ensures answered { IsAnswered (Answers D.sectors D.honest D.history (MeansCall metadata (shown_reply metadata_reply))
-            (asked_service self.old) (asked_service self.new)) result }
+            self.old.service self.new.service) result }
         ensures writable { IfOk result IsWhole }
     {
         match self.service.metadata() {

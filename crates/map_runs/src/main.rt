@@ -43,6 +43,7 @@
 //! | Line | Answer |
 //! |---|---|
 //! | `set N VALUE`, `unset N`, `get N` | the value before, or now |
+//! | `from N` | the first entry with this number or a greater one |
 //! | `fillup COUNT STEP`, `filldown COUNT STEP` | 0, STEP, 2 STEP .. get the values 0, 1, 2 .., in this order or from the last one down |
 //! | `thin COUNT STEP ONE_IN` | how many of such numbers were there and are taken out: all but the second of each so many |
 //! | `serve N` | with room made once: whether it was there; its value before it gets 1, then, and as it is taken out |

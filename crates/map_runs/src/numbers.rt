@@ -135,6 +135,7 @@ pub(crate) fn answer(
         "set" => Some(set(alloc, map, first, second)),
         "unset" => Some(unset(alloc, map, first)),
         "get" => Some(format!(in alloc; "{:?}", map.get(first))),
+        "from" => Some(format!(in alloc; "{:?}", map.first_from(first))),
         "fillup" => Some(done(alloc, fill_up(map, first, second))),
         "filldown" => Some(done(alloc, fill_down(map, first, second))),
         "thin" => Some(format!(in alloc; "{} taken", thin(map, first, second, third))),

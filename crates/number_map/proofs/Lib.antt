@@ -1,6 +1,7 @@
 mod Between
 pub mod Entries
 mod Filled
+mod From
 mod Home
 mod Joined
 pub mod Numbers

@@ -1,9 +1,9 @@
 -- Entries in blocks.
-use Rattle.std.specs.Prelude.{◌≢◌, ℕ, ◌+◌, ◌<◌, ◌⊎◌, [], ◌∷◌, List, length, take, drop, All, flat_map, slice_index_or, IsSome}
+use Rattle.std.specs.Prelude.{◌≢◌, ℕ, ◌+◌, ◌<◌, ◌⊎◌, nat_le, [], ◌∷◌, List, length, take, drop, All, flat_map, slice_index_or, Option, IsSome}
 use Rattle.std.specs.Ordering.{nat_cmp}
 use Rattle.std.specs.Map.{keys_of, lookup}
 use Rattle.std.specs.BTreeMap.{is_at}
-use Rattle.std.specs.List.{AllByRecursion}
+use Rattle.std.specs.List.{AllByRecursion, find}
 use Rattle.std.specs.List.Sorted.{IsStrictlySortedBy}
 use Rattle.number_map.specs.declared.block.TheConstants.{CAPACITY}
 
@@ -28,6 +28,10 @@ module _ {T : Type 0} where
   abbrev pub first_number : List (ℕ × T) → ℕ
   first_number [] = 0
   first_number (e ∷ es) = e.0
+
+  -- the first entry with this number or a greater one
+  abbrev pub first_from : ℕ → List (ℕ × T) → Option (ℕ × T)
+  first_from n es = find (λ e. nat_le n e.0) es
 
   -- a block has a place for a value of this number
   abbrev pub Accepts : List (ℕ × T) → ℕ → Type 0

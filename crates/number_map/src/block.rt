@@ -1,9 +1,9 @@
-ghost use Rattle.std.specs.Prelude.{◌≡◌, ◌+◌, ◌<◌, ◌≤◌, ◌++◌, [], length, None, IfOk, IfErr, IfNone, IfSome, option_map, take, drop, vec_len, vec_capacity};
+ghost use Rattle.std.specs.Prelude.{◌≡◌, ◌+◌, ◌<◌, ◌≤◌, ◌++◌, [], length, None, IfOk, IfErr, IfNone, IfSome, option_copied, option_map, take, drop, vec_len, vec_capacity};
 ghost use Rattle.std.specs.Bool.{OnTrue, OnFalse};
 ghost use Rattle.std.specs.Ordering.{nat_cmp};
 ghost use Rattle.std.specs.Map.{lookup, remove_entry};
 ghost use Rattle.std.specs.BTreeMap.{insert_entry, is_at};
-ghost use Rattle.number_map.specs.Blocks.{Ascends, Accepts, AreBelow, first_number};
+ghost use Rattle.number_map.specs.Blocks.{Ascends, Accepts, AreBelow, first_from, first_number};
 ghost use Rattle.number_map.specs.Positions.{StandsAt, IsGapFor};
 
 use std::alloc::{AllocError, Global};
@@ -76,6 +76,17 @@ impl<T> Block<T> {
         match find(&self.entries, number) {
             Ok(at) => Some(&self.entries[at].1),
             Err(_) => None,
+        }
+    }
+
+    /// The first entry with this number or a greater one.
+    pub(crate) fn first_from(&self, number: u64) -> Option<&Entry<T>>
+        requires { Ascends self.now }
+        ensures { option_copied result ≡ first_from number self.now }
+    {
+        match find(&self.entries, number) {
+            Ok(at) => self.entries.get(at),
+            Err(at) => self.entries.get(at),
         }
     }
 

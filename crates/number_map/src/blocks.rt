@@ -1,10 +1,10 @@
-ghost use Rattle.std.specs.Prelude.{◌≡◌, ℕ, ◌+◌, ◌<◌, ◌≤◌, ◌++◌, [], length, All, IfNone, OnOk, OnErr, slice_index_or, vec_len, vec_capacity};
+ghost use Rattle.std.specs.Prelude.{◌≡◌, ℕ, ◌+◌, ◌<◌, ◌≤◌, ◌++◌, [], length, drop, All, IfNone, OnOk, OnErr, option_copied, slice_get, slice_index_or, vec_len, vec_capacity};
 ghost use Rattle.std.specs.Ordering.{nat_cmp};
 ghost use Rattle.std.specs.Map.{lookup, remove_entry};
 ghost use Rattle.std.specs.BTreeMap.{insert_entry, is_at};
 ghost use Rattle.number_map.specs.Blocks.{joined, Ascends, Accepts, AreFilled, AreFilledBut, AreInOrder, IsHome};
 
-use crate::block::{Block, CAPACITY};
+use crate::block::{Block, CAPACITY, Entry};
 use std::alloc::{AllocError, Global};
 
 /// Two neighbours of so few entries together become one block, so that memory stays in proportion to the entries.
@@ -19,6 +19,18 @@ pub(crate) fn home_of<T>(blocks: &[Block<T>], number: u64) -> usize
     blocks
         .partition_point(|block| block.first() <= number)
         .saturating_sub(1)
+}
+
+/// The first entry of the blocks behind this one.
+pub(crate) fn first_behind<T>(blocks: &[Block<T>], at: usize) -> Option<&Entry<T>>
+    requires filled { AreFilled blocks.now }
+    requires within { at < length blocks.now }
+    ensures { option_copied result ≡ slice_get (joined (drop (at + 1) blocks.now)) 0 }
+{
+    match blocks.get(at + 1) {
+        Some(block) => block.entries().first(),
+        None => None,
+    }
 }
 
 /// Gives a number this value in the block where it belongs, and returns the one that it had.

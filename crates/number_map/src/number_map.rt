@@ -1,11 +1,11 @@
-ghost use Rattle.std.specs.Prelude.{◌≡◌, ◌+◌, ◌<◌, ◌≤◌, ◌↔◌, ◌⊎◌, [], length, IsTrue, IsSome, IfSome, IfNone, OnOk, OnErr, option_map};
+ghost use Rattle.std.specs.Prelude.{◌≡◌, ◌+◌, ◌<◌, ◌≤◌, ◌↔◌, ◌⊎◌, [], length, IsTrue, IsSome, IfSome, IfNone, OnOk, OnErr, option_copied, option_map};
 ghost use Rattle.std.specs.Ordering.{nat_cmp};
 ghost use Rattle.std.specs.Map.{lookup, remove_entry};
 ghost use Rattle.std.specs.BTreeMap.{insert_entry, is_at};
-ghost use Rattle.number_map.specs.Blocks.{joined, Ascends};
+ghost use Rattle.number_map.specs.Blocks.{joined, Ascends, first_from};
 
-use crate::block::Block;
-use crate::blocks::{add_empty, home_of, put, put_beside, take_out};
+use crate::block::{Block, Entry};
+use crate::blocks::{add_empty, first_behind, home_of, put, put_beside, take_out};
 use std::alloc::{AllocError, Global};
 use std::marker::Model;
 
@@ -66,6 +66,20 @@ impl<T> NumberMap<T> {
             return None;
         }
         self.blocks[at].get(number)
+    }
+
+    /// The first entry with this number or a greater one, by the searches of `get`.
+    pub fn first_from(&self, number: u64) -> Option<&Entry<T>>
+        ensures { option_copied result ≡ first_from number self.now.entries }
+    {
+        let at = home_of(&self.blocks, number);
+        if at >= self.blocks.len() {
+            return None;
+        }
+        match self.blocks[at].first_from(number) {
+            Some(entry) => Some(entry),
+            None => first_behind(&self.blocks, at),
+        }
     }
 
     /// The entries of one block after another are those of the map.

@@ -2,6 +2,7 @@
 use crate::streams::{Narrowness, WIDE};
 use http_serve::MAX_READS;
 use sector_disk::FailingCalls;
+use tile_routes::Access;
 
 /// Which calls of a disk fail, counted from its opening.
 #[derive(Clone, Copy)]
@@ -42,8 +43,8 @@ pub(crate) enum Line<'a> {
     Upgrade,
     /// The disk is closed, and a sector of it gets this byte and zeros behind it.
     Sector(u64, u8),
-    /// The disk is opened again.
-    Again(Failing),
+    /// The disk is opened again, and serves these paths.
+    Again(Access, Failing),
     /// What the writer takes from now on.
     Writer(Narrowness),
     /// How many reads a connection makes from now on.
@@ -130,7 +131,8 @@ pub(crate) fn line_in(text: &str) -> Option<Line<'_>> {
         "upgrade" if rest.is_empty() => Some(Line::Upgrade),
         "zeros" => Some(Line::Zeros(number_in(rest)?)),
         "sector" => sector_in(rest),
-        "again" => Some(Line::Again(failing_in(rest)?)),
+        "again" => Some(Line::Again(Access::Map, failing_in(rest)?)),
+        "admin" => Some(Line::Again(Access::Admin, failing_in(rest)?)),
         "writer" => Some(Line::Writer(narrowness_in(rest)?)),
         "turns" => Some(Line::Turns(turns_in(rest)?)),
         "ask" => Some(connection_in(false, rest)),

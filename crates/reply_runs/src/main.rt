@@ -11,6 +11,7 @@
 //! | `again` | opens the disk again |
 //! | `again from N`, `again lost N`, `again made N` | the same, and lets calls of the disk fail, counted behind the opening: |
 //! | | each from the N-th on, the N-th before it is made, the N-th after |
+//! | `admin`, `admin from N` and so on | as `again`, and serves the paths under `/admin/` too |
 //! | `writer SIZE ROOM fails` | from now on the writer takes SIZE bytes a call at most and ROOM bytes of a connection, and then fails |
 //! | `writer SIZE ROOM full` | the same, but then it takes nothing |
 //! | `writer` | it takes all bytes again |
@@ -78,7 +79,7 @@ fn answer(
         Line::Upgrade => upgrade(alloc, stand),
         Line::Zeros(sectors) => zeros(alloc, stand, sectors),
         Line::Sector(at, first) => overwrite(alloc, stand, at, first),
-        Line::Again(failing) => open_again(alloc, stand, failing),
+        Line::Again(access, failing) => open_again(alloc, stand, access, failing),
         Line::Writer(next) => {
             bounds.narrowness = next;
             String::from_str(alloc, "writer")

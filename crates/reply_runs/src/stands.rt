@@ -6,6 +6,7 @@ use map_replies::MapReplies;
 use sector_disk::{FailingCalls, FaultyDisk, MemoryDisk, SECTOR_BYTES, Sectors};
 use std::alloc::{AllocError, Global};
 use std::mem;
+use tile_routes::Access;
 use tile_service::Service;
 
 /// What answers.
@@ -55,9 +56,10 @@ fn handed_back(disk: Option<FaultyDisk<MemoryDisk>>) -> Result<Stand, AllocError
 fn opened(
     alloc: Global,
     disk: MemoryDisk,
+    access: Access,
     failing: FailingCalls,
 ) -> Result<(Stand, Option<StoreFault>), AllocError> {
-    match opened_service(alloc, FaultyDisk::new(disk, failing)) {
+    match opened_service(alloc, FaultyDisk::new(disk, failing), access) {
         Ok(map) => Ok((Stand::Open(map), None)),
         Err((disk, fault)) => Ok((handed_back(disk)?, Some(fault))),
     }
@@ -71,14 +73,15 @@ fn told(alloc: Global, fault: Option<StoreFault>) -> Result<String, AllocError> 
     }
 }
 
-/// Opens the disk, so that these calls behind its opening fail.
+/// Opens the disk, so that these paths are served, and these calls behind its opening fail.
 pub(crate) fn open_again(
     alloc: Global,
     stand: &mut Stand,
+    access: Access,
     failing: Failing,
 ) -> Result<String, AllocError> {
     let (calls, disk) = counted(alloc, taken(alloc, stand)?);
-    let (next, fault) = opened(alloc, disk, failing.behind(calls))?;
+    let (next, fault) = opened(alloc, disk, access, failing.behind(calls))?;
     *stand = next;
     told(alloc, fault)
 }
@@ -92,10 +95,10 @@ pub(crate) fn zeros(alloc: Global, stand: &mut Stand, sectors: u64) -> Result<St
 /// Makes a disk of so many sectors that holds the empty map, and opens it.
 pub(crate) fn begin(alloc: Global, stand: &mut Stand, sectors: u64) -> Result<String, AllocError> {
     *stand = Stand::Closed(MemoryDisk::new(alloc, 1)?);
-    match fresh_service(alloc, sectors) {
+    match fresh_service(alloc, sectors, Access::Map) {
         Ok(map) => {
             *stand = Stand::Closed(map.into_service().into_disk());
-            open_again(alloc, stand, Failing::None)
+            open_again(alloc, stand, Access::Map, Failing::None)
         }
         Err(fault) => told(alloc, Some(fault)),
     }
@@ -111,7 +114,7 @@ pub(crate) fn begin_first(
     match format_version(&mut disk, FIRST_VERSION) {
         Ok(()) => {
             *stand = Stand::Closed(disk);
-            open_again(alloc, stand, Failing::None)
+            open_again(alloc, stand, Access::Map, Failing::None)
         }
         Err(fault) => told(alloc, Some(fault)),
     }

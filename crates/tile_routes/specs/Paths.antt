@@ -1,5 +1,5 @@
 -- What a path asks for: the route that the router finds, and the numbers in its place.
-use Rattle.std.specs.Prelude.{ℕ, ◌-◌, ◌^◌, ◌&&◌, Bool, nat_lt, nat_le, List, [], ◌∷◌, length, take, drop, codes, Option, Some, None, Result, Ok, Err}
+use Rattle.std.specs.Prelude.{ℕ, ◌-◌, ◌^◌, ◌&&◌, Bool, true, false, nat_lt, nat_le, List, [], ◌∷◌, length, take, drop, codes, Option, Some, None, Result, Ok, Err}
 use Rattle.std.specs.Prelude.{if◌then◌else◌, nat_eq}
 use Rattle.std.specs.Cmp.Lexicographic.{pointwise}
 use Rattle.std.specs.List.{list_all}
@@ -12,6 +12,8 @@ use Rattle.matchit.specs.Params.{walk, named}
 use Rattle.matchit.specs.Seek.{first}
 use Rattle.matchit.specs.declared.error.InsertError.{InsertError}
 use Rattle.feature_model.specs.declared.limits.TheConstants.{MAX_ZOOM}
+use Rattle.tile_routes.specs.declared.access.Access.{Access}
+use Rattle.tile_routes.specs.declared.access.Access.TheVariants.{Map, Admin}
 use Rattle.tile_routes.specs.declared.routes.Route.{Route}
 use Rattle.tile_routes.specs.declared.routes.Route.TheVariants as routes
 use Rattle.tile_routes.specs.declared.target.Action.{Action}
@@ -34,7 +36,7 @@ abbrev pub with_routes : List (List ℕ × Route) → RowsOf (RouteOf Route) →
 with_routes [] rows = rows
 with_routes (path ∷ more) rows = with_routes more (with_route path.0 path.1 rows)
 
--- the paths that are served
+-- the paths that are served, those under /admin/ where they are wanted
 unfoldable pub served_paths : List (List ℕ × Route)
 served_paths =
     (codes "/map/{z}/{x}/{y}", routes.Tile)
@@ -46,6 +48,8 @@ served_paths =
     ∷ (codes "/publish/begin", routes.Action actions.PublishBegin)
     ∷ (codes "/publish/step", routes.Action actions.PublishStep)
     ∷ (codes "/publish/cancel", routes.Action actions.PublishCancel)
+    ∷ (codes "/admin/status", routes.View views.Status)
+    ∷ (codes "/admin/features/from/{id}", routes.FeatureFrom)
     ∷ []
 
 -- these, as the router keeps them
@@ -56,6 +60,8 @@ served_rows = with_routes served_paths []
 pub data Asked : Type 0 where
   asked_tile : ℕ → ℕ → ℕ → TileFormat → Asked
   asked_feature : ℕ → Asked
+  -- the first feature with this number or a greater one
+  asked_from : ℕ → Asked
   asked_view : View → Asked
   asked_action : Action → Asked
   asked_nothing : Asked
@@ -81,6 +87,10 @@ feature_asked (Some id) = asked_feature id
 abbrev pub is_served : ℕ → ℕ → ℕ → Bool
 is_served z x y = nat_le z MAX_ZOOM && (nat_lt x (2 ^ z) && nat_lt y (2 ^ z))
 
+abbrev pub from_asked : Option ℕ → Asked
+from_asked None = asked_nothing
+from_asked (Some id) = asked_from id
+
 abbrev pub tile_asked : Option ℕ → Option ℕ → Option ℕ → TileFormat → Asked
 tile_asked (Some z) (Some x) (Some y) format =
     if is_served z x y then asked_tile z x y format else asked_nothing
@@ -105,6 +115,7 @@ abbrev pub asked_on : Route → List (List ℕ × List ℕ) → Asked
 asked_on routes.Tile parts =
     named_tile (number_of (part_named (codes "z") parts)) (number_of (part_named (codes "x") parts)) (row_and_format (part_named (codes "y") parts))
 asked_on routes.Feature parts = feature_asked (number_of (part_named (codes "id") parts))
+asked_on routes.FeatureFrom parts = from_asked (number_of (part_named (codes "id") parts))
 asked_on (routes.View view) parts = asked_view view
 asked_on (routes.Action action) parts = asked_action action
 
@@ -115,3 +126,16 @@ asked_at (Some route) path = asked_on route.value (walk route.pattern route.text
 -- what a path asks for; paths are ASCII
 unfoldable pub asked_by : List ℕ → Asked
 asked_by path = if list_all is_ascii path then asked_at (first served_rows path) path else asked_nothing
+
+-- ---- who may ask
+
+-- a path under /admin/
+abbrev pub is_admin : Asked → Bool
+is_admin (asked_from id) = true
+is_admin (asked_view views.Status) = true
+is_admin asked = false
+
+-- what is asked for at a path, where it is served
+abbrev pub granted : Access → Asked → Asked
+granted Admin asked = asked
+granted Map asked = if is_admin asked then asked_nothing else asked

@@ -1,12 +1,14 @@
 //! What the path of a request asks for, and by which methods.
 #![tactic(auto)]
 
+mod access;
 mod fault;
 mod method;
 mod number;
 mod routes;
 mod target;
 
+pub use access::Access;
 pub use fault::RouteFault;
 pub use method::Method;
 pub use routes::Routes;

@@ -51,7 +51,8 @@ impl Target {
         ensures { result.now ≡ methods_of (asked_of self) }
     {
         match self {
-            Target::Tile(..) | Target::View(_) => &[Method::Get, Method::Head],
+            Target::Tile(..) | Target::FeatureFrom(_) | Target::View(_) =>
+                &[Method::Get, Method::Head],
             Target::Feature(_) => &[Method::Get, Method::Head, Method::Put, Method::Delete],
             Target::Action(_) => &[Method::Post],
             Target::Nothing => &[],
@@ -84,7 +85,7 @@ impl Target {
         ensures { result.now ≡ allow_of (asked_of self) }
     {
         match self {
-            Target::Tile(..) | Target::View(_) => "GET, HEAD",
+            Target::Tile(..) | Target::FeatureFrom(_) | Target::View(_) => "GET, HEAD",
             Target::Feature(_) => "GET, HEAD, PUT, DELETE",
             Target::Action(_) => "POST",
             Target::Nothing => "",

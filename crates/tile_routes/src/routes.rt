@@ -6,7 +6,7 @@ ghost use Rattle.matchit.specs.Params.{AllText};
 ghost use Rattle.tile_routes.specs.Paths.{served_rows, with_routes, asked_on, part_named, asked_at, asked_by};
 ghost use Rattle.tile_routes.specs.Targets.{asked_of, IsInRange, parts_of, row_path};
 
-use crate::target::{Action, Target, View, feature_target, tile_target};
+use crate::target::{Action, Target, View, feature_target, from_target, tile_target};
 use matchit::{InsertError, Params, Router};
 use std::alloc::{AllocError, Global};
 use std::marker::Model;
@@ -16,6 +16,7 @@ use std::marker::Model;
 pub(crate) enum Route {
     Tile,
     Feature,
+    FeatureFrom,
     View(View),
     Action(Action),
 }
@@ -38,7 +39,7 @@ impl Model for Routes {
     ghost invariant = { λ routes. routes.router ≡ served_rows };
 }
 
-/// Each path that is served, with its route.
+/// Each path that is served, those under `/admin/` where they are wanted, with its route.
 const SERVED: &[(&str, Route)] = &[
     ("/map/{z}/{x}/{y}", Route::Tile),
     ("/map/metadata", Route::View(View::Metadata)),
@@ -49,6 +50,8 @@ const SERVED: &[(&str, Route)] = &[
     ("/publish/begin", Route::Action(Action::PublishBegin)),
     ("/publish/step", Route::Action(Action::PublishStep)),
     ("/publish/cancel", Route::Action(Action::PublishCancel)),
+    ("/admin/status", Route::View(View::Status)),
+    ("/admin/features/from/{id}", Route::FeatureFrom),
 ];
 
 /// The router of a table of paths.
@@ -110,6 +113,7 @@ fn route_target(route: Route, params: &Params<'_, '_>) -> Target
     match route {
         Route::Tile => tile_target(part(params, "z"), part(params, "x"), part(params, "y")),
         Route::Feature => feature_target(part(params, "id")),
+        Route::FeatureFrom => from_target(part(params, "id")),
         Route::View(view) => Target::View(view),
         Route::Action(action) => Target::Action(action),
     }

@@ -1,7 +1,7 @@
 ghost use Rattle.std.specs.Prelude.{◌≡◌, IsTrue};
 ghost use Rattle.std.specs.Option.{option_map};
 ghost use Rattle.tile_routes.specs.Number.{number_of};
-ghost use Rattle.tile_routes.specs.Paths.{asked_tile, is_served, feature_asked, named_tile, row_and_format};
+ghost use Rattle.tile_routes.specs.Paths.{asked_tile, is_served, feature_asked, from_asked, named_tile, row_and_format};
 ghost use Rattle.tile_routes.specs.Targets.{asked_of, IsInRange, row_view};
 
 use crate::number::path_number;
@@ -24,6 +24,8 @@ pub enum View {
     Metadata,
     /// `/map.pmtiles`: the archive that was published last.
     Archive,
+    /// `/admin/status`: what the service tells of itself, as JSON.
+    Status,
 }
 
 /// What POST does at a path without parameters.
@@ -48,6 +50,9 @@ pub enum Target {
     Tile(TileAt, TileFormat),
     /// `/features/{id}`: the feature of this number, which is below `feature_model::NUMBER_END`.
     Feature(u64),
+    /// `/admin/features/from/{id}`: the first feature with this number or a greater one; the number is below
+    /// `feature_model::NUMBER_END`.
+    FeatureFrom(u64),
     /// A path that GET and HEAD show.
     View(View),
     /// A path that POST does something at.
@@ -63,6 +68,17 @@ pub(crate) fn feature_target(id: &[u8]) -> Target
 {
     match path_number(id) {
         Some(id) => Target::Feature(id),
+        None => Target::Nothing,
+    }
+}
+
+/// The first feature with the number that the text writes, or a greater one.
+pub(crate) fn from_target(id: &[u8]) -> Target
+    ensures asked { asked_of result ≡ from_asked (number_of id.now) }
+    ensures range { IsInRange result }
+{
+    match path_number(id) {
+        Some(id) => Target::FeatureFrom(id),
         None => Target::Nothing,
     }
 }

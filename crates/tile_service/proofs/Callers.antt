@@ -11,10 +11,10 @@ use Rattle.sector_disk.specs.Moments.{LeavesOnly}
 use Rattle.sector_disk.proofs.AskedLaws.{writes_on, reads_may}
 use Rattle.edit_text.specs.Recorded.{RecordedEdit}
 use Rattle.feature_model.specs.Data.{FeatureData}
-use Rattle.feature_store.specs.Store.{feature_at}
+use Rattle.feature_store.specs.Store.{feature_at, feature_from}
 use Rattle.map_metadata.specs.Metadata.{IsMetadata}
 use Rattle.serde_json.specs.Data.{Data}
-use Rattle.tile_service.specs.Machine.{ServiceState, OrMemory, Happening, Call, edit, begin, step, cancel, tile, look, metadata, read}
+use Rattle.tile_service.specs.Machine.{ServiceState, OrMemory, Happening, Call, edit, begin, step, cancel, tile, look, look_from, metadata, read}
 use Rattle.tile_service.specs.Machine.{IfTold, AnswersEdit, AnswersBegin, AnswersStep, AnswersCancel, Happens, Runs}
 use Rattle.tile_service.specs.Runs.{IsDoubtful, happening_at, all_edits, way_of, Way, Progress, starts, progress_of, NoneInDoubt, Reaches}
 use Rattle.tile_service.specs.Runs.{begin_and_steps, IsTrusted, ChangesOnly, Takes, TakesEdit, TakesAll, TakesRun}
@@ -192,6 +192,24 @@ module _ {D : Type 0} (sectors : D → ℕ) (honest : D → Type 0) (history : D
     untouched = λ broken is. refl;
     any_moment = λ stored is_honest up.
         writes_nothing (sectors old.disk) old.size stored old.publication (look id outcome) (history old.disk) (history old.disk) refl up.keeps;
+    after = λ stored is_honest up not. up;
+  }
+
+  -- nor does one at the first feature from a number on
+  pub look_from_step : (old : ServiceView D) (id : ℕ) (outcome : OrMemory (Option (ℕ × FeatureData)))
+      → IfTold outcome (λ f. f ≡ feature_from old.features id) → Takes sectors honest history old (look_from id outcome) old
+  look_from_step old id outcome found = record {
+    machine = λ known. (found, refl);
+    archive = λ archive shows honest. tt;
+    keeps_archive = λ other. same_archive old old refl (λ is_honest. refl);
+    doubt = λ is. absurd is;
+    size = refl;
+    version = refl;
+    asked = record { same_count = refl; was_honest = λ is_honest. is_honest };
+    changes = refl;
+    untouched = λ broken is. refl;
+    any_moment = λ stored is_honest up.
+        writes_nothing (sectors old.disk) old.size stored old.publication (look_from id outcome) (history old.disk) (history old.disk) refl up.keeps;
     after = λ stored is_honest up not. up;
   }
 

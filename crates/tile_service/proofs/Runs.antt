@@ -7,7 +7,7 @@ use Rattle.sector_disk.specs.Disk.{History, Image, HasFailed}
 use Rattle.sector_disk.specs.Moments.{LeavesOnly}
 use Rattle.sector_disk.proofs.History.{started}
 use Rattle.edit_text.specs.Recorded.{RecordedEdit}
-use Rattle.tile_service.specs.Machine.{ServiceState, got, no_memory, Happening, Call, edit, begin, step, cancel, tile, look, metadata, read}
+use Rattle.tile_service.specs.Machine.{ServiceState, got, no_memory, Happening, Call, edit, begin, step, cancel, tile, look, look_from, metadata, read}
 use Rattle.tile_service.specs.Machine.{Refuses, AnswersEdit, AnswersStep, Happens, Runs}
 use Rattle.tile_service.specs.Runs.{Progress, edits_by, IsDoubtful, progress_after}
 use Rattle.tile_service.specs.Service.{PublicationView, Known, CountsDevice, TellsDevice, EventLeaves, stored_after}
@@ -112,6 +112,8 @@ broken_stays trusted old new (cancel (Err fault)) goes broken = let is = refuses
 broken_stays trusted old new (tile z x y outcome) goes broken =
     (goes.1, record { edits_nothing = refl; publishes_nothing = λ p. refl; no_doubt = λ doubt. doubt })
 broken_stays trusted old new (look id outcome) goes broken =
+    (goes.1, record { edits_nothing = refl; publishes_nothing = λ p. refl; no_doubt = λ doubt. doubt })
+broken_stays trusted old new (look_from id outcome) goes broken =
     (goes.1, record { edits_nothing = refl; publishes_nothing = λ p. refl; no_doubt = λ doubt. doubt })
 broken_stays trusted old new (metadata outcome) goes broken =
     (goes.1, record { edits_nothing = refl; publishes_nothing = λ p. refl; no_doubt = λ doubt. doubt })

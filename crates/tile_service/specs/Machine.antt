@@ -8,7 +8,7 @@ use Rattle.edit_text.specs.Recorded.{RecordedEdit, recorded_text}
 use Rattle.feature_model.specs.Data.{FeatureData, ChangeData, EditData, put, delete}
 use Rattle.feature_model.specs.declared.fault.EditFault.{EditFault as LimitFault}
 use Rattle.feature_store.specs.Layers.{layers}
-use Rattle.feature_store.specs.Store.{FeatureMap, feature_at, snapshot}
+use Rattle.feature_store.specs.Store.{FeatureMap, feature_at, feature_from, snapshot}
 use Rattle.map_metadata.specs.Metadata.{IsMetadata}
 use Rattle.serde_json.specs.Data.{Data}
 use Rattle.serde_json.specs.Written.{compact_text}
@@ -84,6 +84,8 @@ pub data Happening : Type 0 where
   tile : ℕ → ℕ → ℕ → OrMemory (Option (List ℕ)) → Happening
   -- the feature of an id
   look : ℕ → OrMemory (Option FeatureData) → Happening
+  -- the first feature with an id or a greater one, and its id
+  look_from : ℕ → OrMemory (Option (ℕ × FeatureData)) → Happening
   -- the metadata of the map
   metadata : OrMemory Data → Happening
   -- the bytes of the archive from an offset on, or None if the disk failed
@@ -283,6 +285,7 @@ Happens trusted old (step outcome) new = AnswersStep old outcome new
 Happens trusted old (cancel outcome) new = AnswersCancel old outcome new
 Happens trusted old (tile z x y outcome) new = IfTold outcome (λ content. trusted → IsTileContent (layers old.features z x y) content) × (new ≡ old)
 Happens trusted old (look id outcome) new = IfTold outcome (λ f. f ≡ feature_at old.features id) × (new ≡ old)
+Happens trusted old (look_from id outcome) new = IfTold outcome (λ f. f ≡ feature_from old.features id) × (new ≡ old)
 Happens trusted old (metadata outcome) new = IfTold outcome (λ d. IsMetadata old.features d) × (new ≡ old)
 Happens trusted old (read at outcome) new = new ≡ old
 

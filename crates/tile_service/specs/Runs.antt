@@ -11,7 +11,7 @@ use Rattle.tile_service.specs.declared.fault.ServiceFault.{ServiceFault}
 use Rattle.tile_service.specs.declared.fault.ServiceFault.TheVariants.{Device}
 use Rattle.tile_service.specs.declared.publishing.TheConstants.{STEP_SECTORS}
 use Rattle.tile_service.specs.declared.publishing_whole.Published.{Published}
-use Rattle.tile_service.specs.Machine.{no_memory, Happening, Call, edit, begin, step, cancel, tile, look, metadata, read, places_for, Happens, Runs}
+use Rattle.tile_service.specs.Machine.{no_memory, Happening, Call, edit, begin, step, cancel, tile, look, look_from, metadata, read, places_for, Happens, Runs}
 use Rattle.tile_service.specs.Service.{PublicationView, ServiceView, Known, IsUp, state_of, known_after, left_of}
 use Rattle.tile_service.specs.Service.{ShowsArchive, KeepsArchive, ReadsFrom, EventLeaves, TellsDevice, stored_after}
 use Rattle.tile_service.specs.Stored.{Stored, Holds, with_edit}
@@ -207,6 +207,7 @@ module _ {D : Type 0} (sectors : D → ℕ) (honest : D → Type 0) (history : D
   ChangesOnly (tile z x y outcome) old new = CachesOnly old new
   ChangesOnly (read at outcome) old new = CachesOnly old new
   ChangesOnly (look id outcome) old new = new ≡ old
+  ChangesOnly (look_from id outcome) old new = new ≡ old
   ChangesOnly (metadata outcome) old new = new ≡ old
   ChangesOnly happening old new = Unit {0}
 

@@ -26,6 +26,7 @@ use Rattle.published_tiles.specs.declared.place.ArchivePlace.{ArchivePlace}
 use Rattle.tile_service.specs.declared.fault.ServiceFault.{ServiceFault}
 use Rattle.tile_service.specs.declared.fault.ServiceFault.TheVariants.{NumbersSpent, Memory, JournalFull, Device}
 use Rattle.tile_service.specs.declared.publishing.TheConstants.{STEP_SECTORS}
+use Rattle.tile_service.specs.declared.status.Status.{Status}
 use Rattle.tile_service.specs.Machine.{ArchiveState, Publication, ServiceState, OrMemory, got, no_memory, Happening, edit, begin, step, read}
 use Rattle.tile_service.specs.Publishing.{map_at, published, IsUnderWay}
 use Rattle.tile_service.specs.Stored.{Stored, Holds, Keeps, map_of, last_of, stored_records, with_edit, journal_ring}
@@ -138,6 +139,25 @@ abbrev pub known_after : {D : Type 0} → Known → ServiceView D → Happening 
 known_after known service (begin (Ok left)) = record known { publishing = service.features }
 known_after known service (step outcome) = known_stepped known service.publication outcome
 known_after known service happening = known
+
+-- ---- its status
+
+-- what it tells of itself
+abbrev pub status_of : {D : Type 0} → ServiceView D → Status
+status_of service = record {
+  sectors = service.size;
+  version = service.version;
+  features = length service.features;
+  edits = service.journal.last;
+  generation = service.generation;
+  archive_len = service.archive_len;
+  journal_places = service.journal.places;
+  journal_used = service.journal.used;
+  area_sectors = area_sectors service.size;
+  area_used = sectors_of service.snapshot_len + sectors_of service.archive_len;
+  left = option_map left_of service.publication;
+  broken = service.broken;
+}
 
 -- ---- the service and its disk
 

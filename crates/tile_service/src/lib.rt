@@ -15,8 +15,10 @@ mod running;
 mod service;
 mod showing;
 mod snapshot_reading;
+mod status;
 
 pub use event::{Answer, Event};
 pub use fault::ServiceFault;
 pub use publishing_whole::Published;
 pub use service::Service;
+pub use status::Status;

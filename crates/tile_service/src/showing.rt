@@ -4,7 +4,8 @@ ghost use Rattle.feature_model.specs.Data.{feature_data};
 ghost use Rattle.feature_model.specs.Limits.{IsAllowed};
 ghost use Rattle.feature_store.specs.Content.{IsTileContent};
 ghost use Rattle.feature_store.specs.Layers.{layers};
-ghost use Rattle.feature_store.specs.Store.{feature_at};
+ghost use Rattle.feature_store.specs.Inside.{numbered_data};
+ghost use Rattle.feature_store.specs.Store.{feature_at, feature_from};
 ghost use Rattle.map_metadata.specs.Metadata.{IsMetadata};
 ghost use Rattle.pm_archive.specs.Answers.{IsOutside};
 ghost use Rattle.sector_bytes.specs.Counts.{NeverFalls};
@@ -35,6 +36,15 @@ impl<D: Sectors + Drop> Service<D> {
         ensures allowed { IfSome result (λ f. IsAllowed id (feature_data f.now)) }
     {
         self.map.store().get(id)
+    }
+
+    /// The first feature with an id or a greater one, and its id, after the last acknowledged edit. It is within the limits. It doesn't
+    /// allocate.
+    pub fn feature_from(&self, id: u64) -> Option<(u64, &Feature)>
+        ensures found { option_map numbered_data result ≡ feature_from self.now.features id }
+        ensures allowed { IfSome result (λ e. IsAllowed e.0 (feature_data e.1.now)) }
+    {
+        self.map.store().first_from(id)
     }
 
     /// The bytes of a tile in the last published archive, `None` if it is empty there.

@@ -16,6 +16,10 @@ enum Word {
     Port,
     /// The number of connections, as an option.
     Connections,
+    /// Whether the paths under `/admin/` are served, as an option.
+    Admin,
+    /// Whether the first failure of the disk ends the command, as an option.
+    Stops,
     /// The path of an archive that is read.
     Archive,
     /// The path of an archive that is written.
@@ -28,7 +32,7 @@ type Row = (&'static str, &'static [Word], &'static str);
 const COMMANDS: [Row; 8] = [
     (
         "demo",
-        &[Word::Sectors],
+        &[Word::Sectors, Word::Admin],
         "Serves one connection on standard input and output over an empty map in memory",
     ),
     (
@@ -43,12 +47,18 @@ const COMMANDS: [Row; 8] = [
     ),
     (
         "pipe",
-        &[Word::Disk],
+        &[Word::Disk, Word::Admin],
         "Serves one connection on standard input and output over the map of a disk file",
     ),
     (
         "serve",
-        &[Word::Disk, Word::Port, Word::Connections],
+        &[
+            Word::Disk,
+            Word::Port,
+            Word::Connections,
+            Word::Admin,
+            Word::Stops,
+        ],
         "Serves the map of a disk file on a port of 127.0.0.1, one connection at a time",
     ),
     (
@@ -119,6 +129,22 @@ fn connections<'a>(alloc: Global) -> Arg<'a> {
         .help("How many connections are served, from 1 to 4294967295")
 }
 
+/// The option `--admin`.
+fn admin<'a>(alloc: Global) -> Arg<'a> {
+    Arg::new(alloc, "ADMIN")
+        .long("admin")
+        .action(ArgAction::SetTrue)
+        .help("Serves the paths under /admin/ too: the status, and the list of features")
+}
+
+/// The option `--stop-when-broken`.
+fn stops<'a>(alloc: Global) -> Arg<'a> {
+    Arg::new(alloc, "STOPS")
+        .long("stop-when-broken")
+        .action(ArgAction::SetTrue)
+        .help("Ends with status 1 after the current connection once a write or sync of the disk failed")
+}
+
 /// The argument in clap's terms.
 fn arg_of<'a>(alloc: Global, word: Word) -> Arg<'a> {
     match word {
@@ -127,6 +153,8 @@ fn arg_of<'a>(alloc: Global, word: Word) -> Arg<'a> {
         Word::Disk => disk_path(alloc),
         Word::Port => port(alloc),
         Word::Connections => connections(alloc),
+        Word::Admin => admin(alloc),
+        Word::Stops => stops(alloc),
         Word::Archive => path(alloc, "A tile archive (PMTiles 3)"),
         Word::Output => output_path(alloc),
     }

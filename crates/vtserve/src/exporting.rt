@@ -7,7 +7,7 @@ use crate::files::{OpenedFile, opened_file};
 use archive_export::{ArchivePlace, CopyFault, copy_archive, find_archive};
 use generations::StoreFault;
 use map_disks::sync_folder;
-use sector_disk::{Sectors, Start};
+use sector_disk::{FileDisk, Sectors, Start};
 use std::fs::{self, File, OpenOptions, Permissions};
 use std::io::{self, ErrorKind};
 use std::os::unix::fs::{MetadataExt, OpenOptionsExt, PermissionsExt};
@@ -137,8 +137,9 @@ pub(crate) fn export_file<S: Start>(
     start: S,
 ) -> Result<(), CommandFault> {
     let OpenedFile {
-        mut disk,
+        file,
+        bytes,
         held: _held,
-    } = opened_file(rt, path, start)?;
-    export(rt, &mut disk, path, goal)
+    } = opened_file(rt, path)?;
+    export(rt, &mut FileDisk::new(file, bytes, start), path, goal)
 }

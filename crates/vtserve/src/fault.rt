@@ -18,6 +18,8 @@ pub(crate) enum CommandFault {
     Listen,
     /// Standard output can't be written.
     Write,
+    /// What standard error tells already.
+    Told,
 }
 
 impl From<FileFault> for CommandFault {
@@ -39,6 +41,7 @@ impl CommandFault {
             CommandFault::Connection(fault) => serve_fault_name(fault),
             CommandFault::Listen => "Listen",
             CommandFault::Write => "Write",
+            CommandFault::Told => "Device",
         }
     }
 }

@@ -3,12 +3,15 @@
 use crate::fault::CommandFault;
 use crate::regular::open_regular;
 use crate::serving::{Peers, serve};
+use crate::watching::Watched;
 use generations::{LAST_VERSION, StoreFault};
 use map_disks::{formatted_file, opened_service};
 use sector_disk::{FileDisk, Start, SystemFile, Zeros};
+use std::cell::Cell;
 use std::fs::{File, OpenOptions, TryLockError};
 use std::io::{self, ErrorKind};
 use std::os::fd::AsRawFd;
+use tile_routes::Access;
 use tile_service::Service;
 
 /// Creates a disk file of this many sectors with the empty map, and prints a line.
@@ -36,10 +39,11 @@ fn closed_streams(rt: &HostRuntime) -> io::Result<[File; 3]> {
     ])
 }
 
-/// A disk in a file that is in use.
-pub(crate) struct OpenedFile<S: Start> {
-    pub(crate) disk: FileDisk<SystemFile<File>, S>,
-    /// What is to be kept as long as the disk is.
+/// The file of a disk, in use.
+pub(crate) struct OpenedFile {
+    pub(crate) file: SystemFile<File>,
+    pub(crate) bytes: u64,
+    /// What is to be kept as long as the file is.
     pub(crate) held: Held,
 }
 
@@ -85,32 +89,40 @@ fn opened_alone(rt: &HostRuntime, path: &str) -> Result<(File, u64), CommandFaul
     }
 }
 
-/// Opens the disk in a file, whatever the file had, unless another process uses it.
-pub(crate) fn opened_file<S: Start>(
-    rt: &HostRuntime,
-    path: &str,
-    start: S,
-) -> Result<OpenedFile<S>, CommandFault> {
+/// Opens the file of a disk, unless another process uses it.
+pub(crate) fn opened_file(rt: &HostRuntime, path: &str) -> Result<OpenedFile, CommandFault> {
     let Ok(streams) = closed_streams(rt) else {
         return Err(CommandFault::File);
     };
     let (file, bytes) = opened_alone(rt, path)?;
     Ok(OpenedFile {
-        disk: FileDisk::new(SystemFile::new(file), bytes, start),
+        file: SystemFile::new(file),
+        bytes,
         held: Held { _streams: streams },
     })
 }
 
-/// Serves the map on the disk in a file, whatever the file had.
+/// Serves these paths of the map on the disk in a file, whatever the file had. Its first write or sync that fails is told of.
 pub(crate) fn serve_file<S: Start>(
     rt: &HostRuntime,
     path: &str,
+    access: Access,
     peers: Peers,
     start: S,
 ) -> Result<(), CommandFault> {
-    let OpenedFile { disk, held: _held } = opened_file(rt, path, start)?;
-    match opened_service(rt.alloc(), disk) {
-        Ok(map) => serve(rt, map, peers),
+    let OpenedFile {
+        file,
+        bytes,
+        held: _held,
+    } = opened_file(rt, path)?;
+    let failed = Cell::new(false);
+    let file = Watched {
+        file,
+        told: rt.stderr(),
+        failed: &failed,
+    };
+    match opened_service(rt.alloc(), FileDisk::new(file, bytes, start), access) {
+        Ok(map) => serve(rt, map, peers, &failed),
         Err((_, fault)) => Err(CommandFault::Store(fault)),
     }
 }
@@ -122,9 +134,11 @@ pub(crate) fn upgrade_file<S: Start>(
     start: S,
 ) -> Result<(), CommandFault> {
     let OpenedFile {
-        mut disk,
+        file,
+        bytes,
         held: _held,
-    } = opened_file(rt, path, start)?;
+    } = opened_file(rt, path)?;
+    let mut disk = FileDisk::new(file, bytes, start);
     match Service::upgrade(&mut disk) {
         Ok(()) => {}
         Err(fault) => return Err(CommandFault::Store(fault)),

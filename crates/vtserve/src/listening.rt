@@ -6,12 +6,14 @@ ghost use Rattle.tile_service.specs.Machine.{Happening};
 ghost use Rattle.tile_service.specs.Runs.{TakesRun};
 
 use crate::fault::CommandFault;
+use crate::watching::Halting;
 use clap::ArgMatches;
 use generations::StoreFault;
 use http_listen::ListenFault;
 use map_listen::serve_map_on;
 use map_replies::MapReplies;
 use sector_disk::Sectors;
+use std::cell::Cell;
 use std::io::{self, LineWriter, Write};
 use std::net::{Ipv4Addr, SocketAddr, TcpListener};
 
@@ -22,6 +24,8 @@ pub(crate) struct Listening {
     pub(crate) port: u16,
     /// How many connections are served.
     pub(crate) connections: u32,
+    /// Whether the first write or sync of the disk that fails ends it, after the current connection.
+    pub(crate) stops: bool,
 }
 
 /// What the words of the command ask for, unless a number is 0.
@@ -33,7 +37,11 @@ pub(crate) fn listening_of(words: &ArgMatches<'_>) -> Option<Listening>
     if port == 0 || connections == 0 {
         return None;
     }
-    Some(Listening { port, connections })
+    Some(Listening {
+        port,
+        connections,
+        stops: words.get_flag("STOPS"),
+    })
 }
 
 /// Says where connections are accepted.
@@ -42,11 +50,12 @@ fn tell_port(rt: &HostRuntime, port: u16) -> io::Result<()> {
     rt.stdout().flush()
 }
 
-/// Serves the connections one after the other, with their log on standard error.
+/// Serves the connections one after the other, with their log on standard error, over a disk that may have failed.
 pub(crate) fn serve_connections<D: Sectors + Drop>(
     rt: &HostRuntime,
     asked: Listening,
     service: &mut MapReplies<D>,
+    failed: &Cell<bool>,
 ) -> Result<(), CommandFault>
     ensures all { OnOk result ((served : List Connection) × (length served ≡ asked.connections) × (run : List Happening)
         × Serves (Tells D.sectors D.honest D.history D.faults) (TellsCut D.sectors D.honest D.history D.faults)
@@ -64,9 +73,15 @@ pub(crate) fn serve_connections<D: Sectors + Drop>(
     let Ok(()) = tell_port(rt, asked.port) else {
         return Err(CommandFault::Write);
     };
+    let listener = Halting {
+        listener,
+        halts: asked.stops,
+        failed,
+    };
     let connections = u64::from(asked.connections);
     match serve_map_on(rt, rt.alloc(), &listener, connections, service, &mut log) {
         Ok(()) => Ok(()),
+        Err(ListenFault::Accept) if asked.stops && failed.get() => Err(CommandFault::Told),
         Err(ListenFault::Accept) => Err(CommandFault::Listen),
     }
 }

@@ -9,6 +9,7 @@ mod files;
 mod listening;
 mod regular;
 mod serving;
+mod watching;
 
 use archives::{show_file, verify_file};
 use clap::ArgMatches;
@@ -23,9 +24,11 @@ use map_disks::fresh_service;
 use sector_disk::Unknown;
 use serving::{Peers, serve};
 use std::alloc::AllocError;
+use std::cell::Cell;
 use std::fmt::Display;
 use std::io::ErrorKind;
 use std::process::ExitCode;
+use tile_routes::Access;
 
 /// Prints a fault's name.
 fn refused(rt: &impl Eprint, name: impl Display + Drop) -> anyhow::Result<ExitCode> {
@@ -37,6 +40,7 @@ fn refused(rt: &impl Eprint, name: impl Display + Drop) -> anyhow::Result<ExitCo
 fn ended(rt: &HostRuntime, outcome: Result<(), CommandFault>) -> anyhow::Result<ExitCode> {
     match outcome {
         Ok(()) => Ok(ExitCode::SUCCESS),
+        Err(CommandFault::Told) => Ok(ExitCode::from(1)),
         Err(fault) => refused(rt, fault.name()),
     }
 }
@@ -48,10 +52,19 @@ fn out_of_range(rt: &HostRuntime) -> anyhow::Result<ExitCode> {
 }
 
 /// Serves one connection on standard input and output, over the empty map on a disk in memory.
-fn demo(rt: &HostRuntime, sectors: u64) -> Result<(), CommandFault> {
-    match fresh_service(rt.alloc(), sectors) {
-        Ok(map) => serve(rt, map, Peers::Streams),
+fn demo(rt: &HostRuntime, sectors: u64, access: Access) -> Result<(), CommandFault> {
+    match fresh_service(rt.alloc(), sectors, access) {
+        Ok(map) => serve(rt, map, Peers::Streams, &Cell::new(false)),
         Err(fault) => Err(CommandFault::Store(fault)),
+    }
+}
+
+/// Which paths the words of a command ask for.
+fn access_in(words: &ArgMatches<'_>) -> Access {
+    if words.get_flag("ADMIN") {
+        Access::Admin
+    } else {
+        Access::Map
     }
 }
 
@@ -63,15 +76,21 @@ fn run(rt: &HostRuntime, matches: &ArgMatches<'_>) -> anyhow::Result<ExitCode> {
     let path = words.get_str("FILE").unwrap_or("");
     let sectors = words.get_one::<u64>("N").unwrap_or(0);
     match name {
-        "demo" => ended(rt, demo(rt, sectors)),
+        "demo" => ended(rt, demo(rt, sectors, access_in(words))),
         "export" => ended(
             rt,
             export_file(rt, path, words.get_str("OUTPUT").unwrap_or(""), Unknown),
         ),
         "format" => ended(rt, format_file(rt, path, sectors)),
-        "pipe" => ended(rt, serve_file(rt, path, Peers::Streams, Unknown)),
+        "pipe" => ended(
+            rt,
+            serve_file(rt, path, access_in(words), Peers::Streams, Unknown),
+        ),
         "serve" => match listening_of(words) {
-            Some(asked) => ended(rt, serve_file(rt, path, Peers::Port(asked), Unknown)),
+            Some(asked) => ended(
+                rt,
+                serve_file(rt, path, access_in(words), Peers::Port(asked), Unknown),
+            ),
             None => out_of_range(rt),
         },
         "show" => show_file(rt, path),

@@ -4,6 +4,7 @@ use crate::fault::CommandFault;
 use crate::listening::{Listening, serve_connections};
 use map_replies::{MapReplies, serve_map};
 use sector_disk::Sectors;
+use std::cell::Cell;
 
 /// Where connections come from.
 #[derive(Clone, Copy, Debug, PartialEq, Eq)]
@@ -25,15 +26,16 @@ fn serve_streams<D: Sectors + Drop>(
     }
 }
 
-/// Serves a map.
+/// Serves a map, over a disk that may have failed.
 pub(crate) fn serve<D: Sectors + Drop>(
     rt: &HostRuntime,
     map: MapReplies<D>,
     peers: Peers,
+    failed: &Cell<bool>,
 ) -> Result<(), CommandFault> {
     let mut map = map;
     match peers {
         Peers::Streams => serve_streams(rt, &mut map),
-        Peers::Port(asked) => serve_connections(rt, asked, &mut map),
+        Peers::Port(asked) => serve_connections(rt, asked, &mut map, failed),
     }
 }

@@ -7,7 +7,7 @@ use std::alloc::Global;
 use std::io::{self, Read, Write};
 use std::net::{Ipv4Addr, Shutdown, SocketAddr, TcpListener, TcpStream};
 use std::test::Fail;
-use tile_routes::Routes;
+use tile_routes::{Access, Routes};
 use tile_service::Service;
 
 const PUT: &str = "PUT /features/7 HTTP/1.1\r\nhost: x\r\ncontent-length: 77\r\n\r\n\
@@ -23,7 +23,7 @@ fn empty(alloc: Global) -> Result<MapReplies<MemoryDisk>, Fail> {
     let mut disk = MemoryDisk::new(alloc, 64)?;
     Service::format(&mut disk).ok().ok_or("a format")?;
     let service = Service::open(alloc, disk).ok().ok_or("a service")?;
-    Ok(MapReplies::new(alloc, Routes::new(alloc)?, service))
+    Ok(MapReplies::new(alloc, Routes::new(alloc)?, Access::Map, service))
 }
 
 /// A peer that has sent all that it sends.

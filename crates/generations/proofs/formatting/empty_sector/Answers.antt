@@ -13,4 +13,5 @@ returns-clause-leaves g c honest = wrote_leaves _ c.args.at zeros c.write.result
 
 pub returns-clause-empty : goal.returns-clause-empty
 returns-clause-empty g c honest =
-    ap (λ (h : History). seen h c.args.at) (c.in_ok-write.ensures.writes honest) ∙ seen_same c.args.at zeros (g.D.Sectors.history c.args.disk.now) c.args.at refl
+    ap (λ (h : History). seen h c.args.at) (c.in_ok-write.ensures.writes honest)
+    ∙ seen_same c.args.at zeros (g.D.Sectors.history c.args.disk.now) c.args.at refl

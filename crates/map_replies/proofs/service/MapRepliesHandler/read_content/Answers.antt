@@ -11,19 +11,21 @@ returns-clause-read g c =
     let d = g.D.Sectors in
     let call = c.read_sent.ensures in
     let now = asked_service c.args.self.now in
-    let next = asked_service c.read_sent.new.self in
-    let sending = c.args.self.now.sending in
+    let next = c.read_sent.new.self.service in
+    let sending = c.args.self.now.calls.sending in
     read_on c.read_sent.result c.read_sent.new.part
     (λ outcome. Takes d.sectors d.honest d.history now (read (sending.first + c.args.offset) outcome) next) _ _ call.read
     call.unfailed
     (λ takes unfailed old request reply is.
-    sends_more d.sectors d.honest d.history d.faults _ _ request.range request.body (asked_service old) sending now
-    next reply is c.read_sent.new.self.sending c.args.offset _ c.read_sent.new.part call.sending call.length c.requires.within unfailed takes)
+    let more = sends_more d.sectors d.honest d.history d.faults _ _ request.range request.body (asked_service old) sending now
+    next reply is.0 c.read_sent.new.self.sending c.args.offset _ c.read_sent.new.part call.sending call.length c.requires.within unfailed takes in
+    ((more.0, is.1), (more.1, is.1)))
 
 pub returns-clause-unread : goal.returns-clause-unread
 returns-clause-unread g c =
     let d = g.D.Sectors in
     err_on c.read_sent.result _ _ c.read_sent.ensures.failed (λ fault failed old request reply is.
-    sends_fails d.sectors d.honest d.history d.faults _ _ request.range request.body (asked_service old)
-    c.args.self.now.sending (asked_service c.args.self.now) (asked_service c.read_sent.new.self) reply is
-    _ (read_outcome c.read_sent.result c.read_sent.new.part) c.read_sent.ensures.read failed)
+    let fails = sends_fails d.sectors d.honest d.history d.faults _ _ request.range request.body (asked_service old)
+    c.args.self.now.calls.sending (asked_service c.args.self.now) c.read_sent.new.self.service reply is.0
+    _ (read_outcome c.read_sent.result c.read_sent.new.part) c.read_sent.ensures.read failed in
+    ((fails.0, is.1), fails.1))

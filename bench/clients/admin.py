@@ -1,0 +1,113 @@
+"""The part `admin` of run.py: the paths under `/admin/`, with `--admin` and without, and the scripts that stand on them."""
+import json
+import os
+import subprocess
+import sys
+
+from stand import JSON, PROGRAM, SHOWN, TOP, Cases, Server, curl, feature, refusal, same, status_of, wanted
+
+STATUS = "/admin/status"
+FROM = "/admin/features/from/"
+MANY = 200
+
+
+def status(**changes):
+    """The status of a fresh disk of 4,096 sectors, by HTTP.md, with changes."""
+    first = {"archive": 0, "area": {"sectors": 1534, "used": 0}, "broken": False, "edits": 0, "features": 0, "generation": 0,
+             "journal": {"places": 1024, "used": 0}, "left": None, "sectors": 4096, "version": 2}
+    return wanted(200, JSON, json.dumps({**first, **changes}, separators=(",", ":")))
+
+
+def script(name, *words):
+    """What a script of examples/ ends with, and prints."""
+    child = subprocess.run([sys.executable, os.path.join(TOP, "examples", name), *words], capture_output=True, text=True, check=False)
+    return child.returncode, (child.stdout + child.stderr).splitlines()
+
+
+def admin(cases: Cases, folder):
+    without(cases, folder)
+    with Server(folder, "admin", more=["--admin"]) as server:
+        statuses(cases, server)
+        listing(cases, server)
+        watched(cases, server)
+        saved(cases, folder, server)
+    piped(cases, folder)
+
+
+def without(cases, folder):
+    with Server(folder, "public") as server:
+        for path in (STATUS, FROM + "0"):
+            for method in ("GET", "POST", "DELETE"):
+                same(cases, f"without --admin: {method} {path}", curl(server.url + path, "-X", method), refusal(404, "NotFound"))
+        lines = script("map_backup.py", "save", os.path.join(folder, "none.geojson"), "--url", server.url)
+        cases.show("without --admin: a back-up says what is missing", lines,
+                   (1, ["the server doesn't list its features: start it with --admin, or give --numbers or --archive"]))
+        cases.show("without --admin: watch.py", script("watch.py", server.url), (2, [f"{server.url}{STATUS}: 404: is the server started with --admin?"]))
+
+
+def statuses(cases, server):
+    url = server.url
+    same(cases, "status: a fresh disk", curl(url + STATUS), status())
+    curl(url + "/features/7", "-X", "PUT", body=feature())
+    one = {"edits": 1, "features": 1, "journal": {"places": 1024, "used": 1}}
+    same(cases, "status: an edit", curl(url + STATUS), status(**one))
+    curl(url + "/publish/begin", "-X", "POST")
+    same(cases, "status: a publication under way", curl(url + STATUS), status(**one, left=3))
+    curl(url + "/publish/step", "-X", "POST")
+    done = {**one, "archive": 223, "area": {"sectors": 1534, "used": 2}, "generation": 1, "journal": {"places": 1024, "used": 0}}
+    same(cases, "status: it is installed", curl(url + STATUS), status(**done))
+    curl(url + "/features/7", "-X", "DELETE")
+    same(cases, "status: nothing is left of the map", curl(url + STATUS), status(**{**done, "edits": 2, "features": 0, "journal": {"places": 1024, "used": 1}}))
+    same(cases, "status: another method", curl(url + STATUS, "-X", "PUT", body="{}"), refusal(405, "Method", more=[("allow", "GET, HEAD")]))
+
+
+def listing(cases, server):
+    url = server.url
+    same(cases, "list: an empty map", curl(url + FROM + "0"), refusal(404, "NotFound"))
+    numbers = [5 * number + 2 for number in range(MANY)]
+    for start in range(0, MANY, 64):
+        changes = [{"put": number, "feature": json.loads(feature())} for number in numbers[start : start + 64]]
+        curl(url + "/edits", "-X", "POST", body=json.dumps({"changes": changes}))
+    same(cases, "list: from the first", curl(url + FROM + "0"), wanted(200, JSON, f'{{"feature":{SHOWN},"id":2}}'))
+    found, number = [], 0
+    while status_of(reply := curl(f"{url}{FROM}{number}")) == 200:
+        found.append(json.loads(reply[2])["id"])
+        number = found[-1] + 1
+    cases.show("list: each feature once, ascending", found, numbers)
+    for number in ("00", "x", "", str(2**63)):
+        same(cases, f"list: no number {number!r}", curl(url + FROM + number), refusal(404, "NotFound"))
+
+
+def watched(cases, server):
+    cases.show("watch.py: nothing to do", script("watch.py", server.url), (0, [f"{MANY} features, edit 6, generation 1: nothing to do"]))
+    code, lines = script("watch.py", server.url, "--at", "1")
+    cases.show("watch.py: the journal", (code, lines), (1, ["18 of the 1,024 sectors of the journal are used: publish (examples/publish.sh)"]))
+
+
+def saved(cases, folder, server):
+    """Back-ups in both forms, put into another disk, which then has the same features."""
+    files = [os.path.join(folder, "saved" + ending) for ending in (".geojson", ".jsonl")]
+    for file in files:
+        name = os.path.basename(file)
+        cases.show(f"back-up: {name}", script("map_backup.py", "save", file, "--url", server.url), (0, [f"{MANY} features saved"]))
+        with Server(folder, name + ".disk", more=["--admin"]) as other:
+            cases.show(f"back-up: {name} put back", script("map_backup.py", "load", file, "--url", other.url), (0, [f"{MANY} features put"]))
+            again = file + ".again" + os.path.splitext(file)[1]
+            script("map_backup.py", "save", again, "--url", other.url)
+            cases.show(f"back-up: {name} is the same again", open(again, "rb").read() == open(file, "rb").read(), True)
+    with open(files[1], encoding="utf-8") as lines:
+        cases.show("back-up: a line is the server's own reply", lines.readline(), f'{{"feature":{SHOWN},"id":2}}\n')
+
+
+def piped(cases, folder):
+    """`pipe` and `demo` have the option too."""
+    sent = f"GET {STATUS} HTTP/1.0\r\n\r\n".encode()
+    small = {"area": {"sectors": 22, "used": 0}, "journal": {"places": 16, "used": 0}, "sectors": 64}
+    _, _, content = status(**small)
+    disk = os.path.join(folder, "piped")
+    subprocess.run([PROGRAM, "format", disk, "--sectors", "64"], check=True, stdout=subprocess.DEVNULL)
+    for words in (["demo", "64"], ["pipe", disk]):
+        told = subprocess.run([PROGRAM, *words, "--admin"], input=sent, capture_output=True, check=False).stdout.partition(b"\r\n\r\n")[2]
+        cases.show(f"{words[0]} --admin", told, content)
+        told = subprocess.run([PROGRAM, *words], input=sent, capture_output=True, check=False).stdout.partition(b"\r\n\r\n")[2]
+        cases.show(f"{words[0]} without it", told, b"NotFound\n")

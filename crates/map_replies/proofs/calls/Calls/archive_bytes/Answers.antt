@@ -1,0 +1,26 @@
+use Rattle.std.proofs.Common.{◌≡◌, Some, List, ℕ, length, sym, ap, subst, arith}
+use Rattle.std.proofs.lemmas.List.{take_at}
+use Rattle.tile_service.specs.Machine.{read}
+use Rattle.tile_service.specs.Runs.{Takes}
+use Rattle.map_replies.proofs.SendingLemmas.{gives_bytes, gives_none}
+use Rattle.map_replies.proofs.calls.Calls.archive_bytes.Goals as goal
+
+pub returns-in-Ok-archive_read-clause-read : goal.returns-in-Ok-archive_read-clause-read
+returns-in-Ok-archive_read-clause-read g c =
+    let d = g.D.Sectors in
+    let call = c.archive_read.ensures in
+    let old = c.args.self.now.service in
+    let new = c.archive_read.new.self in
+    let into = c.archive_read.new.into in
+    let whole : length into ≡ c.in-Ok.bytes.len = omega (arith, call.length, ap length c.deref_mut.ensures.value, c.in-Ok.bytes.ok.0) in
+    subst (λ (bytes : List ℕ). Takes d.sectors d.honest d.history old (read c.args.at (Some bytes)) new)
+    (sym (take_at into _ c.in-Ok.bytes.len whole))
+    (gives_bytes d.sectors d.honest d.history old new call.same call.disk call.up c.args.at _ into
+    call.length c.in-Ok-archive_read.ensures.shown)
+
+pub returns-in-Err-clause-read : goal.returns-in-Err-clause-read
+returns-in-Err-clause-read g c =
+    let d = g.D.Sectors in
+    let call = c.archive_read.ensures in
+    gives_none d.sectors d.honest d.history c.args.self.now.service c.archive_read.new.self
+    call.same call.disk call.up c.args.at

@@ -1,0 +1,14 @@
+use Rattle.std.proofs.Common.{map}
+use Rattle.feature_model.specs.Data.{change_data}
+use Rattle.tile_service.specs.Machine.{batched}
+use Rattle.tile_service.proofs.Callers.{edit_step}
+use Rattle.map_replies.proofs.Answering.{edited}
+use Rattle.map_replies.proofs.calls.Calls.batch.Goals as goal
+
+pub returns-clause-answered : goal.returns-clause-answered
+returns-clause-answered g c =
+    let d = g.D.Sectors in
+    let call = c.batch-outcome.ensures in
+    edited d.sectors d.honest d.history _ _ _ _ _ _ _ (map change_data c.in-Ok.changes.items) c.batch-outcome.result _ c.in-Ok.ensures.found
+    c.outcome.ensures.reply call.takes.failed
+    (edit_step d.sectors d.honest d.history d.faults _ _ batched _ c.batch-outcome.result call.machine call.takes)

@@ -1,0 +1,12 @@
+use Rattle.tile_service.specs.Machine.{begin}
+use Rattle.tile_service.proofs.Callers.{begin_step}
+use Rattle.map_replies.specs.Words.{left_reply}
+use Rattle.map_replies.proofs.Answering.{called_first}
+use Rattle.map_replies.proofs.calls.Calls.publish_begin.Goals as goal
+
+pub returns-clause-answered : goal.returns-clause-answered
+returns-clause-answered g c =
+    let d = g.D.Sectors in
+    let call = c.publish_begin-outcome.ensures in
+    called_first d.sectors d.honest d.history begin left_reply _ _ c.publish_begin-outcome.result _ c.left.ensures.reply
+    (begin_step d.sectors d.honest d.history _ _ c.publish_begin-outcome.result call.machine call.same call.up)

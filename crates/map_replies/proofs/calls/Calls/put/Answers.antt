@@ -1,0 +1,13 @@
+use Rattle.feature_model.specs.Data.{feature_data}
+use Rattle.tile_service.specs.Machine.{single}
+use Rattle.tile_service.proofs.Callers.{edit_step}
+use Rattle.map_replies.proofs.Answering.{edited}
+use Rattle.map_replies.proofs.calls.Calls.put.Goals as goal
+
+pub returns-clause-answered : goal.returns-clause-answered
+returns-clause-answered g c =
+    let d = g.D.Sectors in
+    let call = c.put-outcome.ensures in
+    edited d.sectors d.honest d.history _ _ _ _ _ _ _ (feature_data c.in-Ok.feature) c.put-outcome.result _ c.in-Ok.ensures.found
+    c.outcome.ensures.reply call.takes.failed
+    (edit_step d.sectors d.honest d.history d.faults _ _ single _ c.put-outcome.result call.machine call.takes)

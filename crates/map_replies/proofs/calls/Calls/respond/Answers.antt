@@ -1,0 +1,36 @@
+use Rattle.std.proofs.Common.{◌≡◌, [], Result, Ok, Err, refl, sym, ap, subst, ◌∙◌}
+use Rattle.std.specs.Prelude.{option_map}
+use Rattle.tile_routes.specs.declared.fault.RouteFault.{RouteFault}
+use Rattle.tile_routes.specs.declared.fault.RouteFault.TheVariants as routes
+use Rattle.tile_routes.specs.declared.method.Method.{Method}
+use Rattle.tile_routes.specs.Targets.{asked_of}
+use Rattle.map_replies.specs.Meanings.{AnswersMethod}
+use Rattle.map_replies.specs.Sending.{IsAnsweredInParts, SendsMethod}
+use Rattle.map_replies.proofs.SendingLemmas.{answered_on, whole_is}
+use Rattle.map_replies.proofs.calls.Calls.respond.Goals as goal
+
+pub returns-in-Ok-clause-answered : goal.returns-in-Ok-clause-answered
+returns-in-Ok-clause-answered g c =
+    rw c.in-Ok.is
+    (answered_on _ _ _ _ c.allowed.result (λ view is. is) (λ view is. (c.in-Ok.method, refl, is)) c.allowed.ensures.answered)
+
+-- what holds of a method that the path doesn't allow
+of_not_allowed : (P : Result Method RouteFault → Type 0) (method : Result Method RouteFault) (fault : RouteFault) → method ≡ Err fault
+    → fault ≡ routes.NotAllowed → P (Err routes.NotAllowed) → P method
+of_not_allowed P method fault is same holds =
+    subst P (sym (is ∙ ap (λ (f : RouteFault). Err f) same)) holds
+
+pub returns-in-Err-NotAllowed-clause-answered : goal.returns-in-Err-NotAllowed-clause-answered
+returns-in-Err-NotAllowed-clause-answered g c =
+    let d = g.D.Sectors in
+    let old = c.args.self.now.service in
+    let sending = c.args.self.now.sending in
+    let asked = asked_of c.args.target in
+    let range = option_map (λ value. value.now) c.args.range in
+    let body = c.args.body.now in
+    let same : c.in-Err-NotAllowed.field-0 ≡ routes.NotAllowed = rw c.in-Err-NotAllowed.is at c.in-Err-NotAllowed.field-0-is in
+    of_not_allowed
+    (λ m. IsAnsweredInParts (AnswersMethod d.sectors d.honest d.history d.faults asked m range body old old)
+    (SendsMethod d.sectors d.honest d.history d.faults asked m range old sending old) (Ok c.not_allowed.result))
+    _ _ c.in-Err-NotAllowed.is same
+    (whole_is _ _ c.not_allowed.result c.not_allowed.ensures.writable ([], (c.not_allowed.ensures.reply, refl), refl))

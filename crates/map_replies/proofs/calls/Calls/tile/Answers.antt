@@ -1,0 +1,36 @@
+use Rattle.std.proofs.Common.{ap, refl, option_map}
+use Rattle.tile_service.specs.Machine.{got, no_memory, tile}
+use Rattle.tile_service.specs.Service.{state_of}
+use Rattle.tile_service.proofs.Callers.{tile_step}
+use Rattle.map_replies.specs.Words.{shown_reply, content_reply}
+use Rattle.map_replies.proofs.Answering.{called}
+use Rattle.map_replies.proofs.calls.Calls.tile.Goals as goal
+
+pub returns-in-Ok-tile-clause-answered : goal.returns-in-Ok-tile-clause-answered
+returns-in-Ok-tile-clause-answered g c =
+    let d = g.D.Sectors in
+    let at = c.args.at in
+    let call = c.tile.ensures in
+    let outcome = got (option_map (λ bytes. bytes.items) c.in-Ok.content) in
+    called d.sectors d.honest d.history (tile at.z at.x at.y) (shown_reply (content_reply c.args.format)) _ _ outcome _ c.in-Ok-tile.ensures.reply
+    (tile_step d.sectors d.honest d.history _ _ call.same call.disk call.untouched call.up at.z at.x at.y outcome
+    c.in-Ok.ensures.machine)
+
+-- it was shown, and there is no memory for the reply
+pub returns-in-Err-clause-answered : goal.returns-in-Err-clause-answered
+returns-in-Err-clause-answered g c =
+    let d = g.D.Sectors in
+    let at = c.args.at in
+    let call = c.tile.ensures in
+    called d.sectors d.honest d.history (tile at.z at.x at.y) (shown_reply (content_reply c.args.format)) _ _ no_memory _ refl
+    (tile_step d.sectors d.honest d.history _ _ call.same call.disk call.untouched call.up at.z at.x at.y no_memory
+    (λ known. (tt, ap (λ s. state_of known s) call.same)))
+
+pub returns-in_default-clause-answered : goal.returns-in_default-clause-answered
+returns-in_default-clause-answered g c =
+    let d = g.D.Sectors in
+    let at = c.args.at in
+    let call = c.tile.ensures in
+    called d.sectors d.honest d.history (tile at.z at.x at.y) (shown_reply (content_reply c.args.format)) _ _ no_memory _ refl
+    (tile_step d.sectors d.honest d.history _ _ call.same call.disk call.untouched call.up at.z at.x at.y no_memory
+    (λ known. (tt, ap (λ s. state_of known s) call.same)))

@@ -1,0 +1,130 @@
+//! What is asked of the service at each path.
+ghost use Rattle.std.specs.Prelude.{IfOk, option_map};
+ghost use Rattle.http_serve.specs.Reply.{head_view, HasShortWords, IsWhole};
+ghost use Rattle.tile_routes.specs.Paths.{asked_view};
+ghost use Rattle.tile_routes.specs.Targets.{asked_of};
+ghost use Rattle.tile_service.specs.Service.{status_of};
+ghost use Rattle.map_replies.specs.Meanings.{MeansOnFeature, MeansView, MeansAction, Answers, AnswersAllowed, AnswersMethod, DiskFailed};
+ghost use Rattle.map_replies.specs.Sending.{IsAnswered, IsAnsweredInParts, SendsAllowed, SendsMethod};
+
+use crate::fault::RequestFault;
+use crate::parts::{Sending, is_head, range_for};
+use crate::replies;
+use http_serve::Reply;
+use sector_disk::Sectors;
+use std::alloc::Global;
+use tile_routes::{Action, Method, RouteFault, Target, View};
+use tile_service::Service;
+
+/// A service, and what the last reply with its archive sends.
+#[derive(Drop)]
+pub(crate) struct Calls<D: Sectors + Drop> {
+    pub(crate) alloc: Global,
+    pub(crate) service: Service<D>,
+    /// What the last reply sends in parts.
+    pub(crate) sending: Sending,
+}
+
+impl<D: Sectors + Drop> Calls<D> {
+    /// Handles an allowed method on a feature.
+    fn on_feature(&mut self, id: u64, method: Method, body: &[u8]) -> Result<Reply, RequestFault>
+        ensures answered { IsAnswered (Answers D.sectors D.honest D.history
+            (MeansOnFeature (DiskFailed D.faults self.old.service self.new.service) self.old.service.version id method body.now)
+            self.old.service self.new.service) result }
+        ensures writable { IfOk result IsWhole }
+    {
+        match method {
+            Method::Put => self.put(id, body),
+            Method::Delete => self.delete(id),
+            Method::Get | Method::Head | Method::Post => self.feature(id),
+        }
+    }
+
+    /// Handles GET or HEAD of a view.
+    #[tactic(auto, using(crate::proofs::SendingLemmas::whole_answer, crate::proofs::SendingLemmas::whole_words))]
+    fn on_view(
+        &mut self,
+        view: View,
+        method: Method,
+        range: Option<&[u8]>,
+    ) -> Result<Reply, RequestFault>
+        ensures answered { IsAnsweredInParts
+            (Answers D.sectors D.honest D.history (MeansView (DiskFailed D.faults self.old.service self.new.service)
+            (status_of self.old.service) view method (option_map (λ value. value.now) range.entry))
+            self.old.service self.new.service)
+            (SendsAllowed D.sectors D.honest D.history D.faults (asked_view view) method
+            (option_map (λ value. value.now) range.entry) self.old.service self.new.sending self.new.service) result }
+        ensures words { IfOk result (λ reply. HasShortWords (head_view reply)) }
+    {
+        match view {
+            View::Metadata => self.metadata(),
+            View::Archive => self.archive(range_for(method, range), is_head(method)),
+            View::Status => self.status(),
+        }
+    }
+
+    /// Handles POST of an action.
+    fn on_action(&mut self, action: Action, body: &[u8]) -> Result<Reply, RequestFault>
+        ensures answered { IsAnswered (Answers D.sectors D.honest D.history
+            (MeansAction (DiskFailed D.faults self.old.service self.new.service)
+            (status_of self.old.service) (status_of self.new.service) action body.now)
+            self.old.service self.new.service) result }
+        ensures writable { IfOk result IsWhole }
+    {
+        match action {
+            Action::Edits => self.batch(body),
+            Action::Publish => self.publish(),
+            Action::PublishBegin => self.publish_begin(),
+            Action::PublishStep => self.publish_step(),
+            Action::PublishCancel => self.publish_cancel(),
+        }
+    }
+
+    /// Handles an allowed method on any target.
+    #[tactic(auto, using(crate::proofs::SendingLemmas::whole_answer, crate::proofs::SendingLemmas::whole_words))]
+    fn allowed(
+        &mut self,
+        target: Target,
+        method: Method,
+        range: Option<&[u8]>,
+        body: &[u8],
+    ) -> Result<Reply, RequestFault>
+        ensures answered { IsAnsweredInParts
+            (AnswersAllowed D.sectors D.honest D.history D.faults (asked_of target) method
+            (option_map (λ value. value.now) range.entry) body.now self.old.service self.new.service)
+            (SendsAllowed D.sectors D.honest D.history D.faults (asked_of target) method
+            (option_map (λ value. value.now) range.entry) self.old.service self.new.sending self.new.service) result }
+        ensures words { IfOk result (λ reply. HasShortWords (head_view reply)) }
+    {
+        match target {
+            Target::Tile(at, format) => self.tile(at, format),
+            Target::Feature(id) => self.on_feature(id, method, body),
+            Target::FeatureFrom(id) => self.feature_from(id),
+            Target::View(view) => self.on_view(view, method, range),
+            Target::Action(action) => self.on_action(action, body),
+            Target::Nothing => Err(RequestFault::NotFound),
+        }
+    }
+
+    /// Handles a method on any target, or one that the target refuses.
+    pub(crate) fn respond(
+        &mut self,
+        target: Target,
+        method: Result<Method, RouteFault>,
+        range: Option<&[u8]>,
+        body: &[u8],
+    ) -> Result<Reply, RequestFault>
+        ensures answered { IsAnsweredInParts
+            (AnswersMethod D.sectors D.honest D.history D.faults (asked_of target) method
+            (option_map (λ value. value.now) range.entry) body.now self.old.service self.new.service)
+            (SendsMethod D.sectors D.honest D.history D.faults (asked_of target) method
+            (option_map (λ value. value.now) range.entry) self.old.service self.new.sending self.new.service) result }
+        ensures words { IfOk result (λ reply. HasShortWords (head_view reply)) }
+    {
+        match method {
+            Ok(method) => self.allowed(target, method, range, body),
+            Err(RouteFault::NotFound) => Err(RequestFault::NotFound),
+            Err(RouteFault::NotAllowed) => Ok(replies::not_allowed(target)),
+        }
+    }
+}

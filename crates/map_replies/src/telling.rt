@@ -1,0 +1,124 @@
+//! The status of the service, in JSON.
+ghost use Rattle.std.specs.Prelude.{◌≡◌, ◌≤◌, ◌+◌, ◌++◌, [], vec_len, vec_capacity, IfOk};
+ghost use Rattle.http_serve.specs.Reply.{reply_view, IsWhole};
+ghost use Rattle.map_replies.specs.Words.{archive_members, map_members, journal_members, left_text, disk_members, status_body, status_reply};
+ghost use Rattle.map_replies.specs.declared.telling.TheConstants.{MAX_MEMBERS};
+
+use crate::replies;
+use decimal_number::{MAX_DIGITS, push_number, push_text};
+use http_serve::Reply;
+use std::alloc::{AllocError, Global};
+use tile_service::Status;
+
+/// Capacity for the members of each group: three numbers, and the texts between them.
+const MAX_MEMBERS: usize = 3 * MAX_DIGITS + 60;
+
+/// Capacity for the whole text: four groups, with a byte before each and one behind the last.
+const MAX_STATUS: usize = 4 * MAX_MEMBERS + 5;
+
+/// Adds what the archive takes, and whether the service is broken.
+#[tactic(auto, unfolding(crate::specs::Words::archive_members))]
+fn push_archive(out: &mut Vec<u8>, status: Status)
+    requires room { vec_len out.old + MAX_MEMBERS ≤ vec_capacity out.old }
+    ensures items { out.new.items ≡ out.old.items ++ archive_members status }
+    ensures len { vec_len out.new ≤ vec_len out.old + MAX_MEMBERS }
+    ensures capacity { vec_capacity out.old ≤ vec_capacity out.new }
+{
+    push_text(out, b"\"archive\":");
+    push_number(out, status.archive_len);
+    push_text(out, b",\"area\":{\"sectors\":");
+    push_number(out, status.area_sectors);
+    push_text(out, b",\"used\":");
+    push_number(out, status.area_used);
+    push_text(out, b"},\"broken\":");
+    if status.broken {
+        push_text(out, b"true");
+    } else {
+        push_text(out, b"false");
+    }
+}
+
+/// Adds how many edits, features and publications there are.
+#[tactic(auto, unfolding(crate::specs::Words::map_members))]
+fn push_map(out: &mut Vec<u8>, status: Status)
+    requires room { vec_len out.old + MAX_MEMBERS ≤ vec_capacity out.old }
+    ensures items { out.new.items ≡ out.old.items ++ map_members status }
+    ensures len { vec_len out.new ≤ vec_len out.old + MAX_MEMBERS }
+    ensures capacity { vec_capacity out.old ≤ vec_capacity out.new }
+{
+    push_text(out, b"\"edits\":");
+    push_number(out, status.edits);
+    push_text(out, b",\"features\":");
+    push_number(out, status.features);
+    push_text(out, b",\"generation\":");
+    push_number(out, status.generation);
+}
+
+/// Adds how much is left of the publication under way.
+fn push_left(out: &mut Vec<u8>, left: Option<u64>)
+    requires room { vec_len out.old + MAX_DIGITS ≤ vec_capacity out.old }
+    ensures items { out.new.items ≡ out.old.items ++ left_text left }
+    ensures len { vec_len out.new ≤ vec_len out.old + MAX_DIGITS }
+    ensures capacity { vec_capacity out.old ≤ vec_capacity out.new }
+{
+    match left {
+        Some(left) => push_number(out, left),
+        None => push_text(out, b"null"),
+    }
+}
+
+/// Adds the places of the journal, and what is left of the publication under way.
+#[tactic(auto, unfolding(crate::specs::Words::journal_members))]
+fn push_journal(out: &mut Vec<u8>, status: Status)
+    requires room { vec_len out.old + MAX_MEMBERS ≤ vec_capacity out.old }
+    ensures items { out.new.items ≡ out.old.items ++ journal_members status }
+    ensures len { vec_len out.new ≤ vec_len out.old + MAX_MEMBERS }
+    ensures capacity { vec_capacity out.old ≤ vec_capacity out.new }
+{
+    push_text(out, b"\"journal\":{\"places\":");
+    push_number(out, status.journal_places);
+    push_text(out, b",\"used\":");
+    push_number(out, status.journal_used);
+    push_text(out, b"},\"left\":");
+    push_left(out, status.left);
+}
+
+/// Adds the size of the disk, and the version of its format.
+#[tactic(auto, unfolding(crate::specs::Words::disk_members))]
+fn push_disk(out: &mut Vec<u8>, status: Status)
+    requires room { vec_len out.old + MAX_MEMBERS ≤ vec_capacity out.old }
+    ensures items { out.new.items ≡ out.old.items ++ disk_members status }
+    ensures len { vec_len out.new ≤ vec_len out.old + MAX_MEMBERS }
+    ensures capacity { vec_capacity out.old ≤ vec_capacity out.new }
+{
+    push_text(out, b"\"sectors\":");
+    push_number(out, status.sectors);
+    push_text(out, b",\"version\":");
+    push_number(out, u64::from(status.version));
+}
+
+/// The whole text.
+#[tactic(auto, unfolding(crate::specs::Words::status_body))]
+fn status_body(alloc: Global, status: Status) -> Result<Vec<u8>, AllocError>
+    ensures { IfOk result (λ text. text.items ≡ status_body status) }
+{
+    let mut text = Vec::with_capacity(alloc, MAX_STATUS)?;
+    push_text(&mut text, b"{");
+    push_archive(&mut text, status);
+    push_text(&mut text, b",");
+    push_map(&mut text, status);
+    push_text(&mut text, b",");
+    push_journal(&mut text, status);
+    push_text(&mut text, b",");
+    push_disk(&mut text, status);
+    push_text(&mut text, b"}");
+    Ok(text)
+}
+
+/// The reply with a status.
+pub(crate) fn told(alloc: Global, status: Status) -> Result<Reply, AllocError>
+    ensures reply { IfOk result (λ reply. reply_view [] reply ≡ status_reply status) }
+    ensures writable { IfOk result IsWhole }
+{
+    Ok(replies::json(status_body(alloc, status)?))
+}

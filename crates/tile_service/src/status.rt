@@ -1,0 +1,70 @@
+//! What a service tells of itself.
+ghost use Rattle.std.specs.Prelude.{◌≡◌, option_map};
+ghost use Rattle.tile_service.specs.Service.{left_of, status_of};
+
+use crate::service::Service;
+use generations::sectors_for;
+use sector_disk::Sectors;
+
+/// What a service tells of itself.
+#[derive(Clone, Copy, Debug, PartialEq, Eq)]
+pub struct Status {
+    /// How many sectors the disk was formatted with.
+    pub sectors: u64,
+    /// The version of its format.
+    pub version: u32,
+    /// How many features the map has.
+    pub features: u64,
+    /// The number of the last edit, or 0.
+    pub edits: u64,
+    /// How often an archive was installed.
+    pub generation: u64,
+    /// The length in bytes of the archive that was installed last, or 0.
+    pub archive_len: u64,
+    /// How many places the journal has.
+    pub journal_places: u64,
+    /// How many of them are in use.
+    pub journal_used: u64,
+    /// How many sectors each area has.
+    pub area_sectors: u64,
+    /// How many of them the last snapshot and its archive take.
+    pub area_used: u64,
+    /// How much is left of the publication under way: the sectors to write, and one for the root.
+    pub left: Option<u64>,
+    /// Whether a write or a sync of the disk has failed.
+    pub broken: bool,
+}
+
+impl<D: Sectors + Drop> Service<D> {
+    /// How much is left of the publication under way.
+    fn left(&self) -> Option<u64>
+        ensures { result ≡ option_map left_of self.now.publication }
+    {
+        match &self.publication {
+            Some(publication) => {
+                Some(publication.content.sectors() - publication.written + 1)
+            }
+            None => None,
+        }
+    }
+
+    /// What the service tells of itself, a broken one too. It doesn't allocate, and the disk isn't read.
+    pub fn status(&self) -> Status
+        ensures { result ≡ status_of self.now }
+    {
+        Status {
+            sectors: self.layout.sectors,
+            version: self.version,
+            features: self.map.store().len() as u64,
+            edits: self.journal.last,
+            generation: self.root.generation,
+            archive_len: self.root.archive_len,
+            journal_places: self.journal.places,
+            journal_used: self.journal.used,
+            area_sectors: self.layout.area,
+            area_used: sectors_for(self.root.snapshot_len) + sectors_for(self.root.archive_len),
+            left: self.left(),
+            broken: self.broken,
+        }
+    }
+}

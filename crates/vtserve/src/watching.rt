@@ -1,0 +1,73 @@
+//! A disk file that fails, and what follows.
+
+use sector_disk::{Run, SECTOR_BYTES, SectorFile};
+use std::cell::Cell;
+use std::io::{self, Write};
+use std::net::{OpenListener, SocketAddr};
+
+/// A file whose first write or sync that fails is told of: the service is broken then.
+#[derive(Drop)]
+pub(crate) struct Watched<'a, F, W> {
+    pub(crate) file: F,
+    /// Where it is told.
+    pub(crate) told: W,
+    /// Whether it was.
+    pub(crate) failed: &'a Cell<bool>,
+}
+
+impl<F, W: Write> Watched<'_, F, W> {
+    /// What a call came to. The first one that failed is told of.
+    fn watch(&mut self, call: &str, outcome: io::Result<()>) -> io::Result<()> {
+        if let Err(error) = &outcome {
+            if !self.failed.replace(true) {
+                let _ = writeln!(self.told, "vtserve: Device: {call}: {error}");
+            }
+        }
+        outcome
+    }
+}
+
+impl<F: SectorFile, W: Write> SectorFile for Watched<'_, F, W> {
+    fn read_at(&mut self, into: &mut [u8; SECTOR_BYTES], offset: u64) -> io::Result<()> {
+        self.file.read_at(into, offset)
+    }
+
+    fn read_run_at(&mut self, into: &mut Run, offset: u64) -> io::Result<()> {
+        self.file.read_run_at(into, offset)
+    }
+
+    fn write_at(&mut self, from: &[[u8; SECTOR_BYTES]], offset: u64) -> io::Result<()> {
+        let outcome = self.file.write_at(from, offset);
+        self.watch("write", outcome)
+    }
+
+    fn sync_data(&mut self) -> io::Result<()> {
+        let outcome = self.file.sync_data();
+        self.watch("sync", outcome)
+    }
+}
+
+/// A listener that may accept no connection once the disk file has failed.
+#[derive(Drop)]
+pub(crate) struct Halting<'a, L> {
+    pub(crate) listener: L,
+    /// Whether it stops to accept then.
+    pub(crate) halts: bool,
+    /// Whether a write or a sync of the disk file has failed.
+    pub(crate) failed: &'a Cell<bool>,
+}
+
+impl<L: OpenListener> OpenListener for Halting<'_, L> {
+    type Stream = L::Stream;
+
+    fn accept(&self) -> io::Result<(L::Stream, SocketAddr)> {
+        if self.halts && self.failed.get() {
+            return Err(io::Error::from(io::ErrorKind::Interrupted));
+        }
+        self.listener.accept()
+    }
+
+    fn set_nonblocking(&self, nonblocking: bool) -> io::Result<()> {
+        self.listener.set_nonblocking(nonblocking)
+    }
+}
