@@ -8,9 +8,9 @@ ghost use Rattle.map_replies.specs.Meanings.{OrNoMemory, MeansArchive, Answers, 
 ghost use Rattle.map_replies.specs.Sending.{IsAnsweredInParts, read_outcome, BeginsOrFails, AnswersPart, IsSending};
 ghost use Rattle.map_replies.specs.State.{sent_by};
 
+use crate::calls::Calls;
 use crate::fault::RequestFault;
 use crate::parts::{self, ArchiveRange, Sending, begin_size, part_of};
-use crate::calls::Calls;
 use http_serve::{Content, ContentFault, Reply};
 use sector_disk::Sectors;
 use std::alloc::AllocError;

@@ -5,9 +5,9 @@ ghost use Rattle.map_replies.specs.Meanings.{MeansPut, MeansBatch, MeansDelete, 
 ghost use Rattle.map_replies.specs.Sending.{IsAnswered};
 
 use crate::bodies::{changes_in, feature_in};
+use crate::calls::Calls;
 use crate::fault::RequestFault;
 use crate::replies;
-use crate::calls::Calls;
 use http_serve::Reply;
 use sector_disk::Sectors;
 

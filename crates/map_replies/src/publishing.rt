@@ -7,9 +7,9 @@ ghost use Rattle.map_replies.specs.Meanings.{MeansCall, MeansChange, OrNoMemory,
 ghost use Rattle.map_replies.specs.Sending.{IsAnswered};
 ghost use Rattle.map_replies.specs.Words.{left_reply, cancel_reply};
 
+use crate::calls::Calls;
 use crate::fault::RequestFault;
 use crate::replies;
-use crate::calls::Calls;
 use http_serve::Reply;
 use sector_disk::Sectors;
 

@@ -67,7 +67,10 @@ impl<D: Sectors + Drop> Handler for MapReplies<D> {
     fn answer(&mut self, request: &Request<'_>) -> Reply {
         let target = self.routes.target(request.path).granted(self.access);
         let method = target.method(request.method);
-        match self.calls.respond(target, method, request.range, request.body) {
+        match self
+            .calls
+            .respond(target, method, request.range, request.body)
+        {
             Ok(reply) => reply,
             Err(fault) => replies::refusal(fault),
         }

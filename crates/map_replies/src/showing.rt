@@ -14,8 +14,7 @@ ghost use Rattle.map_replies.specs.Words.{json_reply, shown_reply, content_reply
 
 use crate::calls::Calls;
 use crate::fault::RequestFault;
-use crate::replies;
-use crate::telling;
+use crate::{replies, telling};
 use decimal_number::{MAX_DIGITS, push_number, push_text};
 use edit_json::feature_to_json;
 use feature_model::Feature;

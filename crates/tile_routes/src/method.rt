@@ -51,8 +51,10 @@ impl Target {
         ensures { result.now ≡ methods_of (asked_of self) }
     {
         match self {
-            Target::Tile(..) | Target::FeatureFrom(_) | Target::View(_) =>
-                &[Method::Get, Method::Head],
+            Target::Tile(..) | Target::FeatureFrom(_) | Target::View(_) => &[
+                Method::Get,
+                Method::Head,
+            ],
             Target::Feature(_) => &[Method::Get, Method::Head, Method::Put, Method::Delete],
             Target::Action(_) => &[Method::Post],
             Target::Nothing => &[],

@@ -142,7 +142,9 @@ fn stops<'a>(alloc: Global) -> Arg<'a> {
     Arg::new(alloc, "STOPS")
         .long("stop-when-broken")
         .action(ArgAction::SetTrue)
-        .help("Ends with status 1 after the current connection once a write or sync of the disk failed")
+        .help(
+            "Ends with status 1 after the current connection once a write or sync of the disk failed",
+        )
 }
 
 /// The argument in clap's terms.
