@@ -184,35 +184,37 @@ abbrev pub numbered_reply : Option (ℕ × FeatureData) → ReplyView
 numbered_reply None = refusal_of NotFound
 numbered_reply (Some (id, f)) = json_reply (numbered_body (compact_text (json_of f)) id)
 
--- ---- the status of the service, as members of a JSON object
+-- ---- the status of the service, as a JSON object in parts, each of which goes on where the one before it ends
 
--- the archive in bytes, the sectors of an area and of what was published last, and whether the service is broken
-unfoldable pub archive_members : Status → List ℕ
-archive_members s =
-    codes "\"archive\":" ++ decimal s.archive_len ++ codes ",\"area\":{\"sectors\":" ++ decimal s.area_sectors ++ codes ",\"used\":"
-    ++ decimal s.area_used ++ codes "},\"broken\":" ++ (if s.broken then codes "true" else codes "false")
+-- the length of the archive, and how many sectors of an area it takes with its snapshot
+unfoldable pub archive_part : Status → List ℕ
+archive_part s =
+    codes "{\"archive\":" ++ decimal s.archive_len ++ codes ",\"area\":{\"sectors\":" ++ decimal s.area_sectors ++ codes ",\"used\":"
+    ++ decimal s.area_used
+
+-- whether the service is broken
+unfoldable pub broken_part : Status → List ℕ
+broken_part s = codes "},\"broken\":" ++ (if s.broken then codes "true" else codes "false")
 
 -- the number of the last edit, how many features there are, and the generation
-unfoldable pub map_members : Status → List ℕ
-map_members s = codes "\"edits\":" ++ decimal s.edits ++ codes ",\"features\":" ++ decimal s.features ++ codes ",\"generation\":" ++ decimal s.generation
+unfoldable pub map_part : Status → List ℕ
+map_part s = codes ",\"edits\":" ++ decimal s.edits ++ codes ",\"features\":" ++ decimal s.features ++ codes ",\"generation\":" ++ decimal s.generation
+
+-- how many places of the journal are in use
+unfoldable pub journal_part : Status → List ℕ
+journal_part s = codes ",\"journal\":{\"places\":" ++ decimal s.journal_places ++ codes ",\"used\":" ++ decimal s.journal_used
 
 -- what is left of the publication under way
 abbrev pub left_text : Option ℕ → List ℕ
 left_text None = codes "null"
 left_text (Some left) = decimal left
 
--- the places of the journal, and that
-unfoldable pub journal_members : Status → List ℕ
-journal_members s =
-    codes "\"journal\":{\"places\":" ++ decimal s.journal_places ++ codes ",\"used\":" ++ decimal s.journal_used ++ codes "},\"left\":" ++ left_text s.left
-
--- the sectors of the disk, and the version of its format
-unfoldable pub disk_members : Status → List ℕ
-disk_members s = codes "\"sectors\":" ++ decimal s.sectors ++ codes ",\"version\":" ++ decimal s.version
+-- that, the sectors of the disk, and the version of its format
+unfoldable pub disk_part : Status → List ℕ
+disk_part s = codes "},\"left\":" ++ left_text s.left ++ codes ",\"sectors\":" ++ decimal s.sectors ++ codes ",\"version\":" ++ decimal s.version
 
 unfoldable pub status_body : Status → List ℕ
-status_body s =
-    codes "{" ++ archive_members s ++ codes "," ++ map_members s ++ codes "," ++ journal_members s ++ codes "," ++ disk_members s ++ codes "}"
+status_body s = archive_part s ++ broken_part s ++ map_part s ++ journal_part s ++ disk_part s ++ codes "}"
 
 abbrev pub status_reply : Status → ReplyView
 status_reply s = json_reply (status_body s)

@@ -57,7 +57,7 @@ fn feature_text(alloc: Global, feature: &Feature) -> Result<Vec<u8>, AllocError>
     ensures { IfOk result (λ text. text.items ≡ compact_text (json_of (feature_data feature.now))) }
 {
     let value = feature_to_json(alloc, feature)?;
-    value.to_vec(alloc)
+    Ok(value.to_vec(alloc)?)
 }
 
 /// The text of a feature with its id.

@@ -1,8 +1,8 @@
 //! The status of the service, in JSON.
 ghost use Rattle.std.specs.Prelude.{◌≡◌, ◌≤◌, ◌+◌, ◌++◌, [], vec_len, vec_capacity, IfOk};
 ghost use Rattle.http_serve.specs.Reply.{reply_view, IsWhole};
-ghost use Rattle.map_replies.specs.Words.{archive_members, map_members, journal_members, left_text, disk_members, status_body, status_reply};
-ghost use Rattle.map_replies.specs.declared.telling.TheConstants.{MAX_MEMBERS};
+ghost use Rattle.map_replies.specs.Words.{archive_part, broken_part, map_part, journal_part, left_text, disk_part, status_body, status_reply};
+ghost use Rattle.map_replies.specs.declared.telling.TheConstants.{MAX_PART};
 
 use crate::replies;
 use decimal_number::{MAX_DIGITS, push_number, push_text};
@@ -10,26 +10,36 @@ use http_serve::Reply;
 use std::alloc::{AllocError, Global};
 use tile_service::Status;
 
-/// Capacity for the members of each group: three numbers, and the texts between them.
-const MAX_MEMBERS: usize = 3 * MAX_DIGITS + 60;
+/// Capacity for a part: three numbers, and the texts between them.
+const MAX_PART: usize = 3 * MAX_DIGITS + 40;
 
-/// Capacity for the whole text: four groups, with a byte before each and one behind the last.
-const MAX_STATUS: usize = 4 * MAX_MEMBERS + 5;
+/// Capacity for all parts, and the byte behind them.
+const MAX_STATUS: usize = 5 * MAX_PART + 1;
 
-/// Adds what the archive takes, and whether the service is broken.
-#[tactic(auto, unfolding(crate::specs::Words::archive_members))]
-fn push_archive(out: &mut Vec<u8>, status: Status)
-    requires room { vec_len out.old + MAX_MEMBERS ≤ vec_capacity out.old }
-    ensures items { out.new.items ≡ out.old.items ++ archive_members status }
-    ensures len { vec_len out.new ≤ vec_len out.old + MAX_MEMBERS }
+/// Adds what the archive takes.
+#[tactic(auto, unfolding(crate::specs::Words::archive_part))]
+fn push_archive_part(out: &mut Vec<u8>, status: Status)
+    requires room { vec_len out.old + MAX_PART ≤ vec_capacity out.old }
+    ensures items { out.new.items ≡ out.old.items ++ archive_part status }
+    ensures len { vec_len out.new ≤ vec_len out.old + MAX_PART }
     ensures capacity { vec_capacity out.old ≤ vec_capacity out.new }
 {
-    push_text(out, b"\"archive\":");
+    push_text(out, b"{\"archive\":");
     push_number(out, status.archive_len);
     push_text(out, b",\"area\":{\"sectors\":");
     push_number(out, status.area_sectors);
     push_text(out, b",\"used\":");
     push_number(out, status.area_used);
+}
+
+/// Adds whether the service is broken.
+#[tactic(auto, unfolding(crate::specs::Words::broken_part))]
+fn push_broken_part(out: &mut Vec<u8>, status: Status)
+    requires room { vec_len out.old + MAX_PART ≤ vec_capacity out.old }
+    ensures items { out.new.items ≡ out.old.items ++ broken_part status }
+    ensures len { vec_len out.new ≤ vec_len out.old + MAX_PART }
+    ensures capacity { vec_capacity out.old ≤ vec_capacity out.new }
+{
     push_text(out, b"},\"broken\":");
     if status.broken {
         push_text(out, b"true");
@@ -39,19 +49,33 @@ fn push_archive(out: &mut Vec<u8>, status: Status)
 }
 
 /// Adds how many edits, features and publications there are.
-#[tactic(auto, unfolding(crate::specs::Words::map_members))]
-fn push_map(out: &mut Vec<u8>, status: Status)
-    requires room { vec_len out.old + MAX_MEMBERS ≤ vec_capacity out.old }
-    ensures items { out.new.items ≡ out.old.items ++ map_members status }
-    ensures len { vec_len out.new ≤ vec_len out.old + MAX_MEMBERS }
+#[tactic(auto, unfolding(crate::specs::Words::map_part))]
+fn push_map_part(out: &mut Vec<u8>, status: Status)
+    requires room { vec_len out.old + MAX_PART ≤ vec_capacity out.old }
+    ensures items { out.new.items ≡ out.old.items ++ map_part status }
+    ensures len { vec_len out.new ≤ vec_len out.old + MAX_PART }
     ensures capacity { vec_capacity out.old ≤ vec_capacity out.new }
 {
-    push_text(out, b"\"edits\":");
+    push_text(out, b",\"edits\":");
     push_number(out, status.edits);
     push_text(out, b",\"features\":");
     push_number(out, status.features);
     push_text(out, b",\"generation\":");
     push_number(out, status.generation);
+}
+
+/// Adds how many places of the journal are in use.
+#[tactic(auto, unfolding(crate::specs::Words::journal_part))]
+fn push_journal_part(out: &mut Vec<u8>, status: Status)
+    requires room { vec_len out.old + MAX_PART ≤ vec_capacity out.old }
+    ensures items { out.new.items ≡ out.old.items ++ journal_part status }
+    ensures len { vec_len out.new ≤ vec_len out.old + MAX_PART }
+    ensures capacity { vec_capacity out.old ≤ vec_capacity out.new }
+{
+    push_text(out, b",\"journal\":{\"places\":");
+    push_number(out, status.journal_places);
+    push_text(out, b",\"used\":");
+    push_number(out, status.journal_used);
 }
 
 /// Adds how much is left of the publication under way.
@@ -67,31 +91,17 @@ fn push_left(out: &mut Vec<u8>, left: Option<u64>)
     }
 }
 
-/// Adds the places of the journal, and what is left of the publication under way.
-#[tactic(auto, unfolding(crate::specs::Words::journal_members))]
-fn push_journal(out: &mut Vec<u8>, status: Status)
-    requires room { vec_len out.old + MAX_MEMBERS ≤ vec_capacity out.old }
-    ensures items { out.new.items ≡ out.old.items ++ journal_members status }
-    ensures len { vec_len out.new ≤ vec_len out.old + MAX_MEMBERS }
+/// Adds that, the size of the disk, and the version of its format.
+#[tactic(auto, unfolding(crate::specs::Words::disk_part))]
+fn push_disk_part(out: &mut Vec<u8>, status: Status)
+    requires room { vec_len out.old + MAX_PART ≤ vec_capacity out.old }
+    ensures items { out.new.items ≡ out.old.items ++ disk_part status }
+    ensures len { vec_len out.new ≤ vec_len out.old + MAX_PART }
     ensures capacity { vec_capacity out.old ≤ vec_capacity out.new }
 {
-    push_text(out, b"\"journal\":{\"places\":");
-    push_number(out, status.journal_places);
-    push_text(out, b",\"used\":");
-    push_number(out, status.journal_used);
     push_text(out, b"},\"left\":");
     push_left(out, status.left);
-}
-
-/// Adds the size of the disk, and the version of its format.
-#[tactic(auto, unfolding(crate::specs::Words::disk_members))]
-fn push_disk(out: &mut Vec<u8>, status: Status)
-    requires room { vec_len out.old + MAX_MEMBERS ≤ vec_capacity out.old }
-    ensures items { out.new.items ≡ out.old.items ++ disk_members status }
-    ensures len { vec_len out.new ≤ vec_len out.old + MAX_MEMBERS }
-    ensures capacity { vec_capacity out.old ≤ vec_capacity out.new }
-{
-    push_text(out, b"\"sectors\":");
+    push_text(out, b",\"sectors\":");
     push_number(out, status.sectors);
     push_text(out, b",\"version\":");
     push_number(out, u64::from(status.version));
@@ -103,14 +113,11 @@ fn status_body(alloc: Global, status: Status) -> Result<Vec<u8>, AllocError>
     ensures { IfOk result (λ text. text.items ≡ status_body status) }
 {
     let mut text = Vec::with_capacity(alloc, MAX_STATUS)?;
-    push_text(&mut text, b"{");
-    push_archive(&mut text, status);
-    push_text(&mut text, b",");
-    push_map(&mut text, status);
-    push_text(&mut text, b",");
-    push_journal(&mut text, status);
-    push_text(&mut text, b",");
-    push_disk(&mut text, status);
+    push_archive_part(&mut text, status);
+    push_broken_part(&mut text, status);
+    push_map_part(&mut text, status);
+    push_journal_part(&mut text, status);
+    push_disk_part(&mut text, status);
     push_text(&mut text, b"}");
     Ok(text)
 }

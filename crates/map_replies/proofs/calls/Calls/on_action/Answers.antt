@@ -1,0 +1,4 @@
+use Rattle.map_replies.proofs.calls.Calls.on_action.Goals as goal
+
+pub returns-in-Edits-clause-answered : goal.returns-in-Edits-clause-answered
+returns-in-Edits-clause-answered g c = rw c.in-Edits.is c.batch.ensures.answered
