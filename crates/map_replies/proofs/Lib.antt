@@ -2,6 +2,7 @@ pub mod Along
 mod Answering
 pub mod Connections
 mod PartLemmas
+mod Pushed
 mod SendingLemmas
 mod Texts
 mod Told

@@ -189,7 +189,7 @@ numbered_reply (Some (id, f)) = json_reply (numbered_body (compact_text (json_of
 -- the length of the archive, and how many sectors of an area it takes with its snapshot
 unfoldable pub archive_part : Status → List ℕ
 archive_part s =
-    codes "{\"archive\":" ++ decimal s.archive_len ++ codes ",\"area\":{\"sectors\":" ++ decimal s.area_sectors ++ codes ",\"used\":"
+    codes "{\"archive\":" ++ decimal s.archive_len ++ codes ",\"area\":{" ++ codes "\"sectors\":" ++ decimal s.area_sectors ++ codes ",\"used\":"
     ++ decimal s.area_used
 
 -- whether the service is broken
@@ -202,7 +202,7 @@ map_part s = codes ",\"edits\":" ++ decimal s.edits ++ codes ",\"features\":" ++
 
 -- how many places of the journal are in use
 unfoldable pub journal_part : Status → List ℕ
-journal_part s = codes ",\"journal\":{\"places\":" ++ decimal s.journal_places ++ codes ",\"used\":" ++ decimal s.journal_used
+journal_part s = codes ",\"journal\":{" ++ codes "\"places\":" ++ decimal s.journal_places ++ codes ",\"used\":" ++ decimal s.journal_used
 
 -- what is left of the publication under way
 abbrev pub left_text : Option ℕ → List ℕ

@@ -26,7 +26,8 @@ fn push_archive_part(out: &mut Vec<u8>, status: Status)
 {
     push_text(out, b"{\"archive\":");
     push_number(out, status.archive_len);
-    push_text(out, b",\"area\":{\"sectors\":");
+    push_text(out, b",\"area\":{");
+    push_text(out, b"\"sectors\":");
     push_number(out, status.area_sectors);
     push_text(out, b",\"used\":");
     push_number(out, status.area_used);
@@ -72,7 +73,8 @@ fn push_journal_part(out: &mut Vec<u8>, status: Status)
     ensures len { vec_len out.new ≤ vec_len out.old + MAX_PART }
     ensures capacity { vec_capacity out.old ≤ vec_capacity out.new }
 {
-    push_text(out, b",\"journal\":{\"places\":");
+    push_text(out, b",\"journal\":{");
+    push_text(out, b"\"places\":");
     push_number(out, status.journal_places);
     push_text(out, b",\"used\":");
     push_number(out, status.journal_used);
