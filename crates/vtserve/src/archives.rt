@@ -1,8 +1,10 @@
 //! The commands over an archive in a file.
 
-use crate::refused;
+use crate::fault::CommandFault;
 use crate::regular::open_regular;
+use crate::{Told, ended, refused};
 use archive_commands::{Verdict, show, verify};
+use generations::StoreFault;
 use std::fs::OpenOptions;
 use std::io::{self, Read};
 use std::process::ExitCode;
@@ -17,20 +19,22 @@ fn read_regular(rt: &HostRuntime, path: &str) -> io::Result<Vec<u8>> {
     Ok(bytes)
 }
 
-/// The bytes of a regular file, or the name of the fault.
-fn file_bytes(rt: &HostRuntime, path: &str) -> Result<Vec<u8>, &'static str> {
+/// The bytes of a regular file.
+fn file_bytes(rt: &HostRuntime, path: &str) -> Result<Vec<u8>, CommandFault> {
     match read_regular(rt, path) {
         Ok(bytes) => Ok(bytes),
-        Err(error) if error.kind() == io::ErrorKind::OutOfMemory => Err("Memory"),
-        Err(_) => Err("File"),
+        Err(error) if error.kind() == io::ErrorKind::OutOfMemory => {
+            Err(CommandFault::Store(StoreFault::Memory))
+        }
+        Err(error) => Err(CommandFault::File(Some(error))),
     }
 }
 
 /// Prints the header and the metadata of an archive.
-pub(crate) fn show_file(rt: &HostRuntime, path: &str) -> anyhow::Result<ExitCode> {
+pub(crate) fn show_file(rt: &HostRuntime, path: &str, told: Told) -> anyhow::Result<ExitCode> {
     let archive = match file_bytes(rt, path) {
         Ok(archive) => archive,
-        Err(name) => return refused(rt, name),
+        Err(fault) => return ended(rt, Err(fault), path, told),
     };
     match show(archive.as_slice(), &mut rt.stdout()) {
         Ok(()) => Ok(ExitCode::SUCCESS),
@@ -39,10 +43,10 @@ pub(crate) fn show_file(rt: &HostRuntime, path: &str) -> anyhow::Result<ExitCode
 }
 
 /// Verifies an archive, and prints its counts or its first fault.
-pub(crate) fn verify_file(rt: &HostRuntime, path: &str) -> anyhow::Result<ExitCode> {
+pub(crate) fn verify_file(rt: &HostRuntime, path: &str, told: Told) -> anyhow::Result<ExitCode> {
     let archive = match file_bytes(rt, path) {
         Ok(archive) => archive,
-        Err(name) => return refused(rt, name),
+        Err(fault) => return ended(rt, Err(fault), path, told),
     };
     let verdict = Verdict::of(verify(rt.alloc(), archive.as_slice()));
     if let Verdict::Unjudged(fault) = verdict {

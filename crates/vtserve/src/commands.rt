@@ -147,6 +147,14 @@ fn stops<'a>(alloc: Global) -> Arg<'a> {
         )
 }
 
+/// The option `-v`.
+fn verbose<'a>(alloc: Global) -> Arg<'a> {
+    Arg::new(alloc, "VERBOSE")
+        .short('v')
+        .action(ArgAction::SetTrue)
+        .help("Tells the path and the system's word with an error")
+}
+
 /// The argument in clap's terms.
 fn arg_of<'a>(alloc: Global, word: Word) -> Arg<'a> {
     match word {
@@ -178,7 +186,8 @@ fn with_words<'a>(
 /// The command of a row of the table.
 fn command_of<'a>(alloc: Global, row: Row) -> Result<Command<'a>, AllocError> {
     let (name, words, about) = row;
-    with_words(alloc, Command::new(alloc, name).about(about), words)
+    let command = with_words(alloc, Command::new(alloc, name).about(about), words)?;
+    command.arg(verbose(alloc))
 }
 
 /// Adds the command of a row as a subcommand.

@@ -32,20 +32,24 @@ fn copy_into<D: Sectors>(
     match copy_archive(disk, archive, &mut file) {
         Ok(()) => {}
         Err(CopyFault::Device) => return Err(CommandFault::Store(StoreFault::Device)),
-        Err(CopyFault::Write) => return Err(CommandFault::File),
+        Err(CopyFault::Write) => return Err(CommandFault::Output(None)),
     }
     match file.sync_all() {
         Ok(()) => Ok(()),
-        Err(_) => Err(CommandFault::File),
+        Err(error) => Err(CommandFault::Output(Some(error))),
     }
 }
 
 /// Gives a file another name, which outlives a crash. A file that has this name is replaced.
 fn rename(rt: &HostRuntime, part: &str, goal: &str) -> Result<(), CommandFault> {
-    if fs::rename(rt, part, goal).is_err() || sync_folder(rt, goal).is_err() {
-        return Err(CommandFault::File);
+    let renamed = match fs::rename(rt, part, goal) {
+        Ok(()) => sync_folder(rt, goal),
+        Err(error) => Err(error),
+    };
+    match renamed {
+        Ok(()) => Ok(()),
+        Err(error) => Err(CommandFault::Output(Some(error))),
     }
-    Ok(())
 }
 
 /// The permissions of the regular file at a path, if there is a file. What isn't a regular file, a link among them, is refused.
@@ -53,7 +57,8 @@ fn replaced_permissions(rt: &HostRuntime, path: &str) -> Result<Option<Permissio
     match fs::symlink_metadata(rt, path) {
         Ok(metadata) if metadata.is_file() => Ok(Some(metadata.permissions())),
         Err(error) if error.kind() == ErrorKind::NotFound => Ok(None),
-        _ => Err(CommandFault::File),
+        Err(error) => Err(CommandFault::Output(Some(error))),
+        Ok(_) => Err(CommandFault::Output(None)),
     }
 }
 
@@ -88,8 +93,9 @@ fn write_beside<D: Sectors>(
     let Ok(part) = format!(in rt.alloc(); "{goal}.part") else {
         return Err(CommandFault::Store(StoreFault::Memory));
     };
-    let Ok(file) = new_file(rt, part.as_str(), permissions) else {
-        return Err(CommandFault::File);
+    let file = match new_file(rt, part.as_str(), permissions) {
+        Ok(file) => file,
+        Err(error) => return Err(CommandFault::Output(Some(error))),
     };
     let written = match copy_into(disk, archive, file) {
         Ok(()) => rename(rt, part.as_str(), goal),
@@ -117,14 +123,14 @@ fn export<D: Sectors>(
         return Err(CommandFault::NoArchive);
     }
     if is_same_file(rt, path, goal) {
-        return Err(CommandFault::File);
+        return Err(CommandFault::Output(None));
     }
     let permissions = replaced_permissions(rt, goal)?;
     write_beside(rt, disk, archive, goal, permissions)?;
     let size = archive.len;
     match println!(rt; "{size} bytes") {
         Ok(()) => Ok(()),
-        Err(_) => Err(CommandFault::Write),
+        Err(error) => Err(CommandFault::Write(Some(error))),
     }
 }
 

@@ -3,11 +3,18 @@
 use generations::StoreFault;
 use http_serve::ServeFault;
 use map_disks::FileFault;
+use std::io;
+
+/// What the system said, where it is known.
+pub(crate) type Cause = Option<io::Error>;
 
 /// The faults of commands.
+#[derive(Drop)]
 pub(crate) enum CommandFault {
     /// The file isn't a regular file, can't be opened, locked or created, its folder can't be synced, or another process has locked it.
-    File,
+    File(Cause),
+    /// The file that a command writes isn't a regular one, can't be written, synced or renamed, or is the disk.
+    Output(Cause),
     /// No archive was published.
     NoArchive,
     /// The disk isn't ready for a service, or can't be read.
@@ -15,9 +22,9 @@ pub(crate) enum CommandFault {
     /// What ended a connection.
     Connection(ServeFault),
     /// The port can't be listened on, or a connection can't be accepted.
-    Listen,
+    Listen(Cause),
     /// Standard output can't be written.
-    Write,
+    Write(Cause),
     /// What standard error tells already.
     Told,
 }
@@ -25,7 +32,7 @@ pub(crate) enum CommandFault {
 impl From<FileFault> for CommandFault {
     fn from(fault: FileFault) -> CommandFault {
         match fault {
-            FileFault::File => CommandFault::File,
+            FileFault::File => CommandFault::File(None),
             FileFault::Store(fault) => CommandFault::Store(fault),
         }
     }
@@ -33,15 +40,26 @@ impl From<FileFault> for CommandFault {
 
 impl CommandFault {
     /// Its name, as standard error shows it.
-    pub(crate) fn name(self) -> &'static str {
+    pub(crate) fn name(&self) -> &'static str {
         match self {
-            CommandFault::File => "File",
+            CommandFault::File(_) | CommandFault::Output(_) => "File",
             CommandFault::NoArchive => "NoArchive",
-            CommandFault::Store(fault) => store_fault_name(fault),
-            CommandFault::Connection(fault) => serve_fault_name(fault),
-            CommandFault::Listen => "Listen",
-            CommandFault::Write => "Write",
+            CommandFault::Store(fault) => store_fault_name(*fault),
+            CommandFault::Connection(fault) => serve_fault_name(*fault),
+            CommandFault::Listen(_) => "Listen",
+            CommandFault::Write(_) => "Write",
             CommandFault::Told => "Device",
+        }
+    }
+
+    /// What the system said, where it is known.
+    pub(crate) fn cause(&self) -> Option<&io::Error> {
+        match self {
+            CommandFault::File(cause)
+            | CommandFault::Output(cause)
+            | CommandFault::Listen(cause)
+            | CommandFault::Write(cause) => cause.as_ref(),
+            _ => None,
         }
     }
 }

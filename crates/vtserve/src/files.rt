@@ -22,7 +22,7 @@ pub(crate) fn format_file(rt: &HostRuntime, path: &str, sectors: u64) -> Result<
     }
     match println!(rt; "formatted {sectors} sectors") {
         Ok(()) => Ok(()),
-        Err(_) => Err(CommandFault::Write),
+        Err(error) => Err(CommandFault::Write(Some(error))),
     }
 }
 
@@ -58,7 +58,8 @@ fn lock(file: &File) -> Result<(), CommandFault> {
     match file.try_lock() {
         Ok(()) => Ok(()),
         Err(TryLockError::Error(error)) if error.kind() == ErrorKind::Unsupported => Ok(()),
-        Err(_) => Err(CommandFault::File),
+        Err(TryLockError::Error(error)) => Err(CommandFault::File(Some(error))),
+        Err(TryLockError::WouldBlock) => Err(CommandFault::File(None)),
     }
 }
 
@@ -78,21 +79,23 @@ fn settle(file: &File) -> Result<(), CommandFault> {
 fn opened_alone(rt: &HostRuntime, path: &str) -> Result<(File, u64), CommandFault> {
     let mut how = OpenOptions::new();
     how.read(true).write(true);
-    let Ok(file) = open_regular(rt, path, &how) else {
-        return Err(CommandFault::File);
+    let file = match open_regular(rt, path, &how) {
+        Ok(file) => file,
+        Err(error) => return Err(CommandFault::File(Some(error))),
     };
     lock(&file)?;
     settle(&file)?;
     match file.metadata() {
         Ok(metadata) => Ok((file, metadata.len())),
-        Err(_) => Err(CommandFault::File),
+        Err(error) => Err(CommandFault::File(Some(error))),
     }
 }
 
 /// Opens the file of a disk, unless another process uses it.
 pub(crate) fn opened_file(rt: &HostRuntime, path: &str) -> Result<OpenedFile, CommandFault> {
-    let Ok(streams) = closed_streams(rt) else {
-        return Err(CommandFault::File);
+    let streams = match closed_streams(rt) {
+        Ok(streams) => streams,
+        Err(error) => return Err(CommandFault::File(Some(error))),
     };
     let (file, bytes) = opened_alone(rt, path)?;
     Ok(OpenedFile {
@@ -145,6 +148,6 @@ pub(crate) fn upgrade_file<S: Start>(
     }
     match println!(rt; "version {LAST_VERSION}") {
         Ok(()) => Ok(()),
-        Err(_) => Err(CommandFault::Write),
+        Err(error) => Err(CommandFault::Write(Some(error))),
     }
 }

@@ -62,17 +62,21 @@ pub(crate) fn serve_connections<D: Sectors + Drop>(
         (course service.old []) served (course service.new run)
         × TakesRun D.sectors D.honest D.history (asked_service service.old) run (asked_service service.new)) }
 {
-    let Ok(listener) = TcpListener::bind(rt, SocketAddr::from((Ipv4Addr::LOCALHOST, asked.port)))
-    else {
-        return Err(CommandFault::Listen);
+    let listener = match TcpListener::bind(
+        rt,
+        SocketAddr::from((Ipv4Addr::LOCALHOST, asked.port)),
+    ) {
+        Ok(listener) => listener,
+        Err(error) => return Err(CommandFault::Listen(Some(error))),
     };
     // Each line of the log is one call of the system.
     let Ok(mut log) = LineWriter::new(rt.alloc(), rt.stderr()) else {
         return Err(CommandFault::Store(StoreFault::Memory));
     };
-    let Ok(()) = tell_port(rt, asked.port) else {
-        return Err(CommandFault::Write);
-    };
+    match tell_port(rt, asked.port) {
+        Ok(()) => {}
+        Err(error) => return Err(CommandFault::Write(Some(error))),
+    }
     let listener = Halting {
         listener,
         halts: asked.stops,
@@ -82,6 +86,6 @@ pub(crate) fn serve_connections<D: Sectors + Drop>(
     match serve_map_on(rt, rt.alloc(), &listener, connections, service, &mut log) {
         Ok(()) => Ok(()),
         Err(ListenFault::Accept) if asked.stops && failed.get() => Err(CommandFault::Told),
-        Err(ListenFault::Accept) => Err(CommandFault::Listen),
+        Err(ListenFault::Accept) => Err(CommandFault::Listen(None)),
     }
 }

@@ -36,12 +36,41 @@ fn refused(rt: &impl Eprint, name: impl Display + Drop) -> anyhow::Result<ExitCo
     Ok(ExitCode::from(1))
 }
 
-/// The status of a command, and the name of its fault on standard error.
-fn ended(rt: &HostRuntime, outcome: Result<(), CommandFault>) -> anyhow::Result<ExitCode> {
+/// How much is told of a fault.
+#[derive(Clone, Copy, Debug, PartialEq, Eq)]
+pub(crate) enum Told {
+    /// Its name.
+    Name,
+    /// Its name, the path, and what the system said where it is known.
+    Cause,
+}
+
+/// The name of a fault, the path, and what the system said where it is known.
+fn refused_with(rt: &HostRuntime, fault: &CommandFault, path: &str) -> anyhow::Result<ExitCode> {
+    let name = fault.name();
+    // `demo` has no path.
+    let behind = if path.is_empty() { "" } else { ": " };
+    match fault.cause() {
+        Some(cause) => eprintln!(rt; "vtserve: {name}{behind}{path}: {cause}")?,
+        None => eprintln!(rt; "vtserve: {name}{behind}{path}")?,
+    }
+    Ok(ExitCode::from(1))
+}
+
+/// The status of a command over this path, and its fault on standard error.
+fn ended(
+    rt: &HostRuntime,
+    outcome: Result<(), CommandFault>,
+    path: &str,
+    told: Told,
+) -> anyhow::Result<ExitCode> {
     match outcome {
         Ok(()) => Ok(ExitCode::SUCCESS),
         Err(CommandFault::Told) => Ok(ExitCode::from(1)),
-        Err(fault) => refused(rt, fault.name()),
+        Err(fault) => match told {
+            Told::Name => refused(rt, fault.name()),
+            Told::Cause => refused_with(rt, &fault, path),
+        },
     }
 }
 
@@ -68,6 +97,15 @@ fn access_in(words: &ArgMatches<'_>) -> Access {
     }
 }
 
+/// How much the words of a command ask to be told of a fault.
+fn told_in(words: &ArgMatches<'_>) -> Told {
+    if words.get_flag("VERBOSE") {
+        Told::Cause
+    } else {
+        Told::Name
+    }
+}
+
 /// Does what the command line asks.
 fn run(rt: &HostRuntime, matches: &ArgMatches<'_>) -> anyhow::Result<ExitCode> {
     let Some((name, words)) = matches.subcommand() else {
@@ -75,27 +113,33 @@ fn run(rt: &HostRuntime, matches: &ArgMatches<'_>) -> anyhow::Result<ExitCode> {
     };
     let path = words.get_str("FILE").unwrap_or("");
     let sectors = words.get_one::<u64>("N").unwrap_or(0);
+    let told = told_in(words);
     match name {
-        "demo" => ended(rt, demo(rt, sectors, access_in(words))),
-        "export" => ended(
-            rt,
-            export_file(rt, path, words.get_str("OUTPUT").unwrap_or(""), Unknown),
-        ),
-        "format" => ended(rt, format_file(rt, path, sectors)),
-        "pipe" => ended(
-            rt,
-            serve_file(rt, path, access_in(words), Peers::Streams, Unknown),
-        ),
+        "demo" => ended(rt, demo(rt, sectors, access_in(words)), path, told),
+        "export" => {
+            let goal = words.get_str("OUTPUT").unwrap_or("");
+            let outcome = export_file(rt, path, goal, Unknown);
+            let about = match outcome {
+                Err(CommandFault::Output(_)) => goal,
+                _ => path,
+            };
+            ended(rt, outcome, about, told)
+        }
+        "format" => ended(rt, format_file(rt, path, sectors), path, told),
+        "pipe" => {
+            let outcome = serve_file(rt, path, access_in(words), Peers::Streams, Unknown);
+            ended(rt, outcome, path, told)
+        }
         "serve" => match listening_of(words) {
-            Some(asked) => ended(
-                rt,
-                serve_file(rt, path, access_in(words), Peers::Port(asked), Unknown),
-            ),
+            Some(asked) => {
+                let outcome = serve_file(rt, path, access_in(words), Peers::Port(asked), Unknown);
+                ended(rt, outcome, path, told)
+            }
             None => out_of_range(rt),
         },
-        "show" => show_file(rt, path),
-        "upgrade" => ended(rt, upgrade_file(rt, path, Unknown)),
-        "verify" => verify_file(rt, path),
+        "show" => show_file(rt, path, told),
+        "upgrade" => ended(rt, upgrade_file(rt, path, Unknown), path, told),
+        "verify" => verify_file(rt, path, told),
         _ => Ok(ExitCode::from(2)),
     }
 }
@@ -107,7 +151,7 @@ fn command_words(rt: &HostRuntime) -> Result<Vec<String>, CommandFault> {
         Err(error) if error.kind() == ErrorKind::OutOfMemory => {
             return Err(CommandFault::Store(StoreFault::Memory));
         }
-        Err(_) => return Err(CommandFault::File),
+        Err(error) => return Err(CommandFault::File(Some(error))),
     };
     match words.collect(rt.alloc()) {
         Ok(words) => Ok(words),
