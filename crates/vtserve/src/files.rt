@@ -3,7 +3,7 @@
 use crate::fault::CommandFault;
 use crate::regular::open_regular;
 use crate::serving::{Peers, serve};
-use crate::watching::Watched;
+use crate::watching::{Watch, Watched};
 use generations::{LAST_VERSION, StoreFault};
 use map_disks::{formatted_file, opened_service};
 use sector_disk::{FileDisk, Start, SystemFile, Zeros};
@@ -105,7 +105,8 @@ pub(crate) fn opened_file(rt: &HostRuntime, path: &str) -> Result<OpenedFile, Co
     })
 }
 
-/// Serves these paths of the map on the disk in a file, whatever the file had. Its first write or sync that fails is told of.
+/// Serves these paths of the map on the disk in a file, whatever the file had. While a port is served, the first write or sync of the
+/// file that fails is told of.
 pub(crate) fn serve_file<S: Start>(
     rt: &HostRuntime,
     path: &str,
@@ -118,14 +119,14 @@ pub(crate) fn serve_file<S: Start>(
         bytes,
         held: _held,
     } = opened_file(rt, path)?;
-    let failed = Cell::new(false);
+    let watch = Cell::new(Watch::Off);
     let file = Watched {
         file,
         told: rt.stderr(),
-        failed: &failed,
+        watch: &watch,
     };
     match opened_service(rt.alloc(), FileDisk::new(file, bytes, start), access) {
-        Ok(map) => serve(rt, map, peers, &failed),
+        Ok(map) => serve(rt, map, peers, &watch),
         Err((_, fault)) => Err(CommandFault::Store(fault)),
     }
 }

@@ -6,7 +6,7 @@ ghost use Rattle.tile_service.specs.Machine.{Happening};
 ghost use Rattle.tile_service.specs.Runs.{TakesRun};
 
 use crate::fault::CommandFault;
-use crate::watching::Halting;
+use crate::watching::{Halting, Watch};
 use clap::ArgMatches;
 use generations::StoreFault;
 use http_listen::ListenFault;
@@ -50,12 +50,12 @@ fn tell_port(rt: &HostRuntime, port: u16) -> io::Result<()> {
     rt.stdout().flush()
 }
 
-/// Serves the connections one after the other, with their log on standard error, over a disk that may have failed.
+/// Serves the connections one after the other, with their log on standard error. The disk file is watched meanwhile.
 pub(crate) fn serve_connections<D: Sectors + Drop>(
     rt: &HostRuntime,
     asked: Listening,
     service: &mut MapReplies<D>,
-    failed: &Cell<bool>,
+    watch: &Cell<Watch>,
 ) -> Result<(), CommandFault>
     ensures all { OnOk result ((served : List Connection) × (length served ≡ asked.connections) × (run : List Happening)
         × Serves (Tells D.sectors D.honest D.history D.faults) (TellsCut D.sectors D.honest D.history D.faults)
@@ -80,12 +80,15 @@ pub(crate) fn serve_connections<D: Sectors + Drop>(
     let listener = Halting {
         listener,
         halts: asked.stops,
-        failed,
+        watch,
     };
+    watch.set(Watch::On);
     let connections = u64::from(asked.connections);
     match serve_map_on(rt, rt.alloc(), &listener, connections, service, &mut log) {
         Ok(()) => Ok(()),
-        Err(ListenFault::Accept) if asked.stops && failed.get() => Err(CommandFault::Told),
+        Err(ListenFault::Accept) if asked.stops && watch.get() == Watch::Failed => {
+            Err(CommandFault::Told)
+        }
         Err(ListenFault::Accept) => Err(CommandFault::Listen(None)),
     }
 }

@@ -29,6 +29,7 @@ use std::fmt::Display;
 use std::io::ErrorKind;
 use std::process::ExitCode;
 use tile_routes::Access;
+use watching::Watch;
 
 /// Prints a fault's name.
 fn refused(rt: &impl Eprint, name: impl Display + Drop) -> anyhow::Result<ExitCode> {
@@ -83,7 +84,7 @@ fn out_of_range(rt: &HostRuntime) -> anyhow::Result<ExitCode> {
 /// Serves one connection on standard input and output, over the empty map on a disk in memory.
 fn demo(rt: &HostRuntime, sectors: u64, access: Access) -> Result<(), CommandFault> {
     match fresh_service(rt.alloc(), sectors, access) {
-        Ok(map) => serve(rt, map, Peers::Streams, &Cell::new(false)),
+        Ok(map) => serve(rt, map, Peers::Streams, &Cell::new(Watch::Off)),
         Err(fault) => Err(CommandFault::Store(fault)),
     }
 }

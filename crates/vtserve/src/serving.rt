@@ -2,6 +2,7 @@
 
 use crate::fault::CommandFault;
 use crate::listening::{Listening, serve_connections};
+use crate::watching::Watch;
 use map_replies::{MapReplies, serve_map};
 use sector_disk::Sectors;
 use std::cell::Cell;
@@ -26,16 +27,16 @@ fn serve_streams<D: Sectors + Drop>(
     }
 }
 
-/// Serves a map, over a disk that may have failed.
+/// Serves a map, over a disk file that can be watched.
 pub(crate) fn serve<D: Sectors + Drop>(
     rt: &HostRuntime,
     map: MapReplies<D>,
     peers: Peers,
-    failed: &Cell<bool>,
+    watch: &Cell<Watch>,
 ) -> Result<(), CommandFault> {
     let mut map = map;
     match peers {
         Peers::Streams => serve_streams(rt, &mut map),
-        Peers::Port(asked) => serve_connections(rt, asked, &mut map, failed),
+        Peers::Port(asked) => serve_connections(rt, asked, &mut map, watch),
     }
 }

@@ -5,21 +5,32 @@ use std::cell::Cell;
 use std::io::{self, Write};
 use std::net::{OpenListener, SocketAddr};
 
-/// A file whose first write or sync that fails is told of: the service is broken then.
+/// What is known of a disk file.
+#[derive(Clone, Copy, Debug, PartialEq, Eq)]
+pub(crate) enum Watch {
+    /// Nothing: the command itself tells of a failure.
+    Off,
+    /// No write or sync has failed since it is watched.
+    On,
+    /// One has, and was told of: the service is broken.
+    Failed,
+}
+
+/// A file whose first write or sync that fails is told of, while it is watched.
 #[derive(Drop)]
 pub(crate) struct Watched<'a, F, W> {
     pub(crate) file: F,
     /// Where it is told.
     pub(crate) told: W,
-    /// Whether it was.
-    pub(crate) failed: &'a Cell<bool>,
+    pub(crate) watch: &'a Cell<Watch>,
 }
 
 impl<F, W: Write> Watched<'_, F, W> {
     /// What a call came to. The first one that failed is told of.
-    fn watch(&mut self, call: &str, outcome: io::Result<()>) -> io::Result<()> {
+    fn seen(&mut self, call: &str, outcome: io::Result<()>) -> io::Result<()> {
         if let Err(error) = &outcome {
-            if !self.failed.replace(true) {
+            if self.watch.get() == Watch::On {
+                self.watch.set(Watch::Failed);
                 let _ = writeln!(self.told, "vtserve: Device: {call}: {error}");
             }
         }
@@ -38,12 +49,12 @@ impl<F: SectorFile, W: Write> SectorFile for Watched<'_, F, W> {
 
     fn write_at(&mut self, from: &[[u8; SECTOR_BYTES]], offset: u64) -> io::Result<()> {
         let outcome = self.file.write_at(from, offset);
-        self.watch("write", outcome)
+        self.seen("write", outcome)
     }
 
     fn sync_data(&mut self) -> io::Result<()> {
         let outcome = self.file.sync_data();
-        self.watch("sync", outcome)
+        self.seen("sync", outcome)
     }
 }
 
@@ -53,15 +64,14 @@ pub(crate) struct Halting<'a, L> {
     pub(crate) listener: L,
     /// Whether it stops to accept then.
     pub(crate) halts: bool,
-    /// Whether a write or a sync of the disk file has failed.
-    pub(crate) failed: &'a Cell<bool>,
+    pub(crate) watch: &'a Cell<Watch>,
 }
 
 impl<L: OpenListener> OpenListener for Halting<'_, L> {
     type Stream = L::Stream;
 
     fn accept(&self) -> io::Result<(L::Stream, SocketAddr)> {
-        if self.halts && self.failed.get() {
+        if self.halts && self.watch.get() == Watch::Failed {
             return Err(io::Error::from(io::ErrorKind::Interrupted));
         }
         self.listener.accept()
