@@ -81,7 +81,8 @@ def listing(cases, server):
 def watched(cases, server):
     cases.show("watch.py: nothing to do", script("watch.py", server.url), (0, [f"{MANY} features, edit 6, generation 1: nothing to do"]))
     code, lines = script("watch.py", server.url, "--at", "1")
-    cases.show("watch.py: the journal", (code, lines), (1, ["18 of the 1,024 sectors of the journal are used: publish (examples/publish.sh)"]))
+    # A batch of 64 points has 1,600 bytes, which take four sectors; the last batch and the deletion take one each.
+    cases.show("watch.py: the journal", (code, lines), (1, ["14 of the 1,024 sectors of the journal are used: publish (examples/publish.sh)"]))
 
 
 def saved(cases, folder, server):
