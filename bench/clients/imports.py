@@ -495,7 +495,8 @@ def full_file_system(cases, folder, small):
         cases.show("disk full: a new process has each acknowledged edit", len(there), taken)
         reply = curl(f"{server.url}/features/{taken}", "-X", "PUT", body=text)
         cases.show("disk full: and takes another", status_of(reply), 200)
-    with Server(small, "full.disk", more=["--admin", "--stop-when-broken"]) as server:
+    # Its log lies elsewhere: there is no room for a line either.
+    with Server(small, "full.disk", more=["--admin", "--stop-when-broken"], log=os.path.join(folder, "full.log")) as server:
         refused = parsed_error(curl(server.url + "/publish", "-X", "POST"))
         cases.show("disk full: --stop-when-broken ends it with 1", (refused, server.child.wait(60)), ((500, b"Device\n"), 1))
         told = [line for line in server.lines() if line.startswith("vtserve: ")]
