@@ -697,6 +697,33 @@ def words(cases, folder, disk):
     cases.show("no file is made", os.path.exists(path), False)
 
 
+def told_more(cases, folder, disk):
+    """With `-v` the line of an error goes on with the path, and with the system's word where it is known. `disk` has an archive."""
+    absent, goal = os.path.join(folder, "absent"), os.path.join(folder, "nowhere", "goal")
+    is_missing = b": No such file or directory (os error 2)"
+    with socket.socket() as taken:
+        taken.bind(("127.0.0.1", 0))
+        taken.listen()
+        port = str(taken.getsockname()[1])
+        rows = [
+            (["pipe", absent], b"File: " + absent.encode() + is_missing),
+            (["serve", absent, "--port", port, "--connections", "1"], b"File: " + absent.encode() + is_missing),
+            (["serve", disk, "--port", port, "--connections", "1"], b"Listen: " + disk.encode() + b": Address already in use (os error 98)"),
+            (["show", absent], b"File: " + absent.encode() + is_missing),
+            (["verify", absent], b"File: " + absent.encode() + is_missing),
+            (["upgrade", absent], b"File: " + absent.encode() + is_missing),
+            (["export", absent, goal], b"File: " + absent.encode() + is_missing),
+            (["export", disk, goal], b"File: " + goal.encode() + is_missing),
+            (["export", disk, disk], b"File: " + disk.encode()),
+            (["format", disk, "--sectors", "64"], b"File: " + disk.encode()),
+            (["demo", "63"], b"TooSmall"),
+        ]
+        for line, told in rows:
+            name = " ".join(word.replace(folder, "FOLDER").replace(port, "PORT") for word in line)
+            cases.show(f"{name} -v", vtserve([*line, "-v"]), (1, b"", b"vtserve: " + told + b"\n"))
+            cases.show(name, vtserve(line), (1, b"", b"vtserve: " + told.partition(b":")[0] + b"\n"))
+
+
 def foreign_paths(cases, folder, disk):
     """A path that isn't UTF-8 is refused as one that leads to no file."""
     path = os.fsencode(folder) + b"/\xff"
@@ -736,6 +763,7 @@ def main():
         serves(cases, folder)
         slow_peers(cases, folder)
         words(cases, folder, disk)
+        told_more(cases, folder, published(folder, "told")[0])
         foreign_paths(cases, folder, disk)
     return 1 if cases.differ else 0
 
