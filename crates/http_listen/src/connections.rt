@@ -79,7 +79,7 @@ where
 /// `connection I: R requests, END`. I counts the connections from 1, R the requests that got a whole reply, and END is `closed`,
 /// `asked`, `refused` or `turns`, or at a fault `memory`, `read`, `write` or `device`: what `http_serve::serve_with` answered.
 ///
-/// A connection on which nothing comes for 100 ms between two requests, or for a second before the first, yields to one that
+/// A connection on which nothing comes for 10 ms between two requests, or for a second before the first, yields to one that
 /// waits to be accepted: it is closed, and logged as `closed`. The last connection never yields.
 ///
 /// A connection's fault ends that connection alone. A line that can't be written is left out.

@@ -7,7 +7,7 @@ use std::io::{self, ErrorKind, Read, Write};
 use std::time::{Clock, Duration};
 
 /// How many milliseconds a read or a write of the stream waits at most.
-pub(crate) const ROUND_MILLISECONDS: u64 = 100;
+pub(crate) const ROUND_MILLISECONDS: u64 = 10;
 
 /// How many times a read or a write is tried at most.
 pub(crate) const MAX_ROUNDS: u64 = WAIT_SECONDS * 1_000 / ROUND_MILLISECONDS;

@@ -7,7 +7,7 @@ use std::net::OpenListener;
 use std::time::Clock;
 
 /// How many rounds a peer that has sent nothing yet is waited for where another one waits.
-const FIRST_ROUNDS: u64 = 10;
+const FIRST_ROUNDS: u64 = 100;
 
 /// How many rounds a peer is waited for between two requests where another one waits.
 const IDLE_ROUNDS: u64 = 1;

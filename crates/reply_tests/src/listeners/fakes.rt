@@ -8,7 +8,7 @@ use std::test::Fail;
 use std::time::Duration;
 
 /// How many milliseconds a read or a write waits.
-const ROUND_MILLISECONDS: u64 = 100;
+const ROUND_MILLISECONDS: u64 = 10;
 
 /// What streams were asked.
 #[derive(Clone, Copy, Debug, PartialEq, Eq)]
@@ -216,7 +216,7 @@ fn a_peer_that_sends_on_is_read_for_a_while(rt: HostRuntime) -> Result<(), Fail>
         accepts: 0,
         no_delay: true,
         read_wait: 2_000,
-        write_wait: 100,
+        write_wait: ROUND_MILLISECONDS,
         shut: true,
         dropped: 16_777_216,
         wrong: 0,

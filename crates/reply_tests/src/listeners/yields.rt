@@ -179,17 +179,17 @@ fn half_a_request_does_not_yield(rt: HostRuntime) -> Result<(), Fail> {
     Ok(())
 }
 
-/// Before its first request a connection is waited for ten rounds.
+/// Before its first request a connection is waited for a hundred rounds.
 #[test]
 fn a_new_connection_waits_longer(rt: HostRuntime) -> Result<(), Fail> {
-    let nothing = [Round::Nothing; 9];
+    let nothing = [Round::Nothing; 99];
     let late = [nothing.as_slice(), &[Round::Bytes(GET), Round::Nothing]].concat(rt.alloc())?;
     let lines = "connection 1: 1 requests, closed\nconnection 2: 1 requests, closed\n";
     let outcome = serve_all(&rt, &[late.as_slice(), ONE], 0)?;
     assert_eq!(rt; outcome.log.as_slice(), lines.as_bytes());
     assert_eq!(rt; outcome.looks, 1);
     assert!(rt; outcome.waits);
-    let silent = [Round::Nothing; 11];
+    let silent = [Round::Nothing; 101];
     let lines = "connection 1: 0 requests, closed\nconnection 2: 1 requests, closed\n";
     let outcome = serve_all(&rt, &[&silent, ONE], 0)?;
     assert_eq!(rt; outcome.log.as_slice(), lines.as_bytes());
