@@ -24,6 +24,7 @@ import time
 
 from admin import admin
 from batches import batches
+from direct import direct
 from imports import disk_full, imports, kills, large
 from stand import BYTES, EXAMPLES, HALF, JSON, METADATA, MVT, PROGRAM, ROOT, SHOWN, SYSTEM_PYTHON, TEXT, TILE
 from stand import Cases, Nginx, Server, curl, feature, field, parsed, refusal, same, status_of, wanted
@@ -571,6 +572,7 @@ def main():
         "full": full,
         "restarts": restarts,
         "kept": kept_connections,
+        "direct": direct,
         "gdal": gdal,
         "large": large,
         "import": imports,

@@ -1,0 +1,105 @@
+"""The part `direct` of run.py: clients that keep several connections open, straight to the server's port."""
+import http.client
+import json
+import socket
+import threading
+import time
+
+from stand import Server, curl, feature, status_of
+
+KEPT = 6
+DRAWING = 0.02
+TILES = [f"/map/3/{column}/{row}.mvt" for row in range(5) for column in range(8)]
+WORLD = 2**32 - 1
+
+
+class Kept:
+    """A connection that is kept open, and opened again where the server has closed it meanwhile, as browsers do."""
+
+    def __init__(self, port):
+        self.port, self.connection, self.opened, self.lost = port, None, 0, 0
+
+    def get(self, path):
+        """The content of a reply 200. A connection that was closed before a byte of the reply is opened again."""
+        while True:
+            if self.connection is None:
+                self.connection = http.client.HTTPConnection("127.0.0.1", self.port, timeout=60)
+                self.opened += 1
+            try:
+                self.connection.request("GET", path)
+                reply = self.connection.getresponse()
+                content = reply.read()
+                return content if reply.status == 200 else reply.status
+            except (http.client.RemoteDisconnected, ConnectionError):
+                self.connection.close()
+                self.connection = None
+            except http.client.IncompleteRead:
+                self.lost += 1
+                raise
+
+
+def fetched(port, paths):
+    """The contents of paths that six kept connections fetch, each its share and 20 ms after one the next, as a browser that draws them; in how
+    many seconds, how many connections were opened, and how many replies were cut."""
+    found = {}
+    kept = [Kept(port) for _ in range(KEPT)]
+
+    def work(mine, share):
+        for path in share:
+            found[path] = mine.get(path)
+            time.sleep(DRAWING)
+
+    began = time.monotonic()
+    threads = [threading.Thread(target=work, args=(mine, paths[first::KEPT])) for first, mine in enumerate(kept)]
+    for thread in threads:
+        thread.start()
+    for thread in threads:
+        thread.join()
+    return found, time.monotonic() - began, sum(mine.opened for mine in kept), sum(mine.lost for mine in kept)
+
+
+def direct(cases, folder):
+    with Server(folder, "direct") as server:
+        corners = [[0, 0], [WORLD, 0], [WORLD, WORLD], [0, WORLD]]
+        text = feature(last=3, geometry={"polygons": [[corners]]})
+        cases.show("direct: a feature on every tile", status_of(curl(f"{server.url}/features/1", "-X", "PUT", body=text)), 200)
+        alone = Kept(server.port)
+        expected = {path: alone.get(path) for path in TILES}
+        found, seconds, opened, cut = fetched(server.port, TILES)
+        cases.show("direct: six kept connections get the same tiles", found == expected and len(found) == len(TILES), True)
+        cases.show("direct: no reply is cut", cut, 0)
+        cases.show("direct: 40 tiles in less than a second, beside a kept connection", seconds < 1 or f"{seconds:.2f} s", True)
+        cases.say(f"direct: {seconds:.2f} s, {opened} connections")
+        edits = [threading.Thread(target=put_all, args=(server.port, first)) for first in range(100, 100 + 10 * KEPT, 10)]
+        began = time.monotonic()
+        for thread in edits:
+            thread.start()
+        for thread in edits:
+            thread.join()
+        seconds = time.monotonic() - began
+        there = sum(status_of(curl(f"{server.url}/features/{number}")) == 200 for number in range(100, 100 + 10 * KEPT))
+        cases.show("direct: sixty edits by six kept connections", (there, seconds < 2 or f"{seconds:.2f} s"), (10 * KEPT, True))
+        with socket.create_connection(("127.0.0.1", server.port)) as silent:
+            time.sleep(0.2)
+            began = time.monotonic()
+            reply = curl(f"{server.url}/features/1")
+            waited = time.monotonic() - began
+            cases.show("direct: a connection without a request delays another for a second at most", (status_of(reply), waited < 1.5), (200, True))
+            silent.close()
+
+
+def put_all(port, first):
+    """Ten edits of a client that keeps its connection: an edit that is sent twice is the same edit."""
+    connection = None
+    for number in range(first, first + 10):
+        while True:
+            if connection is None:
+                connection = http.client.HTTPConnection("127.0.0.1", port, timeout=60)
+            try:
+                connection.request("PUT", f"/features/{number}", feature())
+                reply = connection.getresponse()
+                if reply.status == 200 and "edit" in json.loads(reply.read()):
+                    break
+            except (http.client.RemoteDisconnected, ConnectionError):
+                connection.close()
+                connection = None
