@@ -95,6 +95,7 @@ BAD_CHANGES += [batch(sets(7), '{"put":8}'), batch(), batch(*map(deletes, range(
 FILL = [batch(*(sets(number, (("k", "x" * 900),)) for number in range(8)))]
 BOTH = [post("/publish/begin"), batch(sets(12), sets(13, KINDS)), post("/publish/step"), batch(deletes(8), sets(12)), post("/publish/step"), TILES[0],
         post("/publish/cancel")]
+ADMIN = [*map(get, ("/admin/status", "/admin/features/from/0", "/admin/features/from/8", "/admin/features/from/99")), request("HEAD", "/admin/status")]
 POINT = tiles.feature({"points": [[0, 0]]})
 
 
@@ -119,6 +120,8 @@ SERIES = [
     ("publication, published disk", 256, PUBLISHED, twice(PUBLISH)),
     ("publication by steps", 1024, PUBLISHED + STEPPED, twice(STEPS)),
     ("publication cancelled", 256, PUBLISHED, twice([*STEPS[:2], STEPS[6], STEPS[0], STEPS[2], TILES[0]])),
+    ("administration, empty disk", 64, [], twice(ADMIN)),
+    ("administration, published disk", 256, PUBLISHED, twice([*ADMIN, post("/publish/begin"), ADMIN[0], put(9, LARGE), ADMIN[2]])),
     ("batches, empty disk", 256, [], twice(CHANGES)),
     ("batches of 64 changes", 256, [], twice(MANY)),
     ("bad batches, empty disk", 256, [], twice(BAD_CHANGES)),
@@ -160,13 +163,13 @@ class Stream:
             Path(self.first).write_bytes(sectors)
         else:
             subprocess.run([program, "format", self.first, "--sectors", str(sectors)], check=True, capture_output=True)
-        done = subprocess.run([program, "pipe", self.first], input=b"".join(before), check=True, capture_output=True)
+        done = subprocess.run([program, "pipe", self.first, "--admin"], input=b"".join(before), check=True, capture_output=True)
         assert len(re.findall(rb"HTTP/1.1 200", done.stdout)) == len(before), done
         self.expected, self.bounds = {}, []
 
     def served(self, requests, more):
         """The status, the bytes that the peer reads, and standard error of a process that serves requests."""
-        done = subprocess.run([self.program, "pipe", self.disk], input=requests, capture_output=True, timeout=60, env=more)
+        done = subprocess.run([self.program, "pipe", self.disk, "--admin"], input=requests, capture_output=True, timeout=60, env=more)
         return done.returncode, done.stdout, done.stderr
 
     def run(self, requests, refused=0):
