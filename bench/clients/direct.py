@@ -8,6 +8,8 @@ import time
 from stand import Server, curl, feature, status_of
 
 KEPT = 6
+IDLE = 64
+ASKED = 2000
 DRAWING = 0.02
 TILES = [f"/map/3/{column}/{row}.mvt" for row in range(5) for column in range(8)]
 WORLD = 2**32 - 1
@@ -67,10 +69,11 @@ def direct(cases, folder):
         expected = {path: alone.get(path) for path in TILES}
         found, seconds, opened, cut = fetched(server.port, TILES)
         cases.show("direct: six kept connections get the same tiles", found == expected and len(found) == len(TILES), True)
-        cases.show("direct: no reply is cut", cut, 0)
+        cases.show("direct: no reply is cut, and none of the connections ends", (cut, opened), (0, KEPT))
         cases.show("direct: 40 tiles in less than a second, beside a kept connection", seconds < 1 or f"{seconds:.2f} s", True)
-        cases.say(f"direct: {seconds:.2f} s, {opened} connections")
-        edits = [threading.Thread(target=put_all, args=(server.port, first)) for first in range(100, 100 + 10 * KEPT, 10)]
+        cases.say(f"direct: {seconds:.2f} s, of which each client drew for {DRAWING * -(-len(TILES) // KEPT):.2f} s")
+        opened = []
+        edits = [threading.Thread(target=put_all, args=(server.port, first, opened)) for first in range(100, 100 + 10 * KEPT, 10)]
         began = time.monotonic()
         for thread in edits:
             thread.start()
@@ -79,22 +82,75 @@ def direct(cases, folder):
         seconds = time.monotonic() - began
         there = sum(status_of(curl(f"{server.url}/features/{number}")) == 200 for number in range(100, 100 + 10 * KEPT))
         cases.show("direct: sixty edits by six kept connections", (there, seconds < 2 or f"{seconds:.2f} s"), (10 * KEPT, True))
+        cases.show("direct: no edit was sent twice", len(opened), KEPT)
         with socket.create_connection(("127.0.0.1", server.port)) as silent:
             time.sleep(0.2)
             began = time.monotonic()
             reply = curl(f"{server.url}/features/1")
             waited = time.monotonic() - began
-            cases.show("direct: a connection without a request delays another for a second at most", (status_of(reply), waited < 1.5), (200, True))
+            cases.show("direct: a connection without a request delays no other", (status_of(reply), waited < 0.3 or f"{waited:.2f} s"), (200, True))
             silent.close()
+        idle_ones(cases, server, alone)
+        too_many(cases, server, alone)
 
 
-def put_all(port, first):
-    """Ten edits of a client that keeps its connection: an edit that is sent twice is the same edit."""
+def requests_a_second(mine):
+    """How many requests of one tile a kept connection makes in a second."""
+    began = time.monotonic()
+    for _ in range(ASKED):
+        mine.get(TILES[0])
+    return ASKED / (time.monotonic() - began)
+
+
+def idle_ones(cases, server, alone):
+    """One connection that works, alone and beside 64 that are kept and send nothing."""
+    before = requests_a_second(alone)
+    idle = [Kept(server.port) for _ in range(IDLE)]
+    for one in idle:
+        one.get(TILES[0])
+    beside = requests_a_second(alone)
+    again = [one.get(TILES[0]) == alone.get(TILES[0]) for one in idle]
+    opened = sum(one.opened for one in idle) + alone.opened
+    cases.show(f"direct: {IDLE} idle connections are answered again, and none ended", (all(again), opened), (True, IDLE + 1))
+    cases.show("direct: they don't hold up the one that works", beside > before / 2 or f"{beside:.0f} of {before:.0f} a second", True)
+    cases.say(f"direct: {before:.0f} requests a second alone, {beside:.0f} beside {IDLE} idle connections")
+    for one in idle:
+        one.connection.close()
+
+
+def too_many(cases, server, alone):
+    """Of 300 silent connections 256 are kept: the one that waits longest is ended for another."""
+    silent = [socket.create_connection(("127.0.0.1", server.port), timeout=10) for _ in range(300)]
+    opened = alone.opened
+    content = alone.get(TILES[0])
+    cases.show("direct: one that works is answered beside 300 silent ones", (len(content) > 0, alone.opened - opened <= 1), (True, True))
+    for one in silent:
+        one.settimeout(0.2)
+    ended = [heard(one) for one in silent]
+    wanted = ["ended"] * 45 + ["waits"] * 255
+    cases.show("direct: those that waited longest were ended, 256 are kept with the one that works", ended == wanted or ended, True)
+    for one in silent:
+        one.close()
+
+
+def heard(peer):
+    """Whether a silent connection was ended, or waits."""
+    try:
+        return "ended" if peer.recv(1) == b"" else "answered"
+    except TimeoutError:
+        return "waits"
+    except ConnectionError:
+        return "ended"
+
+
+def put_all(port, first, opened):
+    """Ten edits of a client that keeps its connection, and each connection that it opens."""
     connection = None
     for number in range(first, first + 10):
         while True:
             if connection is None:
                 connection = http.client.HTTPConnection("127.0.0.1", port, timeout=60)
+                opened.append(first)
             try:
                 connection.request("PUT", f"/features/{number}", feature())
                 reply = connection.getresponse()

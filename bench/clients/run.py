@@ -300,11 +300,12 @@ def kept_connections(cases, folder):
         seventh = peer_of(server.port)
         whole, seconds = answered(seventh)
         cases.show("a seventh gets its reply, within five seconds", (whole, seconds < 5), (True, True))
-        cases.say(f"the slowest of the six took {max(took for _, took in replies):.2f} s, the seventh {seconds:.2f} s")
+        cases.say(f"the slowest of the six took {max(took for _, took in replies):.3f} s, the seventh {seconds:.3f} s")
         silent, behind = peer_of(server.port), peer_of(server.port)
         whole, seconds = answered(behind)
         cases.show("one behind a silent connection gets its reply, within five seconds", (whole, seconds < 5), (True, True))
-        cases.show("a connection that yielded has ended, with nothing behind its reply", kept[0].recv(65536), b"")
+        replies = [answered(peer) for peer in [*kept, seventh]]
+        cases.show("each of the seven is answered again on its connection", [whole for whole, _ in replies], [True] * 7)
         for peer in [*kept, seventh, silent, behind]:
             peer.close()
 

@@ -1,36 +1,56 @@
--- Laws of connections one after the other, for the crates above too.
-use Rattle.std.proofs.Common.{◌≡◌, ◌+◌, ℕ, List, [], ◌∷◌, ◌++◌, length, refl, subst, ap, ◌∙◌, length-append}
-use Rattle.std.specs.Prelude.{Result}
+-- Laws of stretches one after the other, for the crates above too.
+use Rattle.std.proofs.Common.{◌≡◌, ◌+◌, ℕ, List, [], ◌∷◌, ◌++◌, length, refl, subst, ap, ◌∙◌, length-append, Bool, true, false, add-zero}
+use Rattle.std.proofs.lemmas.List.Elements.{filter-append}
+use Rattle.std.specs.Prelude.{Result, filter}
 use Rattle.http_serve.specs.declared.connection.ServeFault.{ServeFault}
 use Rattle.http_serve.specs.declared.connection.Served.{Served}
 use Rattle.http_serve.specs.Requests.{RequestView}
 use Rattle.http_serve.specs.Reply.{ReplyView}
-use Rattle.http_listen.specs.Connections.{Connection, CameTo, Serves, unknown_stream}
+use Rattle.http_listen.specs.Connections.{Stretch, CameTo, Serves, begun, unknown_stream}
 
 module _ {S : Type 0} (replies fails : S → RequestView → ReplyView → S → Type 0) where
-  -- Connections, and then other connections, are both lists in one.
-  pub serves_both : (old : S) (front back : List Connection) (middle new : S)
+  -- Stretches, and then other stretches, are both lists in one.
+  pub serves_both : (old : S) (front back : List Stretch) (middle new : S)
       → Serves replies fails old front middle → Serves replies fails middle back new → Serves replies fails old (front ++ back) new
   serves_both old [] back middle new first then = subst (λ (s : S). Serves replies fails s back new) first then
-  serves_both old (connection ∷ front) back middle new first then =
+  serves_both old (stretch ∷ front) back middle new first then =
       (first.0, first.1, serves_both first.0 front back middle new first.2 then)
 
-  -- Two lists in one are the connections of the first, and then those of the second.
-  pub serves_parts : (old : S) (front back : List Connection) (new : S)
+  -- Two lists in one are the stretches of the first, and then those of the second.
+  pub serves_parts : (old : S) (front back : List Stretch) (new : S)
       → Serves replies fails old (front ++ back) new → (middle : S) × Serves replies fails old front middle × Serves replies fails middle back new
   serves_parts old [] back new both = (old, refl, both)
-  serves_parts old (connection ∷ front) back new both =
+  serves_parts old (stretch ∷ front) back new both =
       let parts = serves_parts both.0 front back new both.2 in (parts.0, (both.0, both.1, parts.1), parts.2)
 
-  -- so many connections lead from the old state to the new one
+  -- stretches of so many connections lead from the old state to the new one
   abbrev pub ServesCount : ℕ → S → S → Type 0
-  ServesCount count old new = (served : List Connection) × Serves replies fails old served new × (length served ≡ count)
+  ServesCount count old new = (served : List Stretch) × Serves replies fails old served new × (begun served ≡ count)
 
-  -- One connection more.
-  pub serves_next : (count : ℕ) (old middle new : S) (result : Result Served ServeFault)
-      → ServesCount count old middle → CameTo replies fails result middle (unknown_stream result) new → ServesCount (count + 1) old new
-  serves_next count old middle new result first then = (
-    first.0 ++ unknown_stream result ∷ [],
-    serves_both old first.0 (unknown_stream result ∷ []) middle new first.1 (new, then, refl),
-    length-append first.0 (unknown_stream result ∷ []) ∙ ap (λ n. n + 1) first.2,
-  )
+  -- a stretch leads from a state to the next, be it a connection's first or not
+  abbrev pub NextStretch : S → S → Type 0
+  NextStretch old new = (outcome : Result Served ServeFault) × ((first : Bool) → CameTo replies fails outcome old (unknown_stream first outcome) new)
+
+  -- One stretch more leads on.
+  next_serves : (first : Bool) (count : ℕ) (old middle new : S) → ServesCount count old middle → NextStretch middle new
+      → (outcome : Result Served ServeFault) × ServesCount (count + begun (unknown_stream first outcome ∷ [])) old new
+  next_serves first count old middle new before then =
+      let one = unknown_stream first then.0 ∷ [] in (
+        then.0,
+        (
+          before.0 ++ one,
+          serves_both old before.0 one middle new before.1 (new, then.1 first, refl),
+          ap length (filter-append (λ (stretch : Stretch). stretch.first) before.0 one)
+              ∙ length-append (filter (λ stretch. stretch.first) before.0) (filter (λ stretch. stretch.first) one)
+              ∙ ap (λ n. n + begun one) before.2,
+        ),
+      )
+
+  -- The first stretch of one connection more.
+  pub serves_first : (count : ℕ) (old middle new : S) → ServesCount count old middle → NextStretch middle new → ServesCount (count + 1) old new
+  serves_first count old middle new before then = (next_serves true count old middle new before then).1
+
+  -- One more of a connection that was served before.
+  pub serves_again : (count : ℕ) (old middle new : S) → ServesCount count old middle → NextStretch middle new → ServesCount count old new
+  serves_again count old middle new before then =
+      subst (λ n. ServesCount n old new) (add-zero count) (next_serves false count old middle new before then).1

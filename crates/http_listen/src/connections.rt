@@ -1,16 +1,20 @@
 //! The connections of a listener.
-ghost use Rattle.std.specs.Prelude.{◌≡◌, ◌<◌, List, length, IfOk, IfErr, OnOk, OnErr};
-ghost use Rattle.http_listen.specs.Connections.{Connection, Serves, CameTo, unknown_stream};
+ghost use Rattle.std.specs.Prelude.{◌≡◌, ◌<◌, Bool, Result, List, OnOk, OnErr};
+ghost use Rattle.http_serve.specs.declared.connection.ServeFault.{ServeFault};
+ghost use Rattle.http_serve.specs.declared.connection.Served.{Served};
+ghost use Rattle.http_listen.specs.Connections.{Stretch, Serves, CameTo, begun, unknown_stream};
 
-use crate::doors::Door;
 use crate::ends::end_connection;
+use crate::kept::{Kept, with_earlier};
 use crate::lines::write_line;
 use crate::paced::{Paced, PacedWriter, ROUND_MILLISECONDS};
-use crate::turns::Turns;
+use crate::rooms::{Found, Room, time_of};
+use crate::stretches::StretchReader;
+use crate::waits::Waits;
 use http_serve::{Buffers, Handler, ServeFault, Served, serve_with};
 use std::alloc::Global;
 use std::io::{Read, Write};
-use std::net::{OpenListener, OpenStream, Shutdown};
+use std::net::OpenStream;
 use std::time::{Clock, Duration};
 use thiserror::Error;
 
@@ -22,8 +26,11 @@ pub enum ListenFault {
     Accept,
 }
 
-/// How many yielded connections are kept open for their last replies.
-const MAX_LINGERING: usize = 16;
+/// How many times a connection is asked for another request before others are looked for, while no other is kept.
+const ASKS_ALONE: u64 = 16;
+
+/// How many stretches are served at most: more than ever come.
+const MAX_STRETCHES: u64 = u64::MAX;
 
 /// Sets what a new connection has: no delay of small replies, and bounds on how long its peer is waited for. What the system
 /// doesn't let be set is left as it is.
@@ -34,53 +41,113 @@ fn prepare<S: OpenStream>(stream: &S) {
     let _ = stream.set_write_timeout(Some(round));
 }
 
-/// Ends a connection that has yielded: nothing more is sent. Its stream is kept for a while, so that a request that it sends
-/// just then doesn't cut off its last reply. The oldest of those that are kept is dropped where there are too many.
-fn linger<S: OpenStream + Drop>(kept: &mut Vec<S>, stream: S) {
-    let _ = stream.shutdown(Shutdown::Write);
-    if kept.len() >= MAX_LINGERING {
-        drop(kept.remove(0));
-    }
-    let _ = kept.push(stream);
+/// What became of a stretch of a connection.
+#[derive(Drop)]
+struct Past<S> {
+    outcome: Result<Served, ServeFault>,
+    /// Whether the connection waits for its next request.
+    waits: bool,
+    stream: S,
 }
 
-/// Serves the connection of a stream, and ends it.
-fn serve_stream<L, H, C>(
+/// Serves a stretch of the connection of a stream, in which another request is asked for so many times.
+fn serve_stream<S, H, C>(
     clock: &C,
     buffers: &mut Buffers,
-    door: &Door<'_, L>,
-    stream: L::Stream,
-    kept: &mut Vec<L::Stream>,
-    last: bool,
+    stream: S,
+    asks: u64,
     handler: &mut H,
-) -> Result<Served, ServeFault>
+) -> Past<S>
 where
-    L: OpenListener,
-    L::Stream: Read + Write + OpenStream,
+    S: Read + Write + OpenStream + Drop,
     H: Handler,
     C: Clock,
-    ensures { CameTo H.replies H.fails result handler.old (unknown_stream result) handler.new }
+    ensures { (first : Bool) → CameTo H.replies H.fails result.outcome handler.old (unknown_stream first result.outcome) handler.new }
 {
-    prepare(&stream);
     let stream = Paced::new(clock, stream);
-    let mut reader = Turns::new(&stream, door, last);
+    let mut reader = StretchReader::new(&stream, asks);
     let outcome = serve_with(buffers, &mut reader, &mut PacedWriter(&stream), handler);
-    let yielded = reader.has_yielded();
-    let mut stream = stream.into_stream();
-    if yielded {
-        linger(kept, stream);
-    } else {
-        end_connection(clock, &mut stream);
+    let waits = reader.waits();
+    Past {
+        outcome,
+        waits,
+        stream: stream.into_stream(),
     }
-    outcome
 }
 
-/// Serves this many connections of a listener one after the other, and writes a line to the log after each:
-/// `connection I: R requests, END`. I counts the connections from 1, R the requests that got a whole reply, and END is `closed`,
-/// `asked`, `refused` or `turns`, or at a fault `memory`, `read`, `write` or `device`: what `http_serve::serve_with` answered.
+/// Keeps a connection that waits for its next request after a stretch. Otherwise it ends, with its line in the log.
+fn settle<S, W, C>(
+    clock: &C,
+    room: &mut Room<S>,
+    past: Past<S>,
+    number: u64,
+    earlier: u64,
+    log: &mut W,
+)
+where
+    S: Read + Write + OpenStream + Drop,
+    W: Write,
+    C: Clock,
+{
+    let Past {
+        outcome,
+        waits,
+        mut stream,
+    } = past;
+    match with_earlier(outcome, earlier) {
+        Ok(Served { requests, .. }) if waits => {
+            let kept = Kept {
+                stream,
+                number,
+                requests,
+                since: time_of(clock),
+                ready: false,
+            };
+            room.keep(kept, log);
+        }
+        whole => {
+            let _ = write_line(log, number, whole);
+            end_connection(clock, &mut stream);
+        }
+    }
+}
+
+/// Serves a stretch of a connection, in which another request is asked for so many times. If it waits for its next request then, it is
+/// kept.
+fn serve_stretch<S, H, W, C>(
+    clock: &C,
+    buffers: &mut Buffers,
+    room: &mut Room<S>,
+    connection: Kept<S>,
+    asks: u64,
+    handler: &mut H,
+    log: &mut W,
+)
+where
+    S: Read + Write + OpenStream + Drop,
+    H: Handler,
+    W: Write,
+    C: Clock,
+    ensures { (outcome : Result Served ServeFault) × ((first : Bool) → CameTo H.replies H.fails outcome handler.old (unknown_stream first outcome) handler.new) }
+{
+    let Kept {
+        stream,
+        number,
+        requests,
+        ..
+    } = connection;
+    let past = serve_stream(clock, buffers, stream, asks, handler);
+    settle(clock, room, past, number, requests, log);
+}
+
+/// Serves this many connections of a listener, and writes a line to the log as each ends: `connection I: R requests, END`. I counts the
+/// connections from 1 as they are accepted, R the requests that got a whole reply, and END is `closed`, `asked`, `refused` or `turns`,
+/// or at a fault `memory`, `read`, `write` or `device`: what `http_serve::serve_with` answered to its last stretch.
 ///
-/// A connection on which nothing comes for 10 ms between two requests, or for a second before the first, yields to one that
-/// waits to be accepted: it is closed, and logged as `closed`. The last connection never yields.
+/// One request is served at a time. Between two requests a connection is kept while others are served: so the connections are served in
+/// stretches, each of one connection, and each as `http_serve::serve_with` does. At most `MAX_KEPT` wait for their next request. Where
+/// more do, the one that waits longest is ended, and logged as `closed`; so is one that waits for 60 seconds, and one that waits where
+/// a connection can't be accepted. In the middle of a request a connection is waited for, and all others with it.
 ///
 /// A connection's fault ends that connection alone. A line that can't be written is left out.
 ///
@@ -91,7 +158,7 @@ where
 ///
 /// # Errors
 ///
-/// `Accept` where a connection couldn't be accepted: then no more are served.
+/// `Accept` where a connection couldn't be accepted while none is kept: then no more are served.
 pub fn serve_on<L, H, W, C>(
     clock: &C,
     alloc: Global,
@@ -101,24 +168,52 @@ pub fn serve_on<L, H, W, C>(
     log: &mut W,
 ) -> Result<(), ListenFault>
 where
-    L: OpenListener,
+    L: Waits,
     L::Stream: Read + Write + OpenStream,
     H: Handler,
     W: Write,
     C: Clock,
-    ensures all { OnOk result ((served : List Connection) × Serves H.replies H.fails handler.old served handler.new × (length served ≡ connections)) }
-    ensures fewer { OnErr result ((served : List Connection) × Serves H.replies H.fails handler.old served handler.new × (length served < connections)) }
+    ensures all { OnOk result ((served : List Stretch) × Serves H.replies H.fails handler.old served handler.new × (begun served ≡ connections)) }
+    ensures fewer { OnErr result ((served : List Stretch) × Serves H.replies H.fails handler.old served handler.new × (begun served < connections)) }
 {
-    let door = Door::new(listener);
-    let mut kept = Vec::new(alloc);
+    let mut room = Room::new(alloc);
     let mut buffers = Buffers::new(alloc);
-    for before in 0..connections {
-        let Ok(stream) = door.next() else {
-            return Err(ListenFault::Accept);
-        };
-        let last = before + 1 >= connections;
-        let outcome = serve_stream(clock, &mut buffers, &door, stream, &mut kept, last, handler);
-        let _ = write_line(log, before + 1, outcome);
+    let mut begun = 0;
+    'stretches: for _turn in 0..MAX_STRETCHES {
+        match room.find(clock, listener, begun < connections, log) {
+            Found::New(stream) => {
+                begun += 1;
+                prepare(&stream);
+                let asks = if room.is_empty() { ASKS_ALONE } else { 0 };
+                let connection = Kept::new(stream, begun);
+                serve_stretch(
+                    clock,
+                    &mut buffers,
+                    &mut room,
+                    connection,
+                    asks,
+                    handler,
+                    log,
+                );
+            }
+            Found::Kept(connection) => {
+                let asks = if room.is_empty() { ASKS_ALONE } else { 1 };
+                serve_stretch(
+                    clock,
+                    &mut buffers,
+                    &mut room,
+                    connection,
+                    asks,
+                    handler,
+                    log,
+                );
+            }
+            Found::Nothing => {}
+            Found::Over => break,
+        }
+    }
+    if begun < connections {
+        return Err(ListenFault::Accept);
     }
     Ok(())
 }

@@ -1,8 +1,8 @@
--- What happens on connections, one after the other.
+-- What happens in stretches of connections, one after the other.
 use Rattle.std.proofs.Common.{ℕ, List, [], ◌∷◌, Ok, Err, Result, refl, sym, subst}
 use Rattle.http_serve.specs.declared.connection.ServeFault.{ServeFault}
 use Rattle.http_serve.specs.declared.connection.Served.{Served}
-use Rattle.http_listen.specs.Connections.{Connection, CameTo, Serves}
+use Rattle.http_listen.specs.Connections.{Stretch, CameTo, Serves}
 use Rattle.map_replies.proofs.Along.{served_along, fault_along}
 use Rattle.map_replies.proofs.Connections.{GoesAlong, goes_from, replied, cut}
 use Rattle.map_replies.specs.State.{asked_service, ServiceReplies, ServiceFails, Course, course, Tells, TellsCut}
@@ -19,37 +19,37 @@ module _ {D : Type 0} (sectors : D → ℕ) (honest : D → Type 0) (history : D
     abbrev Along : MapReplies D → Course D → Type 0
     Along now so = GoesAlong sectors honest history faults first now so
 
-    -- one connection more
-    came_along : (result : Result Served ServeFault) (connection : Connection) (old new : MapReplies D) (before : Course D) → Along old before
-        → CameTo (ServiceReplies sectors honest history faults) (ServiceFails sectors honest history faults) result old connection new
-        → (after : Course D) × CameTo (Tells sectors honest history faults) (TellsCut sectors honest history faults) result before connection after
+    -- one stretch more
+    came_along : (result : Result Served ServeFault) (stretch : Stretch) (old new : MapReplies D) (before : Course D) → Along old before
+        → CameTo (ServiceReplies sectors honest history faults) (ServiceFails sectors honest history faults) result old stretch new
+        → (after : Course D) × CameTo (Tells sectors honest history faults) (TellsCut sectors honest history faults) result before stretch after
         × Along new after
-    came_along (Ok served) connection old new before so is = served_along
+    came_along (Ok served) stretch old new before so is = served_along
         (ServiceReplies sectors honest history faults) (ServiceFails sectors honest history faults)
         (Tells sectors honest history faults) (TellsCut sectors honest history faults) Along
         (replied sectors honest history faults first) (cut sectors honest history faults first)
-        old connection.left connection.held served new connection.leaves connection.holds before so is
-    came_along (Err fault) connection old new before so is = fault_along
+        old stretch.left stretch.held served new stretch.leaves stretch.holds before so is
+    came_along (Err fault) stretch old new before so is = fault_along
         (ServiceReplies sectors honest history faults) (ServiceFails sectors honest history faults)
         (Tells sectors honest history faults) (TellsCut sectors honest history faults) Along
         (replied sectors honest history faults first) (cut sectors honest history faults first)
-        old connection.left connection.held fault new connection.leaves connection.holds before so is
+        old stretch.left stretch.held fault new stretch.leaves stretch.holds before so is
 
-    all_along : (served : List Connection) (old new : MapReplies D) (before : Course D) → Along old before
+    all_along : (served : List Stretch) (old new : MapReplies D) (before : Course D) → Along old before
         → Serves (ServiceReplies sectors honest history faults) (ServiceFails sectors honest history faults) old served new
         → (after : Course D) × Serves (Tells sectors honest history faults) (TellsCut sectors honest history faults) before served after × Along new after
     all_along [] old new before so is = (before, refl, subst (λ (s : MapReplies D). Along s before) (sym is) so)
-    all_along (connection ∷ served) old new before so is =
-        let one = came_along connection.result connection old is.0 before so is.1 in
+    all_along (stretch ∷ served) old new before so is =
+        let one = came_along stretch.result stretch old is.0 before so is.1 in
         let others = all_along served is.0 new one.0 one.2 is.2 in
         (others.0, (one.0, one.1, others.1), others.2)
 
-  -- The replies of connections that were served report one run of the service.
-  pub connections_run : (old : MapReplies D) (served : List Connection) (new : MapReplies D)
+  -- The replies of stretches that were served report one run of the service.
+  pub stretches_run : (old : MapReplies D) (served : List Stretch) (new : MapReplies D)
       → Serves (ServiceReplies sectors honest history faults) (ServiceFails sectors honest history faults) old served new
       → (run : List Happening) × Serves (Tells sectors honest history faults) (TellsCut sectors honest history faults) (course old []) served (course new run)
       × TakesRun sectors honest history (asked_service old) run (asked_service new)
-  connections_run old served new is =
+  stretches_run old served new is =
       let along = all_along old served old new (course old []) (goes_from sectors honest history faults old) is in (
         along.0.run,
         subst (λ (c : Course D). Serves (Tells sectors honest history faults) (TellsCut sectors honest history faults) (course old []) served c)

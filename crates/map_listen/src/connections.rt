@@ -1,23 +1,23 @@
 //! The connections of a listener to one map.
-ghost use Rattle.std.specs.Prelude.{◌≡◌, ◌<◌, List, [], length, OnOk, OnErr};
-ghost use Rattle.http_listen.specs.Connections.{Connection, Serves};
+ghost use Rattle.std.specs.Prelude.{◌≡◌, ◌<◌, List, [], OnOk, OnErr};
+ghost use Rattle.http_listen.specs.Connections.{Stretch, Serves, begun};
 ghost use Rattle.map_replies.specs.State.{asked_service, Tells, TellsCut, course};
 ghost use Rattle.tile_service.specs.Machine.{Happening};
 ghost use Rattle.tile_service.specs.Runs.{TakesRun};
 
-use http_listen::{ListenFault, serve_on};
+use http_listen::{ListenFault, Waits, serve_on};
 use map_replies::MapReplies;
 use sector_disk::Sectors;
 use std::alloc::Global;
 use std::io::{Read, Write};
-use std::net::{OpenListener, OpenStream};
+use std::net::OpenStream;
 use std::time::Clock;
 
-/// Serves this many connections of a listener, one after the other, as `http_listen::serve_on` does.
+/// Serves this many connections of a listener, in stretches one after the other, as `http_listen::serve_on` does.
 ///
 /// # Errors
 ///
-/// `Accept`, where a connection can't be accepted. Those before it were served.
+/// `Accept`, where a connection can't be accepted while none is kept. Those before it were served.
 pub fn serve_map_on<D, L, W, C>(
     clock: &C,
     alloc: Global,
@@ -28,17 +28,17 @@ pub fn serve_map_on<D, L, W, C>(
 ) -> Result<(), ListenFault>
 where
     D: Sectors + Drop,
-    L: OpenListener,
+    L: Waits,
     L::Stream: Read + Write + OpenStream,
     W: Write,
     C: Clock,
-    // The replies of all connections, in order, report one run of the service. A crash at any moment leaves some first edits of it: all
+    // The replies of all stretches, in order, report one run of the service. A crash at any moment leaves some first edits of it: all
     // that were acknowledged by then, on whatever connection, and none asked for later.
-    ensures all { OnOk result ((served : List Connection) × (length served ≡ connections) × (run : List Happening)
+    ensures all { OnOk result ((served : List Stretch) × (begun served ≡ connections) × (run : List Happening)
         × Serves (Tells D.sectors D.honest D.history D.faults) (TellsCut D.sectors D.honest D.history D.faults)
         (course service.old []) served (course service.new run)
         × TakesRun D.sectors D.honest D.history (asked_service service.old) run (asked_service service.new)) }
-    ensures fewer { OnErr result ((served : List Connection) × (length served < connections) × (run : List Happening)
+    ensures fewer { OnErr result ((served : List Stretch) × (begun served < connections) × (run : List Happening)
         × Serves (Tells D.sectors D.honest D.history D.faults) (TellsCut D.sectors D.honest D.history D.faults)
         (course service.old []) served (course service.new run)
         × TakesRun D.sectors D.honest D.history (asked_service service.old) run (asked_service service.new)) }

@@ -2,11 +2,11 @@
 ghost use Rattle.http_serve.specs.Reply.{IsWhole};
 
 mod fakes;
+mod kept;
 mod lines;
 mod maps;
 mod peers;
 mod slow;
-mod yields;
 
 use http_serve::{Content, ContentFault, Handler, Reply, Request, status};
 

@@ -59,7 +59,7 @@ const COMMANDS: [Row; 8] = [
             Word::Admin,
             Word::Stops,
         ],
-        "Serves the map of a disk file on a port of 127.0.0.1, one connection at a time",
+        "Serves the map of a disk file on a port of 127.0.0.1, one request at a time",
     ),
     (
         "show",

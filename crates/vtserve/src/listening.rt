@@ -1,6 +1,6 @@
 //! The connections of a port.
-ghost use Rattle.std.specs.Prelude.{◌≡◌, ◌≤◌, List, [], length, IfSome, OnOk};
-ghost use Rattle.http_listen.specs.Connections.{Connection, Serves};
+ghost use Rattle.std.specs.Prelude.{◌≡◌, ◌≤◌, List, [], IfSome, OnOk};
+ghost use Rattle.http_listen.specs.Connections.{Stretch, Serves, begun};
 ghost use Rattle.map_replies.specs.State.{asked_service, Tells, TellsCut, course};
 ghost use Rattle.tile_service.specs.Machine.{Happening};
 ghost use Rattle.tile_service.specs.Runs.{TakesRun};
@@ -24,7 +24,7 @@ pub(crate) struct Listening {
     pub(crate) port: u16,
     /// How many connections are served.
     pub(crate) connections: u32,
-    /// Whether the first write or sync of the disk that fails ends it, after the current connection.
+    /// Whether the first write or sync of the disk that fails ends it, after the current requests.
     pub(crate) stops: bool,
 }
 
@@ -50,14 +50,14 @@ fn tell_port(rt: &HostRuntime, port: u16) -> io::Result<()> {
     rt.stdout().flush()
 }
 
-/// Serves the connections one after the other, with their log on standard error. The disk file is watched meanwhile.
+/// Serves the connections, one request at a time, with their log on standard error. The disk file is watched meanwhile.
 pub(crate) fn serve_connections<D: Sectors + Drop>(
     rt: &HostRuntime,
     asked: Listening,
     service: &mut MapReplies<D>,
     watch: &Cell<Watch>,
 ) -> Result<(), CommandFault>
-    ensures all { OnOk result ((served : List Connection) × (length served ≡ asked.connections) × (run : List Happening)
+    ensures all { OnOk result ((served : List Stretch) × (begun served ≡ asked.connections) × (run : List Happening)
         × Serves (Tells D.sectors D.honest D.history D.faults) (TellsCut D.sectors D.honest D.history D.faults)
         (course service.old []) served (course service.new run)
         × TakesRun D.sectors D.honest D.history (asked_service service.old) run (asked_service service.new)) }
@@ -85,10 +85,8 @@ pub(crate) fn serve_connections<D: Sectors + Drop>(
     watch.set(Watch::On);
     let connections = u64::from(asked.connections);
     match serve_map_on(rt, rt.alloc(), &listener, connections, service, &mut log) {
+        _ if asked.stops && watch.get() == Watch::Failed => Err(CommandFault::Told),
         Ok(()) => Ok(()),
-        Err(ListenFault::Accept) if asked.stops && watch.get() == Watch::Failed => {
-            Err(CommandFault::Told)
-        }
         Err(ListenFault::Accept) => Err(CommandFault::Listen(None)),
     }
 }

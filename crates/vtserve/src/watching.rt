@@ -1,9 +1,11 @@
 //! A disk file that fails, and what follows.
 
+use http_listen::{Kept, Waits};
 use sector_disk::{Run, SECTOR_BYTES, SectorFile};
 use std::cell::Cell;
-use std::io::{self, Write};
+use std::io::{self, ErrorKind, Write};
 use std::net::{OpenListener, SocketAddr};
+use std::time::Duration;
 
 /// What is known of a disk file.
 #[derive(Clone, Copy, Debug, PartialEq, Eq)]
@@ -58,26 +60,43 @@ impl<F: SectorFile, W: Write> SectorFile for Watched<'_, F, W> {
     }
 }
 
-/// A listener that may accept no connection once the disk file has failed.
+/// A listener that may accept no connection, and wait for none, once the disk file has failed.
 #[derive(Drop)]
 pub(crate) struct Halting<'a, L> {
     pub(crate) listener: L,
-    /// Whether it stops to accept then.
+    /// Whether it stops then.
     pub(crate) halts: bool,
     pub(crate) watch: &'a Cell<Watch>,
+}
+
+impl<L> Halting<'_, L> {
+    /// Whether it has stopped.
+    fn has_stopped(&self) -> bool {
+        self.halts && self.watch.get() == Watch::Failed
+    }
 }
 
 impl<L: OpenListener> OpenListener for Halting<'_, L> {
     type Stream = L::Stream;
 
     fn accept(&self) -> io::Result<(L::Stream, SocketAddr)> {
-        if self.halts && self.watch.get() == Watch::Failed {
-            return Err(io::Error::from(io::ErrorKind::Interrupted));
+        if self.has_stopped() {
+            return Err(ErrorKind::Interrupted.into());
         }
         self.listener.accept()
     }
+}
 
-    fn set_nonblocking(&self, nonblocking: bool) -> io::Result<()> {
-        self.listener.set_nonblocking(nonblocking)
+impl<L: Waits> Waits for Halting<'_, L> {
+    fn wait(
+        &self,
+        accepts: bool,
+        streams: &mut [Kept<L::Stream>],
+        longest: Duration,
+    ) -> io::Result<bool> {
+        if self.has_stopped() {
+            return Err(ErrorKind::Interrupted.into());
+        }
+        self.listener.wait(accepts, streams, longest)
     }
 }

@@ -1,6 +1,6 @@
 //! Streams that say what was asked of them, and listeners, streams and logs that fail.
 use super::Counter;
-use http_listen::{LAST_WAIT_SECONDS, ListenFault, serve_on};
+use http_listen::{Kept, LAST_WAIT_SECONDS, ListenFault, Waits, serve_on};
 use std::cell::Cell;
 use std::io::{self, ErrorKind, Read, Write};
 use std::net::{Ipv4Addr, OpenListener, OpenStream, Shutdown, SocketAddr};
@@ -150,6 +150,17 @@ impl<'a> OpenListener for Listener<'a> {
             asked: self.asked,
         };
         Ok((stream, SocketAddr::from((Ipv4Addr::LOCALHOST, 1))))
+    }
+}
+
+impl Waits for Listener<'_> {
+    fn wait(
+        &self,
+        accepts: bool,
+        _streams: &mut [Kept<Self::Stream>],
+        _longest: Duration,
+    ) -> io::Result<bool> {
+        Ok(accepts)
     }
 }
 

@@ -1,6 +1,7 @@
 //! Peers that connect to a listener on this machine.
 use super::{Counter, GET};
 use http_listen::serve_on;
+use http_serve::{ContentFault, Handler, Reply, Request};
 use std::io::{self, Read, Write};
 use std::net::{Ipv4Addr, Shutdown, SocketAddr, TcpListener, TcpStream};
 use std::test::Fail;
@@ -8,6 +9,8 @@ use std::test::Fail;
 const FIRST: &str = "HTTP/1.1 200 OK\r\ncontent-length: 1\r\n\r\n0";
 
 const SECOND: &str = "HTTP/1.1 200 OK\r\ncontent-length: 1\r\n\r\n1";
+
+const THIRD: &str = "HTTP/1.1 200 OK\r\ncontent-length: 1\r\n\r\n2";
 
 const THIRD_LAST: &str = "HTTP/1.1 200 OK\r\ncontent-length: 1\r\nconnection: close\r\n\r\n2";
 
@@ -69,24 +72,64 @@ fn peers_one_after_the_other(rt: HostRuntime) -> Result<(), Fail> {
     Ok(())
 }
 
-/// A peer that keeps its connection yields to one that waits, and reads its reply and the end.
+/// Answers as a counter does, and has a peer ask once more and end where another one is answered.
+#[derive(Drop)]
+struct Asker {
+    counter: Counter,
+    peer: TcpStream,
+}
+
+impl Asker {
+    /// The peer asks once more, and sends nothing behind that.
+    fn ask_again(&mut self) -> io::Result<()> {
+        self.peer.write_all(GET.as_bytes())?;
+        self.peer.shutdown(Shutdown::Write)
+    }
+}
+
+impl Handler for Asker {
+    ghost replies = { λ _ _ _ _. Unit {0} };
+
+    ghost sends = { λ _ _ _ _. ⊥ };
+
+    ghost fails = { λ _ _ _ _. ⊥ };
+
+    ghost size = { λ _. 0 };
+
+    fn answer(&mut self, request: &Request<'_>) -> Reply {
+        if self.counter.before == 1 {
+            let _ = self.ask_again();
+        }
+        self.counter.answer(request)
+    }
+
+    fn read_content(&mut self, _offset: u64, _part: &mut [u8]) -> Result<(), ContentFault> {
+        Err(ContentFault)
+    }
+}
+
+/// A connection that is kept while another one is served is served again.
 #[test]
-fn a_kept_connection_yields(rt: HostRuntime) -> Result<(), Fail> {
+fn a_kept_connection_is_served_again(rt: HostRuntime) -> Result<(), Fail> {
     let alloc = rt.alloc();
     let listener = listen(&rt)?;
     let mut kept = TcpStream::connect(&rt, listener.local_addr()?)?;
     kept.write_all(GET.as_bytes())?;
-    let mut waits = peer(&rt, &listener, GET)?;
-    let mut handler = Counter { before: 0 };
+    let mut other = peer(&rt, &listener, GET)?;
+    let mut handler = Asker {
+        counter: Counter { before: 0 },
+        peer: kept,
+    };
     let mut log = Vec::new(alloc);
     serve_on(&rt, alloc, &listener, 2, &mut handler, &mut log)?;
     let mut read = Vec::new(alloc);
-    kept.read_to_end(&mut read)?;
-    assert_eq!(rt; read.as_slice(), FIRST.as_bytes());
+    handler.peer.read_to_end(&mut read)?;
+    let want = [FIRST, THIRD].concat(alloc)?;
+    assert_eq!(rt; read.as_slice(), want.as_bytes());
     let mut read = Vec::new(alloc);
-    waits.read_to_end(&mut read)?;
+    other.read_to_end(&mut read)?;
     assert_eq!(rt; read.as_slice(), SECOND.as_bytes());
-    let lines = "connection 1: 1 requests, closed\nconnection 2: 1 requests, closed\n";
+    let lines = "connection 2: 1 requests, closed\nconnection 1: 2 requests, closed\n";
     assert_eq!(rt; log.as_slice(), lines.as_bytes());
     Ok(())
 }

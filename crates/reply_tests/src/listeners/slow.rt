@@ -3,7 +3,7 @@ ghost use Rattle.std.specs.Io.{ReadsAtMost};
 
 use super::{Counter, GET};
 use crate::connections::take_from;
-use http_listen::{serve_on, write_line};
+use http_listen::{Kept, Waits, serve_on, write_line};
 use http_serve::{End, ServeFault, Served};
 use std::alloc::Global;
 use std::cell::Cell;
@@ -122,6 +122,17 @@ impl<'a> OpenListener for Listener<'a> {
 
     fn accept(&self) -> io::Result<(Stream<'a>, SocketAddr)> {
         Ok((self.stream, SocketAddr::from((Ipv4Addr::LOCALHOST, 1))))
+    }
+}
+
+impl Waits for Listener<'_> {
+    fn wait(
+        &self,
+        accepts: bool,
+        _streams: &mut [Kept<Self::Stream>],
+        _longest: Duration,
+    ) -> io::Result<bool> {
+        Ok(accepts)
     }
 }
 

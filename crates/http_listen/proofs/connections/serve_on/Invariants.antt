@@ -1,5 +1,7 @@
+use Rattle.std.specs.Prelude.{◌≤◌}
 use Rattle.http_listen.proofs.Laws.{ServesCount}
 use Rattle.http_listen.proofs.connections.serve_on.Given as goal
 
-abbrev pub invariant-loop-before : goal.invariant-loop-before
-invariant-loop-before g l = ServesCount g.H.Handler.replies g.H.Handler.fails l.before l.initial.handler l.handler
+abbrev pub invariant-stretches : goal.invariant-stretches
+invariant-stretches g l =
+    ServesCount g.H.Handler.replies g.H.Handler.fails l.begun l.initial.handler l.handler × (l.begun ≤ l.initial.connections)

@@ -1,17 +1,17 @@
-use Rattle.map_listen.proofs.Chains.{connections_run}
+use Rattle.map_listen.proofs.Chains.{stretches_run}
 use Rattle.map_listen.proofs.Told.{told_ok, told_err}
 use Rattle.map_listen.proofs.connections.serve_map_on.Goals as goal
 
 pub returns-clause-all : goal.returns-clause-all
 returns-clause-all g c = told_ok c.serve_on.result _ _
     (λ is. let d = g.D.Sectors in
-    let told = connections_run d.sectors d.honest d.history d.faults c.args.service.now is.0 c.serve_on.new.handler is.1 in
+    let told = stretches_run d.sectors d.honest d.history d.faults c.args.service.now is.0 c.serve_on.new.handler is.1 in
     (is.0, is.2, told.0, told.1, told.2))
     c.serve_on.ensures.all
 
 pub returns-clause-fewer : goal.returns-clause-fewer
 returns-clause-fewer g c = told_err c.serve_on.result _ _
     (λ is. let d = g.D.Sectors in
-    let told = connections_run d.sectors d.honest d.history d.faults c.args.service.now is.0 c.serve_on.new.handler is.1 in
+    let told = stretches_run d.sectors d.honest d.history d.faults c.args.service.now is.0 c.serve_on.new.handler is.1 in
     (is.0, is.2, told.0, told.1, told.2))
     c.serve_on.ensures.fewer

@@ -1,0 +1,164 @@
+//! The connections that wait for their next request.
+ghost use Rattle.std.specs.Prelude.{◌≡◌, true};
+ghost use Rattle.http_listen.specs.declared.rooms.Found.TheVariants.{New};
+
+use crate::kept::Kept;
+use crate::lines::write_line;
+use crate::paces::WAIT_SECONDS;
+use crate::waits::{MAX_KEPT, Waits};
+use http_serve::{End, Served};
+use std::alloc::Global;
+use std::io::Write;
+use std::net::{OpenStream, Shutdown};
+use std::time::{Clock, Duration};
+
+/// How many streams stay open at most that ended while they waited.
+const MAX_LINGERING: usize = 16;
+
+/// The time of the monotonic clock, or 0 where it can't be read.
+pub(crate) fn time_of<C: Clock>(clock: &C) -> Duration {
+    clock.monotonic().unwrap_or(Duration::ZERO)
+}
+
+/// What there is to be served.
+#[derive(Drop)]
+pub(crate) enum Found<S> {
+    /// A new connection.
+    New(S),
+    /// One that was kept, and whose stream has something.
+    Kept(Kept<S>),
+    /// Nothing, but connections wait.
+    Nothing,
+    /// Nothing, and nothing more.
+    Over,
+}
+
+/// The connections that wait for their next request.
+#[derive(Drop)]
+pub(crate) struct Room<S> {
+    /// Those that wait longest come first.
+    kept: Vec<Kept<S>>,
+    /// The streams of some that ended while they waited.
+    lingering: Vec<S>,
+    /// Whether a connection can be accepted.
+    comes: bool,
+}
+
+impl<S> Room<S> {
+    /// No connection waits.
+    pub(crate) fn new(alloc: Global) -> Self {
+        Room {
+            kept: Vec::new(alloc),
+            lingering: Vec::new(alloc),
+            comes: false,
+        }
+    }
+
+    /// Whether no connection waits.
+    pub(crate) fn is_empty(&self) -> bool {
+        self.kept.is_empty()
+    }
+
+    /// Takes the first connection whose stream has something.
+    fn take_ready(&mut self) -> Option<Kept<S>> {
+        let place = self.kept.iter().position(|kept| kept.ready)?;
+        Some(self.kept.remove(place))
+    }
+}
+
+impl<S: OpenStream + Drop> Room<S> {
+    /// Ends a connection that waits, and writes its line to the log: nothing more is sent. Its stream stays open for a while, so that a
+    /// request that it sends just then doesn't cut off its last reply. Of those that stay open the oldest is dropped where they are too
+    /// many.
+    fn end<W: Write>(&mut self, kept: Kept<S>, log: &mut W) {
+        let Kept {
+            stream,
+            number,
+            requests,
+            ..
+        } = kept;
+        let end = End::Closed;
+        let _ = write_line(log, number, Ok(Served { requests, end }));
+        let _ = stream.shutdown(Shutdown::Write);
+        if self.lingering.len() >= MAX_LINGERING {
+            drop(self.lingering.remove(0));
+        }
+        let _ = self.lingering.push(stream);
+    }
+
+    /// Ends the connection that waits longest, if one waits.
+    fn end_first<W: Write>(&mut self, log: &mut W) {
+        if !self.kept.is_empty() {
+            let kept = self.kept.remove(0);
+            self.end(kept, log);
+        }
+    }
+
+    /// Keeps a connection, which waits from now on. Where too many wait, or memory runs out, one of them is ended.
+    pub(crate) fn keep<W: Write>(&mut self, kept: Kept<S>, log: &mut W) {
+        if self.kept.len() >= MAX_KEPT {
+            self.end_first(log);
+        }
+        if let Err(refused) = self.kept.push(kept) {
+            self.end(refused.value, log);
+        }
+    }
+
+    /// Accepts a connection. Where it can't be accepted, one that waits is ended for it.
+    fn accept<L: Waits<Stream = S>, W: Write>(&mut self, listener: &L, log: &mut W) -> Found<S> {
+        self.comes = false;
+        match listener.accept() {
+            Ok((stream, _)) => Found::New(stream),
+            Err(_) if self.kept.is_empty() => Found::Over,
+            Err(_) => {
+                self.end_first(log);
+                Found::Nothing
+            }
+        }
+    }
+
+    /// Waits for the streams that are kept, and for a new connection if one is to be accepted. One that has waited for too long is ended,
+    /// and one where they can't be waited for.
+    fn wait<L: Waits<Stream = S>, W: Write, C: Clock>(
+        &mut self,
+        clock: &C,
+        listener: &L,
+        accepts: bool,
+        log: &mut W,
+    ) {
+        let since = self.kept.first().map_or(Duration::ZERO, |kept| kept.since);
+        let waited = time_of(clock).saturating_sub(since);
+        let left = Duration::from_secs(WAIT_SECONDS).saturating_sub(waited);
+        if left.is_zero() {
+            self.end_first(log);
+            return;
+        }
+        match listener.wait(accepts, &mut self.kept, left) {
+            Ok(comes) => self.comes = comes,
+            Err(_) => self.end_first(log),
+        }
+    }
+
+    /// What there is to be served: what was seen to have something, or else what comes next.
+    pub(crate) fn find<L: Waits<Stream = S>, W: Write, C: Clock>(
+        &mut self,
+        clock: &C,
+        listener: &L,
+        accepts: bool,
+        log: &mut W,
+    ) -> Found<S>
+        ensures wanted { (stream : S) → result ≡ New stream → accepts ≡ true }
+    {
+        if let Some(kept) = self.take_ready() {
+            return Found::Kept(kept);
+        }
+        if accepts && (self.comes || self.kept.is_empty()) {
+            return self.accept(listener, log);
+        }
+        if self.kept.is_empty() {
+            return Found::Over;
+        }
+        self.wait(clock, listener, accepts, log);
+        Found::Nothing
+    }
+}

@@ -1,0 +1,294 @@
+//! Connections that are kept while others are served, over a clock that waits move on.
+use super::{Counter, GET};
+use http_listen::{Kept, ListenFault, MAX_KEPT, Waits, serve_on};
+use std::cell::Cell;
+use std::io::{self, ErrorKind, Read, Write};
+use std::net::{Ipv4Addr, OpenListener, OpenStream, Shutdown, SocketAddr};
+use std::test::Fail;
+use std::time::{Clock, Duration};
+
+/// What one round of a read gives.
+#[derive(Clone, Copy)]
+enum Round {
+    Bytes(&'static str),
+    Nothing,
+}
+
+/// A stream that gives these rounds, and then its end.
+#[derive(Clone, Copy)]
+struct Stream<'a> {
+    /// Its number, from 1.
+    number: usize,
+    rounds: &'a [Round],
+}
+
+impl Read for Stream<'_> {
+    fn read(&mut self, buf: &mut [u8]) -> io::Result<usize> {
+        let Some((round, rest)) = self.rounds.split_first() else {
+            return Ok(0);
+        };
+        self.rounds = rest;
+        match round {
+            Round::Bytes(text) => {
+                let count = text.len().min(buf.len());
+                buf[..count].copy_from_slice(&text.as_bytes()[..count]);
+                Ok(count)
+            }
+            Round::Nothing => Err(ErrorKind::WouldBlock.into()),
+        }
+    }
+}
+
+impl Write for Stream<'_> {
+    fn write(&mut self, buf: &[u8]) -> io::Result<usize> {
+        Ok(buf.len())
+    }
+
+    fn flush(&mut self) -> io::Result<()> {
+        Ok(())
+    }
+}
+
+impl OpenStream for Stream<'_> {
+    fn shutdown(&self, _how: Shutdown) -> io::Result<()> {
+        Ok(())
+    }
+}
+
+/// What ends a wait. Behind the last one each wait fails.
+#[derive(Clone, Copy)]
+enum Waited {
+    /// A connection comes, if one is to be accepted.
+    Comes,
+    /// The streams of these numbers have something.
+    Ready(&'static [usize]),
+    /// All of the time passes.
+    Passes,
+}
+
+/// A clock that waits move on.
+#[derive(Clone, Copy)]
+struct Watch<'a> {
+    now: &'a Cell<Duration>,
+}
+
+impl Clock for Watch<'_> {
+    fn monotonic(&self) -> io::Result<Duration> {
+        Ok(self.now.get())
+    }
+
+    fn since_1970(&self) -> io::Result<Duration> {
+        Ok(self.now.get())
+    }
+}
+
+/// A listener to which these streams connect.
+#[derive(Clone, Copy)]
+struct Listener<'a> {
+    /// Each: the rounds of its stream, or nothing where it can't be accepted.
+    streams: &'a [Option<&'a [Round]>],
+    waits: &'a [Waited],
+    /// How many were accepted or refused, how many of them accepted, and how many waits there were.
+    tried: &'a Cell<usize>,
+    given: &'a Cell<usize>,
+    waited: &'a Cell<usize>,
+    watch: Watch<'a>,
+}
+
+impl<'a> OpenListener for Listener<'a> {
+    type Stream = Stream<'a>;
+
+    fn accept(&self) -> io::Result<(Stream<'a>, SocketAddr)> {
+        let tried = self.tried.get();
+        self.tried.set(tried.saturating_add(1));
+        let Some(Some(rounds)) = self.streams.get(tried) else {
+            return Err(ErrorKind::ConnectionAborted.into());
+        };
+        let number = self.given.get().saturating_add(1);
+        self.given.set(number);
+        Ok((
+            Stream { number, rounds },
+            SocketAddr::from((Ipv4Addr::LOCALHOST, 1)),
+        ))
+    }
+}
+
+/// Says which of the streams have something.
+fn mark(streams: &mut [Kept<Stream<'_>>], numbers: &[usize]) {
+    for kept in streams.iter_mut() {
+        let ready = numbers.contains(&kept.stream().number);
+        kept.set_ready(ready);
+    }
+}
+
+impl Waits for Listener<'_> {
+    fn wait(
+        &self,
+        accepts: bool,
+        streams: &mut [Kept<Self::Stream>],
+        longest: Duration,
+    ) -> io::Result<bool> {
+        let waited = self.waited.get();
+        self.waited.set(waited.saturating_add(1));
+        match self.waits.get(waited) {
+            Some(Waited::Comes) => Ok(accepts),
+            Some(Waited::Ready(numbers)) => {
+                mark(streams, numbers);
+                Ok(false)
+            }
+            Some(Waited::Passes) => {
+                self.watch
+                    .now
+                    .set(self.watch.now.get().saturating_add(longest));
+                Ok(false)
+            }
+            None => Err(ErrorKind::OutOfMemory.into()),
+        }
+    }
+}
+
+/// What serving connections came to.
+#[derive(Drop)]
+struct Outcome {
+    ended: Result<(), ListenFault>,
+    log: Vec<u8>,
+    /// How many seconds passed.
+    seconds: u64,
+}
+
+/// Serves so many connections of these streams, with these waits.
+fn serve_all(
+    rt: &HostRuntime,
+    connections: u64,
+    streams: &[Option<&[Round]>],
+    waits: &[Waited],
+) -> Outcome {
+    let (tried, given, waited) = (Cell::new(0), Cell::new(0), Cell::new(0));
+    let now = Cell::new(Duration::from_secs(1_000));
+    let watch = Watch { now: &now };
+    let listener = Listener {
+        streams,
+        waits,
+        tried: &tried,
+        given: &given,
+        waited: &waited,
+        watch,
+    };
+    let mut log = Vec::new(rt.alloc());
+    let mut handler = Counter { before: 0 };
+    let ended = serve_on(
+        &watch,
+        rt.alloc(),
+        &listener,
+        connections,
+        &mut handler,
+        &mut log,
+    );
+    Outcome {
+        ended,
+        log,
+        seconds: now.get().as_secs().saturating_sub(1_000),
+    }
+}
+
+const ASKS: Round = Round::Bytes(GET);
+
+/// A stream with one request.
+const ONE: &[Round] = &[ASKS];
+
+/// One connection asks, and then another one, and both at once: each is served in its turn.
+#[test]
+fn kept_connections_take_turns(rt: HostRuntime) -> Result<(), Fail> {
+    let first = [ASKS, Round::Nothing, ASKS, ASKS];
+    let second = [ASKS, ASKS];
+    let waits = [
+        Waited::Comes,
+        Waited::Ready(&[2]),
+        Waited::Ready(&[1, 2]),
+        Waited::Ready(&[2]),
+        Waited::Ready(&[1]),
+    ];
+    let outcome = serve_all(
+        &rt,
+        2,
+        &[Some(first.as_slice()), Some(second.as_slice())],
+        &waits,
+    );
+    let lines = "connection 2: 2 requests, closed\nconnection 1: 3 requests, closed\n";
+    assert_eq!(rt; outcome.log.as_slice(), lines.as_bytes());
+    assert_eq!(rt; (outcome.ended, outcome.seconds), (Ok(()), 0));
+    Ok(())
+}
+
+/// A connection that asks again and again is kept after sixteen requests, for another one that comes.
+#[test]
+fn a_busy_connection_gives_way(rt: HostRuntime) -> Result<(), Fail> {
+    let busy = [ASKS; 17];
+    let waits = [Waited::Comes, Waited::Ready(&[2]), Waited::Ready(&[2])];
+    let outcome = serve_all(&rt, 2, &[Some(busy.as_slice()), Some(ONE)], &waits);
+    let lines = "connection 2: 1 requests, closed\nconnection 1: 16 requests, closed\n";
+    assert_eq!(rt; outcome.log.as_slice(), lines.as_bytes());
+    assert_eq!(rt; outcome.ended, Ok(()));
+    Ok(())
+}
+
+/// A request that isn't whole is waited for.
+#[test]
+fn half_a_request_is_waited_for(rt: HostRuntime) -> Result<(), Fail> {
+    let halves = [
+        Round::Bytes("GET / HTTP/1.1\r\nhost: a\r\n\r\nGET / HT"),
+        Round::Nothing,
+        Round::Nothing,
+        Round::Bytes("TP/1.1\r\nhost: a\r\n\r\n"),
+    ];
+    let outcome = serve_all(&rt, 2, &[Some(halves.as_slice()), Some(ONE)], &[]);
+    let lines = "connection 1: 2 requests, closed\nconnection 2: 1 requests, closed\n";
+    assert_eq!(rt; outcome.log.as_slice(), lines.as_bytes());
+    assert_eq!(rt; outcome.ended, Ok(()));
+    Ok(())
+}
+
+/// One that sends nothing for a minute is ended.
+#[test]
+fn a_connection_is_kept_for_a_minute(rt: HostRuntime) -> Result<(), Fail> {
+    let silent = [ASKS, Round::Nothing, ASKS];
+    let waits = [Waited::Passes];
+    let outcome = serve_all(&rt, 2, &[Some(silent.as_slice()), Some(ONE)], &waits);
+    let lines = "connection 1: 1 requests, closed\nconnection 2: 1 requests, closed\n";
+    assert_eq!(rt; outcome.log.as_slice(), lines.as_bytes());
+    assert_eq!(rt; (outcome.ended, outcome.seconds), (Ok(()), 60));
+    Ok(())
+}
+
+/// Where a connection can't be accepted, the one that waits longest is ended for it, and where none waits, no more are served.
+#[test]
+fn a_connection_that_waits_makes_room(rt: HostRuntime) -> Result<(), Fail> {
+    let silent = [Round::Nothing];
+    let streams = [Some(silent.as_slice()), None, Some(ONE), None];
+    let outcome = serve_all(&rt, 3, &streams, &[Waited::Comes]);
+    let lines = "connection 1: 0 requests, closed\nconnection 2: 1 requests, closed\n";
+    assert_eq!(rt; outcome.log.as_slice(), lines.as_bytes());
+    assert_eq!(rt; outcome.ended, Err(ListenFault::Accept));
+    Ok(())
+}
+
+/// The line of the first connection that got a reply.
+fn first_replied(log: &[u8]) -> Option<&[u8]> {
+    log.split(|byte| *byte == b'\n')
+        .find(|line| !line.ends_with(b": 0 requests, closed"))
+}
+
+/// One more than are kept: the one that waits longest is ended, and not answered.
+#[test]
+fn so_many_are_kept(rt: HostRuntime) -> Result<(), Fail> {
+    let asks_later = [Round::Nothing, ASKS];
+    let mut streams = [Some(ONE); MAX_KEPT + 1];
+    streams[0] = Some(asks_later.as_slice());
+    let mut waits = [Waited::Comes; MAX_KEPT + 1];
+    waits[MAX_KEPT] = Waited::Ready(&[1, 2]);
+    let outcome = serve_all(&rt, MAX_KEPT as u64 + 1, &streams, &waits);
+    let line = b"connection 2: 1 requests, closed".as_slice();
+    assert_eq!(rt; first_replied(&outcome.log), Some(line));
+    assert_eq!(rt; outcome.ended, Ok(()));
+    Ok(())
+}
