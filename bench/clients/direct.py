@@ -90,6 +90,14 @@ def direct(cases, folder):
             waited = time.monotonic() - began
             cases.show("direct: a connection without a request delays no other", (status_of(reply), waited < 0.3 or f"{waited:.2f} s"), (200, True))
             silent.close()
+        with socket.create_connection(("127.0.0.1", server.port), timeout=10) as last:
+            last.sendall(b"GET /map/metadata HTTP/1.1\r\nhost: a\r\nconnection: close\r\n\r\n")
+            began = time.monotonic()
+            content = alone.get(TILES[0])
+            waited = time.monotonic() - began
+            cases.show("direct: one that has asked for its end and stays open holds up no other", (content == expected[TILES[0]], waited < 0.3 or waited), (True, True))
+            whole = b"".join(iter(lambda: last.recv(65536), b""))
+            cases.show("direct: and has its whole reply", whole.startswith(b"HTTP/1.1 200 ") and whole.endswith(b"]}"), True)
         idle_ones(cases, server, alone)
         too_many(cases, server, alone)
 

@@ -4,7 +4,7 @@ ghost use Rattle.http_serve.specs.declared.connection.ServeFault.{ServeFault};
 ghost use Rattle.http_serve.specs.declared.connection.Served.{Served};
 ghost use Rattle.http_listen.specs.Connections.{Stretch, Serves, CameTo, begun, unknown_stream};
 
-use crate::ends::end_connection;
+use crate::ends::{end_at_once, end_connection};
 use crate::kept::{Kept, with_earlier};
 use crate::lines::write_line;
 use crate::paced::{Paced, PacedWriter, ROUND_MILLISECONDS};
@@ -107,7 +107,12 @@ where
         }
         whole => {
             let _ = write_line(log, number, whole);
-            end_connection(clock, &mut stream);
+            if room.is_empty() {
+                end_connection(clock, &mut stream);
+            } else {
+                end_at_once(clock, &mut stream);
+                room.linger(stream);
+            }
         }
     }
 }
@@ -154,7 +159,7 @@ where
 /// A peer has 60 seconds to begin a request, as long again to its end, and as long for a reply and a second more for each
 /// 16,384 bytes of it, but never more than 60 seconds at once. The replies to requests that were read together count as one.
 /// A slower peer's connection is given up, as where a read or a write fails. What it sends after its last reply is dropped for
-/// 60 seconds at most.
+/// 60 seconds at most, and where others are kept, as long as it sends without a pause of 10 ms.
 ///
 /// # Errors
 ///

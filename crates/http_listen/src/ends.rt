@@ -61,3 +61,10 @@ pub(crate) fn end_connection<S: Read + OpenStream, C: Clock>(clock: &C, stream: 
         drop_rest(clock, stream);
     }
 }
+
+/// The same while others wait: once nothing comes in a round, the peer isn't waited for any longer.
+pub(crate) fn end_at_once<S: Read + OpenStream, C: Clock>(clock: &C, stream: &mut S) {
+    if stream.shutdown(Shutdown::Write).is_ok() {
+        drop_rest(clock, stream);
+    }
+}

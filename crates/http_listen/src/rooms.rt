@@ -12,7 +12,7 @@ use std::io::Write;
 use std::net::{OpenStream, Shutdown};
 use std::time::{Clock, Duration};
 
-/// How many streams stay open at most that ended while they waited.
+/// How many streams of connections that have ended stay open at most.
 const MAX_LINGERING: usize = 16;
 
 /// The time of the monotonic clock, or 0 where it can't be read.
@@ -38,7 +38,7 @@ pub(crate) enum Found<S> {
 pub(crate) struct Room<S> {
     /// Those that wait longest come first.
     kept: Vec<Kept<S>>,
-    /// The streams of some that ended while they waited.
+    /// The streams of some that have ended.
     lingering: Vec<S>,
     /// Whether a connection can be accepted.
     comes: bool,
@@ -68,8 +68,7 @@ impl<S> Room<S> {
 
 impl<S: OpenStream + Drop> Room<S> {
     /// Ends a connection that waits, and writes its line to the log: nothing more is sent. Its stream stays open for a while, so that a
-    /// request that it sends just then doesn't cut off its last reply. Of those that stay open the oldest is dropped where they are too
-    /// many.
+    /// request that it sends just then doesn't cut off its last reply.
     fn end<W: Write>(&mut self, kept: Kept<S>, log: &mut W) {
         let Kept {
             stream,
@@ -80,6 +79,12 @@ impl<S: OpenStream + Drop> Room<S> {
         let end = End::Closed;
         let _ = write_line(log, number, Ok(Served { requests, end }));
         let _ = stream.shutdown(Shutdown::Write);
+        self.linger(stream);
+    }
+
+    /// Keeps the stream of a connection that has ended open for a while. Of those that stay open the oldest is dropped where they are too
+    /// many.
+    pub(crate) fn linger(&mut self, stream: S) {
         if self.lingering.len() >= MAX_LINGERING {
             drop(self.lingering.remove(0));
         }
