@@ -196,11 +196,15 @@ const ASKS: Round = Round::Bytes(GET);
 /// A stream with one request.
 const ONE: &[Round] = &[ASKS];
 
+/// One with two.
+const TWO: &[Round] = &[ASKS, ASKS];
+
+/// One with three, and a pause behind the first.
+const THREE: &[Round] = &[ASKS, Round::Nothing, ASKS, ASKS];
+
 /// One connection asks, and then another one, and both at once: each is served in its turn.
 #[test]
 fn kept_connections_take_turns(rt: HostRuntime) -> Result<(), Fail> {
-    let first = [ASKS, Round::Nothing, ASKS, ASKS];
-    let second = [ASKS, ASKS];
     let waits = [
         Waited::Comes,
         Waited::Ready(&[2]),
@@ -208,12 +212,7 @@ fn kept_connections_take_turns(rt: HostRuntime) -> Result<(), Fail> {
         Waited::Ready(&[2]),
         Waited::Ready(&[1]),
     ];
-    let outcome = serve_all(
-        &rt,
-        2,
-        &[Some(first.as_slice()), Some(second.as_slice())],
-        &waits,
-    );
+    let outcome = serve_all(&rt, 2, &[Some(THREE), Some(TWO)], &waits);
     let lines = "connection 2: 2 requests, closed\nconnection 1: 3 requests, closed\n";
     assert_eq!(rt; outcome.log.as_slice(), lines.as_bytes());
     assert_eq!(rt; (outcome.ended, outcome.seconds), (Ok(()), 0));
