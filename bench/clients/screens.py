@@ -4,6 +4,7 @@ Chromium fetches forty tiles at once, and draws the map with Mapbox GL JS 1.10.1
 the project of examples/qgis_project.py. Each picture is compared with the one of examples/draw_map.py, a reader of its own, by the share of
 pixels of which one is water and the other isn't: the rest has styles of its own. They are kept in the folder that PICTURES names, if it does.
 """
+import base64
 import http.server
 import json
 import math
@@ -31,10 +32,11 @@ Promise.all(paths.map(path => fetch("%s" + path).then(reply => reply.arrayBuffer
 
 DRAWN = """<!DOCTYPE html><meta charset="utf-8"><style>html, body, #map { height: 100%%; margin: 0; }</style>
 <body><div id="map"></div><script src="file://%s"></script><script>
+const size = {width: %d, height: %d};
 Plotly.newPlot("map", [{type: "scattermapbox", lat: [], lon: []}], {
-    margin: {l: 0, r: 0, t: 0, b: 0}, width: %d, height: %d, showlegend: false,
+    ...size, margin: {l: 0, r: 0, t: 0, b: 0}, showlegend: false,
     mapbox: {center: {lon: 7.5, lat: 54.5}, zoom: 14, style: %s},
-}, {displayModeBar: false});
+}).then(map => Plotly.toImage(map, {...size, format: "png"})).then(image => fetch("%s", {method: "POST", body: image}));
 </script></body>
 """
 
@@ -62,14 +64,14 @@ job.renderedImage().save(sys.argv[2])
 """ % (WIDE, HIGH)
 
 
-def words_of(folder, html, *words):
+def words_of(folder, html):
     """The command that has Chromium open a page, without a window."""
     page = os.path.join(folder, "page.html")
     with open(page, "w", encoding="utf-8") as file:
         file.write(html)
     shared = ["--headless=new", "--no-sandbox", "--disable-web-security", f"--user-data-dir={folder}/profile", f"--window-size={WIDE},{HIGH}"]
     drawing = ["--use-gl=angle", "--use-angle=swiftshader", "--enable-unsafe-swiftshader", "--hide-scrollbars"]
-    return ["chromium", *shared, *drawing, *words, "file://" + page]
+    return ["chromium", *shared, *drawing, "file://" + page]
 
 
 class Told(http.server.BaseHTTPRequestHandler):
@@ -84,12 +86,12 @@ class Told(http.server.BaseHTTPRequestHandler):
         pass
 
 
-def told_by(folder, page, server, paths):
-    """What a page with these paths tells of them, by Chromium's own clock, if it does within a minute."""
+def told_by(folder, page):
+    """What a page tells, within a minute. It is made of the address that it is to be told to."""
     with http.server.HTTPServer(("127.0.0.1", 0), Told) as listener:
-        listener.told, listener.timeout = None, 60
-        where = f"http://127.0.0.1:{listener.server_port}/"
-        child = subprocess.Popen(words_of(folder, page % (json.dumps(paths), server.url, where)), stdout=subprocess.DEVNULL, stderr=subprocess.DEVNULL)
+        listener.told, listener.timeout = "", 60
+        words = words_of(folder, page(f"http://127.0.0.1:{listener.server_port}/"))
+        child = subprocess.Popen(words, stdout=subprocess.DEVNULL, stderr=subprocess.DEVNULL)
         listener.handle_request()
         child.terminate()
         child.wait(60)
@@ -132,7 +134,7 @@ def forty_tiles(cases, folder):
         corners = [[0, 0], [WORLD, 0], [WORLD, WORLD], [0, WORLD]]
         curl(f"{server.url}/features/1", "-X", "PUT", body=feature(last=3, geometry={"polygons": [[corners]]}))
         sizes = [len(curl(server.url + path)[2]) for path in TILES]
-        milliseconds, lengths = json.loads(told_by(folder, FETCHED, server, TILES) or "[null, null]")
+        milliseconds, lengths = json.loads(told_by(folder, lambda where: FETCHED % (json.dumps(TILES), server.url, where)) or "[null, null]")
         cases.show("screens: Chromium gets forty tiles", lengths, sizes)
         cases.show("screens: in less than a second", milliseconds is not None and milliseconds < 1000 or milliseconds, True)
         cases.say(f"screens: Chromium's forty tiles took {milliseconds:.0f} ms" if milliseconds else "screens: Chromium got none")
@@ -151,9 +153,9 @@ def drawn_town(cases, folder, kept):
         size = ["--url", server.url, "--zoom", "15", "--centre", "7.5,54.5", "--size", f"{WIDE}x{HIGH}"]
         subprocess.run([SYSTEM_PYTHON, os.path.join(EXAMPLES, "draw_map.py"), truth, *size], check=True, capture_output=True)
         layers = [layer["id"] for layer in json.loads(curl(server.url + "/map/metadata")[2])["vector_layers"]]
-        page = DRAWN % (PLOTLY, WIDE, HIGH, json.dumps(styled(server.url, layers)))
-        words = words_of(folder, page, "--virtual-time-budget=60000", f"--screenshot={browser}")
-        subprocess.run(words, stdout=subprocess.DEVNULL, stderr=subprocess.DEVNULL, timeout=180, check=True)
+        image = told_by(folder, lambda where: DRAWN % (PLOTLY, WIDE, HIGH, json.dumps(styled(server.url, layers)), where))
+        with open(browser, "wb") as file:
+            file.write(base64.b64decode(image.partition("base64,")[2]))
         cases.show("screens: Mapbox GL draws land where the reader of examples does, but for 2 % of the pixels", water_differs(truth, browser), Share(0.02))
         project, script = os.path.join(folder, "map.qgs"), os.path.join(folder, "draw.py")
         east, north = 7.5 / 180 * HALF, math.asinh(math.tan(math.radians(54.5))) / math.pi * HALF
