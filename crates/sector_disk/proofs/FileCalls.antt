@@ -7,7 +7,8 @@ use Rattle.sector_disk.specs.Calls.{Call, replayed, IsHonest, GaveRun}
 use Rattle.sector_disk.specs.Calls.Call.{gave_run, took, refused}
 use Rattle.sector_disk.specs.Disk.{History, seen}
 use Rattle.sector_disk.specs.Disk.History.{wrote}
-use Rattle.sector_disk.specs.Runs.{wrote_run, wrote_first, Shows}
+use Rattle.sector_disk.specs.Runs.{wrote_run, wrote_first, Shows, Apart}
+use Rattle.sector_disk.specs.declared.run.TheConstants.{RUN_SECTORS}
 use Rattle.sector_disk.proofs.History.{seen_same, seen_other}
 
 -- a read of another sector gives what it gave before
@@ -88,11 +89,30 @@ after_gave old new at sectors is found honest =
     subst (λ (calls : List Call). IsHonest found calls → Shows (seen (replayed found calls)) at (length sectors) sectors)
     (sym is) (λ gives. subst (λ (n : ℕ). Shows (seen (replayed found old)) n (length sectors) sectors) (by_offset at) gives.1) honest
 
+-- the same of the first so many sectors
+pub after_gave_first : (old new : List Call) (at count : ℕ) (sectors : List (List ℕ)) → new ≡ gave_run (at * SECTOR_BYTES) (take count sectors) ∷ old
+    → count ≤ length sectors → (found : History) → IsHonest found new → Shows (seen (replayed found new)) at count sectors
+after_gave_first old new at count sectors is fits found honest index within =
+    sym (get_or-take count sectors index [] within)
+    ∙ after_gave old new at (take count sectors) is found honest index (subst (λ (n : ℕ). index < n) (sym (taken count sectors fits)) within)
+
+-- and it was a run of so many
+pub gave_first : (old new : List Call) (at count first len : ℕ) (sectors : List (List ℕ)) → new ≡ gave_run (at * SECTOR_BYTES) (take count sectors) ∷ old
+    → 0 < count → count ≤ RUN_SECTORS → length sectors ≡ RUN_SECTORS → Apart at count first len → GaveRun at first len old new
+gave_first old new at count first len sectors is some few long apart =
+    let size = sym (taken count sectors (subst (λ (n : ℕ). count ≤ n) (sym long) few)) in (
+      take count sectors,
+      subst (λ (n : ℕ). 0 < n) size some,
+      subst (λ (n : ℕ). n ≤ RUN_SECTORS) size few,
+      subst (λ (n : ℕ). Apart at n first len) size apart,
+      is,
+    )
+
 -- which changes no history
 pub after_reading : (old new : List Call) (at first len : ℕ) → (new ≡ old) ⊎ GaveRun at first len old new → (found : History)
     → replayed found new ≡ replayed found old
 after_reading old new at first len (inl same) found = ap (λ (calls : List Call). replayed found calls) same
-after_reading old new at first len (inr gave) found = ap (λ (calls : List Call). replayed found calls) gave.3
+after_reading old new at first len (inr gave) found = ap (λ (calls : List Call). replayed found calls) gave.4
 
 -- so that what is known of a sector that isn't still to be written is the history's
 pub given_ahead : (old new : List Call) (at first len : ℕ) (sectors : List (List ℕ)) (found : History) (bytes : List ℕ)

@@ -1,5 +1,5 @@
 -- What a file was asked, what it answered, and what these calls make of a disk in it.
-use Rattle.std.specs.Prelude.{◌≡◌, ◌⊎◌, ◌*◌, ◌/◌, ℕ, List, [], ◌∷◌, Result, MatchResult, IsOk, IsErr, length, ⊤}
+use Rattle.std.specs.Prelude.{◌≡◌, ◌<◌, ◌≤◌, ◌⊎◌, ◌*◌, ◌/◌, ℕ, List, [], ◌∷◌, Result, MatchResult, IsOk, IsErr, length, ⊤}
 use Rattle.sector_disk.specs.declared.disk.TheConstants.{SECTOR_BYTES}
 use Rattle.sector_disk.specs.Disk.{History, seen}
 use Rattle.sector_disk.specs.Disk.History.{synced}
@@ -95,9 +95,9 @@ NewestFits history (refused offset sectors ∷ before) = ⊤
 NewestFits history (flushed ∷ before) = ⊤
 NewestFits history (not_flushed ∷ before) = ⊤
 
--- One call more: a read of a whole run from this sector on that succeeded, and that has none of the len sectors from first on.
+-- One call more: a read of a run from this sector on that succeeded, and that has none of the len sectors from first on.
 abbrev pub GaveRun : ℕ → ℕ → ℕ → List Call → List Call → Type 0
-GaveRun at first len old new = (sectors : List (List ℕ)) × (length sectors ≡ RUN_SECTORS) × Apart at RUN_SECTORS first len
+GaveRun at first len old new = (sectors : List (List ℕ)) × (0 < length sectors) × (length sectors ≤ RUN_SECTORS) × Apart at (length sectors) first len
     × (new ≡ gave_run (at * SECTOR_BYTES) sectors ∷ old)
 
 -- A read of the sector alone, which isn't one of the len sectors from first on. Before it there may be a read of a run that failed.

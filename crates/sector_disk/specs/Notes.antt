@@ -10,7 +10,7 @@ use Rattle.sector_disk.specs.declared.record.Record.{Record}
 abbrev pub calls_of : Noted → List Call
 calls_of Opened = []
 calls_of (Gave' offset bytes marker before) = gave offset bytes.value ∷ calls_of before
-calls_of (GaveRun' offset sectors marker before) = gave_run offset sectors.value ∷ calls_of before
+calls_of (GaveRun' offset sectors count marker before) = gave_run offset (take count sectors.value) ∷ calls_of before
 calls_of (GaveNone' offset marker before) = gave_none offset ∷ calls_of before
 calls_of (Took' offset sectors count marker before) = took offset (take count sectors.value) ∷ calls_of before
 calls_of (Refused' offset sectors count marker before) = refused offset (take count sectors.value) ∷ calls_of before

@@ -5,7 +5,7 @@ ghost use Rattle.sector_disk.specs.Runs.{Shows};
 ghost use Rattle.sector_disk.specs.declared.run.TheConstants.{RUN_SECTORS};
 
 use crate::SECTOR_BYTES;
-use crate::run::{RUN_SECTORS, Run, index_in};
+use crate::run::{FIRST_RUN, RUN_SECTORS, Run, index_in};
 
 /// The consecutive sectors that the file's last read ahead gave, of which the first is sector `first`. It is empty where `len` is 0.
 #[derive(Drop)]
@@ -40,6 +40,19 @@ impl ReadAhead {
             }
             None => false,
         }
+    }
+
+    /// How many sectors are read ahead from this one on, which isn't in the buffer, on a disk that has so many from there on: few at first,
+    /// since most of what is read is short, and as many as one call reads behind all that were read ahead.
+    pub fn next_run(&self, at: u64, rest: u64) -> usize
+        requires { 0 < rest }
+        ensures some { 0 < result }
+        ensures few { result ≤ RUN_SECTORS }
+        ensures fits { result ≤ rest }
+    {
+        let goes_on = self.len > 0 && at >= self.first && at - self.first == self.len as u64;
+        let most = if goes_on { RUN_SECTORS } else { FIRST_RUN };
+        rest.min(most as u64) as usize
     }
 
     /// Empties the buffer if it has one of these sectors.

@@ -16,7 +16,7 @@ use crate::ahead::ReadAhead;
 use crate::behind::WriteBehind;
 use crate::faults::Faults;
 use crate::recorded::RecordedFile;
-use crate::run::{RUN_SECTORS, Run};
+use crate::run::RUN_SECTORS;
 use crate::{DiskFault, SECTOR_BYTES, Sectors, Start};
 use std::fs::{OpenFile, OpenOptions};
 use std::io::{self, Read, Seek, Write};
@@ -30,8 +30,8 @@ pub trait SectorFile {
     /// Fills the buffer with the bytes from the offset on.
     fn read_at(&mut self, into: &mut [u8; SECTOR_BYTES], offset: u64) -> io::Result<()>;
 
-    /// Fills the whole run with the bytes from the offset on.
-    fn read_run_at(&mut self, into: &mut Run, offset: u64) -> io::Result<()>;
+    /// Fills all of the sectors with the bytes from the offset on.
+    fn read_run_at(&mut self, into: &mut [[u8; SECTOR_BYTES]], offset: u64) -> io::Result<()>;
 
     /// Writes all bytes of the sectors from the offset on.
     fn write_at(&mut self, from: &[[u8; SECTOR_BYTES]], offset: u64) -> io::Result<()>;
@@ -58,7 +58,7 @@ impl<F: FileExt + OpenFile> SectorFile for SystemFile<F> {
         self.file.read_exact_at(into, offset)
     }
 
-    fn read_run_at(&mut self, into: &mut Run, offset: u64) -> io::Result<()> {
+    fn read_run_at(&mut self, into: &mut [[u8; SECTOR_BYTES]], offset: u64) -> io::Result<()> {
         self.file.read_exact_at(into.as_flattened_mut(), offset)
     }
 
@@ -88,10 +88,10 @@ pub enum FileFault {
 /// A disk in a file, which stores sector n from byte `n * SECTOR_BYTES` on. `S` says what the file had as it was opened, and the
 /// history continues from there by the writes and syncs.
 ///
-/// Up to `RUN_SECTORS` consecutive sectors are read or written by one call of the file. The second of two consecutive reads reads
-/// ahead. Writes are buffered until a write of another sector than the next one, until the buffer is full, or until a sync. Sectors
-/// that the file fails to write stay buffered. Reads of buffered sectors are answered from the buffer, and the file isn't asked for
-/// them. What is buffered when the value is dropped is lost.
+/// Up to `RUN_SECTORS` consecutive sectors are read or written by one call of the file. The second of two consecutive reads reads eight
+/// sectors, and one behind all that were read ahead `RUN_SECTORS`. Writes are buffered until a write of another sector than the next one,
+/// until the buffer is full, or until a sync. Sectors that the file fails to write stay buffered. Reads of buffered sectors are answered
+/// from the buffer, and the file isn't asked for them. What is buffered when the value is dropped is lost.
 ///
 /// The disk is `honest` as long as each read of the file that succeeded gave what the history says, and no write and no sync was
 /// asked for after one that failed. So a client that stops writing at the first failure loses it by a false answer alone, and its
@@ -207,10 +207,12 @@ impl<F: FileExt + OpenFile + Read + Write + Seek + Drop, S: Start> FileDisk<Syst
 impl<F: SectorFile + Drop, S: Start> FileDisk<F, S> {
     ghost use Rattle.sector_disk.specs.Views.{file_sectors, file_faults, file_calls, file_history};
 
-    /// Reads a whole run from this sector on, and gives this sector. It says whether the file's read succeeded.
-    fn read_ahead(&mut self, at: u64, into: &mut [u8; SECTOR_BYTES]) -> bool
-        requires fits { at + RUN_SECTORS ≤ file_sectors self.old }
-        requires apart { Apart at RUN_SECTORS self.old.behind.first self.old.behind.len }
+    /// Reads a run of so many sectors from this one on, and gives this one. It says whether the file's read succeeded.
+    fn read_ahead(&mut self, at: u64, count: usize, into: &mut [u8; SECTOR_BYTES]) -> bool
+        requires some { 0 < count }
+        requires few { count ≤ RUN_SECTORS }
+        requires fits { at + count ≤ file_sectors self.old }
+        requires apart { Apart at count self.old.behind.first self.old.behind.len }
         ensures count { file_sectors self.new ≡ file_sectors self.old }
         ensures faults { file_faults self.new ≡ file_faults self.old }
         ensures behind { self.new.behind ≡ self.old.behind }
@@ -220,10 +222,10 @@ impl<F: SectorFile + Drop, S: Start> FileDisk<F, S> {
     {
         self.ahead.len = 0;
         let offset = at * SECTOR_BYTES as u64;
-        match self.file.read_run(&mut self.ahead.sectors, offset) {
+        match self.file.read_run(&mut self.ahead.sectors, count, offset) {
             Ok(()) => {
                 self.ahead.first = at;
-                self.ahead.len = RUN_SECTORS;
+                self.ahead.len = count;
                 *into = self.ahead.sectors[0];
                 true
             }
@@ -249,13 +251,14 @@ impl<F: SectorFile + Drop, S: Start> FileDisk<F, S> {
         if self.ahead.get(at, into) {
             return true;
         }
-        if !sequential || self.count - at < RUN_SECTORS as u64 {
+        if !sequential {
             return false;
         }
-        if self.behind.overlaps(at, RUN_SECTORS) {
+        let count = self.ahead.next_run(at, self.count - at);
+        if self.behind.overlaps(at, count) {
             return false;
         }
-        self.read_ahead(at, into)
+        self.read_ahead(at, count, into)
     }
 
     /// Writes the buffered sectors to the file, if there are any. If that fails, they stay buffered.

@@ -38,13 +38,14 @@ impl<F: SectorFile + Drop> RecordedFile<F> {
         self.record.note_read(outcome, offset, into)
     }
 
-    /// Reads a whole run.
-    pub fn read_run(&mut self, into: &mut Run, offset: u64) -> io::Result<()>
+    /// Reads the first `count` sectors.
+    pub fn read_run(&mut self, into: &mut Run, count: usize, offset: u64) -> io::Result<()>
+        requires { count ≤ RUN_SECTORS }
         ensures long { length into.new ≡ RUN_SECTORS }
-        ensures notes { NotesRun result offset into.new (recorded_calls self.old) (recorded_calls self.new) }
+        ensures notes { NotesRun result offset (take count into.new) (recorded_calls self.old) (recorded_calls self.new) }
     {
-        let outcome = self.file.read_run_at(into, offset);
-        self.record.note_run(outcome, offset, into)
+        let outcome = self.file.read_run_at(&mut into[..count], offset);
+        self.record.note_run(outcome, offset, into, count)
     }
 
     /// Writes the first `count` sectors.

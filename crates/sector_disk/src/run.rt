@@ -6,6 +6,9 @@ use crate::SECTOR_BYTES;
 /// The greatest number of sectors that one call of a file reads or writes.
 pub const RUN_SECTORS: usize = 64;
 
+/// How many sectors are read ahead at first.
+pub(crate) const FIRST_RUN: usize = 8;
+
 /// `RUN_SECTORS` consecutive sectors.
 pub type Run = [[u8; SECTOR_BYTES]; RUN_SECTORS];
 

@@ -1,7 +1,7 @@
 //! A disk file that fails, and what follows.
 
 use http_listen::{Kept, Waits};
-use sector_disk::{Run, SECTOR_BYTES, SectorFile};
+use sector_disk::{SECTOR_BYTES, SectorFile};
 use std::cell::Cell;
 use std::io::{self, ErrorKind, Write};
 use std::net::{OpenListener, SocketAddr};
@@ -45,7 +45,7 @@ impl<F: SectorFile, W: Write> SectorFile for Watched<'_, F, W> {
         self.file.read_at(into, offset)
     }
 
-    fn read_run_at(&mut self, into: &mut Run, offset: u64) -> io::Result<()> {
+    fn read_run_at(&mut self, into: &mut [[u8; SECTOR_BYTES]], offset: u64) -> io::Result<()> {
         self.file.read_run_at(into, offset)
     }
 

@@ -109,7 +109,7 @@ fn puts<D: Sectors>(disk: &mut D, from: u64, to: u64, byte: u8) -> bool {
     true
 }
 
-/// The second of two consecutive sectors is read with the 63 after it, but not beyond the disk's end.
+/// The second of two consecutive sectors is read with the 7 after it, and then 64 at once, but none beyond the disk's end.
 #[test]
 fn reads_ahead(rt: HostRuntime) -> Result<(), Fail> {
     let file = NumberedFile::new(32_768, 32_768);
@@ -117,10 +117,10 @@ fn reads_ahead(rt: HostRuntime) -> Result<(), Fail> {
     let other = other_sector(&mut disk, 0, 131);
     let calls = [
         Some(Call::Read(0, 512)),
-        Some(Call::Read(512, 32_768)),
-        Some(Call::Read(65 * 512, 32_768)),
-        Some(Call::Read(129 * 512, 512)),
-        Some(Call::Read(130 * 512, 512)),
+        Some(Call::Read(512, 8 * 512)),
+        Some(Call::Read(9 * 512, 32_768)),
+        Some(Call::Read(73 * 512, 58 * 512)),
+        None,
         None,
         None,
     ];
@@ -136,7 +136,7 @@ fn reads_one_where_more_fail(rt: HostRuntime) -> Result<(), Fail> {
     let other = other_sector(&mut disk, 3, 5);
     let calls = [
         Some(Call::Read(3 * 512, 512)),
-        Some(Call::Read(4 * 512, 32_768)),
+        Some(Call::Read(4 * 512, 8 * 512)),
         Some(Call::Read(4 * 512, 512)),
         None,
         None,
@@ -192,7 +192,7 @@ fn drops_what_is_written_over(rt: HostRuntime) -> Result<(), Fail> {
     let read = over_written(&mut disk);
     let calls = [
         Some(Call::Read(0, 512)),
-        Some(Call::Read(512, 32_768)),
+        Some(Call::Read(512, 8 * 512)),
         Some(Call::Write(3 * 512, 512)),
         Some(Call::Sync),
         Some(Call::Read(3 * 512, 512)),
@@ -203,17 +203,17 @@ fn drops_what_is_written_over(rt: HostRuntime) -> Result<(), Fail> {
     Ok(())
 }
 
-/// Fills sector 70 with 9s, reads sectors 10 and 11, syncs, and reads sectors 12 and 70.
+/// Fills sector 15 with 9s, reads sectors 10 and 11, syncs, and reads sectors 12 and 15.
 fn around_a_buffered<D: Sectors>(disk: &mut D) -> [u8; 4]
-    requires { 70 < D.sectors disk.old }
+    requires { 15 < D.sectors disk.old }
 {
-    put(disk, 70, 9);
+    put(disk, 15, 9);
     let before = [first(disk, 10), first(disk, 11)];
     let _ = disk.sync();
-    [before[0], before[1], first(disk, 12), first(disk, 70)]
+    [before[0], before[1], first(disk, 12), first(disk, 15)]
 }
 
-/// A read ahead asks for no sector that is buffered. Once sector 70 is written, the file is asked for it again.
+/// A read ahead asks for no sector that is buffered. Once sector 15 is written, the file is asked for it again.
 #[test]
 fn reads_ahead_beside_buffered_sectors(rt: HostRuntime) -> Result<(), Fail> {
     let file = NumberedFile::new(32_768, 32_768);
@@ -222,13 +222,13 @@ fn reads_ahead_beside_buffered_sectors(rt: HostRuntime) -> Result<(), Fail> {
     let calls = [
         Some(Call::Read(10 * 512, 512)),
         Some(Call::Read(11 * 512, 512)),
-        Some(Call::Write(70 * 512, 512)),
+        Some(Call::Write(15 * 512, 512)),
         Some(Call::Sync),
-        Some(Call::Read(12 * 512, 32_768)),
+        Some(Call::Read(12 * 512, 8 * 512)),
         None,
         None,
     ];
-    assert_eq!(rt; (read, file.calls.get()), ([10, 11, 12, 70], calls));
+    assert_eq!(rt; (read, file.calls.get()), ([10, 11, 12, 15], calls));
     Ok(())
 }
 
@@ -264,7 +264,7 @@ fn keeps_what_the_file_refused(rt: HostRuntime) -> Result<(), Fail> {
         Some(Call::Write(70 * 512, 1024)),
         Some(Call::Read(3 * 512, 512)),
         Some(Call::Read(69 * 512, 512)),
-        Some(Call::Read(72 * 512, 32_768)),
+        Some(Call::Read(72 * 512, 8 * 512)),
         None,
         None,
     ];
