@@ -251,7 +251,7 @@ impl<F: SectorFile + Drop, S: Start> FileDisk<F, S> {
         if self.ahead.get(at, into) {
             return true;
         }
-        if !sequential {
+        if !sequential || self.count - at < 2 {
             return false;
         }
         let count = self.ahead.next_run(at, self.count - at);
