@@ -26,9 +26,6 @@ pub enum ListenFault {
     Accept,
 }
 
-/// How many times a connection is asked for another request before others are looked for, while no other is kept.
-const ASKS_ALONE: u64 = 16;
-
 /// How many stretches are served at most: more than ever come.
 const MAX_STRETCHES: u64 = u64::MAX;
 
@@ -117,14 +114,12 @@ where
     }
 }
 
-/// Serves a stretch of a connection, in which another request is asked for so many times. If it waits for its next request then, it is
-/// kept.
+/// Serves a stretch of a connection. If it waits for its next request then, it is kept.
 fn serve_stretch<S, H, W, C>(
     clock: &C,
     buffers: &mut Buffers,
     room: &mut Room<S>,
     connection: Kept<S>,
-    asks: u64,
     handler: &mut H,
     log: &mut W,
 )
@@ -135,6 +130,7 @@ where
     C: Clock,
     ensures { (outcome : Result Served ServeFault) × ((first : Bool) → CameTo H.replies H.fails outcome handler.old (unknown_stream first outcome) handler.new) }
 {
+    let asks = room.asks_for(&connection);
     let Kept {
         stream,
         number,
@@ -189,29 +185,11 @@ where
             Found::New(stream) => {
                 begun += 1;
                 prepare(&stream);
-                let asks = if room.is_empty() { ASKS_ALONE } else { 0 };
                 let connection = Kept::new(stream, begun);
-                serve_stretch(
-                    clock,
-                    &mut buffers,
-                    &mut room,
-                    connection,
-                    asks,
-                    handler,
-                    log,
-                );
+                serve_stretch(clock, &mut buffers, &mut room, connection, handler, log);
             }
             Found::Kept(connection) => {
-                let asks = if room.is_empty() { ASKS_ALONE } else { 1 };
-                serve_stretch(
-                    clock,
-                    &mut buffers,
-                    &mut room,
-                    connection,
-                    asks,
-                    handler,
-                    log,
-                );
+                serve_stretch(clock, &mut buffers, &mut room, connection, handler, log);
             }
             Found::Nothing => {}
             Found::Over => break,

@@ -33,6 +33,13 @@ pub(crate) enum Found<S> {
     Over,
 }
 
+/// How many times a connection is asked for another request before others are looked for, while no other is kept, or while it alone has
+/// asked for a while.
+const ASKS_ALONE: u64 = 16;
+
+/// So many stretches in a row are of one connection where it alone has asked for a while.
+const IN_A_ROW: u64 = 8;
+
 /// The connections that wait for their next request.
 #[derive(Drop)]
 pub(crate) struct Room<S> {
@@ -42,6 +49,9 @@ pub(crate) struct Room<S> {
     lingering: Vec<S>,
     /// Whether a connection can be accepted.
     comes: bool,
+    /// Which connection was served last, and how many stretches in a row are its own.
+    last: u64,
+    in_a_row: u64,
 }
 
 impl<S> Room<S> {
@@ -51,12 +61,32 @@ impl<S> Room<S> {
             kept: Vec::new(alloc),
             lingering: Vec::new(alloc),
             comes: false,
+            last: 0,
+            in_a_row: 0,
         }
     }
 
     /// Whether no connection waits.
     pub(crate) fn is_empty(&self) -> bool {
         self.kept.is_empty()
+    }
+
+    /// How many times the connection that is served next is asked for another request. Where others wait, it was ready for one, if it
+    /// was kept, and it isn't asked at all if it is new.
+    pub(crate) fn asks_for(&mut self, connection: &Kept<S>) -> u64 {
+        if connection.number == self.last {
+            self.in_a_row = self.in_a_row.saturating_add(1);
+        } else {
+            self.in_a_row = 0;
+        }
+        self.last = connection.number;
+        if self.kept.is_empty() || self.in_a_row >= IN_A_ROW {
+            ASKS_ALONE
+        } else if connection.ready {
+            1
+        } else {
+            0
+        }
     }
 
     /// Takes the first connection whose stream has something.

@@ -196,6 +196,12 @@ const ASKS: Round = Round::Bytes(GET);
 /// A stream with one request.
 const ONE: &[Round] = &[ASKS];
 
+/// One that is silent.
+const SILENT: &[Round] = &[Round::Nothing];
+
+/// One with many.
+const MANY: &[Round] = &[ASKS; 30];
+
 /// One with two.
 const TWO: &[Round] = &[ASKS, ASKS];
 
@@ -226,6 +232,18 @@ fn a_busy_connection_gives_way(rt: HostRuntime) -> Result<(), Fail> {
     let waits = [Waited::Comes, Waited::Ready(&[2]), Waited::Ready(&[2])];
     let outcome = serve_all(&rt, 2, &[Some(busy.as_slice()), Some(ONE)], &waits);
     let lines = "connection 2: 1 requests, closed\nconnection 1: 16 requests, closed\n";
+    assert_eq!(rt; outcome.log.as_slice(), lines.as_bytes());
+    assert_eq!(rt; outcome.ended, Ok(()));
+    Ok(())
+}
+
+/// A connection that alone asks for a while, beside a silent one, is asked sixteen times before others are looked for.
+#[test]
+fn one_that_alone_asks_is_asked_more_often(rt: HostRuntime) -> Result<(), Fail> {
+    let mut waits = [Waited::Ready(&[2]); 9];
+    waits[0] = Waited::Comes;
+    let outcome = serve_all(&rt, 2, &[Some(SILENT), Some(MANY)], &waits);
+    let lines = "connection 1: 0 requests, closed\nconnection 2: 23 requests, closed\n";
     assert_eq!(rt; outcome.log.as_slice(), lines.as_bytes());
     assert_eq!(rt; outcome.ended, Ok(()));
     Ok(())
