@@ -1,6 +1,7 @@
 """The part `direct` of run.py: clients that keep several connections open, straight to the server's port."""
 import http.client
 import json
+import os
 import re
 import shutil
 import socket
@@ -103,6 +104,37 @@ def direct(cases, folder):
             cases.show("direct: and has its whole reply", whole.startswith(b"HTTP/1.1 200 ") and whole.endswith(b"]}"), True)
         idle_ones(cases, server, alone)
         too_many(cases, server, alone)
+    broken_and_busy(cases, folder)
+
+
+def broken_and_busy(cases, folder):
+    """A disk whose syncs fail, by strace, while a kept connection asks without a pause: the process ends all the same."""
+    if not shutil.which("strace"):
+        cases.say("direct: no strace: no sync fails")
+        return
+    failing = ["strace", "-o", os.path.join(folder, "calls"), "-e", "trace=fdatasync", "-e", "inject=fdatasync:error=EIO:when=6+"]
+    with Server(folder, "busy", more=["--stop-when-broken"], under=failing) as server:
+        busy = threading.Thread(target=ask_until_ended, args=(server.port,))
+        busy.start()
+        replies = [status_of(curl(f"{server.url}/features/{number}", "-X", "PUT", body=feature())) for number in range(1, 5)]
+        began = time.monotonic()
+        status = server.child.wait(60)
+        seconds = time.monotonic() - began
+        busy.join(60)
+        told = sum(line.startswith("vtserve: Device: sync: ") for line in server.lines())
+        cases.show("direct: a sync that fails is told once", (replies, told), ([200, 200, 200, 500], 1))
+        cases.show("direct: and ends the process with 1, beside a busy connection", (status, seconds < 5 or seconds, busy.is_alive()), (1, True, False))
+
+
+def ask_until_ended(port):
+    """Asks for one tile after the other over one connection, until it is ended."""
+    connection = http.client.HTTPConnection("127.0.0.1", port, timeout=60)
+    try:
+        while True:
+            connection.request("GET", TILES[0])
+            connection.getresponse().read()
+    except (http.client.HTTPException, ConnectionError):
+        connection.close()
 
 
 def requests_a_second(server):

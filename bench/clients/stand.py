@@ -70,14 +70,14 @@ def free_port():
 class Server:
     """A process of `serve`, on a disk that is made for it where it isn't there."""
 
-    def __init__(self, folder, name, sectors=4096, connections=4294967295, port=None, more=(), log=None):
+    def __init__(self, folder, name, sectors=4096, connections=4294967295, port=None, more=(), log=None, under=()):
         self.disk = os.path.join(folder, name)
         if not os.path.exists(self.disk):
             subprocess.run([PROGRAM, "format", self.disk, "--sectors", str(sectors)], check=True, stdout=subprocess.DEVNULL)
         self.port = port or free_port()
         self.url = f"http://127.0.0.1:{self.port}"
         self.log = open(log or self.disk + ".log", "w+b")
-        words = [PROGRAM, "serve", self.disk, "--port", str(self.port), "--connections", str(connections), *more]
+        words = [*under, PROGRAM, "serve", self.disk, "--port", str(self.port), "--connections", str(connections), *more]
         self.child = subprocess.Popen(words, stdout=subprocess.PIPE, stderr=self.log)
         self.told = self.child.stdout.readline().decode()
 
