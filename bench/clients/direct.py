@@ -99,7 +99,8 @@ def direct(cases, folder):
             began = time.monotonic()
             content = alone.get(TILES[0])
             waited = time.monotonic() - began
-            cases.show("direct: one that has asked for its end and stays open holds up no other", (content == expected[TILES[0]], waited < 0.3 or waited), (True, True))
+            seen = content == expected[TILES[0]], waited < 0.3 or waited
+            cases.show("direct: one that has asked for its end and stays open holds up no other", seen, (True, True))
             whole = b"".join(iter(lambda: last.recv(65536), b""))
             cases.show("direct: and has its whole reply", whole.startswith(b"HTTP/1.1 200 ") and whole.endswith(b"]}"), True)
         idle_ones(cases, server, alone)
