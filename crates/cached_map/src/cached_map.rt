@@ -12,6 +12,7 @@ ghost use Rattle.tile_cache.specs.Touched.{Mark, Remembers, IsNewest, IsNewestOf
 ghost use Rattle.tile_cache.specs.declared.cached_tiles.Origin.TheVariants.{Cut, Read};
 ghost use Rattle.cached_map.specs.Cached.{with_mark, marks_of, marks_after, WasMap, AreReadRight, KeepsOrNot, MayKeep};
 
+use bytes::Bytes;
 use feature_model::{Change, Feature};
 use feature_store::Store;
 use hilbert_id::TileAt;
@@ -91,18 +92,17 @@ fn make_each(store: &mut Store, touched: &mut TouchGrid, changes: Vec<Change>, n
     }
 }
 
-/// Keeps a copy of the bytes of a tile, if memory is there for it.
-fn keep_copy(
+/// Keeps the bytes of a tile, which it shares with the caller, if memory is there for the entry.
+fn keep_shared(
     kept: &mut TileCache,
-    alloc: Global,
     at: TileAt,
     origin: Origin,
     number: u64,
-    bytes: &[u8],
+    bytes: &Bytes,
 )
     ensures { KeepsOrNot at.z at.x at.y (record { origin = origin; number = number; bytes = bytes.now }) kept.old kept.new }
 {
-    if let Ok(bytes) = Vec::from_slice(alloc, bytes) {
+    if let Ok(bytes) = bytes.clone() {
         let tile = CachedTile {
             origin,
             number,
@@ -212,26 +212,19 @@ impl CachedMap {
     }
 
     /// Keeps the bytes of a tile, if memory is there for it.
-    fn keep(&mut self, at: TileAt, bytes: &[u8])
+    fn keep(&mut self, at: TileAt, bytes: &Bytes)
         requires content { IsTileContent (layers self.old.features at.z at.x at.y) (Some bytes.now) }
         ensures same { self.new ≡ record self.old { kept = self.new.kept } }
         ensures keeps { MayKeep at.z at.x at.y (record { origin = Cut; number = self.old.last; bytes = bytes.now }) self.old.kept self.new.kept }
         ensures reads { AreReadRight self.old.features self.old.touched self.old.last self.old.kept
             → AreReadRight self.new.features self.new.touched self.new.last self.new.kept }
     {
-        keep_copy(
-            &mut self.kept,
-            self.alloc,
-            at,
-            Origin::Cut,
-            self.last,
-            bytes,
-        );
+        keep_shared(&mut self.kept, at, Origin::Cut, self.last, bytes);
     }
 
     /// Keeps the bytes of a tile that were read elsewhere and are those of the map after the edit of this number, if memory is there for
     /// it. Whether they are rests on what they were read from.
-    pub fn keep_read(&mut self, at: TileAt, number: u64, bytes: &[u8])
+    pub fn keep_read(&mut self, at: TileAt, number: u64, bytes: &Bytes)
         ensures same { self.new ≡ record self.old { kept = self.new.kept } }
         ensures keeps { MayKeep at.z at.x at.y (record { origin = Read; number = number; bytes = bytes.now }) self.old.kept self.new.kept }
         ensures reads { (was : FeatureMap) → WasMap self.old.features self.old.touched self.old.last number was
@@ -239,29 +232,30 @@ impl CachedMap {
             → AreReadRight self.old.features self.old.touched self.old.last self.old.kept
             → AreReadRight self.new.features self.new.touched self.new.last self.new.kept }
     {
-        keep_copy(&mut self.kept, self.alloc, at, Origin::Read, number, bytes);
+        keep_shared(&mut self.kept, at, Origin::Read, number, bytes);
     }
 
     /// The bytes of a tile, cut anew.
-    fn cut_tile(&self, at: TileAt) -> Result<Option<Vec<u8>>, AllocError>
-        ensures tile { IfOk result (λ content. IsTileContent (layers self.now.features at.z at.x at.y) (option_map (λ b. b.items) content)) }
+    fn cut_tile(&self, at: TileAt) -> Result<Option<Bytes>, AllocError>
+        ensures tile { IfOk result (λ content. IsTileContent (layers self.now.features at.z at.x at.y) content) }
     {
         let layers = self.store.layers(at)?;
         if layers.len() == 0 {
             return Ok(None);
         }
-        let bytes = write_tile(self.alloc, &layers)?;
-        Ok(Some(bytes))
+        let mut bytes = write_tile(self.alloc, &layers)?;
+        bytes.shrink_to_fit();
+        Ok(Some(Bytes::from_vec(bytes)?))
     }
 
-    /// A copy of the bytes of a tile (Mapbox Vector Tile 2.1) that was made or read before, and that no edit can have touched since, if they
+    /// The bytes of a tile (Mapbox Vector Tile 2.1) that was made or read before, and that no edit can have touched since, if they
     /// are kept; what was read counts only where `reads` is true. The only error is out of memory.
-    pub fn kept(&mut self, at: TileAt, reads: bool) -> Result<Option<Vec<u8>>, AllocError>
+    pub fn kept(&mut self, at: TileAt, reads: bool) -> Result<Option<Bytes>, AllocError>
         ensures tile { (reads ≡ true → AreReadRight self.old.features self.old.touched self.old.last self.old.kept)
-            → IfOk result (λ found. IfSome found (λ bytes. IsTileContent (layers self.old.features at.z at.x at.y) (Some bytes.items))) }
+            → IfOk result (λ found. IfSome found (λ bytes. IsTileContent (layers self.old.features at.z at.x at.y) (Some bytes))) }
         // What is kept and fresh is given.
         ensures given { (newest : ℕ) → IsNewestOf self.old.touched at.z at.x at.y newest
-            → IfOk result (λ found. option_map (λ b. b.items) found ≡ fresh newest reads (kept_at self.old.kept at.z at.x at.y)) }
+            → IfOk result (λ found. found ≡ fresh newest reads (kept_at self.old.kept at.z at.x at.y)) }
         ensures same { self.new ≡ record self.old { kept = self.new.kept } }
         ensures keeps { KeepsSame self.old.kept self.new.kept }
         ensures reads { AreReadRight self.old.features self.old.touched self.old.last self.old.kept
@@ -270,18 +264,18 @@ impl CachedMap {
         let newest = self.newest(at);
         self.kept.promote(at);
         if let Some(bytes) = self.kept.peek(at, newest, reads) {
-            return Ok(Some(Vec::from_slice(self.alloc, bytes)?));
+            return Ok(Some(bytes.clone()?));
         }
         Ok(None)
     }
 
     /// The bytes of a tile, cut anew: none where it shows nothing, so above the greatest zoom too. They are kept where memory is there
     /// for them. The only error is out of memory.
-    pub fn make(&mut self, at: TileAt) -> Result<Option<Vec<u8>>, AllocError>
-        ensures tile { IfOk result (λ content. IsTileContent (layers self.old.features at.z at.x at.y) (option_map (λ b. b.items) content)) }
+    pub fn make(&mut self, at: TileAt) -> Result<Option<Bytes>, AllocError>
+        ensures tile { IfOk result (λ content. IsTileContent (layers self.old.features at.z at.x at.y) content) }
         ensures same { self.new ≡ record self.old { kept = self.new.kept } }
         ensures keeps { IfOk result (λ content. IfSome content (λ bytes.
-            MayKeep at.z at.x at.y (record { origin = Cut; number = self.old.last; bytes = bytes.items }) self.old.kept self.new.kept)) }
+            MayKeep at.z at.x at.y (record { origin = Cut; number = self.old.last; bytes = bytes }) self.old.kept self.new.kept)) }
         ensures reads { AreReadRight self.old.features self.old.touched self.old.last self.old.kept
             → AreReadRight self.new.features self.new.touched self.new.last self.new.kept }
     {

@@ -128,7 +128,8 @@ where
     H: Handler,
     W: Write,
     C: Clock,
-    ensures { (outcome : Result Served ServeFault) × ((first : Bool) → CameTo H.replies H.fails outcome handler.old (unknown_stream first outcome) handler.new) }
+    ensures { (outcome : Result Served ServeFault)
+        × ((first : Bool) → CameTo H.replies H.fails outcome handler.old (unknown_stream first outcome) handler.new) }
 {
     let asks = room.asks_for(&connection);
     let Kept {

@@ -1,7 +1,7 @@
 -- For what answers requests.
 use Rattle.std.proofs.Common.{◌≡◌, List, ℕ, [], refl, ap, length}
 use Rattle.http_serve.specs.declared.replies.Content.{Content}
-use Rattle.http_serve.specs.declared.replies.Content.TheVariants.{Empty, Fixed, Whole, Parts}
+use Rattle.http_serve.specs.declared.replies.Content.TheVariants.{Empty, Fixed, Whole, Shared, Parts}
 use Rattle.http_serve.specs.declared.replies.Reply.{Reply}
 use Rattle.http_serve.specs.Reply.{content_bytes, reply_view, FitsParts, IsReply, InParts}
 
@@ -9,12 +9,14 @@ same_bytes : (content : Content) (parts : List ℕ) → content_bytes parts cont
 same_bytes Empty parts = refl
 same_bytes (Fixed text) parts = refl
 same_bytes (Whole bytes) parts = refl
+same_bytes (Shared bytes) parts = refl
 same_bytes (Parts first size) parts = refl
 
 same_fits : (content : Content) (parts : List ℕ) → FitsParts parts content → FitsParts (content_bytes parts content) content
 same_fits Empty parts fits = tt
 same_fits (Fixed text) parts fits = tt
 same_fits (Whole bytes) parts fits = tt
+same_fits (Shared bytes) parts fits = tt
 same_fits (Parts first size) parts fits = fits
 
 -- what a reply says whose content is read in parts as these bytes
@@ -29,12 +31,14 @@ shown_size : (content : Content) (parts : List ℕ) → InParts content (length 
 shown_size Empty parts = tt
 shown_size (Fixed text) parts = tt
 shown_size (Whole bytes) parts = tt
+shown_size (Shared bytes) parts = tt
 shown_size (Parts first size) parts = refl
 
 fits_none : (content : Content) (parts : List ℕ) → InParts content ⊥ → FitsParts parts content
 fits_none Empty parts none = tt
 fits_none (Fixed text) parts none = tt
 fits_none (Whole bytes) parts none = tt
+fits_none (Shared bytes) parts none = tt
 fits_none (Parts first size) parts none = absurd none
 
 -- what a reply says whose content isn't read in parts
@@ -46,4 +50,5 @@ pub none_in_parts : (content : Content) (fact : Type 0) → InParts content ⊥ 
 none_in_parts Empty fact none = tt
 none_in_parts (Fixed text) fact none = tt
 none_in_parts (Whole bytes) fact none = tt
+none_in_parts (Shared bytes) fact none = tt
 none_in_parts (Parts first size) fact none = absurd none

@@ -6,7 +6,7 @@ use Rattle.std.proofs.Math.Seq.{take-add}
 use Rattle.std.proofs.lemmas.List.{append-nil, drop-drop, drop-take, drop_at, take-take, take_all, take_at, take-append-drop, length-take, length-take-le}
 use Rattle.std.specs.Io.KnownBytes.{Appends}
 use Rattle.http_serve.specs.declared.replies.Content.{Content}
-use Rattle.http_serve.specs.declared.replies.Content.TheVariants.{Empty, Fixed, Whole, Parts}
+use Rattle.http_serve.specs.declared.replies.Content.TheVariants.{Empty, Fixed, Whole, Shared, Parts}
 use Rattle.http_serve.specs.declared.replies.Reply.{Reply}
 use Rattle.http_serve.specs.Parts.{front_content, rest_content, front_bytes, rest_bytes, IsLater, IsReadable, IsCutIn, cut_after}
 use Rattle.http_serve.specs.Reply.{ReplyView, HeadView, head_of, head_view, reply_view, content_bytes, content_size, FitsParts, IsReply, InParts, with_part}
@@ -161,12 +161,14 @@ size_is : (parts : List ℕ) (content : Content) → FitsParts parts content →
 size_is parts Empty fits = refl
 size_is parts (Fixed text) fits = refl
 size_is parts (Whole bytes) fits = refl
+size_is parts (Shared bytes) fits = refl
 size_is parts (Parts first size) fits = sym fits.0
 
 joined : (parts : List ℕ) (content : Content) → FitsParts parts content → front_content content ++ rest_content parts content ≡ content_bytes parts content
 joined parts Empty fits = refl
 joined parts (Fixed text) fits = append-nil text.now
 joined parts (Whole bytes) fits = append-nil bytes.items
+joined parts (Shared bytes) fits = append-nil bytes
 joined parts (Parts first size) fits =
     ap (λ (t : List ℕ). t ++ drop (length first.items) parts) (sym fits.1) ∙ take-append-drop (length first.items) parts
 
@@ -208,12 +210,14 @@ pub in_parts : (content : Content) (A B : Type 0) → (A → B) → InParts cont
 in_parts Empty A B f is = tt
 in_parts (Fixed text) A B f is = tt
 in_parts (Whole bytes) A B f is = tt
+in_parts (Shared bytes) A B f is = tt
 in_parts (Parts first size) A B f is = f is
 
 pub readable : (size : ℕ) (content : Content) (parts : List ℕ) → FitsParts parts content → InParts content (size ≡ length parts) → IsReadable size content
 readable size Empty parts fits is = tt
 readable size (Fixed text) parts fits is = tt
 readable size (Whole bytes) parts fits is = tt
+readable size (Shared bytes) parts fits is = tt
 readable size (Parts first total) parts fits is = (is ∙ fits.0, omega (arith, is, ap length fits.1, length-take (length first.items) parts))
 
 -- the fault reported for a cut is the handler's only if a content is read in parts

@@ -5,7 +5,7 @@ use Rattle.http_serve.specs.declared.connection.ServeFault.TheVariants as ends
 use Rattle.http_serve.specs.declared.contents.SendFault.{SendFault}
 use Rattle.http_serve.specs.declared.contents.SendFault.TheVariants as cuts
 use Rattle.http_serve.specs.declared.replies.Content.{Content}
-use Rattle.http_serve.specs.declared.replies.Content.TheVariants.{Empty, Fixed, Whole, Parts}
+use Rattle.http_serve.specs.declared.replies.Content.TheVariants.{Empty, Fixed, Whole, Shared, Parts}
 use Rattle.http_serve.specs.declared.replies.Reply.{Reply}
 use Rattle.http_serve.specs.Reply.{ReplyView, InParts, head_view, content_size, has_no_content, reply_head}
 
@@ -14,6 +14,7 @@ abbrev pub front_content : Content → List ℕ
 front_content Empty = []
 front_content (Fixed text) = text.now
 front_content (Whole bytes) = bytes.items
+front_content (Shared bytes) = bytes
 front_content (Parts first size) = first.items
 
 -- the content bytes after the front, if the content is read in parts and its bytes are parts; otherwise none
@@ -21,6 +22,7 @@ abbrev pub rest_content : List ℕ → Content → List ℕ
 rest_content parts Empty = []
 rest_content parts (Fixed text) = []
 rest_content parts (Whole bytes) = []
+rest_content parts (Shared bytes) = []
 rest_content parts (Parts first size) = drop (length first.items) parts
 
 -- the head of a reply, and the content that it holds

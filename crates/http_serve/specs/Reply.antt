@@ -11,7 +11,7 @@ use Rattle.http_serve.specs.declared.refusals.Refusal.{Refusal}
 use Rattle.http_serve.specs.declared.refusals.Refusal.TheVariants.{Head, Host, Coding, Expect, Length, Body, Short}
 use Rattle.http_serve.specs.declared.replies.TheConstants.{MAX_WORD}
 use Rattle.http_serve.specs.declared.replies.Content.{Content}
-use Rattle.http_serve.specs.declared.replies.Content.TheVariants.{Empty, Fixed, Whole, Parts}
+use Rattle.http_serve.specs.declared.replies.Content.TheVariants.{Empty, Fixed, Whole, Shared, Parts}
 use Rattle.http_serve.specs.declared.replies.ContentRange.{ContentRange}
 use Rattle.http_serve.specs.declared.replies.ContentRange.TheVariants.{Part, Unsatisfied}
 use Rattle.http_serve.specs.declared.replies.Reply.{Reply}
@@ -46,6 +46,7 @@ abbrev pub content_bytes : List ℕ → Content → List ℕ
 content_bytes parts Empty = []
 content_bytes parts (Fixed text) = text.now
 content_bytes parts (Whole bytes) = bytes.items
+content_bytes parts (Shared bytes) = bytes
 content_bytes parts (Parts first size) = parts
 
 -- the declared length of a content
@@ -53,6 +54,7 @@ abbrev pub content_size : Content → ℕ
 content_size Empty = 0
 content_size (Fixed text) = length text.now
 content_size (Whole bytes) = length bytes.items
+content_size (Shared bytes) = length bytes
 content_size (Parts first size) = size
 
 -- a content that is read in parts has its declared length and begins with its declared first bytes
@@ -60,6 +62,7 @@ abbrev pub FitsParts : List ℕ → Content → Type 0
 FitsParts parts Empty = ⊤
 FitsParts parts (Fixed text) = ⊤
 FitsParts parts (Whole bytes) = ⊤
+FitsParts parts (Shared bytes) = ⊤
 FitsParts parts (Parts first size) = (length parts ≡ size) × (take (length first.items) parts ≡ first.items)
 
 -- what a reply says; if its content is read in parts, it is these bytes
@@ -95,6 +98,7 @@ abbrev pub InParts : Content → Type 0 → Type 0
 InParts Empty fact = ⊤
 InParts (Fixed text) fact = ⊤
 InParts (Whole bytes) fact = ⊤
+InParts (Shared bytes) fact = ⊤
 InParts (Parts first size) fact = fact
 
 -- a reply that can be written, and whose content isn't read in parts

@@ -10,6 +10,7 @@ ghost use Rattle.http_serve.specs.declared.replies.TheConstants.{MAX_WORD};
 
 use crate::status;
 use crate::writes::{WriteFault, send_all, send_both};
+use bytes::Bytes;
 use decimal_number::{push_number, push_text};
 use status_phrase::phrase_of;
 use std::io::Write;
@@ -26,6 +27,8 @@ pub enum Content {
     Fixed(&'static [u8]),
     /// Owned bytes.
     Whole(Vec<u8>),
+    /// Bytes that others may hold as well, such as a cache.
+    Shared(Bytes),
     /// `length` bytes that begin with `first`. The rest is read by `Handler::read_content`.
     Parts { first: Vec<u8>, length: u64 },
 }
@@ -39,6 +42,7 @@ impl Content {
             Content::Empty => b"",
             Content::Fixed(text) => text,
             Content::Whole(bytes) => bytes.as_slice(),
+            Content::Shared(bytes) => bytes.as_slice(),
             Content::Parts { first, .. } => first.as_slice(),
         }
     }

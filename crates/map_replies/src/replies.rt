@@ -11,6 +11,7 @@ ghost use Rattle.map_replies.specs.Words.{text_type, json_type, tile_type};
 ghost use Rattle.map_replies.specs.declared.replies.TheConstants.{MAX_TEXT};
 
 use crate::fault::RequestFault;
+use bytes::Bytes;
 use decimal_number::{MAX_DIGITS, push_number, push_text};
 use feature_model::EditFault;
 use http_serve::{Content, Reply, status};
@@ -322,32 +323,35 @@ fn format_type(format: TileFormat) -> &'static str
 }
 
 /// The bytes of a tile as they are sent.
-fn format_content(alloc: Global, format: TileFormat, bytes: Vec<u8>) -> Result<Vec<u8>, AllocError>
-    ensures { IfOk result (λ content. content.items ≡ format_content format bytes.items) }
+fn format_content(alloc: Global, format: TileFormat, bytes: Bytes) -> Result<Content, AllocError>
+    ensures content { IfOk result (λ content. content_bytes [] content ≡ format_content format bytes) }
+    ensures whole { IfOk result (λ content. InParts content ⊥) }
 {
     match format {
-        TileFormat::Mvt => Ok(bytes),
-        TileFormat::Hex => Ok(hex::encode(alloc, bytes.as_slice())?.into_bytes()),
+        TileFormat::Mvt => Ok(Content::Shared(bytes)),
+        TileFormat::Hex => Ok(Content::Whole(
+            hex::encode(alloc, bytes.as_slice())?.into_bytes(),
+        )),
     }
 }
 
 /// The reply with the bytes of a tile.
-fn some_tile(alloc: Global, format: TileFormat, bytes: Vec<u8>) -> Result<Reply, AllocError>
-    ensures reply { IfOk result (λ reply. reply_view [] reply ≡ tile_reply format bytes.items) }
+fn some_tile(alloc: Global, format: TileFormat, bytes: Bytes) -> Result<Reply, AllocError>
+    ensures reply { IfOk result (λ reply. reply_view [] reply ≡ tile_reply format bytes) }
     ensures writable { IfOk result IsWhole }
 {
     let kind = format_type(format);
     let content = format_content(alloc, format, bytes)?;
-    Ok(Reply::plain(status::OK, Some(kind), Content::Whole(content)))
+    Ok(Reply::plain(status::OK, Some(kind), content))
 }
 
 /// The reply with a tile, or 204 if the tile is empty.
 pub(crate) fn tile(
     alloc: Global,
     format: TileFormat,
-    content: Option<Vec<u8>>,
+    content: Option<Bytes>,
 ) -> Result<Reply, AllocError>
-    ensures reply { IfOk result (λ reply. reply_view [] reply ≡ content_reply format (option_map (λ bytes. bytes.items) content)) }
+    ensures reply { IfOk result (λ reply. reply_view [] reply ≡ content_reply format content) }
     ensures writable { IfOk result IsWhole }
 {
     match content {

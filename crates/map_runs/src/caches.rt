@@ -1,5 +1,6 @@
 //! Lines over the newest edits of the world's cells, and over tiles that are kept.
 use crate::lines::{Line, byte};
+use bytes::Bytes;
 use feature_model::WorldBox;
 use hilbert_id::TileAt;
 use script_bytes::short;
@@ -42,7 +43,7 @@ impl Caches {
         number: u64,
         first: u64,
     ) -> Result<String, AllocError> {
-        let bytes = Vec::from_array(alloc, [byte(first), 1, 2])?;
+        let bytes = Bytes::copy_from_slice(alloc, &[byte(first), 1, 2])?;
         let tile = CachedTile {
             origin: Origin::Cut,
             number,
@@ -56,7 +57,7 @@ impl Caches {
     fn held(&mut self, alloc: Global, at: TileAt, newest: u64) -> Result<String, AllocError> {
         self.cache.promote(at);
         match self.cache.peek(at, newest, false) {
-            Some(bytes) => hex::encode(alloc, bytes),
+            Some(bytes) => hex::encode(alloc, bytes.as_slice()),
             None => String::from_str(alloc, "none"),
         }
     }

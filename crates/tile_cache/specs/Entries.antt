@@ -7,12 +7,12 @@ use Rattle.tile_cache.specs.Kept.{IsSmall}
 
 -- how many bytes the tiles of these entries have together
 abbrev pub bytes_of : List (TileKey × CachedTile) → ℕ
-bytes_of es = sum_by (λ e. length e.1.bytes.items) es
+bytes_of es = sum_by (λ e. length e.1.bytes) es
 
 -- there is a first tile, and it is small
 abbrev pub IsFirstSmall : List (TileKey × CachedTile) → Type 0
 IsFirstSmall [] = ⊥
-IsFirstSmall (e ∷ es) = IsSmall e.1.bytes.items
+IsFirstSmall (e ∷ es) = IsSmall e.1.bytes
 
 -- the entries at the front stay, at least the first
 pub record IsFront (old new : LruCache TileKey CachedTile) : Type 0 where

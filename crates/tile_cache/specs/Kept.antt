@@ -14,7 +14,7 @@ pub record TileView : Type 0 where
   pub bytes : List ℕ
 
 abbrev pub tile_view : CachedTile → TileView
-tile_view k = record { origin = k.origin; number = k.number; bytes = k.bytes.items }
+tile_view k = record { origin = k.origin; number = k.number; bytes = k.bytes }
 
 -- what contracts see of a cache: what it keeps for each place, that which was asked for last first
 pub record CacheView : Type 0 where

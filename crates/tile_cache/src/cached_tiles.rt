@@ -4,6 +4,7 @@ ghost use Rattle.lru.specs.LruCache.{lru_cache, put_entries};
 ghost use Rattle.tile_cache.specs.Kept.{counts, is_place, IsSmall};
 ghost use Rattle.tile_cache.specs.Entries.{bytes_of, IsFirstSmall, IsFront};
 
+use bytes::Bytes;
 use hilbert_id::TileAt;
 use lru::LruCache;
 use std::alloc::{AllocError, Global};
@@ -36,12 +37,12 @@ pub enum Origin {
     Read,
 }
 
-/// The bytes of a tile, and the number of the edit as of which they are right.
+/// The bytes of a tile, shared with whoever asked for it, and the number of the edit as of which they are right.
 #[derive(Debug, Drop)]
 pub struct CachedTile {
     pub origin: Origin,
     pub number: u64,
-    pub bytes: Vec<u8>,
+    pub bytes: Bytes,
 }
 
 /// Tiles made or read before, by their place: at most `MAX_CACHED_TILES`, and at most `MAX_CACHED_BYTES` bytes.
@@ -87,7 +88,7 @@ fn counts(origin: Origin, reads: bool) -> bool
 
 /// How many bytes the tile that gave way had, if one did.
 fn bytes_freed(displaced: Option<(TileKey, CachedTile)>) -> usize
-    ensures { result ≡ option_map_or (λ e. length e.1.bytes.items) displaced 0 }
+    ensures { result ≡ option_map_or (λ e. length e.1.bytes) displaced 0 }
 {
     match displaced {
         Some((_, tile)) => tile.bytes.len(),
@@ -105,10 +106,10 @@ fn put_first(
     requires count { bytes ≡ bytes_of tiles.old.entries }
     requires cap { length tiles.old.entries ≤ tiles.old.cap }
     requires most { bytes ≤ MAX_CACHED_BYTES }
-    requires small { IsSmall tile.bytes.items }
+    requires small { IsSmall tile.bytes }
     ensures entries { OnOk result (tiles.new ≡ lru_cache (put_entries is_place tiles.old place tile) tiles.old.cap) }
     ensures count { IfOk result (λ n. n ≡ bytes_of tiles.new.entries) }
-    ensures most { IfOk result (λ n. n ≤ bytes + length tile.bytes.items) }
+    ensures most { IfOk result (λ n. n ≤ bytes + length tile.bytes) }
     ensures refused { OnErr result (tiles.new ≡ tiles.old) }
 {
     let size = tile.bytes.len();
@@ -156,7 +157,7 @@ impl TileCache {
     }
 
     /// The bytes kept for a place, if they are right as of the edit `newest` or a later one, and were cut where `reads` is false.
-    pub fn peek(&self, at: TileAt, newest: u64, reads: bool) -> Option<&[u8]>
+    pub fn peek(&self, at: TileAt, newest: u64, reads: bool) -> Option<&Bytes>
         ensures { option_map (λ b. b.now) result ≡ fresh newest reads (kept_at self.now at.z at.x at.y) }
     {
         let place = place_of(at);
@@ -178,11 +179,11 @@ impl TileCache {
     ///
     /// The error: an allocation failed, and all is kept as it was.
     pub fn keep(&mut self, at: TileAt, tile: CachedTile) -> Result<(), AllocError>
-        ensures kept { OnOk result (IsSmall tile.bytes.items → kept_at self.new at.z at.x at.y ≡ Some (tile_view tile)) }
-        ensures large { ¬ IsSmall tile.bytes.items → self.new ≡ self.old }
+        ensures kept { OnOk result (IsSmall tile.bytes → kept_at self.new at.z at.x at.y ≡ Some (tile_view tile)) }
+        ensures large { ¬ IsSmall tile.bytes → self.new ≡ self.old }
         ensures others { OnOk result (KeepsFewer at.z at.x at.y self.old self.new) }
         // Nothing gives way while there is room.
-        ensures room { length self.old.kept < MAX_CACHED_TILES → bytes_in self.old + length tile.bytes.items ≤ MAX_CACHED_BYTES
+        ensures room { length self.old.kept < MAX_CACHED_TILES → bytes_in self.old + length tile.bytes ≤ MAX_CACHED_BYTES
             → OnOk result (KeepsOthers at.z at.x at.y self.old self.new) }
         ensures most_tiles { length self.new.kept ≤ MAX_CACHED_TILES }
         ensures most_bytes { bytes_in self.new ≤ MAX_CACHED_BYTES }

@@ -23,6 +23,7 @@ pub mod Publishes
 mod Replays
 mod Roots
 pub mod Runs
+mod Shared
 mod Shown
 mod Steps
 mod Tellings

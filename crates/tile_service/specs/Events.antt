@@ -21,7 +21,7 @@ Tells version (events.Batch changes) (answers.Edited number) happening =
     happening ≡ edit batched (recorded_in version (map change_data changes.items)) (Ok number)
 Tells version (events.Batch changes) (answers.Refused fault) happening =
     happening ≡ edit batched (recorded_in version (map change_data changes.items)) (Err fault)
-Tells version (events.Tile at) (answers.Tile content) happening = happening ≡ tile at.z at.x at.y (got (option_map (λ bytes. bytes.items) content))
+Tells version (events.Tile at) (answers.Tile content) happening = happening ≡ tile at.z at.x at.y (got content)
 Tells version (events.Tile at) (answers.Refused fault) happening = (fault ≡ Memory) × (happening ≡ tile at.z at.x at.y no_memory)
 Tells version (events.Look id) (answers.Look feature) happening = happening ≡ look id (got (option_map feature_data feature))
 Tells version (events.Look id) (answers.Refused fault) happening = (fault ≡ Memory) × (happening ≡ look id no_memory)

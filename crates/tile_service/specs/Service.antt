@@ -20,6 +20,8 @@ use Rattle.edit_journal.specs.declared.sizes.TheConstants.{PART_BYTES}
 use Rattle.cached_map.specs.Cached.{CachedView, AreReadRight}
 use Rattle.area_content.specs.Content.{ContentView, sectors_taken}
 use Rattle.feature_store.specs.Store.{FeatureMap, snapshot}
+use Rattle.pm_archive.specs.declared.fault.ArchiveFault.{ArchiveFault}
+use Rattle.pm_archive.specs.declared.fault.ArchiveFault.TheVariants as archives
 use Rattle.published_tiles.specs.Published.{PublishedView, ArePublished}
 use Rattle.tile_cache.specs.Kept.{CacheView}
 use Rattle.published_tiles.specs.declared.place.ArchivePlace.{ArchivePlace}
@@ -223,9 +225,15 @@ abbrev pub ReadsFrom : List ℕ → Happening → Type 0
 ReadsFrom archive (read at (Some bytes)) = bytes ≡ slice_range archive at (at + length bytes)
 ReadsFrom archive happening = Unit {0}
 
+-- what was read of an archive is shared as it is, unless its fault is reported, or that of an allocation
+abbrev pub IsShared : Result (Option (Vec ℕ Global)) ArchiveFault → Result (Option (List ℕ)) ArchiveFault → Type 0
+IsShared (Ok found) (Ok shared) = shared ≡ option_map (λ bytes. bytes.items) found
+IsShared (Err fault) (Ok shared) = ⊥
+IsShared found (Err fault) = (found ≡ Err fault) ⊎ (fault ≡ archives.Memory)
+
 -- the outcome of a tile
-abbrev pub tile_outcome : Result (Option (Vec ℕ Global)) ServiceFault → OrMemory (Option (List ℕ))
-tile_outcome (Ok content) = got (option_map (λ bytes. bytes.items) content)
+abbrev pub tile_outcome : Result (Option (List ℕ)) ServiceFault → OrMemory (Option (List ℕ))
+tile_outcome (Ok content) = got content
 tile_outcome (Err fault) = no_memory
 
 -- an edit is on the disk, or may be

@@ -1,5 +1,6 @@
 //! Events and their answers.
 use crate::fault::ServiceFault;
+use bytes::Bytes;
 use feature_model::{Change, Feature};
 use hilbert_id::TileAt;
 
@@ -30,7 +31,7 @@ pub enum Answer {
     /// The edit was made, with this number.
     Edited(u64),
     /// The bytes of the tile, or `None` if it is empty.
-    Tile(Option<Vec<u8>>),
+    Tile(Option<Bytes>),
     /// The feature, or `None` if the id has none.
     Look(Option<Feature>),
     /// How much of the publication is left: the sectors to write, and one for the root. With 0 it is installed.

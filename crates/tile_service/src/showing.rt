@@ -15,12 +15,13 @@ ghost use Rattle.tile_cache.specs.Kept.{kept_at, fresh};
 ghost use Rattle.tile_cache.specs.Touched.{IsNewestOf};
 ghost use Rattle.tile_service.specs.Machine.{tile, Happens};
 ghost use Rattle.tile_service.specs.Runs.{IsTrusted};
-ghost use Rattle.tile_service.specs.Service.{Known, IsUp, state_of, tile_outcome};
+ghost use Rattle.tile_service.specs.Service.{Known, IsUp, IsShared, state_of, tile_outcome};
 ghost use Rattle.tile_service.specs.Stored.{Stored};
 ghost use Rattle.tile_service.specs.declared.fault.ServiceFault.TheVariants.{Memory};
 
 use crate::fault::ServiceFault;
 use crate::service::Service;
+use bytes::Bytes;
 use feature_model::Feature;
 use hilbert_id::TileAt;
 use map_metadata::metadata;
@@ -28,6 +29,19 @@ use pm_archive::ArchiveFault;
 use sector_disk::Sectors;
 use serde_json::Value;
 use std::alloc::AllocError;
+
+/// What was read, with bytes that can be shared.
+fn share(found: Result<Option<Vec<u8>>, ArchiveFault>) -> Result<Option<Bytes>, ArchiveFault>
+    ensures { IsShared found result }
+{
+    match found? {
+        Some(bytes) => match Bytes::from_vec(bytes) {
+            Ok(bytes) => Ok(Some(bytes)),
+            Err(_) => Err(ArchiveFault::Memory),
+        },
+        None => Ok(None),
+    }
+}
 
 impl<D: Sectors + Drop> Service<D> {
     /// The feature of an id, after the last acknowledged edit. It is within the limits. It doesn't allocate.
@@ -52,29 +66,29 @@ impl<D: Sectors + Drop> Service<D> {
     /// # Errors
     ///
     /// A read has failed, or an allocation.
-    fn archived_tile(&mut self, at: TileAt) -> Result<Option<Vec<u8>>, ArchiveFault>
+    fn archived_tile(&mut self, at: TileAt) -> Result<Option<Bytes>, ArchiveFault>
         ensures same { self.new ≡ record self.old { disk = self.new.disk; published = self.new.published } }
         ensures disk { OnlyReads D.sectors D.honest D.history self.old.disk self.new.disk }
         ensures never_falls { NeverFalls (D.faults self.old.disk) (D.faults self.new.disk) }
         ensures tile { (stored : Stored) → IsUp (D.sectors self.old.disk) (D.history self.old.disk) stored self.old → D.honest self.new.disk
-            → MatchResult result (λ content. IsTileContent (layers stored.snapshot_map at.z at.x at.y) (option_map (λ b. b.items) content)) IsOutside }
+            → MatchResult result (λ content. IsTileContent (layers stored.snapshot_map at.z at.x at.y) content) IsOutside }
         ensures up { (stored : Stored) → IsUp (D.sectors self.old.disk) (D.history self.old.disk) stored self.old → D.honest self.new.disk
             → IsUp (D.sectors self.new.disk) (D.history self.new.disk) stored self.new }
     {
         let archive = self.archive();
-        self.published.tile(&mut self.disk, archive, at)
+        share(self.published.tile(&mut self.disk, archive, at))
     }
 
     /// The bytes of a tile in the archive, if no edit since can have changed it; `None` if one may have, if the archive can't be read,
     /// or if the service is broken. They are cached.
-    fn published_tile(&mut self, at: TileAt) -> Option<Option<Vec<u8>>>
+    fn published_tile(&mut self, at: TileAt) -> Option<Option<Bytes>>
         ensures same { self.new ≡ record self.old { disk = self.new.disk; published = self.new.published; kept = self.new.kept } }
         ensures disk { OnlyReads D.sectors D.honest D.history self.old.disk self.new.disk }
         ensures never_falls { NeverFalls (D.faults self.old.disk) (D.faults self.new.disk) }
         ensures untouched { self.old.broken ≡ true → self.new.disk ≡ self.old.disk }
         ensures unbroken { IfSome result (λ content. self.old.broken ≡ false) }
         ensures tile { (stored : Stored) → IsUp (D.sectors self.old.disk) (D.history self.old.disk) stored self.old → D.honest self.new.disk
-            → IfSome result (λ content. IsTileContent (layers self.old.features at.z at.x at.y) (option_map (λ b. b.items) content)) }
+            → IfSome result (λ content. IsTileContent (layers self.old.features at.z at.x at.y) content) }
         ensures up { (stored : Stored) → IsUp (D.sectors self.old.disk) (D.history self.old.disk) stored self.old → D.honest self.new.disk
             → IsUp (D.sectors self.new.disk) (D.history self.new.disk) stored self.new }
     {
@@ -96,10 +110,10 @@ impl<D: Sectors + Drop> Service<D> {
     }
 
     /// The bytes of a tile (Mapbox Vector Tile 2.1), after the last acknowledged edit: `None` if it is empty, so above the greatest
-    /// zoom too. A cached tile that no edit since can have changed is copied; a broken service copies only what it cut itself. Else, if
+    /// zoom too. A cached tile that no edit since can have changed is shared; a broken service shares only what it cut itself. Else, if
     /// no edit since the publication can have changed the tile, it is read from the archive. Else, or if that read fails, it is
     /// generated from the map. What was read or generated is cached. The only error is `Memory`.
-    pub fn tile(&mut self, at: TileAt) -> Result<Option<Vec<u8>>, ServiceFault>
+    pub fn tile(&mut self, at: TileAt) -> Result<Option<Bytes>, ServiceFault>
         ensures machine { (known : Known) → Happens (IsTrusted D.sectors D.honest D.history self.old self.new)
             (state_of known self.old) (tile at.z at.x at.y (tile_outcome result)) (state_of known self.new) }
         ensures fault { IfErr result (λ fault. fault ≡ Memory) }
@@ -107,10 +121,10 @@ impl<D: Sectors + Drop> Service<D> {
         ensures disk { OnlyReads D.sectors D.honest D.history self.old.disk self.new.disk }
         ensures never_falls { NeverFalls (D.faults self.old.disk) (D.faults self.new.disk) }
         ensures untouched { self.old.broken ≡ true → self.new.disk ≡ self.old.disk }
-        // What is cached and fresh is copied, and the disk isn't read.
+        // What is cached and fresh is given, and the disk isn't read.
         ensures cached { (newest : ℕ) (bytes : List ℕ) → IsNewestOf self.old.touched at.z at.x at.y newest
             → fresh newest (not self.old.broken) (kept_at self.old.kept at.z at.x at.y) ≡ Some bytes
-            → (self.new.disk ≡ self.old.disk) × IfOk result (λ content. option_map (λ b. b.items) content ≡ Some bytes) }
+            → (self.new.disk ≡ self.old.disk) × IfOk result (λ content. content ≡ Some bytes) }
         ensures up { (stored : Stored) → IsUp (D.sectors self.old.disk) (D.history self.old.disk) stored self.old → D.honest self.new.disk
             → IsUp (D.sectors self.new.disk) (D.history self.new.disk) stored self.new }
     {

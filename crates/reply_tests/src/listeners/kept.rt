@@ -225,6 +225,17 @@ fn kept_connections_take_turns(rt: HostRuntime) -> Result<(), Fail> {
     Ok(())
 }
 
+/// Of those that have something the one that waits longest is served first.
+#[test]
+fn the_one_that_waits_longest_is_first(rt: HostRuntime) -> Result<(), Fail> {
+    let waits = [Waited::Comes, Waited::Ready(&[2]), Waited::Ready(&[1, 2])];
+    let outcome = serve_all(&rt, 2, &[Some(SILENT), Some(ONE)], &waits);
+    let lines = "connection 1: 0 requests, closed\nconnection 2: 1 requests, closed\n";
+    assert_eq!(rt; outcome.log.as_slice(), lines.as_bytes());
+    assert_eq!(rt; outcome.ended, Ok(()));
+    Ok(())
+}
+
 /// A connection that asks again and again is kept after sixteen requests, for another one that comes.
 #[test]
 fn a_busy_connection_gives_way(rt: HostRuntime) -> Result<(), Fail> {
@@ -269,7 +280,7 @@ fn half_a_request_is_waited_for(rt: HostRuntime) -> Result<(), Fail> {
 #[test]
 fn a_connection_is_kept_for_a_minute(rt: HostRuntime) -> Result<(), Fail> {
     let silent = [ASKS, Round::Nothing, ASKS];
-    let waits = [Waited::Passes];
+    let waits = [Waited::Passes, Waited::Ready(&[1])];
     let outcome = serve_all(&rt, 2, &[Some(silent.as_slice()), Some(ONE)], &waits);
     let lines = "connection 1: 1 requests, closed\nconnection 2: 1 requests, closed\n";
     assert_eq!(rt; outcome.log.as_slice(), lines.as_bytes());

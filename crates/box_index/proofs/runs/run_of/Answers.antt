@@ -1,4 +1,4 @@
-use Rattle.std.proofs.Common.{◌≡◌, ◌*◌, ◌-◌, length, take, drop, ◌∙◌, ap, arith}
+use Rattle.std.proofs.Common.{◌*◌, ◌-◌, length, take, drop, ◌∙◌, ap, arith}
 use Rattle.std.proofs.lemmas.List.{length-drop, take_min, take_all}
 use Rattle.box_index.specs.declared.runs.TheConstants.{RUN}
 use Rattle.box_index.proofs.runs.run_of.Goals as goal

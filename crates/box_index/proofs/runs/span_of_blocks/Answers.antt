@@ -1,7 +1,5 @@
-use Rattle.std.proofs.Common.{List, subst, take, get_or, sym}
-use Rattle.std.proofs.lemmas.List.{take_all}
+use Rattle.std.proofs.Common.{subst, take}
 use Rattle.std.proofs.lemmas.List.Elements.{All-more, All-weaker}
-use Rattle.box_index.specs.declared.entry.IndexEntry.{IndexEntry}
 use Rattle.box_index.specs.Covers.{CoversAll}
 use Rattle.box_index.proofs.Covers.{covers_all_part}
 use Rattle.box_index.proofs.runs.span_of_blocks.Goals as goal

@@ -9,7 +9,7 @@ pub returns-in-Some-clause-tile : goal.returns-in-Some-clause-tile
 returns-in-Some-clause-tile c =
     let at = c.args.at in let inside = c.self.inside in let kept = c.promote.new.self in
     rw (← c.self.view_is)
-    (λ read. subst (λ b. IsTileContent (layers inside.store.features at.z at.x at.y) (Some b)) (sym c.in_ok-from_slice.ensures.items)
+    (λ read. subst (λ b. IsTileContent (layers inside.store.features at.z at.x at.y) (Some b)) (sym c.in_ok-clone.ensures.cases)
     (found_is inside.store.features inside.touched inside.last kept at.z at.x at.y c.newest-newest.result c.args.reads c.in-Some.bytes.now
     (same_kept Cut inside.store.features inside.touched inside.last inside.kept kept c.promote.ensures c.self.invariant)
     (λ counted. same_kept Read inside.store.features inside.touched inside.last inside.kept kept c.promote.ensures (read counted))
@@ -20,8 +20,8 @@ returns-in-Some-clause-given c =
     let at = c.args.at in let inside = c.self.inside in
     rw (← c.self.view_is)
     (λ newest is. fresh_same inside.touched inside.kept c.promote.new.self at.z at.x at.y c.newest-newest.result newest c.args.reads
-    (Some c.in_ok-from_slice.field-0.items) c.promote.ensures (rw (← c.self.view_is) at c.newest-newest.ensures.of_cells) is
-    (ap Some c.in_ok-from_slice.ensures.items ∙ c.in-Some.ensures))
+    (Some c.in_ok-clone.field-0) c.promote.ensures (rw (← c.self.view_is) at c.newest-newest.ensures.of_cells) is
+    (ap Some c.in_ok-clone.ensures.cases ∙ c.in-Some.ensures))
 
 pub invariant_of-self : goal.invariant_of-self
 invariant_of-self c =
@@ -38,8 +38,8 @@ invariant_of-self-2 c =
     let inside = c.self.inside in
     same_kept Cut inside.store.features inside.touched inside.last inside.kept c.promote.new.self c.promote.ensures c.self.invariant
 
-pub returns-in_err-from_slice-clause-reads : goal.returns-in_err-from_slice-clause-reads
-returns-in_err-from_slice-clause-reads c =
+pub returns-in_err-clone-clause-reads : goal.returns-in_err-clone-clause-reads
+returns-in_err-clone-clause-reads c =
     let inside = c.self.inside in
     rw (← c.self.view_is) (same_kept Read inside.store.features inside.touched inside.last inside.kept c.promote.new.self c.promote.ensures)
 

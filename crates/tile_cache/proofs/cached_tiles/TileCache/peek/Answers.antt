@@ -25,7 +25,7 @@ returns-else-not-counts c =
     let kept : kept_at c.args.self.now c.args.at.z c.args.at.x c.args.at.y ≡ Some (tile_view c.in-Some.kept.now) =
     subst (λ (v : CacheView). kept_at v c.args.at.z c.args.at.x c.args.at.y ≡ Some (tile_view c.in-Some.kept.now)) c.self.view_is
     (rw c.place_of-place.ensures at found) in
-    rw (c.deref.ensures.value, kept)
+    rw kept
     (current c.args.newest c.args.reads c.in-Some.kept.now (sym c.counts.ensures ∙ c.if-not-counts.false) c.if-kept-newest.false)
 
 pub returns-in-None : goal.returns-in-None

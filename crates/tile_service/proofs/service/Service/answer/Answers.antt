@@ -61,7 +61,7 @@ returns-in-Batch-clause-failed g c =
 
 pub returns-in-Ok-clause-takes : goal.returns-in-Ok-clause-takes
 returns-in-Ok-clause-takes g c = (
-  tile c.in-Tile.at.z c.in-Tile.at.x c.in-Tile.at.y (got (option_map (λ bytes. bytes.items) c.in-Ok.content)),
+  tile c.in-Tile.at.z c.in-Tile.at.x c.in-Tile.at.y (got c.in-Ok.content),
   told_step c.args.self.now.version _ c.in-Tile.is refl refl,
   tile_step g.D.Sectors.sectors g.D.Sectors.honest g.D.Sectors.history _ _ c.tile.ensures.same c.tile.ensures.disk
       c.tile.ensures.untouched c.tile.ensures.up c.in-Tile.at.z c.in-Tile.at.x c.in-Tile.at.y _ c.in-Ok.ensures.machine,

@@ -11,7 +11,7 @@ use Rattle.tile_service.proofs.service.Service.tile.Goals as goal
 pub returns-in-Ok-Some-clause-cached : goal.returns-in-Ok-Some-clause-cached
 returns-in-Ok-Some-clause-cached g c = rw (← c.self.view_is) (λ newest bytes is given. (
   refl,
-  ap (λ found. option_map (λ b. b.items) found) (sym c.in-Ok-Some.field-0-is) ∙ c.in-Ok-Some.ensures.given newest is ∙ given,
+  sym c.in-Ok-Some.field-0-is ∙ c.in-Ok-Some.ensures.given newest is ∙ given,
 ))
 
 pub returns-in-Ok-Some-clause-up : goal.returns-in-Ok-Some-clause-up
@@ -35,14 +35,14 @@ returns-in-Some-clause-machine g c = rw (← c.self.view_is) (λ known. (
       let at = c.args.at in
       let up = up_cached _ _ is.1.0 _ _ is.1.1 c.self.inside.map c.kept.new.self
       (record { features = refl; touched = refl; last = c.self.invariant.last_is; kept = refl }) c.kept.ensures.same refl c.kept.ensures.reads in
-      subst (λ m. IsTileContent (layers m.features at.z at.x at.y) (option_map (λ b. b.items) c.in-Some.content)) c.kept.ensures.same
+      subst (λ m. IsTileContent (layers m.features at.z at.x at.y) c.in-Some.content) c.kept.ensures.same
       (c.in-Some.ensures.tile is.1.0 up is.0)),
   search rules,
 ))
 
 pub returns-in-Some-clause-cached : goal.returns-in-Some-clause-cached
 returns-in-Some-clause-cached g c = rw (← c.self.view_is) (λ newest bytes is given. absurd (nothing_given bytes
-    (ap (λ found. option_map (λ b. b.items) found) (sym c.in-Ok-None.field-0-is) ∙ c.in-Ok-None.ensures.given newest is ∙ given)))
+    (sym c.in-Ok-None.field-0-is ∙ c.in-Ok-None.ensures.given newest is ∙ given)))
 
 pub returns-in-Some-clause-up : goal.returns-in-Some-clause-up
 returns-in-Some-clause-up g c = rw (← c.self.view_is) (λ stored up honest.
@@ -56,7 +56,7 @@ returns-in-Some-clause-never_falls g c = rw (← c.self.view_is) c.published_til
 
 pub returns-clause-cached : goal.returns-clause-cached
 returns-clause-cached g c = rw (← c.self.view_is) (λ newest bytes is given. absurd (nothing_given bytes
-    (ap (λ found. option_map (λ b. b.items) found) (sym c.in-Ok-None.field-0-is) ∙ c.in-Ok-None.ensures.given newest is ∙ given)))
+    (sym c.in-Ok-None.field-0-is ∙ c.in-Ok-None.ensures.given newest is ∙ given)))
 
 pub returns-clause-up : goal.returns-clause-up
 returns-clause-up g c = rw (← c.self.view_is) (λ stored up honest.
