@@ -77,9 +77,9 @@ covered_put ss new bs i e lt same own wider h =
             | inl is ↦
                 let home : r ≡ i / RUN = omega arith in
                 let old : CoversAll (get_or new r s) (get_or bs i []) =
-                    covers_all_part (get_or new r s) (get_or ss r s) (get_or bs i []) part (h.covered r i s [] (omega arith) (omega arith) lt lt) in
+                covers_all_part (get_or new r s) (get_or ss r s) (get_or bs i []) part (h.covered r i s [] (omega arith) (omega arith) lt lt) in
                 let here : CoversAll (get_or new r s) more =
-                    All-push (λ x. Covers (get_or new r s) x.span) (get_or bs i []) e old (subst (λ j. Covers (get_or new j s) e.span) (sym home) (own s)) in
+                All-push (λ x. Covers (get_or new r s) x.span) (get_or bs i []) e old (subst (λ j. Covers (get_or new j s) e.span) (sym home) (own s)) in
                 subst (λ j. CoversAll (get_or new r s) (get_or (set bs i more) j b)) (sym is)
                 (subst (CoversAll (get_or new r s)) (sym (get_or-set_same bs i more b lt)) here)
             | inr other ↦
@@ -97,7 +97,7 @@ covered_less n ss bs i less e lt taken h = λ r k s b first last below within.
       | inl is ↦
           let old : CoversAll (get_or ss r s) (get_or bs i []) = h r i s [] (omega arith) (omega arith) (omega arith) lt in
           let here : CoversAll (get_or ss r s) less =
-              All-tail (λ x. Covers (get_or ss r s) x.span) e less (All-permutation (λ x. Covers (get_or ss r s) x.span) (get_or bs i []) (e ∷ less) taken old) in
+          All-tail (λ x. Covers (get_or ss r s) x.span) e less (All-permutation (λ x. Covers (get_or ss r s) x.span) (get_or bs i []) (e ∷ less) taken old) in
           subst (λ j. CoversAll (get_or ss r s) (get_or (set bs i less) j b)) (sym is)
           (subst (CoversAll (get_or ss r s)) (sym (get_or-set_same bs i less b lt)) here)
       | inr other ↦ subst (CoversAll (get_or ss r s)) (sym (get_or-set_other bs i k less b other)) (h r k s b first last below near)
@@ -124,7 +124,7 @@ covered_push ss bs last_run wide len all h = λ r k s b first last below within.
           let short : j < RUN = omega (arith, len, here, first, last) in
           let back : last_run * RUN + j ≡ k = omega (arith, len, here, first) in
           let inside : j < length (take RUN (drop (last_run * RUN) bs)) =
-              omega (arith, within, back, short, length-take RUN (drop (last_run * RUN) bs), length-drop (last_run * RUN) bs) in
+          omega (arith, within, back, short, length-take RUN (drop (last_run * RUN) bs), length-drop (last_run * RUN) bs) in
           subst (λ span. CoversAll span (get_or bs k b)) (sym (get_or_push ss wide s r here))
           (subst (CoversAll wide) (get_or-take RUN (drop (last_run * RUN) bs) j b short ∙ get_or-drop (last_run * RUN) bs j b ∙ ap (λ n. get_or bs n b) back)
           (all j b inside))

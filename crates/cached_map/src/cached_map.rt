@@ -93,13 +93,7 @@ fn make_each(store: &mut Store, touched: &mut TouchGrid, changes: Vec<Change>, n
 }
 
 /// Keeps the bytes of a tile, which it shares with the caller, if memory is there for the entry.
-fn keep_shared(
-    kept: &mut TileCache,
-    at: TileAt,
-    origin: Origin,
-    number: u64,
-    bytes: &Bytes,
-)
+fn keep_shared(kept: &mut TileCache, at: TileAt, origin: Origin, number: u64, bytes: &Bytes)
     ensures { KeepsOrNot at.z at.x at.y (record { origin = origin; number = number; bytes = bytes.now }) kept.old kept.new }
 {
     if let Ok(bytes) = bytes.clone() {

@@ -113,6 +113,7 @@ all_in_parts : (content : Content) (fact : Type 0) → fact → InParts content 
 all_in_parts contents.Empty fact is = tt
 all_in_parts (contents.Fixed text) fact is = tt
 all_in_parts (contents.Whole bytes) fact is = tt
+all_in_parts (contents.Shared bytes) fact is = tt
 all_in_parts (contents.Parts first size) fact is = is
 
 -- ---- parts of an archive

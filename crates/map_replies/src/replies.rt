@@ -329,9 +329,7 @@ fn format_content(alloc: Global, format: TileFormat, bytes: Bytes) -> Result<Con
 {
     match format {
         TileFormat::Mvt => Ok(Content::Shared(bytes)),
-        TileFormat::Hex => Ok(Content::Whole(
-            hex::encode(alloc, bytes.as_slice())?.into_bytes(),
-        )),
+        TileFormat::Hex => Ok(Content::Whole(hex::encode(alloc, bytes.as_slice())?.into_bytes())),
     }
 }
 

@@ -1,5 +1,5 @@
 -- What is read of an archive, and shared.
-use Rattle.std.proofs.Common.{◌≡◌, ℕ, List, Option, Result, Ok, Err, Vec, Global, option_map, inl, inr, sym, subst}
+use Rattle.std.proofs.Common.{ℕ, List, Option, Result, Ok, Err, Vec, Global, option_map, inl, inr, sym, subst}
 use Rattle.std.specs.Prelude.{MatchResult}
 use Rattle.pm_archive.specs.Answers.{IsOutside}
 use Rattle.pm_archive.specs.declared.fault.ArchiveFault.{ArchiveFault}

@@ -1,16 +1,12 @@
 -- The limits of edits, and the lengths of their texts and of those of a map.
-use Rattle.std.proofs.Common.{◌≡◌, inl, inr, ⊎_elim, ℕ, Bool, false, true, cond, ◌<◌, ◌≤◌, ◌+◌, ◌-◌, ◌*◌, ◌^◌, List, [], ◌∷◌, length, take, drop}
+use Rattle.std.proofs.Common.{◌≡◌, inl, inr, ℕ, ◌<◌, ◌≤◌, ◌+◌, ◌-◌, ◌*◌, ◌^◌, List, [], ◌∷◌, length, take, drop}
 use Rattle.std.proofs.Common.{sym, refl, ◌∙◌, ap, subst, arith, lit≤, Some}
 use Rattle.std.proofs.Common.{append-nil, length-append}
-use Rattle.std.specs.Prelude.{Option, None, IsSome, IfSome, option_map}
+use Rattle.std.specs.Prelude.{Option, None, IsSome, IfSome}
 use Rattle.std.specs.List.{All}
-use Rattle.std.specs.Ordering.{nat_cmp}
-use Rattle.std.specs.BTreeMap.{is_at}
-use Rattle.std.specs.Map.{lookup}
-use Rattle.std.proofs.lemmas.Bool.{cases_eq, false≢true}
-use Rattle.std.proofs.lemmas.Bool.Decides.{nat_tests}
+use Rattle.std.proofs.lemmas.Bool.{false≢true}
 use Rattle.std.proofs.lemmas.List.{take_all}
-use Rattle.std.proofs.lemmas.List.Elements.{All-head, All-tail, All-nil, All-cons}
+use Rattle.std.proofs.lemmas.List.Elements.{All-nil, All-cons}
 use Rattle.sector_disk.specs.declared.disk.TheConstants.{SECTOR_BYTES}
 use Rattle.generations.specs.Areas.{journal_sectors, area_sectors}
 use Rattle.generations.specs.Sectors.{IsVersion}
@@ -23,9 +19,8 @@ use Rattle.feature_model.specs.Data.{FeatureData, ChangeData, EditData, put, del
 use Rattle.feature_model.specs.declared.limits.TheConstants.{MAX_EDIT_BYTES}
 use Rattle.feature_model.specs.Limits.{NumberFits, IsAllowed, IsAllowedChange, IsAllowedEdit}
 use Rattle.feature_model.specs.Spelled.{spelled_change, spelled_changes, spelled, eight_bytes}
-use Rattle.feature_model.specs.Types.{IsChange}
 use Rattle.feature_model.proofs.Changes.{distinct_none, distinct_push}
-use Rattle.feature_store.specs.Store.{FeatureMap, IsMap, feature_at, changed, edited, snapshot}
+use Rattle.feature_store.specs.Store.{FeatureMap, changed, edited, snapshot}
 use Rattle.feature_store.specs.declared.limit.TheConstants.{TEXTS_END}
 use Rattle.feature_store.proofs.Laws.{snapshot_after_put, snapshot_after_delete}
 use Rattle.tile_service.specs.Limits.{KeepsLimits, KeepsBatchLimits}

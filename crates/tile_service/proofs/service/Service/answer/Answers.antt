@@ -1,4 +1,4 @@
-use Rattle.std.proofs.Common.{◌∙◌, Ok, Err, map, option_map, refl, sym}
+use Rattle.std.proofs.Common.{◌∙◌, Ok, Err, map, refl, sym}
 use Rattle.feature_model.specs.Data.{put, delete, feature_data, change_data}
 use Rattle.tile_service.specs.Machine.{got, no_memory, single, batched, recorded_in, recorded_change, edit, begin, step, cancel, tile, look}
 use Rattle.tile_service.proofs.Callers.{edit_step, tile_step, look_step, begin_step, step_step, cancel_step}

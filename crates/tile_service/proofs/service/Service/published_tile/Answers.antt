@@ -1,4 +1,4 @@
-use Rattle.std.proofs.Common.{◌≡◌, ◌∙◌, ℕ, arith, ap, List, Some, refl, sym, subst, option_map}
+use Rattle.std.proofs.Common.{◌≡◌, ◌∙◌, ℕ, arith, ap, List, refl, sym, subst}
 use Rattle.cached_map.specs.Cached.{WasMap}
 use Rattle.feature_store.specs.Content.{IsTileContent}
 use Rattle.feature_store.specs.Layers.{layers}

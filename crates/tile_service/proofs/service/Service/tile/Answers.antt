@@ -1,4 +1,4 @@
-use Rattle.std.proofs.Common.{◌∙◌, ap, option_map, refl, rules, sym, subst}
+use Rattle.std.proofs.Common.{◌∙◌, refl, rules, sym, subst}
 use Rattle.sector_bytes.specs.Counts.{NeverFalls}
 use Rattle.feature_store.specs.Content.{IsTileContent}
 use Rattle.feature_store.specs.Layers.{layers}
