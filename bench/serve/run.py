@@ -247,8 +247,12 @@ def tiles(folder, client, nginx):
         show(kind, client, ["get", ROUNDS, 300, server.port, path, bare.port, "/" + name], "a bare server in C++")
         if at == 0:
             head = len(f"GET {path} HTTP/1.1\r\n\r\n") + os.path.getsize(fields)
-            show(f"{kind}, asked for with a browser's head of {head} bytes", client, ["get", ROUNDS, 300, *both, fields], "nginx")
-            show(f"{kind}, a connection of one request", client, ["connect", ROUNDS, 300, *both], "nginx")
+            whole, alone = f"{kind}, asked for with a browser's head of {head} bytes", f"{kind}, a connection of one request"
+            to_bare = [server.port, path, bare.port, "/" + name]
+            show(whole, client, ["get", ROUNDS, 300, *both, fields], "nginx")
+            show(whole, client, ["get", ROUNDS, 300, *to_bare, fields], "a bare server in C++")
+            show(alone, client, ["connect", ROUNDS, 300, *both], "nginx")
+            show(alone, client, ["connect", ROUNDS, 300, *to_bare], "a bare server in C++")
     bare.end()
     server.end()
 

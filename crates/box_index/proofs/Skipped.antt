@@ -1,10 +1,12 @@
 -- Runs of neighbouring blocks, each with a span.
-use Rattle.std.proofs.Common.{◌≡◌, ◌≢◌, ℕ, ◌+◌, ◌-◌, ◌*◌, ◌/◌, ◌<◌, ◌⊎◌, false, List, [], ◌∷◌, ◌++◌, length, get_or, set, take, drop, All, inl, inr, refl, sym, ap, subst, ◌∙◌, arith}
+use Rattle.std.proofs.Common.{◌≡◌, ◌≢◌, ℕ, ◌+◌, ◌-◌, ◌*◌, ◌/◌, ◌<◌, ◌⊎◌, false, List, [], ◌∷◌, ◌++◌, length, get_or, set, take, drop, All}
+use Rattle.std.proofs.Common.{inl, inr, refl, sym, ap, subst, ◌∙◌, arith}
 use Rattle.std.specs.Int.{div_ceil}
 use Rattle.std.specs.List.Sorted.{IsPermutation}
 use Rattle.std.proofs.lemmas.Bool.{cases_lt}
 use Rattle.std.proofs.lemmas.Bool.Decides.{eqb_tells}
-use Rattle.std.proofs.lemmas.List.{length-take, length-drop, length-set, get_or-take, get_or-drop, get_or-set_same, get_or-set_other, get_or_append_left, get_or_push, take-append-drop, take-take, drop-take}
+use Rattle.std.proofs.lemmas.List.{length-take, length-drop, length-set, get_or-take, get_or-drop, get_or-set_same, get_or-set_other, get_or_append_left}
+use Rattle.std.proofs.lemmas.List.{get_or_push, take-append-drop, take-take, drop-take}
 use Rattle.std.proofs.lemmas.List.Concat.{flat_map-append}
 use Rattle.std.proofs.lemmas.List.Elements.{All-head, All-tail, All-push}
 use Rattle.std.proofs.lemmas.List.Sorted.{All-permutation}
@@ -51,7 +53,8 @@ module _ (bounds : WorldBox) (zoom : ℕ) where
 -- ---- spans that cover
 
 -- a run's span covers each of its blocks
-pub run_covered : (ss : List Span) (bs : List (List IndexEntry)) (r : ℕ) (s : Span) → AreCovered ss bs → All (CoversAll (get_or ss r s)) (take RUN (drop (r * RUN) bs))
+pub run_covered : (ss : List Span) (bs : List (List IndexEntry)) (r : ℕ) (s : Span) → AreCovered ss bs
+    → All (CoversAll (get_or ss r s)) (take RUN (drop (r * RUN) bs))
 run_covered ss bs r s h = λ k b within.
     let short : k < RUN = omega (arith, within, length-take RUN (drop (r * RUN) bs)) in
     let near : r * RUN + k < length bs = omega (arith, within, length-take RUN (drop (r * RUN) bs), length-drop (r * RUN) bs) in
@@ -104,7 +107,8 @@ covered_less n ss bs i less e lt taken h = λ r k s b first last below within.
     ]
 
 -- the blocks before this one are the same
-pub covered_before : (n : ℕ) (ss : List Span) (bs new : List (List IndexEntry)) → take n new ≡ take n bs → AreCoveredTo (length bs) ss bs → AreCoveredTo n ss new
+pub covered_before : (n : ℕ) (ss : List Span) (bs new : List (List IndexEntry)) → take n new ≡ take n bs → AreCoveredTo (length bs) ss bs
+    → AreCoveredTo n ss new
 covered_before n ss bs new same h = λ r k s b first last below within.
     let near : k < length bs = omega (arith, below, within, ap length same, length-take n new, length-take n bs) in
     subst (CoversAll (get_or ss r s)) (sym (get_or-take n bs k b below) ∙ ap (λ xs. get_or xs k b) (sym same) ∙ get_or-take n new k b below)
@@ -112,7 +116,8 @@ covered_before n ss bs new same h = λ r k s b first last below within.
 
 -- one run more
 pub covered_push : (ss : List Span) (bs : List (List IndexEntry)) (last_run : ℕ) (wide : Span) → length ss ≡ last_run
-    → All (CoversAll wide) (take RUN (drop (last_run * RUN) bs)) → AreCoveredTo (last_run * RUN) ss bs → AreCoveredTo ((last_run + 1) * RUN) (ss ++ wide ∷ []) bs
+    → All (CoversAll wide) (take RUN (drop (last_run * RUN) bs)) → AreCoveredTo (last_run * RUN) ss bs
+    → AreCoveredTo ((last_run + 1) * RUN) (ss ++ wide ∷ []) bs
 covered_push ss bs last_run wide len all h = λ r k s b first last below within.
     elim (cases_lt r last_run) [
       | inl before ↦

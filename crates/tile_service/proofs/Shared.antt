@@ -10,5 +10,7 @@ pub shared_outcome : (P : Option (List ℕ) → Type 0) (found : Result (Option 
     → IsShared found shared → MatchResult found (λ content. P (option_map (λ bytes. bytes.items) content)) IsOutside → MatchResult shared P IsOutside
 shared_outcome P (Ok found) (Ok content) is holds = subst P (sym is) holds
 shared_outcome P (Err fault) (Ok content) is holds = absurd is
-shared_outcome P found (Err fault) (inl same) holds = subst (λ (r : Result (Option (Vec ℕ Global)) ArchiveFault). MatchResult r (λ content. P (option_map (λ bytes. bytes.items) content)) IsOutside) same holds
+shared_outcome P found (Err fault) (inl same) holds =
+    subst (λ (r : Result (Option (Vec ℕ Global)) ArchiveFault). MatchResult r (λ content. P (option_map (λ bytes. bytes.items) content)) IsOutside)
+    same holds
 shared_outcome P found (Err fault) (inr memory) holds = inr memory

@@ -23,7 +23,8 @@ loop-run-preserved c =
       | else-shows w ↦
           ap (λ (v : Vec ℕ Global). v.items) w.found-is ∙ sym (append-nil found)
           ∙ run_more bounds zoom bs at found [] c.loop-run.invariant
-          (sym (none_shown_in bounds zoom _ (take RUN (drop (at * RUN) bs)) (run_covered c.args.runs.now bs at _ c.requires) (sym c.shows.ensures ∙ w.if-shows.false)))
+          (sym (none_shown_in bounds zoom _ (take RUN (drop (at * RUN) bs)) (run_covered c.args.runs.now bs at _ c.requires)
+          (sym c.shows.ensures ∙ w.if-shows.false)))
     ]
 
 pub returns : goal.returns

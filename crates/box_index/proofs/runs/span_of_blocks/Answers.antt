@@ -10,5 +10,6 @@ loop-block-preserved c =
     let i = c.loop-block.block-index in
     let new = c.widened-span.result in
     All-more (CoversAll new) bs i c.block-item.result c.loop-block-test.true
-    (All-weaker (CoversAll c.loop-block.span) (CoversAll new) (λ b h. covers_all_part new c.loop-block.span b c.widened-span.ensures.first h) (take i bs) c.loop-block.invariant)
+    (All-weaker (CoversAll c.loop-block.span) (CoversAll new) (λ b h. covers_all_part new c.loop-block.span b c.widened-span.ensures.first h)
+    (take i bs) c.loop-block.invariant)
     (subst (CoversAll new) c.block-item.is (covers_all_part new c.span.result c.block-item.result c.widened-span.ensures.second c.span.ensures))

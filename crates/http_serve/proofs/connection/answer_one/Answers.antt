@@ -23,7 +23,8 @@ returns-clause-reply g c =
       body = c.of-2.ensures i;
       close = c.args.frame.now.close;
     } in
-    let sent = c.send_reply.ensures.sent c.args.handler.now request told.0 told.1 told.2 (in_parts c.answer-reply.result.content _ _ (λ both. both.0) told.3) in (
+    let sent = c.send_reply.ensures.sent c.args.handler.now request told.0 told.1 told.2
+    (in_parts c.answer-reply.result.content _ _ (λ both. both.0) told.3) in (
       sent.0,
       subst
           (λ (asked : RequestView). GivesOrFails c.send_reply.result (g.H.Handler.replies c.args.handler.now asked sent.0 c.send_reply.new.handler)
