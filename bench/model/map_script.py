@@ -635,6 +635,15 @@ REACHES = [
 ]
 
 
+# A zoom, and a column or row of a tile in line with the point at 2^31 + 2^16, which is in the cells 16, 512 and 16,384. The last ones of
+# zoom 12 and 8 are 32 cells from it at one level, and with their margin in its cell at the one before.
+FINE = [
+    (15, 16384, 5), (15, 16383, 5), (15, 16385, 5), (15, 16382, 0), (15, 16386, 0), (19, 262144, 5), (19, 262160, 5), (19, 262161, 0),
+    (12, 2048, 5), (12, 2047, 5), (12, 2046, 0), (12, 2050, 0), (12, 2053, 0), (12, 2052, 5),
+    (8, 128, 5), (8, 127, 5), (8, 126, 0), (8, 130, 0), (8, 137, 0), (8, 136, 5), (5, 16, 5), (5, 18, 0), (0, 0, 5),
+]
+
+
 def grid_lines():
     yield "# The newest edit that can reach a tile: columns, or rows, that an edit touched, and a tile's column, or row."
     for first, last, z, at, is_reached in REACHES:
@@ -647,6 +656,14 @@ def grid_lines():
             ("0 0", 5, "5 0 31", 5), ("0 0", 3, "5 0 31", 5), ("0 0", 9, "5 0 31", 9), (f"{SECOND} {LAST}", 20, "16 0 0", 9),
             (f"{SECOND} {LAST}", 20, "5 0 31", 20)]:
         yield from [f"mark {across} 0 {LAST} {number}", (f"touched {place}", str(newest))]
+    yield "# A point in one cell of each level: tiles beside it are reached by their margins, others aren't, at each zoom by the finest level that it fits."
+    point = 2**31 + 2**16
+    yield from ["caches", f"mark {point} {point} {point} {point} 5"]
+    for zoom, at, newest in FINE:
+        for place in [f"{zoom} {at} {point >> 32 - zoom}", f"{zoom} {point >> 32 - zoom} {at}"]:
+            yield f"touched {place}", str(newest)
+    yield "# A box as wide as the world touches each cell."
+    yield from [f"mark 0 {LAST} 0 {LAST} 7", ("touched 15 0 0", "7"), ("touched 19 524287 9", "7"), ("touched 8 137 3", "7")]
     yield "# Without a mark the number is 0."
     yield from ["caches", ("touched 0 0 0", "0"), ("touched 16 65535 65535", "0"), ("touched 19 524287 524287", "0"), ("touched 20 0 0", "0"),
                 ("touched 2 4 0", "no tile")]

@@ -146,29 +146,41 @@ ALONE = {
 # ---- the newest edits of the world's cells, and tiles that are kept
 
 
-def axis_cells(z, at):
-    """The first and the last of 32 cells of an axis that the box of a tile's column, or row, touches."""
+# The bits of a coordinate that a cell has: a level for each, in which cells that are 32 columns or rows apart share a number.
+CELL_BITS = (27, 22, 17)
+
+
+def axis_shown(z, at):
+    """The first and the last coordinate of the box of a tile's column, or row."""
     if z > MAX_ZOOM:
-        return 0, 31
+        return 0, LAST
     side = 2 ** (20 - z)
     first, behind = (4096 * at - 64) * side, (4096 * at + 4161) * side
-    return max(first, 0) >> 27, min(behind - 1, LAST) >> 27
+    return min(max(first, 0), LAST), min(behind - 1, LAST)
 
 
 class Grid:
-    """The number of the newest edit of each of 32 by 32 cells of the world."""
+    """The number of the newest edit of each of 32 by 32 cells of the world, and of each of finer cells."""
 
     def __init__(self):
         self.cells = {}
 
+    def places(self, bits, across, down):
+        """The places of the cells that a box touches, each once."""
+        columns, rows = ({cell % 32 for cell in range(first >> bits, (last >> bits) + 1)} for first, last in (across, down))
+        return {(bits, column, row) for column in columns for row in rows}
+
     def mark(self, across, down, number):
-        for x in range(across[0] >> 27, (across[1] >> 27) + 1) if across[0] <= across[1] and down[0] <= down[1] else []:
-            for y in range(down[0] >> 27, (down[1] >> 27) + 1):
-                self.cells[x, y] = max(number, self.cells.get((x, y), 0))
+        if across[0] <= across[1] and down[0] <= down[1]:
+            for bits in CELL_BITS:
+                for place in self.places(bits, across, down):
+                    self.cells[place] = max(number, self.cells.get(place, 0))
 
     def newest(self, z, x, y):
-        (x0, x1), (y0, y1) = axis_cells(z, x), axis_cells(z, y)
-        return max(self.cells.get((i, j), 0) for i in range(x0, x1 + 1) for j in range(y0, y1 + 1))
+        """The least of what the levels say: of the first one, and of each that is wider than the tile."""
+        box = axis_shown(z, x), axis_shown(z, y)
+        looked = [bits for bits in CELL_BITS if bits == 27 or all((last >> bits) - (first >> bits) < 32 for first, last in box)]
+        return min(max(self.cells.get(place, 0) for place in self.places(bits, *box)) for bits in looked)
 
 
 class Cache:

@@ -1,5 +1,5 @@
 -- Kept tiles stay those of the map.
-use Rattle.std.proofs.Common.{◌≡◌, ℕ, ◌+◌, ◌*◌, ◌≤◌, ◌⊎◌, ◌&&◌, inl, inr, Bool, true, false, cond, min, List, [], ◌∷◌, All}
+use Rattle.std.proofs.Common.{◌≡◌, ℕ, ◌≤◌, ◌⊎◌, ◌&&◌, inl, inr, Bool, true, false, cond, min, List, [], ◌∷◌, All}
 use Rattle.std.proofs.Common.{Option, Some, None, refl, sym, ap, subst, ◌∙◌, arith, length, map}
 use Rattle.std.specs.Prelude.{nat_le, slice_index, Result, Ok, Err, OnOk, OnErr}
 use Rattle.std.specs.Map.{lookup}
@@ -8,14 +8,15 @@ use Rattle.std.proofs.lemmas.List.Elements.{All-nil, All-cons, All-head, All-tai
 use Rattle.feature_store.specs.Content.{IsTileContent}
 use Rattle.feature_store.specs.Layers.{layers}
 use Rattle.feature_store.specs.Store.{FeatureMap}
-use Rattle.tile_cache.specs.Cells.{cell_at}
+use Rattle.tile_cache.specs.Cells.{place_in, cell_at}
 use Rattle.tile_cache.specs.Kept.{TileView, CacheView, is_place, kept_at, counts, fresh, IsSmall, KeepsSame, KeepsFewer}
-use Rattle.tile_cache.specs.Touched.{Mark, Reaches, Touches, Remembers, IsNewest, IsNewestOf, IsZeroOrMarked}
+use Rattle.tile_cache.specs.Touched.{Mark, Reaches, Touches, Remembers, IsNewest, IsNewestOf, IsZeroOrMarked, shown_box}
 use Rattle.tile_cache.specs.declared.cached_tiles.Origin.{Origin}
 use Rattle.tile_cache.specs.declared.cached_tiles.Origin.TheVariants.{Cut, Read}
 use Rattle.tile_cache.specs.declared.cached_tiles.TileKey.{TileKey}
 use Rattle.tile_cache.specs.declared.cached_tiles.TheConstants.{MAX_TILE_BYTES}
 use Rattle.tile_cache.proofs.Marks.{marked_more, reached_at_most}
+use Rattle.tile_cache.proofs.Numbers.{newest_once}
 use Rattle.tile_cache.proofs.Places.{place_is}
 use Rattle.cached_map.specs.Cached.{IsUntouched, IsKept, AreKept, AreReadRight, KeepsOrNot, MayKeep, WasMap}
 
@@ -50,19 +51,19 @@ module _ (last : ℕ) where
   only_joined [] marks n is = is
   only_joined (m ∷ ms) marks n is = marked_more (m.0, min m.1 last) (with_marks last ms marks) n (only_joined ms marks n is)
 
-  reached_joined : (cells : List ℕ) (column row : ℕ) (ms marks : List Mark)
-      → All (λ (m : Mark). Touches m.0 column row → m.1 ≤ cell_at cells column row) ms
-      → All (λ (m : Mark). Touches m.0 column row → m.1 ≤ cell_at cells column row) marks
-      → All (λ (m : Mark). Touches m.0 column row → m.1 ≤ cell_at cells column row) (with_marks last ms marks)
-  reached_joined cells column row [] marks of_ms all = all
-  reached_joined cells column row (m ∷ ms) marks of_ms all =
-      let P : Mark → Type 0 = λ k. Touches k.0 column row → k.1 ≤ cell_at cells column row in
+  reached_joined : (cells : List ℕ) (level column row : ℕ) (ms marks : List Mark)
+      → All (λ (m : Mark). Touches m.0 level column row → m.1 ≤ cell_at cells level column row) ms
+      → All (λ (m : Mark). Touches m.0 level column row → m.1 ≤ cell_at cells level column row) marks
+      → All (λ (m : Mark). Touches m.0 level column row → m.1 ≤ cell_at cells level column row) (with_marks last ms marks)
+  reached_joined cells level column row [] marks of_ms all = all
+  reached_joined cells level column row (m ∷ ms) marks of_ms all =
+      let P : Mark → Type 0 = λ k. Touches k.0 level column row → k.1 ≤ cell_at cells level column row in
       All-cons P (m.0, min m.1 last) (with_marks last ms marks) (λ touches. omega (arith, All-head P m ms of_ms touches))
-      (reached_joined cells column row ms marks (All-tail P m ms of_ms) all)
+      (reached_joined cells level column row ms marks (All-tail P m ms of_ms) all)
 
   remembers_joined : (cells : List ℕ) (ms marks : List Mark) → Remembers cells ms → Remembers cells marks → Remembers cells (with_marks last ms marks)
   remembers_joined cells ms marks of_ms of_marks = record {
-    reached = λ column row. reached_joined cells column row ms marks (of_ms.reached column row) (of_marks.reached column row);
+    reached = λ level column row is. reached_joined cells level column row ms marks (of_ms.reached level column row is) (of_marks.reached level column row is);
     only = λ at. only_joined ms marks (slice_index cells at) (of_marks.only at);
   }
 
@@ -183,8 +184,8 @@ read_kept m cells last number old new z x y bytes was kept earlier content befor
     }) kept
   where
     low : All (λ (k : Mark). Reaches k.0 z x y → k.1 ≤ last) earlier.marks
-    low = reached_at_most cells earlier.marks z x y last
-        (λ column row has. at_most before.marks (cell_at cells column row) last before.numbers (before.remembers.only (32 * row + column)))
+    low = reached_at_most cells earlier.marks 0 z x y last (omega arith)
+        (λ column row has. at_most before.marks (cell_at cells 0 column row) last before.numbers (before.remembers.only (place_in 0 column row)))
         earlier.remembers
 
 -- ---- a tile that is offered to be kept
@@ -210,21 +211,11 @@ untouched_behind marks z x y newest n is le =
     All-weaker (λ (k : Mark). Reaches k.0 z x y → k.1 ≤ newest) (λ (k : Mark). Reaches k.0 z x y → k.1 ≤ n)
     (λ k h reaches. omega (arith, h reaches, le)) marks is.reached
 
--- cells have one newest edit of a tile
-one_newest : (cells : List ℕ) (z x y m n : ℕ) → IsNewestOf cells z x y m → IsNewestOf cells z x y n → m ≡ n
-one_newest cells z x y m n of_m of_n = omega (arith, below m n of_m of_n, below n m of_n of_m)
-  where
-    below : (a b : ℕ) → IsNewestOf cells z x y a → IsNewestOf cells z x y b → a ≤ b
-    below a b of_a of_b = elim (of_a.found) [
-      | inl none ↦ omega (arith, none)
-      | inr one ↦ omega (arith, one.3, of_b.reached one.0 one.1 one.2)
-    ]
-
 -- what is fresh is the same where the same is kept
 pub fresh_same : (cells : List ℕ) (old new : CacheView) (z x y m n : ℕ) (reads : Bool) (found : Option (List ℕ)) → KeepsSame old new
     → IsNewestOf cells z x y m → IsNewestOf cells z x y n → found ≡ fresh m reads (kept_at new z x y) → found ≡ fresh n reads (kept_at old z x y)
 fresh_same cells old new z x y m n reads found same of_m of_n is =
-    is ∙ ap (λ k. fresh k reads (kept_at new z x y)) (one_newest cells z x y m n of_m of_n) ∙ ap (fresh n reads) (same.tiles z x y)
+    is ∙ ap (λ k. fresh k reads (kept_at new z x y)) (newest_once cells (shown_box z x y) m n of_m of_n) ∙ ap (fresh n reads) (same.tiles z x y)
 
 module _ (z x y newest : ℕ) where
   -- an earlier map whose number isn't below it has the same layers

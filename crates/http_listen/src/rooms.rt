@@ -152,8 +152,8 @@ impl<S: OpenStream + Drop> Room<S> {
         }
     }
 
-    /// Waits for the streams that are kept, and for a new connection if one is to be accepted. One that has waited for too long is ended,
-    /// and one where they can't be waited for.
+    /// Waits for the streams that are kept, and for a new connection if one is to be accepted. One that has waited for too long and has
+    /// sent nothing by now is ended, and one where they can't be waited for.
     fn wait<L: Waits<Stream = S>, W: Write, C: Clock>(
         &mut self,
         clock: &C,
@@ -164,13 +164,13 @@ impl<S: OpenStream + Drop> Room<S> {
         let since = self.kept.first().map_or(Duration::ZERO, |kept| kept.since);
         let waited = time_of(clock).saturating_sub(since);
         let left = Duration::from_secs(WAIT_SECONDS).saturating_sub(waited);
-        if left.is_zero() {
+        let Ok(comes) = listener.wait(accepts, &mut self.kept, left) else {
             self.end_first(log);
             return;
-        }
-        match listener.wait(accepts, &mut self.kept, left) {
-            Ok(comes) => self.comes = comes,
-            Err(_) => self.end_first(log),
+        };
+        self.comes = comes;
+        if left.is_zero() && self.kept.first().is_some_and(|kept| !kept.ready) {
+            self.end_first(log);
         }
     }
 

@@ -1,15 +1,17 @@
 -- What a grid remembers of marks.
-use Rattle.std.proofs.Common.{◌≡◌, ℕ, zero, suc, replicate, slice_index, ◌+◌, ◌-◌, ◌*◌, ◌^◌, ◌≤◌, ◌⊎◌, List, [], ◌∷◌}
+use Rattle.std.proofs.Common.{◌≡◌, ℕ, zero, suc, replicate, slice_index, ◌+◌, ◌-◌, ◌*◌, ◌/◌, ◌^◌, ◌<◌, ◌≤◌, ◌⊎◌, List, [], ◌∷◌}
 use Rattle.std.proofs.Common.{map, max, refl, sym, subst, inl, inr, arith}
 use Rattle.std.specs.Prelude.{All, Bool, true, false, nat_le, if◌then◌else◌}
 use Rattle.feature_model.specs.declared.limits.TheConstants.{MAX_ZOOM}
 use Rattle.std.proofs.Math.ListN.{get_or}
-use Rattle.std.proofs.Math.Nat.{one-le-pow, mul-le-mul_right}
+use Rattle.std.proofs.Math.Nat.{one-le-pow, mul-le-mul_right, div-mul-le_self}
+use Rattle.std.proofs.lemmas.Nat.{le-div}
 use Rattle.std.proofs.lemmas.List.Elements.{All-nil, All-cons, All-head, All-tail, All-weaker, Contains-append_right}
 use Rattle.feature_model.specs.declared.feature.WorldBox.{WorldBox}
 use Rattle.tile_cutter.specs.declared.coordinates.TheConstants.{EXTENT, MARGIN, WORLD_ZOOM}
 use Rattle.tile_cutter.specs.WorldBox.{tile_box, first_shown, last_shown}
-use Rattle.tile_cache.specs.Cells.{cell_at, cell_of, cells_of, HasCell, RisesTo, HasWhole, IsZeroOrCell}
+use Rattle.tile_cache.specs.declared.touch_grid.TheConstants.{LEVELS, CELL_BITS}
+use Rattle.tile_cache.specs.Cells.{place_in, cell_at, cell_of, cells_of, HasCell, RisesTo, HasWhole, IsZeroOrCell}
 use Rattle.tile_cache.specs.Touched.{Mark, Reaches, Touches, IsZeroOrMarked, Remembers, IsNewest, IsNewestOf, shown_box, world}
 
 either : {P Q R : Type 0} → (P → R) → (Q → R) → P ⊎ Q → R
@@ -20,7 +22,7 @@ either f g (inr q) = g q
 
 pub remembers_none : (cells : List ℕ) → ((at : ℕ) → get_or cells at 0 ≡ 0) → Remembers cells []
 remembers_none cells none = record {
-  reached = λ column row. All-nil (λ (m : Mark). Touches m.0 column row → m.1 ≤ cell_at cells column row);
+  reached = λ level column row is. All-nil (λ (m : Mark). Touches m.0 level column row → m.1 ≤ cell_at cells level column row);
   only = λ at. inl (none at);
 }
 
@@ -37,11 +39,14 @@ marked_here : (m : Mark) (marks : List Mark) → IsZeroOrMarked (m ∷ marks) m.
 marked_here m marks = inr (0, omega arith, refl)
 
 pub remembers_more : (old new : List ℕ) (m : Mark) (marks : List Mark) → RisesTo m.1 old new
-    → ((column row : ℕ) → Touches m.0 column row → m.1 ≤ cell_at new column row) → Remembers old marks → Remembers new (m ∷ marks)
+    → ((level column row : ℕ) → level < LEVELS → Touches m.0 level column row → m.1 ≤ cell_at new level column row)
+    → Remembers old marks → Remembers new (m ∷ marks)
 remembers_more old new m marks r here before = record {
-  reached = λ column row. All-cons (λ (k : Mark). Touches k.0 column row → k.1 ≤ cell_at new column row) m marks (here column row)
-      (All-weaker (λ (k : Mark). Touches k.0 column row → k.1 ≤ cell_at old column row) (λ (k : Mark). Touches k.0 column row → k.1 ≤ cell_at new column row)
-      (λ k below touches. omega (arith, below touches, r.rises (32 * row + column))) marks (before.reached column row));
+  reached = λ level column row is.
+      let on : List ℕ → Mark → Type 0 = λ cells k. Touches k.0 level column row → k.1 ≤ cell_at cells level column row in
+      All-cons (on new) m marks (here level column row is)
+      (All-weaker (on old) (on new) (λ k below touches. omega (arith, below touches, r.rises (place_in level column row)))
+      marks (before.reached level column row is));
   only = λ at. either (λ (same : get_or new at 0 ≡ get_or old at 0). subst (IsZeroOrMarked (m ∷ marks)) (sym same)
       (marked_more m marks (get_or old at 0) (before.only at)))
       (λ (is : get_or new at 0 ≡ m.1). subst (IsZeroOrMarked (m ∷ marks)) (sym is) (marked_here m marks)) (r.only at);
@@ -49,8 +54,10 @@ remembers_more old new m marks r here before = record {
 
 -- ---- a box that reaches a tile has a cell in common with it
 
-cell_rises : (m n : ℕ) → m ≤ n → cell_of m ≤ cell_of n
-cell_rises m n le = omega (arith, le)
+cell_rises : (level m n : ℕ) → m ≤ n → cell_of level m ≤ cell_of level n
+cell_rises level m n le =
+    let unit = 2 ^ slice_index CELL_BITS level in
+    le-div (m / unit) n unit (one-le-pow (slice_index CELL_BITS level) 2 (omega arith)) (omega (arith, le, div-mul-le_self m unit))
 
 shown_rises : (zoom at : ℕ) → first_shown zoom at ≤ last_shown zoom at
 shown_rises zoom at =
@@ -72,57 +79,67 @@ shown_whole zoom column row = go (nat_le zoom MAX_ZOOM)
     go false = whole_world zoom column row
 
 -- of two overlapping ranges one cell is in both
-common : (a b c d : ℕ) → a ≤ b → c ≤ d → a ≤ d → c ≤ b → (n : ℕ) × (cell_of a ≤ n) × (n ≤ cell_of b) × (cell_of c ≤ n) × (n ≤ cell_of d)
-common a b c d ab cd ad cb =
-    let ab' = cell_rises a b ab in let cd' = cell_rises c d cd in let ad' = cell_rises a d ad in let cb' = cell_rises c b cb in
-    (max (cell_of a) (cell_of c), omega arith, omega (arith, ab', cb'), omega arith, omega (arith, cd', ad'))
+module _ (level : ℕ) where
+  common : (a b c d : ℕ) → a ≤ b → c ≤ d → a ≤ d → c ≤ b
+      → (n : ℕ) × (cell_of level a ≤ n) × (n ≤ cell_of level b) × (cell_of level c ≤ n) × (n ≤ cell_of level d)
+  common a b c d ab cd ad cb =
+      let ab' = cell_rises level a b ab in
+      let cd' = cell_rises level c d cd in
+      let ad' = cell_rises level a d ad in
+      let cb' = cell_rises level c b cb in
+      (max (cell_of level a) (cell_of level c), omega arith, omega (arith, ab', cb'), omega arith, omega (arith, cd', ad'))
 
-common_cell : (b : WorldBox) (zoom column row : ℕ) (whole : WorldBox) → HasWhole whole (tile_box zoom column row) → Reaches b zoom column row
-    → (across : ℕ) × (down : ℕ) × Touches b across down × HasCell (cells_of whole) across down
-unfolding tile_box
-common_cell b zoom column row whole has reaches =
-    let x = common b.x0 b.x1 (first_shown zoom column) (last_shown zoom column) reaches.ordered.across
-    (shown_rises zoom column) reaches.meets.left reaches.meets.right in
-    let y = common b.y0 b.y1 (first_shown zoom row) (last_shown zoom row) reaches.ordered.down
-    (shown_rises zoom row) reaches.meets.top reaches.meets.bottom in (
-      x.0,
-      y.0,
-      record { ordered = reaches.ordered; cell = record { left = x.1; right = x.2; top = y.1; bottom = y.2 } },
-      record {
-        left = omega (arith, x.3, cell_rises whole.x0 (first_shown zoom column) has.left);
-        right = omega (arith, x.4, cell_rises (last_shown zoom column) whole.x1 has.right);
-        top = omega (arith, y.3, cell_rises whole.y0 (first_shown zoom row) has.top);
-        bottom = omega (arith, y.4, cell_rises (last_shown zoom row) whole.y1 has.bottom);
-      },
-    )
+  common_cell : (b : WorldBox) (zoom column row : ℕ) (whole : WorldBox) → HasWhole whole (tile_box zoom column row) → Reaches b zoom column row
+      → (across : ℕ) × (down : ℕ) × Touches b level across down × HasCell (cells_of level whole) across down
+  unfolding tile_box
+  common_cell b zoom column row whole has reaches =
+      let x = common b.x0 b.x1 (first_shown zoom column) (last_shown zoom column) reaches.ordered.across
+      (shown_rises zoom column) reaches.meets.left reaches.meets.right in
+      let y = common b.y0 b.y1 (first_shown zoom row) (last_shown zoom row) reaches.ordered.down
+      (shown_rises zoom row) reaches.meets.top reaches.meets.bottom in (
+        x.0,
+        y.0,
+        record { ordered = reaches.ordered; cell = record { left = x.1; right = x.2; top = y.1; bottom = y.2 } },
+        record {
+          left = omega (arith, x.3, cell_rises level whole.x0 (first_shown zoom column) has.left);
+          right = omega (arith, x.4, cell_rises level (last_shown zoom column) whole.x1 has.right);
+          top = omega (arith, y.3, cell_rises level whole.y0 (first_shown zoom row) has.top);
+          bottom = omega (arith, y.4, cell_rises level (last_shown zoom row) whole.y1 has.bottom);
+        },
+      )
 
 -- ---- the greatest number of the cells of a tile
 
--- the number of each mark that reaches the tile is at most that of a cell that the tile's box touches
-pub reached_at_most : (cells : List ℕ) (marks : List Mark) (zoom column row n : ℕ)
-    → ((across down : ℕ) → HasCell (cells_of (shown_box zoom column row)) across down → cell_at cells across down ≤ n) → Remembers cells marks
-    → All (λ (m : Mark). Reaches m.0 zoom column row → m.1 ≤ n) marks
-reached_at_most cells marks zoom column row n most remembers = each marks (λ across down. remembers.reached across down)
+-- the number of each mark that reaches the tile is at most that of a cell of a level that the tile's box touches
+pub reached_at_most : (cells : List ℕ) (marks : List Mark) (level zoom column row n : ℕ) → level < LEVELS
+    → ((across down : ℕ) → HasCell (cells_of level (shown_box zoom column row)) across down → cell_at cells level across down ≤ n)
+    → Remembers cells marks → All (λ (m : Mark). Reaches m.0 zoom column row → m.1 ≤ n) marks
+reached_at_most cells marks level zoom column row n is most remembers = each marks (λ across down. remembers.reached level across down is)
   where
     whole : WorldBox
     whole = shown_box zoom column row
 
-    each : (ms : List Mark) → ((across down : ℕ) → All (λ (m : Mark). Touches m.0 across down → m.1 ≤ cell_at cells across down) ms)
-        → All (λ (m : Mark). Reaches m.0 zoom column row → m.1 ≤ n) ms
+    on : (across down : ℕ) → Mark → Type 0
+    on across down m = Touches m.0 level across down → m.1 ≤ cell_at cells level across down
+
+    each : (ms : List Mark) → ((across down : ℕ) → All (on across down) ms) → All (λ (m : Mark). Reaches m.0 zoom column row → m.1 ≤ n) ms
     each [] all = All-nil (λ (m : Mark). Reaches m.0 zoom column row → m.1 ≤ n)
     each (m ∷ ms) all = All-cons (λ (k : Mark). Reaches k.0 zoom column row → k.1 ≤ n) m ms
-        (λ reaches. let cell = common_cell m.0 zoom column row whole (shown_whole zoom column row) reaches in
-        let below = All-head (λ (k : Mark). Touches k.0 cell.0 cell.1 → k.1 ≤ cell_at cells cell.0 cell.1) m ms (all cell.0 cell.1) in
-        omega (arith, below cell.2, most cell.0 cell.1 cell.3))
-        (each ms (λ across down. All-tail (λ (k : Mark). Touches k.0 across down → k.1 ≤ cell_at cells across down) m ms (all across down)))
+        (λ reaches. let cell = common_cell level m.0 zoom column row whole (shown_whole zoom column row) reaches in
+        let below : m.1 ≤ cell_at cells level cell.0 cell.1 = All-head (on cell.0 cell.1) m ms (all cell.0 cell.1) cell.2 in
+        omega (arith, below, most cell.0 cell.1 cell.3))
+        (each ms (λ across down. All-tail (on across down) m ms (all across down)))
 
 pub newest_of : (cells : List ℕ) (marks : List Mark) (zoom column row n : ℕ) → IsNewestOf cells zoom column row n → Remembers cells marks
     → IsNewest marks zoom column row n
 newest_of cells marks zoom column row n newest remembers = record {
-  reached = reached_at_most cells marks zoom column row n newest.reached remembers;
-  only = only newest.found;
+  reached = reached_at_most cells marks level zoom column row n newest.found.1.is newest.found.2.reached remembers;
+  only = only newest.found.2.found;
 }
   where
-    only : IsZeroOrCell cells (cells_of (shown_box zoom column row)) n → IsZeroOrMarked marks n
+    level : ℕ
+    level = newest.found.0
+
+    only : IsZeroOrCell cells level (cells_of level (shown_box zoom column row)) n → IsZeroOrMarked marks n
     only (inl is) = inl is
-    only (inr one) = subst (IsZeroOrMarked marks) (sym one.3) (remembers.only (32 * one.1 + one.0))
+    only (inr one) = subst (IsZeroOrMarked marks) (sym one.3) (remembers.only (place_in level one.0 one.1))

@@ -1,11 +1,13 @@
 -- Numbers that rise, and the greatest of some.
-use Rattle.std.proofs.Common.{◌≡◌, ℕ, ◌+◌, ◌-◌, ◌*◌, ◌<◌, ◌≤◌, ◌⊎◌, List, length, max, refl, sym, ap, subst, ◌∙◌, inl, inr, arith}
+use Rattle.std.proofs.Common.{◌≡◌, ℕ, ◌+◌, ◌-◌, ◌*◌, ◌%◌, ◌<◌, ◌≤◌, ◌⊎◌, List, length, min, max, refl, sym, ap, subst, ◌∙◌, inl, inr, arith}
 use Rattle.std.proofs.Math.ListN.{get_or, set}
 use Rattle.std.proofs.lemmas.List.{get_or-set_same, get_or-set_other, length-set}
 use Rattle.std.proofs.lemmas.Bool.{cases_eq, cases_lt}
 use Rattle.tile_cache.specs.declared.touch_grid.Cells.{Cells}
-use Rattle.tile_cache.specs.declared.touch_grid.TheConstants.{SIDE}
-use Rattle.tile_cache.specs.Cells.{cell_at, HasCell, RisesTo, IsZeroOrOneOf, IsZeroOrCell}
+use Rattle.feature_model.specs.declared.feature.WorldBox.{WorldBox}
+use Rattle.tile_cache.specs.declared.touch_grid.TheConstants.{SIDE, LEVEL_CELLS, LEVELS}
+use Rattle.tile_cache.specs.Cells.{place_in, cell_at, cells_of, HasCell, IsNarrow, RisesTo, IsZeroOrOneOf, IsZeroOrCell, IsGreatestIn}
+use Rattle.tile_cache.specs.Cells.{IsLookedAt, IsNewestIn}
 
 either : {P Q R : Type 0} → (P → R) → (Q → R) → P ⊎ Q → R
 either f g (inl p) = f p
@@ -39,52 +41,133 @@ module _ (number : ℕ) where
         (λ (apart : other ≡ at → ⊥). inl (get_or-set_other xs at other (max (get_or xs at 0) number) 0 apart)) (cases_eq other at);
   }
 
-  -- the numbers from the first place up to the one raised last
-  pub raised_more : (first at : ℕ) (xs ys : List ℕ) → RisesTo number xs ys → number ≤ get_or ys at 0
-      → ((i : ℕ) → first ≤ i → i < at → number ≤ get_or xs i 0) → (i : ℕ) → first ≤ i → i < at + 1 → number ≤ get_or ys i 0
-  raised_more first at xs ys r here before i le lt =
-      either (λ (less : i < at). omega (arith, before i le less, r.rises i))
-      (λ (not_less : at ≤ i). let same : at ≡ i = omega (arith, lt, not_less) in subst (λ k. number ≤ get_or ys k 0) same here) (cases_lt i at)
+  -- the cells of a row up to the one raised last
+  pub raised_more : (level row first at : ℕ) (xs ys : List ℕ) → RisesTo number xs ys → number ≤ cell_at ys level at row
+      → ((k : ℕ) → first ≤ k → k < at → number ≤ cell_at xs level k row) → (k : ℕ) → first ≤ k → k < at + 1 → number ≤ cell_at ys level k row
+  raised_more level row first at xs ys r here before k le lt =
+      either (λ (less : k < at). omega (arith, before k le less, r.rises (place_in level k row)))
+      (λ (not_less : at ≤ k). let same : at ≡ k = omega (arith, lt, not_less) in subst (λ j. number ≤ cell_at ys level j row) same here) (cases_lt k at)
 
+-- of cells that share a number one is among the first SIDE
+pub wrapped : (first last n : ℕ) → first ≤ n → n ≤ last → (k : ℕ) × (first ≤ k) × (k < min last (first + 31) + 1) × (k % SIDE ≡ n % SIDE)
+wrapped first last n low high = (first + (n - first) % 32, omega arith, omega (arith, low, high), omega (arith, low))
+
+same_column : (cells : List ℕ) (level row j k : ℕ) → j % SIDE ≡ k % SIDE → cell_at cells level j row ≡ cell_at cells level k row
+same_column cells level row j k same = ap (λ m. get_or cells (LEVEL_CELLS * level + SIDE * (row % SIDE) + m) 0) same
+
+same_row : (cells : List ℕ) (level column j k : ℕ) → j % SIDE ≡ k % SIDE → cell_at cells level column j ≡ cell_at cells level column k
+same_row cells level column j k same = ap (λ m. get_or cells (LEVEL_CELLS * level + SIDE * m + column % SIDE) 0) same
+
+module _ (number : ℕ) (level : ℕ) (range : Cells) where
   -- the rows of cells up to the one raised last
-  pub raised_rows : (range : Cells) (at : ℕ) (xs ys : List ℕ) → RisesTo number xs ys
-      → ((i : ℕ) → SIDE * at + range.left ≤ i → i < SIDE * at + range.right + 1 → number ≤ get_or ys i 0)
-      → ((column row : ℕ) → HasCell range column row → row < at → number ≤ cell_at xs column row)
-      → (column row : ℕ) → HasCell range column row → row < at + 1 → number ≤ cell_at ys column row
-  raised_rows range at xs ys r here before column row has lt =
-      either (λ (less : row < at). omega (arith, before column row has less, r.rises (SIDE * row + column)))
-      (λ (not_less : at ≤ row). let same : at ≡ row = omega (arith, lt, not_less) in
-      here (SIDE * row + column) (omega (arith, same, has.left)) (omega (arith, same, has.right))) (cases_lt row at)
+  pub raised_rows : (at : ℕ) (xs ys : List ℕ) → RisesTo number xs ys
+      → ((k : ℕ) → range.left ≤ k → k < min range.right (range.left + 31) + 1 → number ≤ cell_at ys level k at)
+      → ((column row : ℕ) → HasCell range column row → row < at → number ≤ cell_at xs level column row)
+      → (column row : ℕ) → HasCell range column row → row < at + 1 → number ≤ cell_at ys level column row
+  raised_rows at xs ys r here before column row has lt =
+      either (λ (less : row < at). omega (arith, before column row has less, r.rises (place_in level column row)))
+      (λ (not_less : at ≤ row).
+      let same : at ≡ row = omega (arith, lt, not_less) in
+      let near = wrapped range.left range.right column has.left has.right in
+      omega (arith, subst (λ i. number ≤ cell_at ys level near.0 i) same (here near.0 near.1 near.2), same_column ys level row near.0 column near.3))
+      (cases_lt row at)
+
+  -- all rows, once the first SIDE are
+  pub raised_all : (at : ℕ) (ys : List ℕ) → min range.bottom (range.top + 31) + 1 ≤ at
+      → ((column row : ℕ) → HasCell range column row → row < at → number ≤ cell_at ys level column row)
+      → (column row : ℕ) → HasCell range column row → number ≤ cell_at ys level column row
+  raised_all at ys end before column row has =
+      let near = wrapped range.top range.bottom row has.top has.bottom in
+      let raised = before column near.0
+      (record { left = has.left; right = has.right; top = near.1; bottom = omega (arith, near.2) }) (omega (arith, near.2, end)) in
+      omega (arith, raised, same_row ys level column near.0 row near.3)
 
 -- what is so of two numbers is so of the greater
 pub of_max : (P : ℕ → Type 0) (m n : ℕ) → P m → P n → P (max m n)
 of_max P m n p q = either (λ (is : max m n ≡ m). subst P (sym is) p) (λ (is : max m n ≡ n). subst P (sym is) q) (max_is m n)
 
 -- one of the numbers of a row of cells
-pub row_cell : (cells : List ℕ) (range : Cells) (row n : ℕ) → range.top ≤ row → row ≤ range.bottom
-    → IsZeroOrOneOf cells (SIDE * row + range.left) (SIDE * row + range.right + 1) n → IsZeroOrCell cells range n
-row_cell cells range row n top bottom (inl is) = inl is
-row_cell cells range row n top bottom (inr one) =
-    let column : ℕ = one.0 - SIDE * row in
-    let place : one.0 ≡ SIDE * row + column = omega (arith, one.1) in inr (
-      column,
-      row,
-      record { left = omega (arith, one.1); right = omega (arith, one.1, one.2); top = top; bottom = bottom },
-      one.3 ∙ ap (λ at. get_or cells at 0) place,
-    )
+pub row_cell : (cells : List ℕ) (level : ℕ) (range : Cells) (row n : ℕ) → range.top ≤ row → row ≤ range.bottom
+    → IsZeroOrOneOf cells level row range.left (range.right + 1) n → IsZeroOrCell cells level range n
+row_cell cells level range row n top bottom (inl is) = inl is
+row_cell cells level range row n top bottom (inr one) =
+    inr (one.0, row, record { left = one.1; right = omega (arith, one.2); top = top; bottom = bottom }, one.3)
 
-pub reached_more : (cells : List ℕ) (first at newest : ℕ) → ((i : ℕ) → first ≤ i → i < at → get_or cells i 0 ≤ newest)
-    → (i : ℕ) → first ≤ i → i < at + 1 → get_or cells i 0 ≤ max (get_or cells at 0) newest
-reached_more cells first at newest before i le lt =
-    either (λ (less : i < at). omega (arith, before i le less))
-    (λ (not_less : at ≤ i). let same : at ≡ i = omega (arith, lt, not_less) in
-    subst (λ k. get_or cells k 0 ≤ max (get_or cells at 0) newest) same (omega arith)) (cases_lt i at)
+pub reached_more : (cells : List ℕ) (level row first at newest : ℕ) → ((k : ℕ) → first ≤ k → k < at → cell_at cells level k row ≤ newest)
+    → (k : ℕ) → first ≤ k → k < at + 1 → cell_at cells level k row ≤ max (cell_at cells level at row) newest
+reached_more cells level row first at newest before k le lt =
+    either (λ (less : k < at). omega (arith, before k le less))
+    (λ (not_less : at ≤ k). let same : at ≡ k = omega (arith, lt, not_less) in
+    subst (λ j. cell_at cells level j row ≤ max (cell_at cells level at row) newest) same (omega arith)) (cases_lt k at)
 
-pub reached_rows : (cells : List ℕ) (range : Cells) (at row_greatest newest : ℕ)
-    → ((i : ℕ) → SIDE * at + range.left ≤ i → i < SIDE * at + range.right + 1 → get_or cells i 0 ≤ row_greatest)
-    → ((column row : ℕ) → HasCell range column row → row < at → cell_at cells column row ≤ newest)
-    → (column row : ℕ) → HasCell range column row → row < at + 1 → cell_at cells column row ≤ max row_greatest newest
-reached_rows cells range at row_greatest newest here before column row has lt =
+pub reached_rows : (cells : List ℕ) (level : ℕ) (range : Cells) (at row_greatest newest : ℕ)
+    → ((k : ℕ) → range.left ≤ k → k < range.right + 1 → cell_at cells level k at ≤ row_greatest)
+    → ((column row : ℕ) → HasCell range column row → row < at → cell_at cells level column row ≤ newest)
+    → (column row : ℕ) → HasCell range column row → row < at + 1 → cell_at cells level column row ≤ max row_greatest newest
+reached_rows cells level range at row_greatest newest here before column row has lt =
     either (λ (less : row < at). omega (arith, before column row has less))
     (λ (not_less : at ≤ row). let same : at ≡ row = omega (arith, lt, not_less) in
-    omega (arith, here (SIDE * row + column) (omega (arith, same, has.left)) (omega (arith, same, has.right)))) (cases_lt row at)
+    omega (arith, subst (λ i. cell_at cells level column i ≤ row_greatest) same (here column has.left (omega (arith, has.right))))) (cases_lt row at)
+
+-- ---- the least of the greatest
+
+pub greatest_below : (cells : List ℕ) (level : ℕ) (range : Cells) (a b : ℕ) → IsGreatestIn cells level range a → IsGreatestIn cells level range b → a ≤ b
+greatest_below cells level range a b of_a of_b = elim (of_a.found) [
+  | inl none ↦ omega (arith, none)
+  | inr one ↦ omega (arith, one.3, of_b.reached one.0 one.1 one.2)
+]
+
+min_is : (m n : ℕ) → (min m n ≡ m) ⊎ (min m n ≡ n)
+min_is m n = either (λ (lt : m < n). inl (omega (arith, lt))) (λ (le : n ≤ m). inr (omega (arith, le))) (cases_lt m n)
+
+-- the levels below this one are looked at
+pub record IsNewestBelow (cells : List ℕ) (b : WorldBox) (below n : ℕ) : Type 0 where
+  pub least : (level m : ℕ) → level < below → IsLookedAt level b → IsGreatestIn cells level (cells_of level b) m → n ≤ m
+  pub found : (level : ℕ) × IsLookedAt level b × IsGreatestIn cells level (cells_of level b) n
+
+module _ (cells : List ℕ) (b : WorldBox) where
+  pub first_newest : (n : ℕ) → IsGreatestIn cells 0 (cells_of 0 b) n → IsNewestBelow cells b 1 n
+  first_newest n is = record {
+    least = λ level m lt looked of_m.
+        let zero_level : level ≡ 0 = omega (arith, lt) in
+        greatest_below cells 0 (cells_of 0 b) n m is (subst (λ k. IsGreatestIn cells k (cells_of k b) m) zero_level of_m);
+    found = (0, record { is = omega arith; narrow = inl refl }, is);
+  }
+
+  -- a level more, which is looked at
+  pub newest_more : (at n m : ℕ) → at < LEVELS → IsNarrow (cells_of at b) → IsGreatestIn cells at (cells_of at b) m → IsNewestBelow cells b at n
+      → IsNewestBelow cells b (at + 1) (min m n)
+  newest_more at n m lt narrow of_m before = record {
+    least = λ level k within looked of_k. either (λ (less : level < at). omega (arith, before.least level k less looked of_k))
+        (λ (not_less : at ≤ level).
+        let same : level ≡ at = omega (arith, within, not_less) in
+        omega (arith, greatest_below cells at (cells_of at b) m k of_m (subst (λ l. IsGreatestIn cells l (cells_of l b) k) same of_k)))
+        (cases_lt level at);
+    found = either
+        (λ (is : min m n ≡ m). (at, record { is = lt; narrow = inr narrow }, subst (IsGreatestIn cells at (cells_of at b)) (sym is) of_m))
+        (λ (is : min m n ≡ n). (before.found.0, before.found.1, subst (IsGreatestIn cells before.found.0 (cells_of before.found.0 b)) (sym is) before.found.2))
+        (min_is m n);
+  }
+
+  -- one that isn't
+  pub newest_same : (at n : ℕ) → 0 < at → ¬ IsNarrow (cells_of at b) → IsNewestBelow cells b at n → IsNewestBelow cells b (at + 1) n
+  newest_same at n later wide before = record {
+    least = λ level k within looked of_k. either (λ (less : level < at). before.least level k less looked of_k)
+        (λ (not_less : at ≤ level).
+        let same : level ≡ at = omega (arith, within, not_less) in
+        either (λ (first : level ≡ 0). absurd (omega (arith, first, same, later)))
+        (λ (narrow : IsNarrow (cells_of level b)). absurd (wide (subst (λ l. IsNarrow (cells_of l b)) same narrow))) looked.narrow)
+        (cases_lt level at);
+    found = before.found;
+  }
+
+  pub newest_all : (at n : ℕ) → LEVELS ≤ at → IsNewestBelow cells b at n → IsNewestIn cells b n
+  newest_all at n all below = record {
+    least = λ level m looked of_m. below.least level m (omega (arith, looked.is, all)) looked of_m;
+    found = below.found;
+  }
+
+-- cells have one newest number of a box
+pub newest_once : (cells : List ℕ) (b : WorldBox) (m n : ℕ) → IsNewestIn cells b m → IsNewestIn cells b n → m ≡ n
+newest_once cells b m n of_m of_n =
+    omega (arith, of_m.least of_n.found.0 n of_n.found.1 of_n.found.2, of_n.least of_m.found.0 m of_m.found.1 of_m.found.2)

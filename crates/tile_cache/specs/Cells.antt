@@ -1,20 +1,24 @@
--- The cells of the world: 32 in a row, and 32 rows of them.
-use Rattle.std.specs.Prelude.{◌≡◌, ℕ, ◌+◌, ◌*◌, ◌/◌, ◌^◌, ◌<◌, ◌≤◌, ◌⊎◌, List, length, slice_index}
+-- The cells of each level: 32 in a row, and 32 rows of them.
+use Rattle.std.specs.Prelude.{◌≡◌, ℕ, ◌+◌, ◌*◌, ◌/◌, ◌%◌, ◌^◌, ◌<◌, ◌≤◌, ◌⊎◌, List, length, slice_index}
 use Rattle.feature_model.specs.declared.feature.WorldBox.{WorldBox}
-use Rattle.tile_cache.specs.declared.touch_grid.TheConstants.{SIDE}
+use Rattle.tile_cache.specs.declared.touch_grid.TheConstants.{SIDE, LEVEL_CELLS, LEVELS, CELL_BITS}
 use Rattle.tile_cache.specs.declared.touch_grid.Cells.{Cells}
 
--- the number of a cell, by its column and its row
-abbrev pub cell_at : List ℕ → ℕ → ℕ → ℕ
-cell_at cells column row = slice_index cells (SIDE * row + column)
+-- the place of the number of a cell, by its level, its column and its row: cells SIDE columns or rows apart share one
+abbrev pub place_in : ℕ → ℕ → ℕ → ℕ
+place_in level column row = LEVEL_CELLS * level + SIDE * (row % SIDE) + column % SIDE
 
--- the column of cells that has a column of the world, or the row that has a row
-abbrev pub cell_of : ℕ → ℕ
-cell_of coordinate = coordinate / 2 ^ 27
+-- the number of a cell
+abbrev pub cell_at : List ℕ → ℕ → ℕ → ℕ → ℕ
+cell_at cells level column row = slice_index cells (place_in level column row)
 
--- the cells that a box of the world touches
-abbrev pub cells_of : WorldBox → Cells
-cells_of b = record { left = cell_of b.x0; right = cell_of b.x1; top = cell_of b.y0; bottom = cell_of b.y1 }
+-- the column of cells of a level that has a column of the world, or the row that has a row
+abbrev pub cell_of : ℕ → ℕ → ℕ
+cell_of level coordinate = coordinate / 2 ^ slice_index CELL_BITS level
+
+-- the cells of a level that a box of the world touches
+abbrev pub cells_of : ℕ → WorldBox → Cells
+cells_of level b = record { left = cell_of level b.x0; right = cell_of level b.x1; top = cell_of level b.y0; bottom = cell_of level b.y1 }
 
 -- one of these cells stands in this column and row
 pub record HasCell (range : Cells) (column row : ℕ) : Type 0 where
@@ -23,12 +27,17 @@ pub record HasCell (range : Cells) (column row : ℕ) : Type 0 where
   pub top : range.top ≤ row
   pub bottom : row ≤ range.bottom
 
--- the columns and the rows at both ends of these cells stand in the grid
-pub record IsWithin (range : Cells) : Type 0 where
-  pub left : range.left < SIDE
-  pub right : range.right < SIDE
-  pub top : range.top < SIDE
-  pub bottom : range.bottom < SIDE
+-- the cells are of the world
+pub record IsNear (range : Cells) : Type 0 where
+  pub left : range.left < 2 ^ 32
+  pub right : range.right < 2 ^ 32
+  pub top : range.top < 2 ^ 32
+  pub bottom : range.bottom < 2 ^ 32
+
+-- no two of the cells share a number
+pub record IsNarrow (range : Cells) : Type 0 where
+  pub across : range.right < range.left + SIDE
+  pub down : range.bottom < range.top + SIDE
 
 -- no number falls, and each that changes becomes this one
 pub record RisesTo (number : ℕ) (old new : List ℕ) : Type 0 where
@@ -36,18 +45,29 @@ pub record RisesTo (number : ℕ) (old new : List ℕ) : Type 0 where
   pub rises : (at : ℕ) → slice_index old at ≤ slice_index new at
   pub only : (at : ℕ) → (slice_index new at ≡ slice_index old at) ⊎ (slice_index new at ≡ number)
 
--- 0, or one of the numbers from one place up to another
-abbrev pub IsZeroOrOneOf : List ℕ → (first end : ℕ) → ℕ → Type 0
-IsZeroOrOneOf cells first end n = (n ≡ 0) ⊎ ((at : ℕ) × (first ≤ at) × (at < end) × (n ≡ slice_index cells at))
+-- 0, or the number of one of the cells of a row from one column up to another
+abbrev pub IsZeroOrOneOf : List ℕ → (level row first end : ℕ) → ℕ → Type 0
+IsZeroOrOneOf cells level row first end n =
+    (n ≡ 0) ⊎ ((column : ℕ) × (first ≤ column) × (column < end) × (n ≡ cell_at cells level column row))
 
 -- 0, or the number of one of these cells
-abbrev pub IsZeroOrCell : List ℕ → Cells → ℕ → Type 0
-IsZeroOrCell cells range n = (n ≡ 0) ⊎ ((column : ℕ) × (row : ℕ) × HasCell range column row × (n ≡ cell_at cells column row))
+abbrev pub IsZeroOrCell : List ℕ → ℕ → Cells → ℕ → Type 0
+IsZeroOrCell cells level range n = (n ≡ 0) ⊎ ((column : ℕ) × (row : ℕ) × HasCell range column row × (n ≡ cell_at cells level column row))
 
 -- the greatest of the numbers of these cells
-pub record IsGreatestIn (cells : List ℕ) (range : Cells) (n : ℕ) : Type 0 where
-  pub reached : (column row : ℕ) → HasCell range column row → cell_at cells column row ≤ n
-  pub found : IsZeroOrCell cells range n
+pub record IsGreatestIn (cells : List ℕ) (level : ℕ) (range : Cells) (n : ℕ) : Type 0 where
+  pub reached : (column row : ℕ) → HasCell range column row → cell_at cells level column row ≤ n
+  pub found : IsZeroOrCell cells level range n
+
+-- a level is looked at for a box: the first one, and each where no two of the cells that the box touches share a number
+pub record IsLookedAt (level : ℕ) (b : WorldBox) : Type 0 where
+  pub is : level < LEVELS
+  pub narrow : (level ≡ 0) ⊎ IsNarrow (cells_of level b)
+
+-- of the levels that are looked at, the least of the greatest numbers of the cells that a box touches
+pub record IsNewestIn (cells : List ℕ) (b : WorldBox) (n : ℕ) : Type 0 where
+  pub least : (level m : ℕ) → IsLookedAt level b → IsGreatestIn cells level (cells_of level b) m → n ≤ m
+  pub found : (level : ℕ) × IsLookedAt level b × IsGreatestIn cells level (cells_of level b) n
 
 -- a box has the whole of another
 pub record HasWhole (outer inner : WorldBox) : Type 0 where

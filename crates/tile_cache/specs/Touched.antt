@@ -1,9 +1,10 @@
 -- Which edits a grid remembers, and which of them reach a tile.
-use Rattle.std.specs.Prelude.{◌≡◌, ℕ, ◌^◌, ◌-◌, ◌≤◌, ◌⊎◌, List, map, All, Contains, slice_index, nat_le, if◌then◌else◌}
+use Rattle.std.specs.Prelude.{◌≡◌, ℕ, ◌^◌, ◌-◌, ◌<◌, ◌≤◌, ◌⊎◌, List, map, All, Contains, slice_index, nat_le, if◌then◌else◌}
 use Rattle.feature_model.specs.declared.feature.WorldBox.{WorldBox}
 use Rattle.tile_cutter.specs.WorldBox.{tile_box, Meets}
 use Rattle.feature_model.specs.declared.limits.TheConstants.{MAX_ZOOM}
-use Rattle.tile_cache.specs.Cells.{cell_at, cells_of, HasCell, IsGreatestIn}
+use Rattle.tile_cache.specs.declared.touch_grid.TheConstants.{LEVELS}
+use Rattle.tile_cache.specs.Cells.{cell_at, cells_of, HasCell, IsNewestIn}
 
 -- an edit that was noted: the box that it touched, and its number
 abbrev pub Mark : Type 0
@@ -19,10 +20,10 @@ pub record Reaches (b : WorldBox) (zoom column row : ℕ) : Type 0 where
   pub ordered : IsOrdered b
   pub meets : Meets b (tile_box zoom column row)
 
--- a box touches the cell of this column and row
-pub record Touches (b : WorldBox) (column row : ℕ) : Type 0 where
+-- a box touches the cell of this level, column and row
+pub record Touches (b : WorldBox) (level column row : ℕ) : Type 0 where
   pub ordered : IsOrdered b
-  pub cell : HasCell (cells_of b) column row
+  pub cell : HasCell (cells_of level b) column row
 
 -- 0, or the number of a mark
 abbrev pub IsZeroOrMarked : List Mark → ℕ → Type 0
@@ -30,7 +31,7 @@ IsZeroOrMarked marks n = (n ≡ 0) ⊎ Contains (map (λ m. m.1) marks) n
 
 -- cells have at least the number of each mark that touches them, and only numbers of marks
 pub record Remembers (cells : List ℕ) (marks : List Mark) : Type 0 where
-  pub reached : (column row : ℕ) → All (λ m. Touches m.0 column row → m.1 ≤ cell_at cells column row) marks
+  pub reached : (level column row : ℕ) → level < LEVELS → All (λ m. Touches m.0 level column row → m.1 ≤ cell_at cells level column row) marks
   pub only : (at : ℕ) → IsZeroOrMarked marks (slice_index cells at)
 
 -- a number is at least that of each mark that can reach the tile, and 0 or the number of a mark
@@ -46,6 +47,6 @@ world = record { x0 = 0; x1 = 2 ^ 32 - 1; y0 = 0; y1 = 2 ^ 32 - 1 }
 abbrev pub shown_box : (zoom column row : ℕ) → WorldBox
 shown_box zoom column row = if nat_le zoom MAX_ZOOM then tile_box zoom column row else world
 
--- the newest edit of the cells that a tile's box touches
+-- the newest edit of the cells that the box of a tile touches, of the level where it is the least
 abbrev pub IsNewestOf : List ℕ → (zoom column row : ℕ) → ℕ → Type 0
-IsNewestOf cells zoom column row = IsGreatestIn cells (cells_of (shown_box zoom column row))
+IsNewestOf cells zoom column row = IsNewestIn cells (shown_box zoom column row)

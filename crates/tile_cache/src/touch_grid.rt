@@ -1,5 +1,5 @@
-ghost use Rattle.std.specs.Prelude.{◌≡◌, ℕ, ◌/◌, ◌<◌, ◌≤◌, ◌^◌, ◌∷◌, [], List, length, slice_index};
-ghost use Rattle.tile_cache.specs.Cells.{cell_at, cells_of, IsWithin, HasCell, RisesTo, IsZeroOrOneOf, IsGreatestIn};
+ghost use Rattle.std.specs.Prelude.{◌≡◌, ◌↔◌, ℕ, ◌+◌, ◌<◌, ◌≤◌, ◌^◌, ◌∷◌, [], List, length, min, IsTrue};
+ghost use Rattle.tile_cache.specs.Cells.{cell_at, cell_of, cells_of, place_in, IsNear, IsNarrow, HasCell, RisesTo, IsZeroOrOneOf, IsGreatestIn, IsNewestIn};
 ghost use Rattle.tile_cache.specs.Touched.{Mark, Remembers, IsNewest, IsNewestOf, shown_box};
 
 use feature_model::{MAX_ZOOM, WorldBox};
@@ -7,13 +7,23 @@ use hilbert_id::TileAt;
 use std::marker::Model;
 use tile_cutter::tile_box;
 
-/// How many cells the world has in a row, and how many rows of them.
+/// How many cells a level has in a row, and how many rows of them.
 const SIDE: usize = 32;
 
-/// How many cells there are.
-const CELLS: usize = SIDE * SIDE;
+/// How many cells a level has.
+const LEVEL_CELLS: usize = SIDE * SIDE;
 
-/// The newest edit of each of 32 by 32 cells of the world.
+/// How many levels there are.
+const LEVELS: usize = 3;
+
+/// How many cells there are.
+const CELLS: usize = LEVELS * LEVEL_CELLS;
+
+/// How many bits of a coordinate a cell has, by level. The first level is as wide as the world. Each further one is as wide as a cell of
+/// the one before, and is repeated over the world: cells that are `SIDE` columns or rows apart share one number.
+const CELL_BITS: [u32; LEVELS] = [27, 22, 17];
+
+/// The newest edit of each of 32 by 32 cells of the world, and of finer cells.
 ///
 /// A contract says of it which lists of marked edits it remembers.
 #[derive(Debug, Drop)]
@@ -32,7 +42,7 @@ impl Model for TouchGrid {
     ghost invariant = { λ g. length g.cells ≡ CELLS };
 }
 
-/// Cells of the grid, ends included.
+/// Cells of a level, ends included.
 #[derive(Clone, Copy, Debug)]
 pub(crate) struct Cells {
     left: usize,
@@ -41,78 +51,134 @@ pub(crate) struct Cells {
     bottom: usize,
 }
 
-/// The column of cells that has a column of the world, or the row that has a row.
-fn cell_of(coordinate: u32) -> usize
-    ensures cell { result ≡ coordinate / 2 ^ 27 }
-    ensures within { result < SIDE }
-{
-    (coordinate >> 27) as usize
-}
-
-/// The cells that a box of the world touches.
-fn cells_of(bounds: WorldBox) -> Cells
-    ensures cells { result ≡ cells_of bounds }
-    ensures within { IsWithin result }
-{
-    Cells {
-        left: cell_of(bounds.x0),
-        right: cell_of(bounds.x1),
-        top: cell_of(bounds.y0),
-        bottom: cell_of(bounds.y1),
+impl Cells {
+    /// Whether no two of them share a number.
+    fn is_narrow(self) -> bool
+        requires { IsNear self }
+        ensures { IsTrue result ↔ IsNarrow self }
+    {
+        self.right < self.left + SIDE && self.bottom < self.top + SIDE
     }
 }
 
-/// Raises the numbers from one place up to another to this one.
-fn raise(cells: &mut [u64], first: usize, end: usize, number: u64)
-    requires { end ≤ length cells.old }
-    ensures rises { RisesTo number cells.old cells.new }
-    ensures raised { (at : ℕ) → first ≤ at → at < end → number ≤ slice_index cells.new at }
+/// The column of cells of a level that has a column of the world, or the row that has a row.
+fn cell_of(level: usize, coordinate: u32) -> usize
+    requires { level < LEVELS }
+    ensures cell { result ≡ cell_of level coordinate }
+    ensures near { result < 2 ^ 32 }
 {
-    for at in first..end {
+    (coordinate >> CELL_BITS[level]) as usize
+}
+
+/// The cells of a level that a box of the world touches.
+fn cells_of(level: usize, bounds: &WorldBox) -> Cells
+    requires { level < LEVELS }
+    ensures cells { result ≡ cells_of level bounds.now }
+    ensures near { IsNear result }
+{
+    Cells {
+        left: cell_of(level, bounds.x0),
+        right: cell_of(level, bounds.x1),
+        top: cell_of(level, bounds.y0),
+        bottom: cell_of(level, bounds.y1),
+    }
+}
+
+/// The place of the number of a cell.
+fn place_in(level: usize, column: usize, row: usize) -> usize
+    requires { level < LEVELS }
+    ensures place { result ≡ place_in level column row }
+    ensures within { result < CELLS }
+{
+    LEVEL_CELLS * level + SIDE * (row % SIDE) + column % SIDE
+}
+
+/// The end of the cells from one to another, but of `SIDE` at most: those behind share their numbers.
+fn end_of(first: usize, last: usize) -> usize
+    requires { first < 2 ^ 32 }
+    ensures { result ≡ min last (first + 31) + 1 }
+{
+    last.min(first + (SIDE - 1)) + 1
+}
+
+/// Raises the numbers of cells of a row to this one.
+fn raise_row(cells: &mut [u64], level: usize, row: usize, first: usize, end: usize, number: u64)
+    requires level { level < LEVELS }
+    requires all { length cells.old ≡ CELLS }
+    ensures rises { RisesTo number cells.old cells.new }
+    ensures raised { (column : ℕ) → first ≤ column → column < end → number ≤ cell_at cells.new level column row }
+{
+    for column in first..end {
+        let at = place_in(level, column, row);
         cells[at] = cells[at].max(number);
     }
 }
 
-/// Raises the numbers of cells to this one.
-fn raise_cells(cells: &mut [u64], range: Cells, number: u64)
+/// Raises the numbers of cells of a level to this one.
+fn raise_cells(cells: &mut [u64], level: usize, range: Cells, number: u64)
+    requires level { level < LEVELS }
     requires all { length cells.old ≡ CELLS }
-    requires within { IsWithin range }
+    requires near { IsNear range }
     ensures rises { RisesTo number cells.old cells.new }
-    ensures raised { (column row : ℕ) → HasCell range column row → number ≤ cell_at cells.new column row }
+    ensures raised { (column row : ℕ) → HasCell range column row → number ≤ cell_at cells.new level column row }
 {
-    let end = range.bottom + 1;
-    for row in range.top..end {
-        raise(
-            cells,
-            SIDE * row + range.left,
-            SIDE * row + range.right + 1,
-            number,
-        );
+    let end = end_of(range.left, range.right);
+    for row in range.top..end_of(range.top, range.bottom) {
+        raise_row(cells, level, row, range.left, end, number);
     }
 }
 
-/// The greatest of the numbers from one place up to another, or 0.
-fn greatest(cells: &[u64], first: usize, end: usize) -> u64
-    requires { end ≤ length cells.now }
-    ensures reached { (at : ℕ) → first ≤ at → at < end → slice_index cells.now at ≤ result }
-    ensures found { IsZeroOrOneOf cells.now first end result }
+/// Raises the numbers of the cells of each level that a box of the world touches to this one.
+fn raise_levels(cells: &mut [u64], bounds: &WorldBox, number: u64)
+    requires { length cells.old ≡ CELLS }
+    ensures rises { RisesTo number cells.old cells.new }
+    ensures raised { (level column row : ℕ) → level < LEVELS → HasCell (cells_of level bounds.now) column row → number ≤ cell_at cells.new level column row }
+{
+    for level in 0..LEVELS {
+        raise_cells(cells, level, cells_of(level, bounds), number);
+    }
+}
+
+/// The greatest of the numbers of cells of a row, or 0.
+fn greatest(cells: &[u64], level: usize, row: usize, first: usize, end: usize) -> u64
+    requires level { level < LEVELS }
+    requires all { length cells.now ≡ CELLS }
+    ensures reached { (column : ℕ) → first ≤ column → column < end → cell_at cells.now level column row ≤ result }
+    ensures found { IsZeroOrOneOf cells.now level row first end result }
 {
     let mut newest = 0;
-    for at in first..end {
-        newest = cells[at].max(newest);
+    for column in first..end {
+        newest = cells[place_in(level, column, row)].max(newest);
     }
     newest
 }
 
-/// The greatest of the numbers of cells, or 0.
-fn greatest_of(cells: &[u64], range: Cells) -> u64
+/// The greatest of the numbers of cells of a level, or 0.
+fn greatest_of(cells: &[u64], level: usize, range: Cells) -> u64
+    requires level { level < LEVELS }
     requires all { length cells.now ≡ CELLS }
-    requires within { IsWithin range }
-    ensures { IsGreatestIn cells.now range result }
+    requires near { IsNear range }
+    ensures { IsGreatestIn cells.now level range result }
 {
     let mut newest = 0;
     for row in range.top..range.bottom + 1 {
-        newest = greatest(cells, SIDE * row + range.left, SIDE * row + range.right + 1).max(newest);
+        newest = greatest(cells, level, row, range.left, range.right + 1).max(newest);
+    }
+    newest
+}
+
+/// The greatest number of the cells that a box touches, by the level where it is the least. A level that the box is wider than isn't
+/// looked at, except the first.
+fn newest_of(cells: &[u64], bounds: &WorldBox) -> u64
+    requires { length cells.now ≡ CELLS }
+    ensures { IsNewestIn cells.now bounds.now result }
+{
+    let mut newest = greatest_of(cells, 0, cells_of(0, bounds));
+    for level in 1..LEVELS {
+        let range = cells_of(level, bounds);
+        if range.is_narrow() {
+            newest = greatest_of(cells, level, range).min(newest);
+        }
     }
     newest
 }
@@ -147,7 +213,7 @@ impl TouchGrid {
         if bounds.x1 < bounds.x0 || bounds.y1 < bounds.y0 {
             return;
         }
-        raise_cells(&mut self.cells, cells_of(*bounds), number);
+        raise_levels(&mut self.cells, bounds, number);
     }
 
     /// At least the number of every marked edit whose box can reach the tile, its margin included; 0 where none was marked.
@@ -155,6 +221,6 @@ impl TouchGrid {
         ensures marked { (marks : List Mark) → Remembers self.now marks → IsNewest marks at.z at.x at.y result }
         ensures of_cells { IsNewestOf self.now at.z at.x at.y result }
     {
-        greatest_of(&self.cells, cells_of(shown_by(at)))
+        newest_of(&self.cells, &shown_by(at))
     }
 }

@@ -280,9 +280,21 @@ fn half_a_request_is_waited_for(rt: HostRuntime) -> Result<(), Fail> {
 #[test]
 fn a_connection_is_kept_for_a_minute(rt: HostRuntime) -> Result<(), Fail> {
     let silent = [ASKS, Round::Nothing, ASKS];
-    let waits = [Waited::Passes, Waited::Ready(&[1])];
+    let waits = [Waited::Passes, Waited::Passes, Waited::Ready(&[1])];
     let outcome = serve_all(&rt, 2, &[Some(silent.as_slice()), Some(ONE)], &waits);
     let lines = "connection 1: 1 requests, closed\nconnection 2: 1 requests, closed\n";
+    assert_eq!(rt; outcome.log.as_slice(), lines.as_bytes());
+    assert_eq!(rt; (outcome.ended, outcome.seconds), (Ok(()), 60));
+    Ok(())
+}
+
+/// One that has sent a request by then is served, however long the server was busy.
+#[test]
+fn a_request_that_came_in_time_is_answered(rt: HostRuntime) -> Result<(), Fail> {
+    let asks_again = [ASKS, Round::Nothing, ASKS];
+    let waits = [Waited::Passes, Waited::Ready(&[1])];
+    let outcome = serve_all(&rt, 2, &[Some(asks_again.as_slice()), Some(ONE)], &waits);
+    let lines = "connection 1: 2 requests, closed\nconnection 2: 1 requests, closed\n";
     assert_eq!(rt; outcome.log.as_slice(), lines.as_bytes());
     assert_eq!(rt; (outcome.ended, outcome.seconds), (Ok(()), 60));
     Ok(())

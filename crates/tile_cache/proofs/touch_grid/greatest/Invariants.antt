@@ -1,9 +1,9 @@
-use Rattle.std.proofs.Common.{ℕ, ◌<◌, ◌≤◌, slice_index}
-use Rattle.tile_cache.specs.Cells.{IsZeroOrOneOf}
+use Rattle.std.proofs.Common.{ℕ, ◌<◌, ◌≤◌}
+use Rattle.tile_cache.specs.Cells.{cell_at, IsZeroOrOneOf}
 use Rattle.tile_cache.proofs.touch_grid.greatest.Given as goal
 
-abbrev pub invariant-loop-at : goal.invariant-loop-at
-invariant-loop-at l = record {
-  reached : (at : ℕ) → l.first ≤ at → at < l.at → slice_index l.cells at ≤ l.newest;
-  found : IsZeroOrOneOf l.cells l.first l.end l.newest;
+abbrev pub invariant-loop-column : goal.invariant-loop-column
+invariant-loop-column l = record {
+  reached : (column : ℕ) → l.first ≤ column → column < l.column → cell_at l.cells l.level column l.row ≤ l.newest;
+  found : IsZeroOrOneOf l.cells l.level l.row l.first l.end l.newest;
 }

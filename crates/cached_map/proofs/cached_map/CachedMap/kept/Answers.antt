@@ -1,4 +1,4 @@
-use Rattle.std.proofs.Common.{Some, sym, ap, ◌∙◌, subst}
+use Rattle.std.proofs.Common.{None, Some, sym, ap, ◌∙◌, subst}
 use Rattle.tile_cache.specs.declared.cached_tiles.Origin.TheVariants.{Cut, Read}
 use Rattle.feature_store.specs.Content.{IsTileContent}
 use Rattle.feature_store.specs.Layers.{layers}
@@ -22,6 +22,13 @@ returns-in-Some-clause-given c =
     (λ newest is. fresh_same inside.touched inside.kept c.promote.new.self at.z at.x at.y c.newest-newest.result newest c.args.reads
     (Some c.in_ok-clone.field-0) c.promote.ensures (rw (← c.self.view_is) at c.newest-newest.ensures.of_cells) is
     (ap Some c.in_ok-clone.ensures.cases ∙ c.in-Some.ensures))
+
+pub returns-clause-given : goal.returns-clause-given
+returns-clause-given c =
+    let at = c.args.at in let inside = c.self.inside in
+    rw (← c.self.view_is)
+    (λ newest is. fresh_same inside.touched inside.kept c.promote.new.self at.z at.x at.y c.newest-newest.result newest c.args.reads
+    None c.promote.ensures (rw (← c.self.view_is) at c.newest-newest.ensures.of_cells) is c.in_default.ensures)
 
 pub invariant_of-self : goal.invariant_of-self
 invariant_of-self c =

@@ -6,6 +6,7 @@ use Rattle.feature_model.specs.Data.{delete}
 use Rattle.feature_model.specs.Limits.{NumberFits}
 use Rattle.feature_store.specs.Store.{snapshot}
 use Rattle.tile_service.specs.Machine.{single, recorded_change}
+use Rattle.tile_service.specs.Service.{IsUp}
 use Rattle.tile_service.specs.Stored.{stored_records}
 use Rattle.tile_service.specs.declared.fault.ServiceFault.TheVariants.{Broken, NotFound}
 use Rattle.tile_service.proofs.Earlier.{since_on, now_on, right_on}
@@ -110,6 +111,7 @@ returns-in-Err-clause-takes g c = rw (← c.self.view_is) (record {
       _ (ap (record_of version) (c.deletion_text-text.ensures c.args.id c.delete_edit_text-text.ensures)) c.append.new.disk (c.append.ensures.frame honest)
       single c.in-Err.fault c.fail.result c.fail.ensures.told c.in-Err.ensures.refused (c.append.ensures.any_moment (stored_records stored) honest at));
   acknowledged = λ stored honest up. tt;
-  refused = search rules;
+  refused = λ stored honest up other.
+      subst (λ s. IsUp (g.D.Sectors.sectors s.disk) (g.D.Sectors.history s.disk) stored s) (sym (search rules)) up;
   steps = λ honest. tt;
 })
