@@ -17,12 +17,13 @@ numbers have to be known:
 
 Features that are edited while `save` runs are saved as they are when it reads them: the file isn't of one moment. `load` with --publish
 frees the journal by a publication whenever it is full; it puts up to 64 features in a request, and with --no-batches one. Both end with 1 if
-a request is refused. Needs no package, and edits.py beside it.
+a request is refused; `save` leaves FILE as it was then, and what it got in FILE.part. Needs no package, and edits.py beside it.
 """
 import argparse
 import http.client
 import json
 import math
+import os
 import struct
 import sys
 import urllib.parse
@@ -229,10 +230,10 @@ def is_lines(name):
 
 
 def save(words, server):
-    """Saves features in the file."""
+    """Saves features in the file, which has what it had until all of them are there."""
     saved = missing = 0
     lines = is_lines(words.file)
-    with open(words.file, "w", encoding="utf-8") as file:
+    with open(words.file + ".part", "w", encoding="utf-8") as file:
         file.write("" if lines else '{"type":"FeatureCollection","features":[')
         for number, feature in wanted(words, server):
             if feature is None:
@@ -243,6 +244,9 @@ def save(words, server):
             file.write(text + "\n" if lines else (",\n" if saved else "\n") + text)
             saved += 1
         file.write("" if lines else "\n]}\n")
+        file.flush()
+        os.fsync(file.fileno())
+    os.replace(words.file + ".part", words.file)
     print(f"{saved} features saved" + (f", {missing} numbers without one" if words.numbers or words.archive else ""))
 
 
