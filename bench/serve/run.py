@@ -39,6 +39,7 @@ TILES = [(8, 10, 18), (8, 20, 520), (8, 30, 6200)]
 WALK = "eeseeswwinneessooiissweeneoowwnniieesswwoossenniwwssoeenn" * 2
 VIEW = (4, 3)
 KEPT = 256
+CELL_BITS = (27, 22, 17)
 # Durable edits: the sectors of the journal that one takes, the points of its line, and how many are put in a round. A sector has 496 bytes
 # of the edit's text, a point 8.
 EDITS = [(1, 2, 300), (3, 150, 200), (39, 2400, 60)]
@@ -368,17 +369,20 @@ def walked():
 
 
 def hits(asked):
-    """How many of these tiles a server that keeps 256 of them, and the newest edit of each of 32 by 32 cells, needn't cut: a model."""
+    """How many of these tiles a server that keeps 256 of them, and the newest edit of each cell of three sizes, needn't cut: a model."""
     kept, cells, last, found = {}, {}, 0, 0
     for what in asked:
         if what[0] == "edit":
             last += 1
-            cells.update({tuple(at >> 27 for at in point): last for point in what[1]})
+            cells.update({(bits, *((at >> bits) % 32 for at in point)): last for point in what[1] for bits in CELL_BITS})
             continue
         zoom, column, row = what
         side, margin = 2 ** (32 - zoom), 2 ** (32 - zoom) // 64
-        reach = [[max(0, at * side - margin) >> 27, min(2 ** 32 - 1, (at + 1) * side + margin) >> 27] for at in (column, row)]
-        newest = max(cells.get((x, y), 0) for x in range(reach[0][0], reach[0][1] + 1) for y in range(reach[1][0], reach[1][1] + 1))
+        newest = last
+        for bits in CELL_BITS:
+            across, down = ([max(0, at * side - margin) >> bits, min(2 ** 32 - 1, (at + 1) * side + margin) >> bits] for at in (column, row))
+            if max(across[1] - across[0], down[1] - down[0]) < 32:
+                newest = min(newest, max(cells.get((bits, x % 32, y % 32), 0) for x in range(across[0], across[1] + 1) for y in range(down[0], down[1] + 1)))
         number = kept.pop(what, -1)
         found += number >= newest
         kept[what] = number if number >= newest else last
@@ -388,7 +392,7 @@ def hits(asked):
 
 
 def walk(folder, client, nginx):
-    """A viewer's walk, while edits come in between: far from the city after each view, or in it after each tenth."""
+    """A viewer's walk, while edits come in between: far from the city or in it after each view, or in it after each tenth."""
     server = Vtserve(folder, "walk", 131072)
     tiles = walked()
     city = sorted({(column >> zoom - 11, row >> zoom - 11) for zoom, column, row in tiles})
@@ -401,7 +405,7 @@ def walk(folder, client, nginx):
     paths = [f"/map/{zoom}/{column}/{row}.mvt" for zoom, column, row in tiles]
     nginx.keep_all(folder, "walk", server, sorted(set(paths)))
     far, near = [1, 1], spread(*city[0], 7)
-    edits = (("far from it after each view", far, 12), ("in it after each tenth view", near, 120))
+    edits = (("far from it after each view", far, 12), ("in it after each tenth view", near, 120), ("in it after each view", near, 12))
     for is_published, (name, point, every) in [(False, edit) for edit in edits] + [(True, edit) for edit in edits]:
         server.put([(30000, feature("towns", 3, [point], {}))])
         if is_published:
