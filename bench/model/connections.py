@@ -62,6 +62,8 @@ class Bytes:
 
     def __init__(self, held):
         self.held, self.at = held, 0
+        # Behind how many bytes it is seen that a head has too many fields.
+        self.crowded = None
 
     def take(self):
         if self.at == len(self.held):
@@ -110,9 +112,8 @@ def target_in(taken):
     return target
 
 
-def head_in(held):
+def head_in(taken):
     """The head that bytes begin with."""
-    taken = Bytes(held[:MAX_HEAD])
     while (byte := taken.take()) in (CR, LF):
         taken.line_end(byte)
     if byte not in TOKEN:
@@ -125,6 +126,8 @@ def head_in(held):
     taken.line_end(taken.want({CR, LF}))
     fields = []
     while (first := taken.take()) not in (CR, LF):
+        if len(fields) == MAX_FIELDS:
+            taken.crowded = taken.at
         fields.append(field_in(taken, first))
     taken.line_end(first)
     if len(fields) > MAX_FIELDS:
@@ -160,10 +163,22 @@ def asks_to_close(head):
     return head.minor == 0 or b"close" in options
 
 
-def request_in(held):
-    """The request that bytes begin with. Where there is none: why, and behind how many bytes that is seen, or None where more may come."""
+def request_in(held, first=0):
+    """The request that bytes begin with, the first of which come together. Where there is none: why, and behind how many bytes that is
+    seen, or None where more may come. Too many fields are seen in the first bytes at once, later only at the head's end or its fault.
+    """
+    taken = Bytes(held[:MAX_HEAD])
     try:
-        head = head_in(held)
+        return request_of(taken, held)
+    except Rejected:
+        if taken.crowded is not None and taken.crowded <= first:
+            raise Rejected("Head", False, taken.crowded) from None
+        raise
+
+
+def request_of(taken, held):
+    try:
+        head = head_in(taken)
     except Fault as fault:
         raise Rejected("Head", False, fault.args[0]) from fault
     except More:
@@ -402,8 +417,9 @@ def broken_off(kind, requests):
 class Connection:
     """A connection whose input ends behind these bytes, stays open or isn't read on, and whose output takes so many bytes at most."""
 
-    def __init__(self, service, given, is_open=False, room=None, is_spent=False, is_admin=False):
+    def __init__(self, service, given, is_open=False, room=None, is_spent=False, is_admin=False, size=1):
         self.service, self.given, self.is_open, self.room, self.is_spent, self.is_admin = service, given, is_open, room, is_spent, is_admin
+        self.size = size
         self.at, self.requests, self.written = 0, 0, b""
 
     def write(self, reply, close, bare):
@@ -435,7 +451,7 @@ class Connection:
         """What it comes to, behind how many bytes, and how many reads failed."""
         while True:
             try:
-                request = request_in(self.given[self.at :])
+                request = request_in(self.given[self.at :], self.size - self.at % self.size)
             except Rejected as rejected:
                 word, bare, need = rejected.args
                 if need is None:
@@ -451,6 +467,6 @@ def outcome(service, given, size, is_open=False, room=None, turns=None, is_admin
     """What a connection comes to that is read in pieces of a size, and at most so often. A read that finds the end counts too."""
     is_spent = turns is not None and turns * size <= len(given) + size - 1
     given = given[: turns * size] if is_spent else given
-    connection = Connection(service, given, is_open, room, is_spent, is_admin)
+    connection = Connection(service, given, is_open, room, is_spent, is_admin, size)
     result, failed, needed = connection.run()
     return Outcome(result, min(len(given), -(-needed // size) * size), failed, connection.written)
