@@ -5,6 +5,7 @@ ghost use Rattle.edit_journal.specs.declared.sizes.TheConstants.{LAST_RECORD_VER
 ghost use Rattle.edit_journal.specs.Records.{most_bytes, IsRecordLength, parts_of, piece, part_front, record_sector};
 
 use crate::sizes::PART_BYTES;
+use byteorder::{ByteOrder, LittleEndian};
 use sector_disk::SECTOR_BYTES;
 
 /// How many parts a text of this length has.
@@ -29,9 +30,9 @@ pub(crate) fn front_bytes(version: u32, number: u64, length: u32, part: u16) -> 
     let mut front = [0; 16];
     front[0] = kind;
     front[1] = version as u8;
-    front[2..4].copy_from_slice(&count.to_le_bytes());
-    front[4..12].copy_from_slice(&number.to_le_bytes());
-    front[12..].copy_from_slice(&length.to_le_bytes());
+    LittleEndian::write_u16(&mut front[2..4], count);
+    LittleEndian::write_u64(&mut front[4..12], number);
+    LittleEndian::write_u32(&mut front[12..], length);
     front
 }
 

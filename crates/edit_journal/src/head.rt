@@ -5,6 +5,7 @@ ghost use Rattle.edit_journal.specs.Records.{IsRecordLength, parts_of, number_fr
 
 use crate::encoding::{count_parts, front_bytes};
 use crate::sizes::{FIRST_RECORD_VERSION, LAST_RECORD_VERSION, MAX_RECORD_BYTES};
+use byteorder::{ByteOrder, LittleEndian};
 use sector_disk::SECTOR_BYTES;
 
 /// What the head of a record says.
@@ -55,17 +56,13 @@ impl Head {
 fn number_in(sector: &[u8; SECTOR_BYTES]) -> u64
     ensures { result ≡ number_from sector.now }
 {
-    let mut number = [0; 8];
-    number.copy_from_slice(&sector[4..12]);
-    u64::from_le_bytes(number)
+    LittleEndian::read_u64(&sector[4..12])
 }
 
 fn length_in(sector: &[u8; SECTOR_BYTES]) -> u32
     ensures { result ≡ length_from sector.now }
 {
-    let mut length = [0; 4];
-    length.copy_from_slice(&sector[12..16]);
-    u32::from_le_bytes(length)
+    LittleEndian::read_u32(&sector[12..16])
 }
 
 /// The version of the head with this number that a sector is, whatever else it says, if the version is from 1 to `most`.

@@ -4,6 +4,7 @@ ghost use Rattle.std.specs.Prelude.{◌≡◌, ℕ, ◌≤◌, length, IfOk};
 ghost use Rattle.reader.specs.Reading.{Reads};
 ghost use Rattle.edit_text.specs.Reading.{byte_at, front_at, two_at, four_at, eight_at, number_at, text_at, name_at, long_text_at};
 
+use byteorder::{ByteOrder, LittleEndian};
 use crate::fault::TextFault;
 use feature_model::{MAX_NAME_BYTES, MAX_TEXT_BYTES, NUMBER_END};
 
@@ -34,9 +35,7 @@ pub(crate) fn read_u16(bytes: &[u8]) -> Result<(u16, &[u8]), TextFault>
     ensures { Reads (λ r. (r.0, r.1.now)) result (two_at bytes.now) }
 {
     let (front, rest) = read_front(bytes, 2)?;
-    let mut number = [0; 2];
-    number.copy_from_slice(front);
-    Ok((u16::from_le_bytes(number), rest))
+    Ok((LittleEndian::read_u16(front), rest))
 }
 
 #[tactic(auto, unfolding(crate::specs::Reading::four_at))]
@@ -44,9 +43,7 @@ pub(crate) fn read_u32(bytes: &[u8]) -> Result<(u32, &[u8]), TextFault>
     ensures { Reads (λ r. (r.0, r.1.now)) result (four_at bytes.now) }
 {
     let (front, rest) = read_front(bytes, 4)?;
-    let mut number = [0; 4];
-    number.copy_from_slice(front);
-    Ok((u32::from_le_bytes(number), rest))
+    Ok((LittleEndian::read_u32(front), rest))
 }
 
 #[tactic(auto, unfolding(crate::specs::Reading::eight_at))]
@@ -54,9 +51,7 @@ pub(crate) fn read_u64(bytes: &[u8]) -> Result<(u64, &[u8]), TextFault>
     ensures { Reads (λ r. (r.0, r.1.now)) result (eight_at bytes.now) }
 {
     let (front, rest) = read_front(bytes, 8)?;
-    let mut number = [0; 8];
-    number.copy_from_slice(front);
-    Ok((u64::from_le_bytes(number), rest))
+    Ok((LittleEndian::read_u64(front), rest))
 }
 
 /// The number of a feature, below `NUMBER_END`.

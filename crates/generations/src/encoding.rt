@@ -5,6 +5,7 @@ ghost use Rattle.generations.specs.Sectors.{IsVersion, IsFormatSector, version_f
 ghost use Rattle.generations.specs.Sectors.{root_sector, root_from, number_from, AreNumbers, IsRootSector};
 
 use crate::root::Root;
+use byteorder::{ByteOrder, LittleEndian};
 use crate::sizes::{FIRST_VERSION, LAST_VERSION};
 
 /// The first bytes of a formatted disk.
@@ -16,16 +17,14 @@ fn put_number(sector: &mut [u8; 512], at: usize, number: u64)
     requires { at + 8 ≤ 512 }
     ensures { sector.new ≡ take at sector.old ++ to_le_bytes w64 number ++ drop (at + 8) sector.old }
 {
-    sector[at..at + 8].copy_from_slice(&number.to_le_bytes());
+    LittleEndian::write_u64(&mut sector[at..at + 8], number);
 }
 
 pub(crate) fn number_at(sector: &[u8; 512], at: usize) -> u64
     requires { at + 8 ≤ 512 }
     ensures { result ≡ number_from at sector.now }
 {
-    let mut number = [0; 8];
-    number.copy_from_slice(&sector[at..at + 8]);
-    u64::from_le_bytes(number)
+    LittleEndian::read_u64(&sector[at..at + 8])
 }
 
 /// Whether there is a format of this version.
@@ -39,9 +38,7 @@ pub(crate) fn is_version(version: u32) -> bool
 pub(crate) fn version_at(sector: &[u8; 512]) -> u32
     ensures { result ≡ version_from sector.now }
 {
-    let mut version = [0; 4];
-    version.copy_from_slice(&sector[8..12]);
-    u32::from_le_bytes(version)
+    LittleEndian::read_u32(&sector[8..12])
 }
 
 /// The sector of the format of a version with so many sectors.
@@ -51,7 +48,7 @@ pub(crate) fn format_bytes(version: u32, sectors: u64) -> [u8; 512]
 {
     let mut sector = [0; 512];
     sector[..8].copy_from_slice(&DISK_MARK);
-    sector[8..12].copy_from_slice(&version.to_le_bytes());
+    LittleEndian::write_u32(&mut sector[8..12], version);
     put_number(&mut sector, 12, sectors);
     sector
 }

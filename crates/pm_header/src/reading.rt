@@ -1,27 +1,18 @@
 //! The fields of a header, each at its offset.
 
-ghost use Rattle.std.specs.Prelude.{◌≡◌, ◌+◌, ◌≤◌, length, slice_range};
+ghost use Rattle.std.specs.Prelude.{◌≡◌, ◌+◌, ◌≤◌, length};
 ghost use Rattle.pm_header.specs.Layout.{number_at, position_at, part_at, header_at};
 
 use crate::header::{HEADER_BYTES, Header};
 use crate::section_span::SectionSpan;
-
-// The bytes from an offset on.
-fn array<const N: usize>(bytes: &[u8], at: usize) -> [u8; N]
-    requires { at + N ≤ length bytes.now }
-    ensures { result ≡ slice_range bytes.now at (at + N) }
-{
-    let mut array = [0; N];
-    array.copy_from_slice(&bytes[at..at + N]);
-    array
-}
+use byteorder::{ByteOrder, LittleEndian};
 
 // The number in eight bytes, lowest first.
 fn number(bytes: &[u8], at: usize) -> u64
     requires { at + 8 ≤ length bytes.now }
     ensures { result ≡ number_at at bytes.now }
 {
-    u64::from_le_bytes(array(bytes, at))
+    LittleEndian::read_u64(&bytes[at..at + 8])
 }
 
 // The signed number in four bytes, lowest first.
@@ -29,7 +20,7 @@ fn position(bytes: &[u8], at: usize) -> i32
     requires { at + 4 ≤ length bytes.now }
     ensures { result ≡ position_at at bytes.now }
 {
-    i32::from_le_bytes(array(bytes, at))
+    LittleEndian::read_i32(&bytes[at..at + 4])
 }
 
 fn part(bytes: &[u8], at: usize) -> SectionSpan

@@ -1,10 +1,12 @@
 //! The fields of a header, put one behind the other.
 
 ghost use Rattle.std.specs.Prelude.{◌≡◌, ◌+◌, ◌≤◌, ◌++◌, length, take};
+ghost use Rattle.std.specs.Int.{w32, to_le_bytes, cast_unsigned};
 ghost use Rattle.pm_header.specs.Layout.{little_8, IsHeader};
 
 use crate::header::{HEADER_BYTES, Header};
 use crate::section_span::SectionSpan;
+use byteorder::{ByteOrder, LittleEndian};
 
 /// The first bytes of each archive.
 pub(crate) const MAGIC: [u8; 7] = *b"PMTiles";
@@ -18,12 +20,26 @@ fn put<const N: usize>(bytes: &mut [u8], at: usize, field: [u8; N])
     bytes[at..at + N].copy_from_slice(&field);
 }
 
+fn put_number(bytes: &mut [u8], at: usize, number: u64)
+    requires { at + 8 ≤ length bytes.old }
+    ensures { take (at + 8) bytes.new ≡ take at bytes.old ++ little_8 number }
+{
+    LittleEndian::write_u64(&mut bytes[at..at + 8], number);
+}
+
+fn put_position(bytes: &mut [u8], at: usize, position: i32)
+    requires { at + 4 ≤ length bytes.old }
+    ensures { take (at + 4) bytes.new ≡ take at bytes.old ++ to_le_bytes w32 (cast_unsigned w32 position) }
+{
+    LittleEndian::write_i32(&mut bytes[at..at + 4], position);
+}
+
 fn put_part(bytes: &mut [u8], at: usize, part: SectionSpan)
     requires { at + 16 ≤ length bytes.old }
     ensures { take (at + 16) bytes.new ≡ take at bytes.old ++ little_8 part.offset ++ little_8 part.length }
 {
-    put(bytes, at, part.offset.to_le_bytes());
-    put(bytes, at + 8, part.length.to_le_bytes());
+    put_number(bytes, at, part.offset);
+    put_number(bytes, at + 8, part.length);
 }
 
 pub(crate) fn header_bytes(header: Header) -> [u8; HEADER_BYTES]
@@ -36,9 +52,9 @@ pub(crate) fn header_bytes(header: Header) -> [u8; HEADER_BYTES]
     put_part(&mut bytes, 24, header.metadata);
     put_part(&mut bytes, 40, header.leaves);
     put_part(&mut bytes, 56, header.tiles);
-    put(&mut bytes, 72, header.addressed.to_le_bytes());
-    put(&mut bytes, 80, header.entries.to_le_bytes());
-    put(&mut bytes, 88, header.contents.to_le_bytes());
+    put_number(&mut bytes, 72, header.addressed);
+    put_number(&mut bytes, 80, header.entries);
+    put_number(&mut bytes, 88, header.contents);
     put(
         &mut bytes,
         96,
@@ -50,12 +66,12 @@ pub(crate) fn header_bytes(header: Header) -> [u8; HEADER_BYTES]
         ],
     );
     put(&mut bytes, 100, [header.min_zoom, header.max_zoom]);
-    put(&mut bytes, 102, header.min_lon.to_le_bytes());
-    put(&mut bytes, 106, header.min_lat.to_le_bytes());
-    put(&mut bytes, 110, header.max_lon.to_le_bytes());
-    put(&mut bytes, 114, header.max_lat.to_le_bytes());
+    put_position(&mut bytes, 102, header.min_lon);
+    put_position(&mut bytes, 106, header.min_lat);
+    put_position(&mut bytes, 110, header.max_lon);
+    put_position(&mut bytes, 114, header.max_lat);
     put(&mut bytes, 118, [header.centre_zoom]);
-    put(&mut bytes, 119, header.centre_lon.to_le_bytes());
-    put(&mut bytes, 123, header.centre_lat.to_le_bytes());
+    put_position(&mut bytes, 119, header.centre_lon);
+    put_position(&mut bytes, 123, header.centre_lat);
     bytes
 }

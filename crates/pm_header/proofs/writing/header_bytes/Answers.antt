@@ -9,7 +9,7 @@ use Rattle.pm_header.proofs.writing.header_bytes.Goals as goal
 pub returns : goal.returns
 returns c =
     let h = c.args.header in
-    let bytes = c.put-14.new.bytes in
+    let bytes = c.put_position-6.new.bytes in
     let fits : HeaderFits h = record {
       root = (search rules, search rules);
       metadata = (search rules, search rules);
@@ -27,36 +27,27 @@ returns c =
     } in
     let whole : take HEADER_BYTES bytes ≡ bytes = take_all HEADER_BYTES bytes (omega arith) in
     is_laid_out h bytes fits (sym whole ∙ rw (
-      c.put-13.ensures,
-      c.put-12.ensures,
-      c.put-11.ensures,
-      c.put-10.ensures,
-      c.put-9.ensures,
-      c.put-8.ensures,
-      c.put-7.ensures,
-      c.put-6.ensures,
+      c.put_position-5.ensures,
       c.put-5.ensures,
+      c.put_position-4.ensures,
+      c.put_position-3.ensures,
+      c.put_position-2.ensures,
+      c.put_position.ensures,
       c.put-4.ensures,
       c.put-3.ensures,
+      c.put_number-3.ensures,
+      c.put_number-2.ensures,
+      c.put_number.ensures,
       c.put_part-4.ensures,
       c.put_part-3.ensures,
       c.put_part-2.ensures,
       c.put_part.ensures,
       c.put-2.ensures,
       c.put.ensures,
-      c.to_le_bytes.ensures,
-      c.to_le_bytes-2.ensures,
-      c.to_le_bytes-3.ensures,
-      c.to_le_bytes-4.ensures,
-      c.to_le_bytes-5.ensures,
-      c.to_le_bytes-6.ensures,
-      c.to_le_bytes-7.ensures,
-      c.to_le_bytes-8.ensures,
-      c.to_le_bytes-9.ensures,
       to_z-of_z w32 h.min_lon fits.min_lon,
       to_z-of_z w32 h.min_lat fits.min_lat,
       to_z-of_z w32 h.max_lon fits.max_lon,
       to_z-of_z w32 h.max_lat fits.max_lat,
       to_z-of_z w32 h.centre_lon fits.centre_lon,
       to_z-of_z w32 h.centre_lat fits.centre_lat,
-    ) at c.put-14.ensures)
+    ) at c.put_position-6.ensures)
