@@ -206,6 +206,11 @@ begins-asked (v ∷ vs) (suc k) (y ∷ ys) so_far members some =
     let first : view v ≡ asked_json y = cc in
     (y, map view vs, λ j. first j ∷ map view vs, All-head HasMembers y ys members)
 
+-- the first value asks for the first change
+begins-there : (ys : List AskedData) → All HasMembers ys → 0 < length ys → BeginsAsked (map asked_json ys)
+begins-there [] members some = absurd (omega (arith, some))
+begins-there (y ∷ ys) members some = (y, map asked_json ys, refl, All-head HasMembers y ys members)
+
 -- one that asks for nothing
 pub read-refused : (vs : List Value) (i : ℕ) (v : Value) → i < length vs → v ≡ get_or vs i v
     → ((a : AskedData) → view v ≡ asked_json a → HasMembers a → ⊥)
@@ -290,22 +295,17 @@ first-fault d ys faults.Memory asks enough differ first = absurd (memory-never f
 first-fault d ys e asks enough differ first = (ys, asks, (enough, differ, first))
 
 -- what was read of a list, and what follows from it
-module _ (d : Data) (vs : List Value) (xs : List Asked) (is : d ≡ list_json (map view vs)) (found : map view vs ≡ map asked_json (map asked_data xs))
-    (members : All HasMembers (map asked_data xs)) where
+module _ (d : Data) (xs : List Asked) (is : d ≡ asks_json (map asked_data xs)) (members : All HasMembers (map asked_data xs)) where
   asks-read : Asks d (map asked_data xs)
-  asks-read = record { is = is ∙ ap list_json found; members = members }
+  asks-read = record { is = is; members = members }
 
   pub few-refused : (AreEnough (length xs) → ⊥) → IsFirstBatchFault d faults.Batch
   few-refused few = (map asked_data xs, asks-read, λ enough. few (subst AreEnough (length-map xs asked_data) enough))
 
   module _ (enough : AreEnough (length xs)) where
     pub memory-refused : IsFirstBatchFault d faults.Memory
-    memory-refused = (
-      map view vs,
-      is,
-      begins-asked vs (length vs) (map asked_data xs) (ap (map view) (take_all (length vs) vs (omega arith)) ∙ found) members
-          (omega (arith, enough, length-map xs asked_data)),
-    )
+    memory-refused =
+        (map asked_json (map asked_data xs), is, begins-there (map asked_data xs) members (omega (arith, enough, length-map xs asked_data)))
 
     enough-asked : AreEnough (length (map asked_data xs))
     enough-asked = subst AreEnough (sym (length-map xs asked_data)) enough

@@ -1,5 +1,6 @@
 pub mod Asked
 pub mod Batches
+pub mod Checked
 pub mod Faults
 pub mod Json
 pub mod Lists

@@ -7,7 +7,7 @@ ghost use Rattle.feature_model.specs.Data.{EditData, change_data};
 ghost use Rattle.feature_model.specs.Limits.{AreEnough};
 ghost use Rattle.feature_model.specs.Types.{ChangeFitsTypes};
 ghost use Rattle.edit_json.specs.Asked.{asked_data};
-ghost use Rattle.edit_json.specs.Batches.{AskedData, delete_asked, put_asked, asked_number, asked_json, asked_of, list_json, HasMembers, BeginsAsked};
+ghost use Rattle.edit_json.specs.Batches.{AskedData, delete_asked, put_asked, asked_number, asked_json, asked_of, asks_json, list_json, HasMembers, BeginsAsked};
 ghost use Rattle.edit_json.specs.Batches.{IsJsonChange, IsBatch, NumbersDiffer, IsFirstAskedFault, IsFirstAsked, IsFirstBatchFault};
 
 use crate::outline::{next_named, read_outline};
@@ -184,6 +184,29 @@ fn read_changes(alloc: Global, all: &[Asked<'_>]) -> Result<Vec<Change>, EditFau
     Ok(changes)
 }
 
+/// The changes that are asked for, with the members that they must have, or the first fault of the value that asks for them.
+pub(crate) fn changes_of(alloc: Global, all: &[Asked<'_>]) -> Result<Vec<Change>, EditFault>
+    requires { All HasMembers (map asked_data all.now) }
+    ensures found { IfOk result (λ changes. IsBatch (asks_json (map asked_data all.now)) (map change_data changes.items)) }
+    ensures types { IfOk result (λ changes. All ChangeFitsTypes (map change_data changes.items)) }
+    ensures refused { IfErr result (IsFirstBatchFault (asks_json (map asked_data all.now))) }
+{
+    if !are_enough(all) {
+        return Err(EditFault::Batch);
+    }
+    let numbers = match read_numbers(alloc, all) {
+        Ok(numbers) => numbers,
+        Err(fault) => return Err(fault),
+    };
+    if !differ(&numbers) {
+        return Err(EditFault::Twice);
+    }
+    match read_changes(alloc, all) {
+        Ok(changes) => Ok(changes),
+        Err(fault) => Err(fault),
+    }
+}
+
 /// The changes of an edit's JSON value, or the first fault that the value has.
 ///
 /// The value is an object with exactly one member, `changes`: a list of objects, each with exactly the members `put`, a whole number,
@@ -203,17 +226,7 @@ pub fn batch_from_json(alloc: Global, value: &Value) -> Result<Vec<Change>, Edit
         Ok(all) => all,
         Err(fault) => return Err(fault),
     };
-    if !are_enough(&all) {
-        return Err(EditFault::Batch);
-    }
-    let numbers = match read_numbers(alloc, &all) {
-        Ok(numbers) => numbers,
-        Err(fault) => return Err(fault),
-    };
-    if !differ(&numbers) {
-        return Err(EditFault::Twice);
-    }
-    match read_changes(alloc, &all) {
+    match changes_of(alloc, &all) {
         Ok(changes) => Ok(changes),
         Err(fault) => Err(fault),
     }

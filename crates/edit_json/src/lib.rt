@@ -8,6 +8,7 @@
 #![tactic(auto)]
 
 mod batches;
+mod checked;
 mod lists;
 mod outline;
 mod reading;

@@ -1,4 +1,5 @@
 pub mod Ascending
 pub mod Changes
+pub mod Equality
 pub mod Mapped
 pub mod TextLengths

@@ -6,6 +6,8 @@ mod fault;
 mod feature;
 mod lengths;
 mod limits;
+mod same;
+mod seen;
 
 pub use copies::copy;
 pub use fault::EditFault;
@@ -16,3 +18,5 @@ pub use limits::{
     MIN_LINE, MIN_RING, NUMBER_END, change_count_fits, check, check_batch, count_fits, is_name,
     is_new, is_tag_text, tag_count_fits, zooms_fit,
 };
+pub use same::is_same;
+pub use seen::Seen;

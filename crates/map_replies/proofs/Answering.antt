@@ -17,7 +17,7 @@ use Rattle.map_replies.specs.declared.fault.RequestFault.{RequestFault}
 use Rattle.map_replies.specs.declared.fault.RequestFault.TheVariants.{Memory}
 
 -- with the fault Device a call of the disk has failed
-device_failed : {A : Type 0} (r : Result A ServiceFault) (before after : ℕ) → TellsDevice r before after
+pub device_failed : {A : Type 0} (r : Result A ServiceFault) (before after : ℕ) → TellsDevice r before after
     → IfErr r (λ fault. fault ≡ Device → HasFailed before after)
 device_failed (Ok a) before after is = tt
 device_failed (Err fault) before after (inl is) = λ device. is.1

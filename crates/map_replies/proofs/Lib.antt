@@ -1,5 +1,6 @@
 pub mod Along
 mod Answering
+mod CheckedEdits
 pub mod Connections
 mod PartLemmas
 mod Pushed

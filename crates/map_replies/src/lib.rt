@@ -4,6 +4,7 @@
 mod archives;
 mod bodies;
 mod calls;
+mod checking;
 mod editing;
 mod fault;
 mod parts;

@@ -6,6 +6,7 @@ ghost use Rattle.map_replies.specs.Words.{service_refusal, not_allowed_reply, js
 ghost use Rattle.map_replies.specs.Words.{outcome_reply, left_reply};
 ghost use Rattle.map_replies.specs.Words.{published_body, published_reply, cancel_reply};
 ghost use Rattle.map_replies.specs.Words.{format_type, format_content, content_reply, tile_reply, refusal_of};
+ghost use Rattle.map_replies.specs.Checked.{changed_word, changed_reply};
 ghost use Rattle.tile_routes.specs.Targets.{asked_of};
 ghost use Rattle.map_replies.specs.Words.{text_type, json_type, tile_type};
 ghost use Rattle.map_replies.specs.declared.replies.TheConstants.{MAX_TEXT};
@@ -253,6 +254,35 @@ pub(crate) fn outcome(text: Vec<u8>, outcome: Result<u64, ServiceFault>) -> Repl
     ensures writable { IsWhole result }
 {
     number(text, b"{\"edit\":", outcome)
+}
+
+/// The word of a number that has another feature than was seen, with a line feed.
+#[tactic(auto, unfolding(crate::specs::Checked::changed_word))]
+fn changed_word(text: Vec<u8>, id: u64) -> Vec<u8>
+    requires empty { text.items ≡ [] }
+    requires room { MAX_TEXT ≤ vec_capacity text }
+    ensures { result.items ≡ changed_word id }
+{
+    let mut text = text;
+    push_text(&mut text, b"Changed ");
+    push_number(&mut text, id);
+    push_text(&mut text, b"\n");
+    text
+}
+
+/// The reply with that word. It doesn't allocate.
+#[tactic(auto, unfolding(crate::specs::Words::text_type))]
+pub(crate) fn changed(text: Vec<u8>, id: u64) -> Reply
+    requires empty { text.items ≡ [] }
+    requires room { MAX_TEXT ≤ vec_capacity text }
+    ensures reply { reply_view [] result ≡ changed_reply id }
+    ensures writable { IsWhole result }
+{
+    Reply::plain(
+        status::CONFLICT,
+        Some("text/plain"),
+        Content::Whole(changed_word(text, id)),
+    )
 }
 
 /// The reply with the outcome of the beginning or a step of a publication. It doesn't allocate.

@@ -27,5 +27,6 @@ mod Shared
 mod Shown
 mod Steps
 mod Tellings
+mod Unchanged
 mod Upgraded
 mod Whole

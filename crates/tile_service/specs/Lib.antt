@@ -6,6 +6,7 @@ pub mod Opening
 pub mod Publishing
 pub mod Replayed
 pub mod Runs
+pub mod Seen
 pub mod Service
 pub mod Stored
 pub mod Tiles

@@ -1,0 +1,42 @@
+//! What the author of an edit saw, compared with the map.
+ghost use Rattle.std.specs.Prelude.{◌↔◌, map, All, IsTrue, MatchOption};
+ghost use Rattle.feature_model.specs.Seen.{seen_data};
+ghost use Rattle.tile_service.specs.Seen.{IsAsSeen, IsFirstChanged};
+
+use crate::service::Service;
+use feature_model::Seen;
+use feature_store::Store;
+use sector_disk::Sectors;
+
+/// Whether a number still has the feature that was seen, or still none.
+fn is_as_seen(store: &Store, seen: &Seen) -> bool
+    ensures { IsTrue result ↔ IsAsSeen store.now.features (seen_data seen.now) }
+{
+    seen.is_still(store.get(seen.id))
+}
+
+/// The number of the first that has another feature than was seen.
+fn first_changed(store: &Store, all: &[Seen]) -> Option<u64>
+    ensures { MatchOption result
+        (All (IsAsSeen store.now.features) (map seen_data all.now))
+        (IsFirstChanged store.now.features (map seen_data all.now)) }
+{
+    for seen in all {
+        if !is_as_seen(store, seen) {
+            return Some(seen.id);
+        }
+    }
+    None
+}
+
+impl<D: Sectors + Drop> Service<D> {
+    /// The number of the first of these whose feature, after the last acknowledged edit, isn't the one that was seen, or `None` if each
+    /// still is. It allocates nothing.
+    pub fn first_changed(&self, all: &[Seen]) -> Option<u64>
+        ensures { MatchOption result
+            (All (IsAsSeen self.now.features) (map seen_data all.now))
+            (IsFirstChanged self.now.features (map seen_data all.now)) }
+    {
+        first_changed(self.map.store(), all)
+    }
+}
