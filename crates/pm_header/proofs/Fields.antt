@@ -1,4 +1,4 @@
--- Fields put one behind the other stand each at its offset.
+-- Fields that are written one after the other are each at their offset.
 use Rattle.std.proofs.Common.{◌≡◌, ℕ, ℤ, ◌<◌, ◌^◌, List, [], ◌∷◌, ◌++◌, refl, sym, ap, ◌∙◌, lit≤}
 use Rattle.std.specs.Int.{w32, w64, from_le_bytes, to_le_bytes, cast_signed, cast_unsigned}
 use Rattle.std.proofs.lemmas.Nat.{from_le_bytes-to_le_bytes_8, from_le_bytes-to_le_bytes_4}
@@ -8,7 +8,7 @@ use Rattle.pm_header.specs.declared.section_span.SectionSpan.{SectionSpan}
 use Rattle.pm_header.specs.declared.header.Header.{Header}
 use Rattle.pm_header.specs.Layout.{IsHeader, magic, part_at, header_at, little_8}
 
--- headers with the same fields are one
+-- headers with the same fields are equal
 pub same_header : (h g : Header) → h.root ≡ g.root → h.metadata ≡ g.metadata → h.leaves ≡ g.leaves → h.tiles ≡ g.tiles → h.addressed ≡ g.addressed
     → h.entries ≡ g.entries → h.contents ≡ g.contents → h.clustered ≡ g.clustered → h.internal ≡ g.internal → h.compression ≡ g.compression → h.kind ≡ g.kind
     → h.min_zoom ≡ g.min_zoom → h.max_zoom ≡ g.max_zoom → h.min_lon ≡ g.min_lon → h.min_lat ≡ g.min_lat → h.max_lon ≡ g.max_lon → h.max_lat ≡ g.max_lat
@@ -69,7 +69,7 @@ pub record HeaderFits (h : Header) : Type 0 where
   pub centre_lon : FitsSigned w32 h.centre_lon
   pub centre_lat : FitsSigned w32 h.centre_lat
 
--- the fields one behind the other
+-- the fields one after the other
 abbrev pub header_bytes : Header → List ℕ
 header_bytes h =
     magic ++ 3 ∷ [] ++ little_8 h.root.offset ++ little_8 h.root.length ++ little_8 h.metadata.offset ++ little_8 h.metadata.length

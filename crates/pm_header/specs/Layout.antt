@@ -1,4 +1,4 @@
--- Where each field of a header stands. Numbers stand lowest byte first.
+-- The offset of each field of a header. Numbers are stored least significant byte first.
 use Rattle.std.specs.Prelude.{◌≡◌, ℕ, ℤ, ◌+◌, ◌≤◌, List, length, take, codes, slice_index, slice_range}
 use Rattle.std.specs.Int.{w32, w64, from_le_bytes, to_le_bytes, cast_signed}
 use Rattle.pm_header.specs.declared.section_span.SectionSpan.{SectionSpan}
@@ -17,7 +17,7 @@ number_at offset bytes = from_le_bytes w64 (slice_range bytes offset (offset + 8
 abbrev pub position_at : ℕ → List ℕ → ℤ
 position_at offset bytes = cast_signed w32 (from_le_bytes w32 (slice_range bytes offset (offset + 4)))
 
--- an offset, and the length behind it
+-- the offset and the length of a section, two numbers from an offset on
 abbrev pub part_at : ℕ → List ℕ → SectionSpan
 part_at start bytes = record { offset = number_at start bytes; length = number_at (start + 8) bytes }
 
@@ -53,6 +53,6 @@ pub record IsHeader (bytes : List ℕ) (header : Header) : Type 0 where
   pub version_is : slice_index bytes 7 ≡ 3
   pub fields_are : header ≡ header_at bytes
 
--- the eight bytes of a number, lowest first
+-- the eight bytes of a number, least significant first
 abbrev pub little_8 : ℕ → List ℕ
 little_8 n = to_le_bytes w64 n

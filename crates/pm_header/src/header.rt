@@ -1,18 +1,21 @@
+//! The header of an archive as a value.
+
+use crate::compression::{NOT_COMPRESSED, UNKNOWN_COMPRESSION};
 use crate::fault::HeaderFault;
 use crate::reading::fields;
 use crate::section_span::SectionSpan;
 use crate::writing::{MAGIC, VERSION, header_bytes};
 
-/// How many bytes a header has.
+/// The length of a header in bytes.
 pub const HEADER_BYTES: usize = 127;
-/// What says in `internal` and `compression` that nothing is compressed.
-pub const NOT_COMPRESSED: u8 = 1;
+/// The `clustered` of an archive whose contents are stored in ascending order of their tile ids.
+pub const CLUSTERED: u8 = 1;
 /// The `kind` of Mapbox vector tiles.
 pub const VECTOR_TILES: u8 = 1;
 
-/// What the header of an archive says (PMTiles 3, 3.2).
+/// The header of an archive (PMTiles 3, 3.2).
 ///
-/// Nothing ties the fields to one another or to the archive behind them: any values are a header.
+/// Any values of the fields are a header: they need not agree with one another or with the rest of the archive.
 #[derive(Clone, Copy, Debug, PartialEq, Eq)]
 pub struct Header {
     /// The root directory.
@@ -23,52 +26,57 @@ pub struct Header {
     pub leaves: SectionSpan,
     /// The contents of the tiles.
     pub tiles: SectionSpan,
-    /// How many tile ids have a content. 0 where that isn't known, as for the two counts below.
+    /// The number of tile ids that have a content. 0 if it isn't known, as for the next two counts.
     pub addressed: u64,
-    /// How many entries of directories are tile entries.
+    /// The number of tile entries in all directories.
     pub entries: u64,
-    /// How many different contents there are.
+    /// The number of different contents.
     pub contents: u64,
-    /// 1 where the contents lie in ascending order of their tile ids.
+    /// [`CLUSTERED`] if the contents are stored in ascending order of their tile ids.
     pub clustered: u8,
-    /// How directories and metadata are compressed: 0 unknown, 1 not, 2 gzip, 3 brotli, 4 zstd.
+    /// The compression of directories and metadata: [`UNKNOWN_COMPRESSION`], [`NOT_COMPRESSED`], `GZIP`, `BROTLI`, `ZSTD`, or another number.
     pub internal: u8,
-    /// How each tile is compressed, by the same numbers.
+    /// The compression of each tile, by the same numbers.
     pub compression: u8,
-    /// What the tiles are: 0 unknown, 1 Mapbox vector tiles, others images.
+    /// The type of the tiles: 0 unknown, [`VECTOR_TILES`], other numbers images.
     pub kind: u8,
     /// The least zoom of the tiles.
     pub min_zoom: u8,
     /// The greatest zoom of the tiles.
     pub max_zoom: u8,
-    /// The west of the tiles, in degrees times 10,000,000, as all positions here.
+    /// The western bound of the tiles, in 1/10,000,000 of a degree, as all positions here.
     pub min_lon: i32,
-    /// The south of the tiles.
+    /// The southern bound of the tiles.
     pub min_lat: i32,
-    /// The east of the tiles.
+    /// The eastern bound of the tiles.
     pub max_lon: i32,
-    /// The north of the tiles.
+    /// The northern bound of the tiles.
     pub max_lat: i32,
-    /// The zoom at which a viewer may begin.
+    /// The zoom of a viewer's first view.
     pub centre_zoom: u8,
-    /// The longitude at which a viewer may begin.
+    /// The longitude of its centre.
     pub centre_lon: i32,
-    /// The latitude at which a viewer may begin.
+    /// The latitude of its centre.
     pub centre_lat: i32,
 }
 
 impl Header {
-    ghost use Rattle.std.specs.Prelude.{◌≡◌, ◌≢◌, ℕ, ◌<◌, ◌≤◌, ◌↔◌, List, length, take, Ok, Err, IfOk, slice_index};
+    ghost use Rattle.std.specs.Prelude.{◌≡◌, ◌≢◌, ℕ, ◌<◌, ◌≤◌, ◌↔◌, List, length, take, Ok, Err, IfOk, IsTrue, slice_index};
+    ghost use Rattle.pm_header.specs.Compression.{IsPlain};
     ghost use Rattle.pm_header.specs.Layout.{IsHeader, magic};
 
-    /// The header as it stands in an archive.
+    /// The bytes of the header, as an archive begins with them.
     pub fn to_bytes(&self) -> [u8; HEADER_BYTES]
         ensures { IsHeader result self.now }
     {
         header_bytes(*self)
     }
 
-    /// The header with which bytes begin. What stands behind it isn't looked at.
+    /// Decodes the header with which bytes begin. The bytes after it are ignored.
+    ///
+    /// # Errors
+    ///
+    /// `Short`, `Magic`, `Version`, the first that applies.
     pub fn from_bytes(bytes: &[u8]) -> Result<Header, HeaderFault>
         ensures found { IfOk result (λ header. IsHeader bytes.now header) }
         ensures only { (header : Header) → IsHeader bytes.now header → result ≡ Ok header }
@@ -87,5 +95,12 @@ impl Header {
             return Err(HeaderFault::Version(bytes[7]));
         }
         Ok(fields(bytes))
+    }
+
+    /// Whether directories and metadata are read as they are: they aren't compressed, or the archive doesn't say how.
+    pub fn has_plain_directories(&self) -> bool
+        ensures { IsTrue result ↔ IsPlain self.now.internal }
+    {
+        self.internal == UNKNOWN_COMPRESSION || self.internal == NOT_COMPRESSED
     }
 }

@@ -1,4 +1,4 @@
-//! The fields of a header, each at its offset.
+//! Decodes the fields of a header, each at its offset.
 
 ghost use Rattle.std.specs.Prelude.{◌≡◌, ◌+◌, ◌≤◌, length};
 ghost use Rattle.pm_header.specs.Layout.{number_at, position_at, part_at, header_at};
@@ -7,7 +7,7 @@ use crate::header::{HEADER_BYTES, Header};
 use crate::section_span::SectionSpan;
 use byteorder::{ByteOrder, LittleEndian};
 
-// The number in eight bytes, lowest first.
+// The 8-byte number at an offset, least significant byte first.
 fn number(bytes: &[u8], at: usize) -> u64
     requires { at + 8 ≤ length bytes.now }
     ensures { result ≡ number_at at bytes.now }
@@ -15,7 +15,7 @@ fn number(bytes: &[u8], at: usize) -> u64
     LittleEndian::read_u64(&bytes[at..at + 8])
 }
 
-// The signed number in four bytes, lowest first.
+// The signed 4-byte number at an offset, least significant byte first.
 fn position(bytes: &[u8], at: usize) -> i32
     requires { at + 4 ≤ length bytes.now }
     ensures { result ≡ position_at at bytes.now }
@@ -23,6 +23,7 @@ fn position(bytes: &[u8], at: usize) -> i32
     LittleEndian::read_i32(&bytes[at..at + 4])
 }
 
+// The offset and the length of a section, two numbers from an offset on.
 fn part(bytes: &[u8], at: usize) -> SectionSpan
     requires { at + 16 ≤ length bytes.now }
     ensures { result ≡ part_at at bytes.now }
@@ -33,6 +34,7 @@ fn part(bytes: &[u8], at: usize) -> SectionSpan
     }
 }
 
+// The header in the first 127 bytes.
 pub(crate) fn fields(bytes: &[u8]) -> Header
     requires { HEADER_BYTES ≤ length bytes.now }
     ensures { result ≡ header_at bytes.now }

@@ -1,8 +1,10 @@
-/// Where a section of an archive lies.
+//! Where a section is stored.
+
+/// The bytes of a section of an archive.
 #[derive(Clone, Copy, Debug, PartialEq, Eq)]
 pub struct SectionSpan {
-    /// The first byte, from the start of the archive.
+    /// The offset of the first byte from the start of the archive.
     pub offset: u64,
-    /// How many bytes.
+    /// The length in bytes.
     pub length: u64,
 }
