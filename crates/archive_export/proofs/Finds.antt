@@ -3,7 +3,7 @@ use Rattle.std.proofs.Common.{◌≡◌, ◌⊎◌, inl, inr, ℕ, ◌+◌, List
 use Rattle.sector_disk.specs.Disk.{Image}
 use Rattle.sector_bytes.specs.Bytes.{StandsIn}
 use Rattle.sector_bytes.specs.Source.{AreItsBytes}
-use Rattle.generations.specs.Areas.{area_start, sectors_of}
+use Rattle.generations.specs.Areas.{archive_start}
 use Rattle.generations.specs.Disks.{LiveRoot, IsFaultOf}
 use Rattle.generations.specs.declared.fault.StoreFault.{StoreFault}
 use Rattle.generations.specs.declared.fault.StoreFault.TheVariants.{Device}
@@ -23,9 +23,9 @@ abbrev pub place_of : ℕ → Root → ArchivePlace
 place_of n root = archive_place n root.generation root.snapshot_len root.archive_len
 
 -- a place with these sectors
-pub at_place : (n : ℕ) (root : Root) (area before : ℕ) → area ≡ area_start n root.generation → before ≡ sectors_of root.snapshot_len
-    → ◌≡◌ {A = ArchivePlace} (record { generation = root.generation; first = area + before; len = root.archive_len }) (place_of n root)
-at_place n root area before is also = λ i. record { generation = root.generation; first = is i + also i; len = root.archive_len }
+pub at_place : (n : ℕ) (root : Root) (start : ℕ) → start ≡ archive_start n root.generation root.snapshot_len
+    → ◌≡◌ {A = ArchivePlace} (record { generation = root.generation; first = start; len = root.archive_len }) (place_of n root)
+at_place n root start is = λ i. record { generation = root.generation; first = is i; len = root.archive_len }
 
 module _ (count : ℕ) (image : Image) (n : ℕ) (stored : Stored) (holds : Holds count n stored image) where
   stands : StandsIn (place_of n (root_of stored)).first stored.archive image

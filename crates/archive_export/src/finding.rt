@@ -10,7 +10,7 @@ ghost use Rattle.sector_disk.specs.Asked.{OnlyReads};
 ghost use Rattle.sector_disk.specs.Disk.{seen};
 ghost use Rattle.tile_service.specs.Stored.{Stored, Holds};
 
-use generations::{Found, StoreFault, read_root, sectors_for};
+use generations::{Found, StoreFault, read_root};
 use published_tiles::ArchivePlace;
 use sector_disk::Sectors;
 
@@ -34,7 +34,7 @@ pub fn find_archive<D: Sectors>(disk: &mut D) -> Result<ArchivePlace, StoreFault
     match read_root(disk) {
         Ok(Found { layout, root, .. }) => Ok(ArchivePlace {
             generation: root.generation,
-            first: layout.area_start(root.generation) + sectors_for(root.snapshot_len),
+            first: layout.archive_start(root),
             len: root.archive_len,
         }),
         Err(fault) => Err(fault),

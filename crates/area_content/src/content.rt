@@ -30,13 +30,7 @@ pub(crate) fn sectors_for(bytes: usize) -> u64
     ensures taken { result ≡ sectors_of bytes }
     ensures small { result ≤ 2 ^ 55 }
 {
-    let bytes = bytes as u64;
-    let part = if bytes % SECTOR_BYTES as u64 > 0 {
-        1
-    } else {
-        0
-    };
-    bytes / SECTOR_BYTES as u64 + part
+    generations::sectors_for(bytes as u64)
 }
 
 /// The part of the bytes in the sector at `index`.

@@ -1,5 +1,6 @@
 mod Formats
 mod Layouts
+mod LimitNumbers
 pub mod Installs
 pub mod Laws
 mod Live

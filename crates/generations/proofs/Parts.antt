@@ -12,6 +12,7 @@ use Rattle.sector_disk.proofs.History.{fits_image, weaken, then_leaves}
 use Rattle.generations.specs.Areas.{journal_sectors}
 use Rattle.generations.specs.Disks.{HasNoMark, IsFresh, first_root}
 use Rattle.generations.specs.Written.{IsOldOr, IsOldOrEmpty}
+use Rattle.generations.specs.declared.sizes.TheConstants.{JOURNAL_START}
 use Rattle.generations.specs.Sectors.{disk_mark, format_sector, root_sector, zeros, HasMark}
 use Rattle.generations.proofs.Live.{zero_apart}
 
@@ -144,7 +145,7 @@ module _ (version n : ℕ) (start : History) where
         second_leaves = then_leaves start one two Formats first_leaves (weaken one two _ Formats cleared second_image)
 
         module _ (within : Within two (IsOldOrEmpty one))
-            (empty : (at : ℕ) → 0 < at → at < 3 + journal_sectors n → Stands two at zeros) where
+            (empty : (at : ℕ) → 0 < at → at < JOURNAL_START + journal_sectors n → Stands two at zeros) where
           two_stands : Stands two 0 zeros
           two_stands left may = ⊎_elim
               (λ (was : MayHold one 0 left). one_stands left was)
@@ -170,7 +171,7 @@ module _ (version n : ℕ) (start : History) where
               three_root : Stands three 1 root
               three_root = stands_now 1 root two three three_is
 
-              three_empty : (at : ℕ) → 2 ≤ at → at < 3 + journal_sectors n → Stands three at zeros
+              three_empty : (at : ℕ) → 2 ≤ at → at < JOURNAL_START + journal_sectors n → Stands three at zeros
               three_empty at le lt = stands_still 1 root two three three_is at zeros (λ e. omega (arith, e)) (empty at (omega arith) lt)
 
               -- with the sector of the format the image is fresh

@@ -4,6 +4,7 @@ use Rattle.sector_disk.specs.Disk.{Image}
 use Rattle.generations.specs.Areas.{journal_sectors}
 use Rattle.generations.specs.Sectors.{format_sector, root_sector, zeros, HasMark, IsFormat, IsRootOf, IsNoRoot, IsBad}
 use Rattle.generations.specs.declared.root.Root.{Root}
+use Rattle.generations.specs.declared.sizes.TheConstants.{JOURNAL_START}
 use Rattle.generations.specs.declared.fault.StoreFault.{StoreFault}
 use Rattle.generations.specs.declared.fault.StoreFault.TheVariants.{NotFormatted, TooSmall, Damaged, Device, Memory}
 use Rattle.generations.specs.declared.fault.What.TheVariants.{Size, RootSector, Snapshot, Journal, Text}
@@ -28,7 +29,7 @@ pub record LiveRoot (count : ℕ) (image : Image) (n : ℕ) (root : Root) : Type
   pub stands : HasRoot n image root
   pub greatest : (other : Root) → HasRoot n image other → other.generation ≤ root.generation
 
--- Why a disk of this count of sectors has no live root: there is no mark, or no format behind it, or a bad sector or no root.
+-- Why a disk of this count of sectors has no live root: there is no mark, or no format after it, or a bad sector or no root.
 abbrev pub IsFaultOf : ℕ → Image → StoreFault → Type 0
 IsFaultOf count image NotFormatted = (count ≡ 0) ⊎ HasNoMark image
 IsFaultOf count image (Damaged Size) = (0 < count) × HasMark (image 0) × ((n : ℕ) → IsFormat count (image 0) n → ⊥)
@@ -49,4 +50,4 @@ first_root = record { generation = 0; edits = 0; journal_at = 0; snapshot_len = 
 pub record IsFresh (version n : ℕ) (image : Image) : Type 0 where
   pub format : image 0 ≡ format_sector version n
   pub root : image 1 ≡ root_sector first_root
-  pub empty : (at : ℕ) → 2 ≤ at → at < 3 + journal_sectors n → image at ≡ zeros
+  pub empty : (at : ℕ) → 2 ≤ at → at < JOURNAL_START + journal_sectors n → image at ≡ zeros

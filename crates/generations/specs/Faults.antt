@@ -18,7 +18,7 @@ CountsDevice Memory old new = new ≡ old
 abbrev pub TellsDevice : {T : Type 0} → Result T StoreFault → (old new : ℕ) → Type 0
 TellsDevice result old new = MatchResult result (λ _. new ≡ old) (λ fault. CountsDevice fault old new)
 
--- How a call ends that formats a disk of so many sectors: a size that no format has is refused by name, and else only the disk can fail.
+-- How a call ends that formats a disk of this count of sectors: a size that no format has is refused by name, and else only the disk can fail.
 pub record EndsFormat {T : Type 0} (sectors : ℕ) (result : Result T StoreFault) : Type 0 where
   pub small : (result ≡ Err TooSmall) ↔ (sectors < MIN_SECTORS)
   pub large : (result ≡ Err (Damaged Size)) ↔ (MAX_SECTORS < sectors)

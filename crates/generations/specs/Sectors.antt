@@ -1,8 +1,10 @@
--- The bytes of the format's sector and of a root's. Numbers stand lowest byte first.
-use Rattle.std.specs.Prelude.{◌≡◌, ◌⊎◌, Option, Some, None, ◌≢◌, ◌<◌, ◌≤◌, ◌+◌, ◌^◌, ◌%◌, ℕ, List, ◌++◌, codes, replicate, take, slice_range}
+-- The bytes of the format's sector and of a root's. Numbers are stored lowest byte first.
+use Rattle.std.specs.Prelude.{◌≡◌, ◌⊎◌, Option, Some, None, ◌≢◌, ◌<◌, ◌≤◌, ◌+◌, ◌-◌, ◌^◌, ◌%◌, ℕ, List, ◌++◌, codes, replicate, take, slice_range}
 use Rattle.std.specs.Int.{w32, w64, to_le_bytes, from_le_bytes}
+use Rattle.sector_disk.specs.declared.disk.TheConstants.{SECTOR_BYTES}
 use Rattle.generations.specs.Areas.{IsSize, journal_sectors, area_sectors, sectors_of}
 use Rattle.generations.specs.declared.root.Root.{Root}
+use Rattle.generations.specs.declared.sizes.TheConstants.{FIRST_VERSION, LAST_VERSION}
 
 -- the first bytes of a formatted disk
 unfoldable pub disk_mark : List ℕ
@@ -14,15 +16,15 @@ root_mark = codes "VTROOT01"
 
 -- a sector of zeros
 abbrev pub zeros : List ℕ
-zeros = replicate 512 0
+zeros = replicate SECTOR_BYTES 0
 
 -- there is a format of this version
 abbrev pub IsVersion : ℕ → Type 0
-IsVersion version = (version ≡ 1) ⊎ (version ≡ 2)
+IsVersion version = (version ≡ FIRST_VERSION) ⊎ (version ≡ LAST_VERSION)
 
 -- the sector of the format of a version with n sectors: the mark, the version, n
 unfoldable pub format_sector : (version n : ℕ) → List ℕ
-format_sector version n = disk_mark ++ to_le_bytes w32 version ++ to_le_bytes w64 n ++ replicate 492 0
+format_sector version n = disk_mark ++ to_le_bytes w32 version ++ to_le_bytes w64 n ++ replicate (SECTOR_BYTES - 20) 0
 
 -- the version in the sector of a format, whatever else the sector has
 abbrev pub version_from : List ℕ → ℕ
@@ -46,7 +48,7 @@ pub record IsFormat (count : ℕ) (sector : List ℕ) (n : ℕ) : Type 0 where
 unfoldable pub root_sector : Root → List ℕ
 root_sector root =
     root_mark ++ to_le_bytes w64 root.generation ++ to_le_bytes w64 root.edits ++ to_le_bytes w64 root.journal_at
-    ++ to_le_bytes w64 root.snapshot_len ++ to_le_bytes w64 root.archive_len ++ replicate 464 0
+    ++ to_le_bytes w64 root.snapshot_len ++ to_le_bytes w64 root.archive_len ++ replicate (SECTOR_BYTES - 48) 0
 
 -- the number in the eight bytes from an offset on
 abbrev pub number_from : ℕ → List ℕ → ℕ

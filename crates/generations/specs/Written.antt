@@ -3,10 +3,10 @@ use Rattle.std.specs.Prelude.{◌≡◌, ◌⊎◌, ◌<◌, ℕ, List}
 use Rattle.sector_disk.specs.Disk.{History, MayHold}
 use Rattle.generations.specs.Sectors.{zeros}
 
--- in the sector stands what might have stood there, or what was written to it
+-- the sector has what it might have had before, or what was written to it
 abbrev pub IsOldOr : History → ℕ → List ℕ → ℕ → List ℕ → Type 0
 IsOldOr old at bytes index left = MayHold old index left ⊎ ((index ≡ at) × (left ≡ bytes))
 
--- in the sector stands what might have stood there, or zeros, which no one writes to the first sector
+-- the sector has what it might have had before, or zeros, which no one writes to the first sector
 abbrev pub IsOldOrEmpty : History → ℕ → List ℕ → Type 0
 IsOldOrEmpty old index left = MayHold old index left ⊎ ((0 < index) × (left ≡ zeros))

@@ -1,37 +1,30 @@
 //! What a sector has, by its bytes.
 ghost use Rattle.std.specs.Prelude.{◌≡◌, ◌<◌, ◌%◌, ◌↔◌, ℕ, IsTrue, IfOk, IfErr, MatchOption};
 ghost use Rattle.generations.specs.Sectors.{HasMark, IsFormat, CanStand, IsBad, IsSlot, IsNewest};
-ghost use Rattle.generations.specs.Areas.{sectors_of};
 ghost use Rattle.generations.specs.declared.fault.StoreFault.TheVariants.{Damaged};
 ghost use Rattle.generations.specs.declared.fault.What.TheVariants.{RootSector};
 
 use crate::encoding::{DISK_MARK, root_of, size_of};
 use crate::fault::{StoreFault, What};
-use crate::layout::Layout;
+use crate::layout::{Layout, sectors_for};
 use crate::root::Root;
+use sector_disk::SECTOR_BYTES;
 
 #[tactic(auto, unfolding(crate::specs::Sectors::disk_mark))]
-pub(crate) fn has_mark(sector: &[u8; 512]) -> bool
+pub(crate) fn has_mark(sector: &[u8; SECTOR_BYTES]) -> bool
     ensures { IsTrue result ↔ HasMark sector.now }
 {
     sector.starts_with(&DISK_MARK)
 }
 
 /// The layout of a disk of this count of sectors, by the sector of its format.
-pub(crate) fn layout_in(sector: &[u8; 512], count: u64) -> Option<Layout>
+pub(crate) fn layout_in(sector: &[u8; SECTOR_BYTES], count: u64) -> Option<Layout>
     ensures { MatchOption result ((n : ℕ) → IsFormat count sector.now n → ⊥) (λ layout. IsFormat count sector.now layout.sectors) }
 {
     match size_of(sector) {
         Some(sectors) if sectors <= count => Layout::of(sectors),
         _ => None,
     }
-}
-
-fn sectors_for(bytes: u64) -> u64
-    ensures { result ≡ sectors_of bytes }
-{
-    let part = u64::from(bytes % 512 > 0);
-    bytes / 512 + part
 }
 
 fn is_possible(root: Root, layout: Layout) -> bool
@@ -43,7 +36,7 @@ fn is_possible(root: Root, layout: Layout) -> bool
 
 /// The root in the sector of even generations, for parity 0, or of odd ones, for parity 1.
 pub(crate) fn slot_in(
-    sector: &[u8; 512],
+    sector: &[u8; SECTOR_BYTES],
     layout: Layout,
     parity: u64,
 ) -> Result<Option<Root>, StoreFault>
@@ -51,7 +44,7 @@ pub(crate) fn slot_in(
     ensures fault { IfErr result (λ fault. fault ≡ Damaged RootSector) }
     ensures bad { IfErr result (λ _. IsBad layout.sectors parity sector.now) }
 {
-    if *sector == [0; 512] {
+    if *sector == [0; SECTOR_BYTES] {
         return Ok(None);
     }
     match root_of(sector) {

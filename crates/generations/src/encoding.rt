@@ -1,27 +1,29 @@
 //! The sector of the format and the sector of a root, as bytes.
 ghost use Rattle.std.specs.Prelude.{◌≡◌, ◌+◌, ◌^◌, ◌<◌, ◌≤◌, ◌↔◌, ◌++◌, Some, ℕ, take, drop, IsTrue};
 ghost use Rattle.std.specs.Int.{w64, to_le_bytes};
+ghost use Rattle.sector_disk.specs.declared.disk.TheConstants.{SECTOR_BYTES};
 ghost use Rattle.generations.specs.Sectors.{IsVersion, IsFormatSector, version_from, format_sector};
 ghost use Rattle.generations.specs.Sectors.{root_sector, root_from, number_from, AreNumbers, IsRootSector};
 
 use crate::root::Root;
-use byteorder::{ByteOrder, LittleEndian};
 use crate::sizes::{FIRST_VERSION, LAST_VERSION};
+use byteorder::{ByteOrder, LittleEndian};
+use sector_disk::SECTOR_BYTES;
 
 /// The first bytes of a formatted disk.
 pub(crate) const DISK_MARK: [u8; 8] = *b"VTILEDSK";
 
 const ROOT_MARK: [u8; 8] = *b"VTROOT01";
 
-fn put_number(sector: &mut [u8; 512], at: usize, number: u64)
-    requires { at + 8 ≤ 512 }
+fn put_number(sector: &mut [u8; SECTOR_BYTES], at: usize, number: u64)
+    requires { at + 8 ≤ SECTOR_BYTES }
     ensures { sector.new ≡ take at sector.old ++ to_le_bytes w64 number ++ drop (at + 8) sector.old }
 {
     LittleEndian::write_u64(&mut sector[at..at + 8], number);
 }
 
-pub(crate) fn number_at(sector: &[u8; 512], at: usize) -> u64
-    requires { at + 8 ≤ 512 }
+pub(crate) fn number_at(sector: &[u8; SECTOR_BYTES], at: usize) -> u64
+    requires { at + 8 ≤ SECTOR_BYTES }
     ensures { result ≡ number_from at sector.now }
 {
     LittleEndian::read_u64(&sector[at..at + 8])
@@ -35,18 +37,18 @@ pub(crate) fn is_version(version: u32) -> bool
 }
 
 /// The version in the sector of a format, whatever else the sector has.
-pub(crate) fn version_at(sector: &[u8; 512]) -> u32
+pub(crate) fn version_at(sector: &[u8; SECTOR_BYTES]) -> u32
     ensures { result ≡ version_from sector.now }
 {
     LittleEndian::read_u32(&sector[8..12])
 }
 
-/// The sector of the format of a version with so many sectors.
+/// The sector of the format of a version, for a disk formatted with `sectors` sectors.
 #[tactic(auto, unfolding(crate::specs::Sectors::disk_mark, crate::specs::Sectors::format_sector))]
-pub(crate) fn format_bytes(version: u32, sectors: u64) -> [u8; 512]
+pub(crate) fn format_bytes(version: u32, sectors: u64) -> [u8; SECTOR_BYTES]
     ensures { result ≡ format_sector version sectors }
 {
-    let mut sector = [0; 512];
+    let mut sector = [0; SECTOR_BYTES];
     sector[..8].copy_from_slice(&DISK_MARK);
     LittleEndian::write_u32(&mut sector[8..12], version);
     put_number(&mut sector, 12, sectors);
@@ -55,10 +57,10 @@ pub(crate) fn format_bytes(version: u32, sectors: u64) -> [u8; 512]
 
 /// The sector of a root.
 #[tactic(auto, unfolding(crate::specs::Sectors::root_mark, crate::specs::Sectors::root_sector))]
-pub(crate) fn root_bytes(root: Root) -> [u8; 512]
+pub(crate) fn root_bytes(root: Root) -> [u8; SECTOR_BYTES]
     ensures { result ≡ root_sector root }
 {
-    let mut sector = [0; 512];
+    let mut sector = [0; SECTOR_BYTES];
     sector[..8].copy_from_slice(&ROOT_MARK);
     put_number(&mut sector, 8, root.generation);
     put_number(&mut sector, 16, root.edits);
@@ -68,9 +70,9 @@ pub(crate) fn root_bytes(root: Root) -> [u8; 512]
     sector
 }
 
-/// The numbers of a root, whatever stands there.
+/// The numbers that a root has at their offsets, whatever else the sector has.
 #[tactic(auto, unfolding(crate::specs::Sectors::root_from))]
-fn numbers_of(sector: &[u8; 512]) -> Root
+fn numbers_of(sector: &[u8; SECTOR_BYTES]) -> Root
     ensures numbers { result ≡ root_from sector.now }
     ensures fit { AreNumbers result }
 {
@@ -84,7 +86,7 @@ fn numbers_of(sector: &[u8; 512]) -> Root
 }
 
 /// The root that a sector has.
-pub(crate) fn root_of(sector: &[u8; 512]) -> Option<Root>
+pub(crate) fn root_of(sector: &[u8; SECTOR_BYTES]) -> Option<Root>
     ensures { (root : Root) → (result ≡ Some root) ↔ IsRootSector sector.now root }
 {
     let root = numbers_of(sector);
@@ -93,7 +95,7 @@ pub(crate) fn root_of(sector: &[u8; 512]) -> Option<Root>
 }
 
 /// The count of sectors that the sector of a format names.
-pub(crate) fn size_of(sector: &[u8; 512]) -> Option<u64>
+pub(crate) fn size_of(sector: &[u8; SECTOR_BYTES]) -> Option<u64>
     ensures { (n : ℕ) → (result ≡ Some n) ↔ (IsFormatSector sector.now n × (n < 2 ^ 64)) }
 {
     let version = version_at(sector);

@@ -1,3 +1,5 @@
+//! Why a call of this crate fails.
+
 use thiserror::Error;
 
 /// Why a store can't be opened, formatted or changed.
@@ -9,7 +11,7 @@ pub enum StoreFault {
     /// The disk has fewer than `MIN_SECTORS` sectors.
     #[error("the disk has too few sectors")]
     TooSmall,
-    /// What stands on the disk doesn't have its form.
+    /// A part of the disk doesn't have its form.
     #[error("the disk is damaged: {0}")]
     Damaged(What),
     /// A call of the disk failed.

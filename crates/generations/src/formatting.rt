@@ -17,10 +17,10 @@ use crate::encoding::{format_bytes, root_bytes};
 use crate::fault::{StoreFault, What};
 use crate::layout::Layout;
 use crate::root::Root;
-use crate::sizes::{LAST_VERSION, MIN_SECTORS};
-use sector_disk::{DiskFault, Sectors};
+use crate::sizes::{JOURNAL_START, LAST_VERSION, MIN_SECTORS};
+use sector_disk::{DiskFault, SECTOR_BYTES, Sectors};
 
-const EMPTY: [u8; 512] = [0; 512];
+const EMPTY: [u8; SECTOR_BYTES] = [0; SECTOR_BYTES];
 
 const FIRST_ROOT: Root = Root {
     generation: 0,
@@ -34,7 +34,7 @@ const FIRST_ROOT: Root = Root {
 pub(crate) fn write_and_sync<D: Sectors>(
     disk: &mut D,
     at: u64,
-    sector: &[u8; 512],
+    sector: &[u8; SECTOR_BYTES],
 ) -> Result<(), DiskFault>
     requires { at < D.sectors disk.old }
     ensures disk { MayWrite D.sectors D.honest disk.old disk.new }
@@ -51,7 +51,7 @@ pub(crate) fn write_and_sync<D: Sectors>(
     Ok(())
 }
 
-// Zeros in a sector. They are written even where it has them, so that a file has room for it from then on.
+/// Writes zeros to a sector, even if it has zeros already, so that a file has room for it from then on.
 fn empty_sector<D: Sectors>(disk: &mut D, at: u64) -> Result<(), DiskFault>
     requires { at < D.sectors disk.old }
     ensures disk { MayWrite D.sectors D.honest disk.old disk.new }
@@ -67,7 +67,7 @@ fn empty_sector<D: Sectors>(disk: &mut D, at: u64) -> Result<(), DiskFault>
     Ok(())
 }
 
-// Zeros in each sector from the second one to the one before the end.
+/// Writes zeros to each sector from sector 1 to the one before `end`.
 fn write_zeros<D: Sectors>(disk: &mut D, end: u64) -> Result<(), DiskFault>
     requires { end ≤ D.sectors disk.old }
     ensures disk { MayWrite D.sectors D.honest disk.old disk.new }
@@ -83,6 +83,7 @@ fn write_zeros<D: Sectors>(disk: &mut D, end: u64) -> Result<(), DiskFault>
     Ok(())
 }
 
+/// Erases the mark, the roots and the journal, and then writes the first root and the format.
 fn write_parts<D: Sectors>(disk: &mut D, layout: Layout, version: u32) -> Result<(), DiskFault>
     requires { layout.sectors ≡ D.sectors disk.old }
     ensures disk { MayWrite D.sectors D.honest disk.old disk.new }
@@ -92,7 +93,7 @@ fn write_parts<D: Sectors>(disk: &mut D, layout: Layout, version: u32) -> Result
     ensures fresh { D.honest disk.new → OnOk result ((image : Image) → MayLeave (D.history disk.new) image → IsFresh version layout.sectors image) }
 {
     write_and_sync(disk, 0, &EMPTY)?;
-    clear(disk, 3 + layout.journal)?;
+    clear(disk, JOURNAL_START + layout.journal)?;
     let first = root_bytes(FIRST_ROOT);
     write_and_sync(disk, 1, &first)?;
     let format = format_bytes(version, layout.sectors);
@@ -100,7 +101,7 @@ fn write_parts<D: Sectors>(disk: &mut D, layout: Layout, version: u32) -> Result
     Ok(())
 }
 
-// Zeros in each sector from the second one to the one before the end, which outlive a crash.
+/// Writes zeros to each sector from sector 1 to the one before `end`, and has them outlive a crash.
 fn clear<D: Sectors>(disk: &mut D, end: u64) -> Result<(), DiskFault>
     requires { end ≤ D.sectors disk.old }
     ensures disk { MayWrite D.sectors D.honest disk.old disk.new }
@@ -116,7 +117,7 @@ fn clear<D: Sectors>(disk: &mut D, end: u64) -> Result<(), DiskFault>
     Ok(())
 }
 
-/// Formats a disk of `MIN_SECTORS` to `MAX_SECTORS` sectors in this version of the format, and else leaves it untouched.
+/// Formats a disk of `MIN_SECTORS` to `MAX_SECTORS` sectors in this version of the format, and leaves a disk of another size untouched.
 /// What it held is lost: after a fault of the disk or a crash it holds what it held before, or has no format, or is formatted.
 pub fn format_version<D: Sectors>(disk: &mut D, version: u32) -> Result<(), StoreFault>
     requires { IsVersion version }
@@ -145,7 +146,7 @@ pub fn format_version<D: Sectors>(disk: &mut D, version: u32) -> Result<(), Stor
     }
 }
 
-/// Formats a disk of `MIN_SECTORS` to `MAX_SECTORS` sectors in the last version of the format, and else leaves it untouched.
+/// Formats a disk of `MIN_SECTORS` to `MAX_SECTORS` sectors in the last version of the format, and leaves a disk of another size untouched.
 /// What it held is lost: after a fault of the disk or a crash it holds what it held before, or has no format, or is formatted.
 pub fn format<D: Sectors>(disk: &mut D) -> Result<(), StoreFault>
     ensures ends { EndsFormat (D.sectors disk.old) result }

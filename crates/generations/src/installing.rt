@@ -7,12 +7,13 @@ ghost use Rattle.sector_disk.specs.Moments.{LeavesOnly};
 ghost use Rattle.generations.specs.Areas.{area_start};
 ghost use Rattle.generations.specs.Installs.{root_at, Installs};
 ghost use Rattle.generations.specs.Sectors.{root_sector};
+ghost use Rattle.generations.specs.declared.sizes.TheConstants.{JOURNAL_START};
 
 use crate::encoding::root_bytes;
 use crate::formatting::write_and_sync;
 use crate::layout::Layout;
 use crate::root::Root;
-use sector_disk::{DiskFault, Sectors};
+use sector_disk::{DiskFault, SECTOR_BYTES, Sectors};
 
 /// Writes a sector of the area of a generation, by its index in the area. It outlives a crash once a later sync has succeeded.
 pub fn write_area<D: Sectors>(
@@ -20,7 +21,7 @@ pub fn write_area<D: Sectors>(
     layout: Layout,
     generation: u64,
     index: u64,
-    sector: &[u8; 512],
+    sector: &[u8; SECTOR_BYTES],
 ) -> Result<(), DiskFault>
     requires within { index < layout.area }
     requires on_disk { layout.sectors ≤ D.sectors disk.old }
@@ -32,10 +33,10 @@ pub fn write_area<D: Sectors>(
     disk.write(layout.area_start(generation) + index, sector)
 }
 
-/// Makes a root the one that counts, once all that was written before outlives a crash: syncs, writes the root, and syncs. At a
-/// fault the root stands on the disk or not.
+/// Makes a root the one that counts, once all that was written before outlives a crash: syncs, writes the root, and syncs. After a
+/// fault the disk has the root or not.
 pub fn install<D: Sectors>(disk: &mut D, root: Root) -> Result<(), DiskFault>
-    requires on_disk { 3 ≤ D.sectors disk.old }
+    requires on_disk { JOURNAL_START ≤ D.sectors disk.old }
     ensures disk { MayWrite D.sectors D.honest disk.old disk.new }
     ensures failed { TellsFailure result (D.faults disk.old) (D.faults disk.new) }
     ensures steps { D.honest disk.new → moment (D.history disk.new) ≤ moment (D.history disk.old) + 3 }

@@ -19,5 +19,5 @@ pub use installing::{install, write_area};
 pub use layout::{Layout, sectors_for};
 pub use reading::{Found, read_root};
 pub use root::Root;
-pub use sizes::{FIRST_VERSION, LAST_VERSION, MAX_SECTORS, MIN_SECTORS};
+pub use sizes::{FIRST_VERSION, JOURNAL_START, LAST_VERSION, MAX_SECTORS, MIN_SECTORS};
 pub use upgrading::upgrade;

@@ -13,16 +13,16 @@ use crate::encoding::version_at;
 use crate::fault::{StoreFault, What};
 use crate::layout::Layout;
 use crate::root::Root;
-use sector_disk::{DiskFault, Sectors};
+use sector_disk::{DiskFault, SECTOR_BYTES, Sectors};
 
-fn read_sector<D: Sectors>(disk: &mut D, at: u64) -> Result<[u8; 512], StoreFault>
+fn read_sector<D: Sectors>(disk: &mut D, at: u64) -> Result<[u8; SECTOR_BYTES], StoreFault>
     requires { at < D.sectors disk.old }
     ensures disk { OnlyReads D.sectors D.honest D.history disk.old disk.new }
     ensures failed { TellsDevice result (D.faults disk.old) (D.faults disk.new) }
     ensures gives { D.honest disk.new → IfOk result (λ sector. sector ≡ seen (D.history disk.old) at) }
     ensures device { IfErr result (λ fault. fault ≡ Device) }
 {
-    let mut sector = [0; 512];
+    let mut sector = [0; SECTOR_BYTES];
     match disk.read(at, &mut sector) {
         Ok(()) => Ok(sector),
         Err(DiskFault) => Err(StoreFault::Device),
@@ -40,7 +40,7 @@ pub struct Found {
     pub version: u32,
 }
 
-// The layout that the format's sector gives, and the version of the format.
+/// The layout that the format's sector gives, and the version of the format.
 pub(crate) fn read_layout<D: Sectors>(disk: &mut D) -> Result<(Layout, u32), StoreFault>
     ensures disk { OnlyReads D.sectors D.honest D.history disk.old disk.new }
     ensures failed { TellsDevice result (D.faults disk.old) (D.faults disk.new) }

@@ -1,3 +1,5 @@
+//! The root of a generation.
+
 /// What counts on a disk, as of one generation.
 #[derive(Clone, Copy, Debug, PartialEq, Eq)]
 pub struct Root {
@@ -5,10 +7,10 @@ pub struct Root {
     pub generation: u64,
     /// How many edits the snapshot has.
     pub edits: u64,
-    /// Where the journal goes on behind the snapshot: the index of its sector among the journal's, from 0 on.
+    /// Where the journal goes on after the snapshot: the index of its sector among the journal's, from 0 on.
     pub journal_at: u64,
     /// The length of the snapshot in the area, in bytes.
     pub snapshot_len: u64,
-    /// The length of the archive behind it, in bytes.
+    /// The length of the archive after it, in bytes.
     pub archive_len: u64,
 }

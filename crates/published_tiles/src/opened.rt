@@ -19,7 +19,7 @@ use sector_disk::Sectors;
 use std::alloc::Global;
 use std::marker::Model;
 
-// The cached look-up of an archive, and where the archive is stored.
+/// The cached look-up of an archive, and where the archive is stored.
 #[derive(Drop)]
 pub(crate) struct Opened {
     archive: ArchivePlace,
@@ -35,14 +35,14 @@ impl Model for Opened {
 }
 
 impl Opened {
-    // Whether it belongs to the archive at this place.
+    /// Whether it belongs to the archive at this place.
     fn is_of(&self, archive: ArchivePlace) -> bool
         ensures { IsTrue result ↔ (self.now.archive ≡ archive) }
     {
         self.archive == archive
     }
 
-    // Opens the archive in a source.
+    /// Opens the archive in a source.
     fn open<B: Bytes>(
         alloc: Global,
         source: &mut B,
@@ -60,7 +60,7 @@ impl Opened {
         }
     }
 
-    // The content of a tile id.
+    /// The content of a tile id.
     fn tile<B: Bytes>(
         &mut self,
         alloc: Global,
@@ -78,7 +78,7 @@ impl Opened {
     }
 }
 
-// The content of a tile id in the archive of a source. The cached look-up is used if it belongs to this archive, otherwise a new one.
+/// The content of a tile id in the archive of a source. The cached look-up is used if it belongs to this archive, otherwise a new one.
 fn look_up<B: Bytes>(
     alloc: Global,
     source: &mut B,
@@ -104,7 +104,7 @@ fn look_up<B: Bytes>(
     content
 }
 
-// The content of a tile id of the archive on a disk.
+/// The content of a tile id of the archive on a disk.
 pub(crate) fn read_tile<D: Sectors>(
     alloc: Global,
     disk: &mut D,

@@ -1,3 +1,5 @@
+//! The place of an archive on a disk.
+
 /// Where a disk stores an archive.
 #[derive(Clone, Copy, Debug, PartialEq, Eq)]
 pub struct ArchivePlace {

@@ -1,3 +1,4 @@
+//! Tiles of the archives of a disk.
 ghost use Rattle.std.specs.Prelude.{◌≡◌, ◌≤◌, ◌+◌, ℕ, List, MatchResult, option_map};
 ghost use Rattle.area_content.specs.Tiles.{IsArchiveOfMap};
 ghost use Rattle.feature_store.specs.Content.{IsTileContent};

@@ -40,7 +40,7 @@ abbrev pub NotesSync : {E : Type 0} → Result (Unit {0}) E → List Call → Li
 NotesSync result old new = MatchResult result (λ _. new ≡ flushed ∷ old) (λ _. new ≡ not_flushed ∷ old)
 
 -- The history of a disk in a file that had this one as it was opened, after these calls. Sector n is stored from byte n * SECTOR_BYTES
--- on. A write that failed changes nothing here: its sectors stay in the disk's buffer, which stands for writes of its own. A sync that
+-- on. A write that failed changes nothing here: its sectors stay in the disk's buffer, each a write of its own. A sync that
 -- failed did nothing: so a crash may leave what it would have settled, and what was there before.
 abbrev pub replayed : History → List Call → History
 replayed found [] = found

@@ -42,8 +42,8 @@ impl ReadAhead {
         }
     }
 
-    /// How many sectors are read ahead from this one on, which isn't in the buffer, on a disk that has so many from there on: few at first,
-    /// since most of what is read is short, and as many as one call reads behind all that were read ahead.
+    /// How many sectors are read ahead from sector `at` on, which isn't in the buffer, on a disk with `rest` sectors from there on: `FIRST_RUN`
+    /// at first, since most of what is read is short, and `RUN_SECTORS` directly after all that were read ahead.
     pub fn next_run(&self, at: u64, rest: u64) -> usize
         requires { 0 < rest }
         ensures some { 0 < result }

@@ -31,7 +31,7 @@ pub(crate) enum Turn {
 }
 
 impl FailingCalls {
-    /// What becomes of the call that comes after so many.
+    /// What becomes of the call that comes after `calls` others.
     fn turn(self, calls: u64) -> Turn
         ensures { BecomesOf self result (calls + 1) }
     {
@@ -92,7 +92,7 @@ impl<D: Sectors> FaultyDisk<D> {
         self.calls
     }
 
-    /// The disk behind it.
+    /// The disk that it passes calls to.
     pub fn into_disk(self) -> D
         ensures { result ≡ self.disk }
     {

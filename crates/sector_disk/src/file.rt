@@ -89,7 +89,7 @@ pub enum FileFault {
 /// history continues from there by the writes and syncs.
 ///
 /// Up to `RUN_SECTORS` consecutive sectors are read or written by one call of the file. The second of two consecutive reads reads eight
-/// sectors, and one behind all that were read ahead `RUN_SECTORS`. Writes are buffered until a write of another sector than the next one,
+/// sectors, and a read directly after all that were read ahead reads `RUN_SECTORS`. Writes are buffered until a write of another sector than the next one,
 /// until the buffer is full, or until a sync. Sectors that the file fails to write stay buffered. Reads of buffered sectors are answered
 /// from the buffer, and the file isn't asked for them. What is buffered when the value is dropped is lost.
 ///
@@ -120,7 +120,7 @@ pub(crate) fn fill<F: OpenFile>(file: &F, size: u64) -> io::Result<()> {
 impl<F: SectorFile + Drop, S: Start> FileDisk<F, S> {
     ghost use Rattle.sector_disk.specs.Views.{file_calls};
 
-    /// A disk over an open file of so many bytes, to read and to write, of which no call is noted yet. It has the whole
+    /// A disk over an open file of `bytes` bytes, to read and to write, of which no call is noted yet. It has the whole
     /// sectors among them. The start is used up, so that code over any `S` opens one disk for each that it is given.
     pub fn new(file: F, bytes: u64, _start: S) -> FileDisk<F, S>
         ensures count { ⟦<FileDisk<F, S> as Sectors>⟧.sectors result ≡ bytes / SECTOR_BYTES }
@@ -166,9 +166,9 @@ impl<F: FileExt + OpenFile + Read + Write + Seek + Drop, S: Start> FileDisk<Syst
         Ok(FileDisk::new(SystemFile::new(file), bytes, start))
     }
 
-    /// Makes a file of so many sectors of zeros at a path where there is nothing, and opens it: the start is one of
-    /// zeros, as `Zeros` is. The error is `Create` or `Grow`, and `Grow` where so many sectors are more than 2^64 - 1
-    /// bytes. Where the file can't be filled, it is removed, if the system lets it. That the folder keeps the file's name
+    /// Makes a file of `count` sectors of zeros at a path where there is nothing, and opens it: the start is one of
+    /// zeros, as `Zeros` is. The error is `Create` or `Grow`, and `Grow` if `count` sectors are more than 2^64 - 1
+    /// bytes. If the file can't be filled, it is removed, if the system lets it. That the folder keeps the file's name
     /// after a crash is for the caller to see to.
     pub fn create<R: Files<File = F>>(
         files: &R,
@@ -207,7 +207,7 @@ impl<F: FileExt + OpenFile + Read + Write + Seek + Drop, S: Start> FileDisk<Syst
 impl<F: SectorFile + Drop, S: Start> FileDisk<F, S> {
     ghost use Rattle.sector_disk.specs.Views.{file_sectors, file_faults, file_calls, file_history};
 
-    /// Reads a run of so many sectors from this one on, and gives this one. It says whether the file's read succeeded.
+    /// Reads a run of `count` sectors from sector `at` on, and gives sector `at`. It says whether the file's read succeeded.
     fn read_ahead(&mut self, at: u64, count: usize, into: &mut [u8; SECTOR_BYTES]) -> bool
         requires some { 0 < count }
         requires few { count ≤ RUN_SECTORS }

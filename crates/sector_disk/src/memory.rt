@@ -12,8 +12,8 @@ use crate::{DiskFault, SECTOR_BYTES, Sectors};
 use std::alloc::{AllocError, Global};
 use std::collections::HashMap;
 
-/// A disk in memory. It takes memory only for the sectors that were written, and for each write since the last
-/// sync. Where that is refused a write fails; a read and a sync never do. The time of a read or a write doesn't grow
+/// A disk in memory. It allocates only for the sectors that were written, and for each write since the last
+/// sync. If an allocation fails, the write fails; a read and a sync never do. The time of a read or a write doesn't grow
 /// with the disk, save that a write now and then makes room for the next ones.
 #[derive(Drop)]
 pub struct MemoryDisk {
@@ -24,7 +24,7 @@ pub struct MemoryDisk {
 }
 
 impl MemoryDisk {
-    /// A disk of so many sectors of zeros. It takes no memory for them, so none is refused.
+    /// A disk of `count` sectors of zeros. It allocates nothing for them, so it can't fail.
     pub fn new(alloc: Global, count: u64) -> Result<MemoryDisk, AllocError>
         ensures made { IsOk result }
         ensures count { IfOk result (λ disk. ⟦<MemoryDisk as Sectors>⟧.sectors disk ≡ count) }
@@ -41,7 +41,7 @@ impl MemoryDisk {
     }
 
     /// The disk that a crash now leaves. The sectors that were written since the last sync take a number each, in
-    /// ascending order: for 0, or where there is none, they have the bytes of that sync, and for j those of the
+    /// ascending order: for 0, or if a number is missing, they have the bytes of that sync, and for j those of the
     /// j-th write since, or of the last one if there are fewer. It takes time by the sectors that were written.
     pub fn crash(&self, choice: &[u32]) -> Result<MemoryDisk, AllocError>
         ensures count { IfOk result (λ disk. ⟦<MemoryDisk as Sectors>⟧.sectors disk ≡ ⟦<MemoryDisk as Sectors>⟧.sectors self.now) }

@@ -6,7 +6,7 @@ use Rattle.sector_bytes.specs.Bytes.{sector_piece}
 use Rattle.generations.specs.Areas.{journal_sectors, area_start, sectors_of}
 use Rattle.generations.specs.Sectors.{IsFormat, IsRootOf, IsNoRoot, version_from}
 use Rattle.generations.specs.declared.root.Root.{Root}
-use Rattle.generations.specs.declared.sizes.TheConstants.{LAST_VERSION}
+use Rattle.generations.specs.declared.sizes.TheConstants.{JOURNAL_START, LAST_VERSION}
 use Rattle.edit_journal.specs.Records.{RecordData, record_of}
 use Rattle.edit_journal.specs.Ring.{Ring, RecordStart, HoldsOnly}
 use Rattle.edit_text.specs.Recorded.{RecordedEdit, IsRecorded, recorded_text}
@@ -53,7 +53,7 @@ root_of stored = record {
 
 -- the journal begins after the sectors of the format and of the two roots
 abbrev pub journal_ring : ℕ → Ring
-journal_ring n = record { first = 3; places = journal_sectors n }
+journal_ring n = record { first = JOURNAL_START; places = journal_sectors n }
 
 -- The bytes are stored in consecutive sectors from first on: this sector has its part of them, with anything after their end.
 abbrev pub HasBytes : (first : ℕ) → List ℕ → (at : ℕ) → List ℕ → Type 0

@@ -4,7 +4,7 @@ use Rattle.cached_map.specs.Cached.{WasMap}
 use Rattle.edit_text.specs.Recorded.{RecordedEdit}
 use Rattle.feature_store.specs.Store.{FeatureMap}
 use Rattle.tile_service.specs.After.{after}
-use Rattle.generations.specs.Areas.{area_start, sectors_of}
+use Rattle.generations.specs.Areas.{archive_start}
 use Rattle.published_tiles.specs.declared.place.ArchivePlace.{ArchivePlace}
 
 -- The map has the last edit number last, and cells has the newest edit of each cell of the world. The map was made by these edits from
@@ -17,6 +17,6 @@ WereMaps m cells last start first edits = (k : ℕ) → k ≤ length edits → W
 abbrev pub archive_place : (size generation snapshot_len archive_len : ℕ) → ArchivePlace
 archive_place size generation snapshot_len archive_len = record {
   generation = generation;
-  first = area_start size generation + sectors_of snapshot_len;
+  first = archive_start size generation snapshot_len;
   len = archive_len;
 }

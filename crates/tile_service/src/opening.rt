@@ -26,7 +26,7 @@ use crate::snapshot_reading::read_snapshot;
 use cached_map::CachedMap;
 use edit_journal::{Journal, JournalFault, JournalPosition};
 use feature_store::Store;
-use generations::{Layout, Root, StoreFault, What, read_root};
+use generations::{JOURNAL_START, Layout, Root, StoreFault, What, read_root};
 use published_tiles::PublishedTiles;
 use sector_disk::{DiskFault, Sectors};
 use std::alloc::{AllocError, Global};
@@ -87,7 +87,7 @@ fn read_edits<D: Sectors>(
     let (journal, records) = match Journal::recover(
         alloc,
         disk,
-        3,
+        JOURNAL_START,
         layout.journal,
         start,
         version,

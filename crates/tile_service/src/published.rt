@@ -7,7 +7,6 @@ ghost use Rattle.tile_service.specs.declared.fault.ServiceFault.TheVariants.{Dev
 
 use crate::fault::ServiceFault;
 use crate::service::Service;
-use generations::sectors_for;
 use published_tiles::ArchivePlace;
 use sector_bytes::read_bytes;
 use sector_disk::{DiskFault, Sectors};
@@ -26,8 +25,7 @@ impl<D: Sectors + Drop> Service<D> {
     {
         ArchivePlace {
             generation: self.root.generation,
-            first: self.layout.area_start(self.root.generation)
-                + sectors_for(self.root.snapshot_len),
+            first: self.layout.archive_start(self.root),
             len: self.root.archive_len,
         }
     }

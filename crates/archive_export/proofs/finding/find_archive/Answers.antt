@@ -6,7 +6,7 @@ pub returns-in-Ok-clause-held : goal.returns-in-Ok-clause-held
 returns-in-Ok-clause-held g c n stored holds honest =
     archive_there (g.D.Sectors.sectors c.args.disk.now) (seen (g.D.Sectors.history c.args.disk.now)) n stored holds
     c.in-Ok.field-0.layout.sectors c.in-Ok.field-0.root _ (c.in-Ok.ensures.root honest)
-    (at_place c.in-Ok.field-0.layout.sectors c.in-Ok.field-0.root c.area_start.result c.sectors_for.result c.area_start.ensures c.sectors_for.ensures)
+    (at_place c.in-Ok.field-0.layout.sectors c.in-Ok.field-0.root c.archive_start.result c.archive_start.ensures)
 
 pub returns-in-Err-clause-held : goal.returns-in-Err-clause-held
 returns-in-Err-clause-held g c n stored holds honest =
