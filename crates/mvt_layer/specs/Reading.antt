@@ -1,5 +1,5 @@
--- Reading a tile, with the first fault that is met.
-use Rattle.std.specs.Prelude.{ℕ, zero, suc, negsuc, ◌-◌, ◌/◌, ◌^◌, ◌==◌, ◌||◌, ◌&&◌, ◌%◌, not, nat_lt, Bool, true, false, if◌then◌else◌, List, [], ◌∷◌}
+-- Decoding a tile, with the first fault.
+use Rattle.std.specs.Prelude.{ℕ, zero, suc, negsuc, ◌-◌, ◌/◌, ◌^◌, ◌==◌, ◌||◌, ◌&&◌, ◌%◌, not, nat_lt, nat_le, Bool, true, false, if◌then◌else◌, List, [], ◌∷◌}
 use Rattle.std.specs.Prelude.{◌++◌, length, drop, slice_get, Option, Some, None, Result, Ok, Err}
 use Rattle.std.specs.Str.{is_utf8, bytes_eq}
 use Rattle.reader.specs.Reading.{Read, ◌>>=◌, folded}
@@ -12,6 +12,7 @@ use Rattle.geometry_commands.specs.declared.kinds.ShapeKind.{ShapeKind}
 use Rattle.geometry_commands.specs.declared.kinds.ShapeKind.TheVariants as kinds
 use Rattle.geometry_commands.specs.Shapes.{ShapeView}
 use Rattle.geometry_commands.specs.Decoding.{shape_at}
+use Rattle.mvt_layer.specs.declared.field_numbers.TheConstants.{TILE_LAYERS, LAYER_NAME, LAYER_FEATURES, LAYER_KEYS, LAYER_VALUES, LAYER_EXTENT, LAYER_VERSION, FEATURE_ID, FEATURE_TAGS, FEATURE_TYPE, FEATURE_GEOMETRY, STRING_VALUE, FLOAT_VALUE, DOUBLE_VALUE, INT_VALUE, UINT_VALUE, SINT_VALUE, BOOL_VALUE, POINT_TYPE, LINESTRING_TYPE, POLYGON_TYPE}
 use Rattle.mvt_layer.specs.declared.fault.TileFault.{TileFault}
 use Rattle.mvt_layer.specs.declared.fault.TileFault.TheVariants as faults
 use Rattle.mvt_layer.specs.declared.layers.TheConstants.{DEFAULT_EXTENT, DEFAULT_VERSION, CURRENT_VERSION}
@@ -28,7 +29,7 @@ after number step s (Ok f) = if f.number == number then step s f.value else Ok s
 abbrev pub pass : {S : Type 0} → ℕ → (S → Value → Read TileFault S) → S → List ℕ → Read TileFault S
 pass number step s bytes = folded (after number step) s (items_of bytes)
 
--- what follows from what was read, or the fault that was met
+-- the next step on what was read, or the fault
 abbrev pub onward : {X S A : Type 0} → (X → S) → Result X TileFault → (S → Read TileFault A) → Read TileFault A
 onward view (Ok x) next = next (view x)
 onward view (Err fault) next = Err fault
@@ -63,11 +64,11 @@ abbrev pub or_broken : {X : Type 0} → Result X FaultKind → Read TileFault X
 or_broken (Ok x) = Ok x
 or_broken (Err kind) = Err faults.Wire
 
--- the number in front, and its length
+-- the first number, and its length
 abbrev pub number_at : List ℕ → Read TileFault (ℕ × ℕ)
 number_at bytes = or_broken (varint_at bytes)
 
--- numbers one after the other, so many at most
+-- numbers one after the other, at most the given count
 unfoldable pub packed_in : ℕ → List ℕ → List ℕ → Read TileFault (List ℕ)
 packed_in zero before bytes = Ok before
 packed_in (suc more) before [] = Ok before
@@ -80,14 +81,14 @@ numbers_after before (some_bytes part) = packed_in (length part) before part
 numbers_after before (eight_bytes part) = Err faults.Kind
 numbers_after before (four_bytes part) = Err faults.Kind
 
--- whether numbers may stand in a value
+-- whether a value may hold numbers
 abbrev pub may_hold : Value → Bool
 may_hold (varint_value n) = true
 may_hold (some_bytes part) = true
 may_hold (eight_bytes part) = false
 may_hold (four_bytes part) = false
 
--- whether numbers may stand in an item
+-- whether an item may hold numbers
 abbrev pub holds_numbers : Item → Bool
 holds_numbers (Err fault) = false
 holds_numbers (Ok f) = may_hold f.value
@@ -117,19 +118,19 @@ text_at bytes = if is_utf8 bytes then Ok bytes else Err faults.Utf8
 abbrev pub plain_tag : ℕ → TagView
 plain_tag n = if nat_lt n (2 ^ 63) then natural n else negative (negsuc (18446744073709551615 - n))
 
--- the integer that n spells by zigzag
+-- the integer whose zigzag encoding is n
 abbrev pub zigzag_tag : ℕ → TagView
 zigzag_tag n = if n % 2 == 0 then natural (n / 2) else negative (negsuc (n / 2))
 
 abbrev pub is_known : ℕ → Bool
-is_known number = nat_lt 0 number && nat_lt number 8
+is_known number = nat_lt 0 number && nat_le number BOOL_VALUE
 
 -- whether a value of this number is of this wire type
 abbrev pub has_kind : ℕ → Value → Bool
-has_kind number (some_bytes part) = number == 1
-has_kind number (four_bytes part) = number == 2
-has_kind number (eight_bytes part) = number == 3
-has_kind number (varint_value n) = nat_lt 3 number
+has_kind number (some_bytes part) = number == STRING_VALUE
+has_kind number (four_bytes part) = number == FLOAT_VALUE
+has_kind number (eight_bytes part) = number == DOUBLE_VALUE
+has_kind number (varint_value n) = nat_lt DOUBLE_VALUE number
 
 abbrev pub may_follow : Option FieldData → ℕ → Bool
 may_follow None number = true
@@ -148,9 +149,9 @@ meaning number (some_bytes part) = text_at part >>= λ t. Ok (text t)
 meaning number (four_bytes part) = Ok (float part)
 meaning number (eight_bytes part) = Ok (double part)
 meaning number (varint_value n) =
-    if number == 4 then Ok (plain_tag n)
-    else (if number == 5 then Ok (natural n)
-    else (if number == 6 then Ok (zigzag_tag n)
+    if number == INT_VALUE then Ok (plain_tag n)
+    else (if number == UINT_VALUE then Ok (natural n)
+    else (if number == SINT_VALUE then Ok (zigzag_tag n)
     else Ok (truth (not (n == 0)))))
 
 abbrev pub meant : Option FieldData → Read TileFault TagView
@@ -176,7 +177,7 @@ each_in read parts = folded (part_more read) [] parts
 
 abbrev pub kind_of : Option ℕ → ShapeKind
 kind_of None = kinds.Unknown
-kind_of (Some n) = if n == 1 then kinds.Points else (if n == 2 then kinds.Lines else (if n == 3 then kinds.Polygons else kinds.Unknown))
+kind_of (Some n) = if n == POINT_TYPE then kinds.Points else (if n == LINESTRING_TYPE then kinds.Lines else (if n == POLYGON_TYPE then kinds.Polygons else kinds.Unknown))
 
 abbrev pub shape_read : Result ShapeView GeometryFault → Read TileFault ShapeView
 shape_read (Ok s) = Ok s
@@ -194,7 +195,7 @@ found_tag (Some key) (Some value) = Ok (key, value)
 found_tag (Some key) None = Err faults.Tag
 found_tag None value = Err faults.Tag
 
--- the tag of a key index and a value index, where those key indices were used
+-- the tag of a key index and a value index, after those key indices
 unfoldable pub tag_at : List (List ℕ) → List TagView → List ℕ → ℕ → ℕ → Read TileFault Tagged
 tag_at keys values used k v = if has_number used k then Err faults.Tag else found_tag (slice_get keys k) (slice_get values v)
 
@@ -213,10 +214,10 @@ feature_of_parts keys values id kind indices ints =
 
 unfoldable pub feature_at : List (List ℕ) → List TagView → List ℕ → Read TileFault FeatureView
 feature_at keys values bytes =
-    last_number_in 1 bytes >>= λ id.
-    last_number_in 3 bytes >>= λ kind.
-    numbers_in 2 bytes >>= λ indices.
-    numbers_in 4 bytes >>= λ ints.
+    last_number_in FEATURE_ID bytes >>= λ id.
+    last_number_in FEATURE_TYPE bytes >>= λ kind.
+    numbers_in FEATURE_TAGS bytes >>= λ indices.
+    numbers_in FEATURE_GEOMETRY bytes >>= λ ints.
     feature_of_parts keys values id kind indices ints
 
 -- ---- layers
@@ -225,7 +226,7 @@ abbrev pub name_at : Option (List ℕ) → Read TileFault (List ℕ)
 name_at None = Err faults.Name
 name_at (Some part) = text_at part
 
--- a number of 32 bits, or what it is where there is none
+-- a number of 32 bits, or the default if there is none
 abbrev pub small_at : ℕ → Option ℕ → Read TileFault ℕ
 small_at otherwise None = Ok otherwise
 small_at otherwise (Some n) = if nat_lt 4294967295 n then Err faults.Range else Ok n
@@ -241,12 +242,12 @@ layer_made name version extent features = Ok (record { name = name; version = ve
 
 unfoldable pub layer_at : List ℕ → Read TileFault LayerView
 layer_at bytes =
-    last_bytes_in 1 bytes >>= λ raw_name. name_at raw_name >>= λ name.
-    last_number_in 15 bytes >>= λ raw_version. version_at raw_version >>= λ version.
-    last_number_in 5 bytes >>= λ raw_extent. extent_at raw_extent >>= λ extent.
-    parts_in 3 bytes >>= λ raw_keys. each_in text_at raw_keys >>= λ keys.
-    parts_in 4 bytes >>= λ raw_values. each_in tag_value_at raw_values >>= λ values.
-    parts_in 2 bytes >>= λ raw_features. each_in (feature_at keys values) raw_features >>= λ features.
+    last_bytes_in LAYER_NAME bytes >>= λ raw_name. name_at raw_name >>= λ name.
+    last_number_in LAYER_VERSION bytes >>= λ raw_version. version_at raw_version >>= λ version.
+    last_number_in LAYER_EXTENT bytes >>= λ raw_extent. extent_at raw_extent >>= λ extent.
+    parts_in LAYER_KEYS bytes >>= λ raw_keys. each_in text_at raw_keys >>= λ keys.
+    parts_in LAYER_VALUES bytes >>= λ raw_values. each_in tag_value_at raw_values >>= λ values.
+    parts_in LAYER_FEATURES bytes >>= λ raw_features. each_in (feature_at keys values) raw_features >>= λ features.
     layer_made name version extent features
 
 -- ---- tiles
@@ -265,4 +266,4 @@ abbrev pub layers_in : List (List ℕ) → Read TileFault (List LayerView)
 layers_in parts = folded layer_more [] parts
 
 unfoldable pub tile_at : List ℕ → Read TileFault (List LayerView)
-tile_at bytes = parts_in 3 bytes >>= λ raw. layers_in raw
+tile_at bytes = parts_in TILE_LAYERS bytes >>= λ raw. layers_in raw

@@ -1,23 +1,15 @@
-//! The fields of a feature, in one walk over its bytes.
+//! The fields of a feature, in one pass over its bytes.
 
 ghost use Rattle.reader.specs.Reading.{Gives};
 ghost use Rattle.pb_wire.specs.Items.{item_view};
 ghost use Rattle.mvt_layer.specs.Reading.{onward, after, number_after, numbers_after, last_number_in, numbers_in};
 
 use crate::fault::TileFault;
+use crate::field_numbers::{FEATURE_GEOMETRY, FEATURE_ID, FEATURE_TAGS, FEATURE_TYPE};
 use crate::passes::{FieldItem, number_then, numbers_then};
 use pb_wire::Fields;
 
-// Field numbers of a feature.
-const ID: u32 = 1;
-
-const TAGS: u32 = 2;
-
-const KIND: u32 = 3;
-
-const GEOMETRY: u32 = 4;
-
-/// What the fields of a feature say, each number for itself: a fault of one is none of the others.
+/// What the fields of a feature say, for each field number separately: a fault of one is not a fault of the others.
 #[derive(Drop)]
 pub(crate) struct FeatureFields {
     pub(crate) id: Result<Option<u64>, TileFault>,
@@ -26,33 +18,33 @@ pub(crate) struct FeatureFields {
     pub(crate) ints: Result<Vec<u32>, TileFault>,
 }
 
-/// What they say with one item more.
+/// What they say after one item more.
 fn with_item(before: FeatureFields, item: FieldItem<'_>) -> FeatureFields
-    ensures id { Gives TileFault.Memory (λ n. n) result.id (onward (λ n. n) before.id (λ n. after 1 number_after n (item_view item.entry))) }
-    ensures kind { Gives TileFault.Memory (λ n. n) result.kind (onward (λ n. n) before.kind (λ n. after 3 number_after n (item_view item.entry))) }
+    ensures id { Gives TileFault.Memory (λ n. n) result.id (onward (λ n. n) before.id (λ n. after FEATURE_ID number_after n (item_view item.entry))) }
+    ensures kind { Gives TileFault.Memory (λ n. n) result.kind (onward (λ n. n) before.kind (λ n. after FEATURE_TYPE number_after n (item_view item.entry))) }
     ensures indices { Gives TileFault.Memory (λ v. v.items) result.indices
-        (onward (λ v. v.items) before.indices (λ ns. after 2 numbers_after ns (item_view item.entry))) }
+        (onward (λ v. v.items) before.indices (λ ns. after FEATURE_TAGS numbers_after ns (item_view item.entry))) }
     ensures ints { Gives TileFault.Memory (λ v. v.items) result.ints
-        (onward (λ v. v.items) before.ints (λ ns. after 4 numbers_after ns (item_view item.entry))) }
+        (onward (λ v. v.items) before.ints (λ ns. after FEATURE_GEOMETRY numbers_after ns (item_view item.entry))) }
 {
     FeatureFields {
-        id: number_then(ID, before.id, item),
-        kind: number_then(KIND, before.kind, item),
-        indices: numbers_then(TAGS, before.indices, item),
-        ints: numbers_then(GEOMETRY, before.ints, item),
+        id: number_then(FEATURE_ID, before.id, item),
+        kind: number_then(FEATURE_TYPE, before.kind, item),
+        indices: numbers_then(FEATURE_TAGS, before.indices, item),
+        ints: numbers_then(FEATURE_GEOMETRY, before.ints, item),
     }
 }
 
-/// What all the fields say, in the room of two lists that nothing needs any more.
+/// What all the fields say, in the memory of two lists that are no longer needed.
 pub(crate) fn feature_fields(
     mut indices: Vec<u32>,
     mut ints: Vec<u32>,
     bytes: &[u8],
 ) -> FeatureFields
-    ensures id { Gives TileFault.Memory (λ n. n) result.id (last_number_in 1 bytes.now) }
-    ensures kind { Gives TileFault.Memory (λ n. n) result.kind (last_number_in 3 bytes.now) }
-    ensures indices { Gives TileFault.Memory (λ v. v.items) result.indices (numbers_in 2 bytes.now) }
-    ensures ints { Gives TileFault.Memory (λ v. v.items) result.ints (numbers_in 4 bytes.now) }
+    ensures id { Gives TileFault.Memory (λ n. n) result.id (last_number_in FEATURE_ID bytes.now) }
+    ensures kind { Gives TileFault.Memory (λ n. n) result.kind (last_number_in FEATURE_TYPE bytes.now) }
+    ensures indices { Gives TileFault.Memory (λ v. v.items) result.indices (numbers_in FEATURE_TAGS bytes.now) }
+    ensures ints { Gives TileFault.Memory (λ v. v.items) result.ints (numbers_in FEATURE_GEOMETRY bytes.now) }
 {
     indices.clear();
     ints.clear();

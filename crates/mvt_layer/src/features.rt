@@ -9,6 +9,7 @@ ghost use Rattle.geometry_commands.specs.Decoding.{shape_at};
 
 use crate::fault::TileFault;
 use crate::feature_fields::feature_fields;
+use crate::field_numbers::{LINESTRING_TYPE, POINT_TYPE, POLYGON_TYPE};
 use crate::tile::{TagValue, TileFeature};
 use crate::used_keys::UsedKeys;
 use geometry_commands::{GeometryFault, Shape, ShapeKind, decode};
@@ -96,19 +97,19 @@ fn tags_of<'a>(
     Ok((tags, used))
 }
 
-/// The kind of a feature; unknown where it has none, or one that the standard doesn't have.
+/// The kind of a feature; unknown if it has none, or one that the standard does not define.
 fn kind_said(kind: Option<u64>) -> ShapeKind
     ensures { result ≡ kind_of kind }
 {
     match kind {
-        Some(1) => ShapeKind::Points,
-        Some(2) => ShapeKind::Lines,
-        Some(3) => ShapeKind::Polygons,
+        Some(POINT_TYPE) => ShapeKind::Points,
+        Some(LINESTRING_TYPE) => ShapeKind::Lines,
+        Some(POLYGON_TYPE) => ShapeKind::Polygons,
         _ => ShapeKind::Unknown,
     }
 }
 
-/// The shape that a feature's integers spell.
+/// The shape that a feature's integers encode.
 fn shape_of(alloc: Global, kind: ShapeKind, ints: &[u32]) -> Result<Shape, TileFault>
     ensures exact { Gives TileFault.Memory shape_view result (shape_read (shape_at kind ints.now)) }
     // An allocation fails only where decoding may allocate.

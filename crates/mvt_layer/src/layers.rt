@@ -11,6 +11,7 @@ ghost use Rattle.mvt_layer.specs.Reading.{layers_in, tile_at};
 
 use crate::fault::TileFault;
 use crate::features::{FeatureLists, feature_of};
+use crate::field_numbers::TILE_LAYERS;
 use crate::layer_fields::layer_fields;
 use crate::named::NamedLayers;
 use crate::passes::parts;
@@ -18,17 +19,14 @@ use crate::tile::{Layer, TagValue, TileFeature};
 use crate::values::{tag_value_of, text_of};
 use std::alloc::Global;
 
-/// The extent of a layer that tells none, and of every layer that is written (MVT 2.1, 4.1).
+/// The extent of a layer that states none, and of every layer that is written (MVT 2.1, 4.1).
 pub const DEFAULT_EXTENT: u32 = 4096;
 
-/// The version of a layer that tells none (MVT 2.1, 4.1).
+/// The version of a layer that states none (MVT 2.1, 4.1).
 pub const DEFAULT_VERSION: u32 = 1;
 
-/// The version of layers by the standard as it stands (MVT 2.1, 4.1).
+/// The version of layers in the current standard (MVT 2.1, 4.1).
 pub const CURRENT_VERSION: u32 = 2;
-
-/// The field number of a tile's layers.
-const LAYERS: u32 = 3;
 
 /// The keys' texts.
 fn texts_of<'a>(alloc: Global, raw: &[&'a [u8]]) -> Result<Vec<&'a str>, TileFault>
@@ -42,6 +40,7 @@ fn texts_of<'a>(alloc: Global, raw: &[&'a [u8]]) -> Result<Vec<&'a str>, TileFau
     Ok(texts)
 }
 
+/// The values of tags.
 fn values_of<'a>(alloc: Global, raw: &[&'a [u8]]) -> Result<Vec<TagValue<'a>>, TileFault>
     ensures { Gives TileFault.Memory (λ v. tag_views v.items) result (each_in tag_value_at (bytes_of raw.entry.now)) }
 {
@@ -83,7 +82,7 @@ fn name_of(last: Option<&[u8]>) -> Result<&str, TileFault>
     }
 }
 
-/// A number of 32 bits, or what it is where there is none.
+/// A number of 32 bits, or the default if there is none.
 fn small(otherwise: u32, last: Option<u64>) -> Result<u32, TileFault>
     ensures { Reads (λ n. n) result (small_at otherwise last) }
 {
@@ -99,7 +98,7 @@ fn small(otherwise: u32, last: Option<u64>) -> Result<u32, TileFault>
     }
 }
 
-/// The layer's version, `DEFAULT_VERSION` where it tells none.
+/// The layer's version, `DEFAULT_VERSION` if it states none.
 #[tactic(auto, unfolding(crate::specs::Reading::version_at))]
 fn version_of(last: Option<u64>) -> Result<u32, TileFault>
     ensures { Reads (λ n. n) result (version_at last) }
@@ -112,7 +111,7 @@ fn version_of(last: Option<u64>) -> Result<u32, TileFault>
     }
 }
 
-/// The layer's extent, `DEFAULT_EXTENT` where it tells none.
+/// The layer's extent, `DEFAULT_EXTENT` if it states none.
 #[tactic(auto, unfolding(crate::specs::Reading::extent_at))]
 fn extent_of(last: Option<u64>) -> Result<u32, TileFault>
     ensures { Reads (λ n. n) result (extent_at last) }
@@ -125,7 +124,7 @@ fn extent_of(last: Option<u64>) -> Result<u32, TileFault>
     }
 }
 
-/// A layer: its pools first, wherever they stand, and then its features.
+/// A layer: its pools first, wherever they are in the bytes, and then its features.
 #[tactic(auto, unfolding(crate::specs::Reading::layer_at))]
 fn layer_of<'a>(alloc: Global, bytes: &'a [u8]) -> Result<Layer<'a>, TileFault>
     ensures { Gives TileFault.Memory layer_view result (layer_at bytes.entry.now) }
@@ -148,7 +147,7 @@ fn layer_of<'a>(alloc: Global, bytes: &'a [u8]) -> Result<Layer<'a>, TileFault>
     })
 }
 
-/// The layers with the one that this part says.
+/// The layers with the one that this part encodes.
 fn layer_behind<'a>(
     alloc: Global,
     before: NamedLayers<'a>,
@@ -160,7 +159,7 @@ fn layer_behind<'a>(
     before.with(layer)
 }
 
-/// The layers that these parts say, of different names.
+/// The layers that these parts encode, of different names.
 fn layers_of<'a>(alloc: Global, raw: &[&'a [u8]]) -> Result<Vec<Layer<'a>>, TileFault>
     ensures { Gives TileFault.Memory (λ v. layer_views v.items) result (layers_in (bytes_of raw.entry.now)) }
 {
@@ -176,7 +175,7 @@ fn layers_of<'a>(alloc: Global, raw: &[&'a [u8]]) -> Result<Vec<Layer<'a>>, Tile
 fn tile_of<'a>(alloc: Global, bytes: &'a [u8]) -> Result<Vec<Layer<'a>>, TileFault>
     ensures { Gives TileFault.Memory (λ v. layer_views v.items) result (tile_at bytes.entry.now) }
 {
-    let raw = parts(alloc, bytes, LAYERS)?;
+    let raw = parts(alloc, bytes, TILE_LAYERS)?;
     layers_of(alloc, &raw)
 }
 
@@ -189,9 +188,9 @@ fn tile_of<'a>(alloc: Global, bytes: &'a [u8]) -> Result<Vec<Layer<'a>>, TileFau
 ///
 /// Where a tile has several faults, the one that is returned is one that it has.
 pub fn read_tile<'a>(alloc: Global, bytes: &'a [u8]) -> Result<Vec<Layer<'a>>, TileFault>
-    // What is read stands there.
+    // What is read is encoded there.
     ensures found { IfOk result (λ v. ReadsAs bytes.entry.now (layer_views v.items)) }
-    // What stands there is read, unless an allocation fails.
+    // What is encoded there is read, unless an allocation fails.
     ensures only { (ls : List LayerView) → ReadsAs bytes.entry.now ls → Gives TileFault.Memory (λ v. layer_views v.items) result (Ok ls) }
     // The fault is one that the bytes have.
     ensures fault { IfErr result (λ d. d ≢ TileFault.Memory → TileHas bytes.entry.now d) }

@@ -4,6 +4,7 @@
 mod fault;
 mod feature_fields;
 mod features;
+pub mod field_numbers;
 mod layer_fields;
 mod layers;
 mod named;

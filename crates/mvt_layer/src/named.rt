@@ -13,7 +13,7 @@ use crate::tile::Layer;
 use std::alloc::Global;
 use std::collections::BTreeSet;
 
-/// Layers, and beside them the set of their names, so that a name is looked up in few steps.
+/// Layers, and the set of their names, so that a name is looked up in few steps.
 #[derive(Drop)]
 pub(crate) struct NamedLayers<'a> {
     layers: Vec<Layer<'a>>,
@@ -48,6 +48,7 @@ impl<'a> NamedLayers<'a> {
         Ok(NamedLayers { layers, names })
     }
 
+    /// The layers, in order.
     pub(crate) fn into_layers(self) -> Vec<Layer<'a>>
         ensures { result.items ≡ self.entry.layers.items }
     {

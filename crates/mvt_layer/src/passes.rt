@@ -15,7 +15,7 @@ use std::alloc::Global;
 /// A field of a message, or its fault.
 pub(crate) type FieldItem<'a> = Result<Field<'a>, WireFault>;
 
-/// The number that one more item leaves.
+/// The last number of a field, after one item more.
 fn number_behind(
     number: u32,
     last: Option<u64>,
@@ -44,6 +44,7 @@ pub(crate) fn number_then(
     number_behind(number, before?, item)
 }
 
+/// The last bytes of a field, after one item more.
 fn bytes_behind<'a>(
     number: u32,
     last: Option<&'a [u8]>,
@@ -73,6 +74,7 @@ pub(crate) fn bytes_then<'a>(
     bytes_behind(number, before?, item)
 }
 
+/// The parts of a field, after one item more.
 fn parts_behind<'a>(
     number: u32,
     before: Vec<&'a [u8]>,
@@ -141,7 +143,7 @@ fn with_number(before: Vec<u32>, n: u64) -> Result<Vec<u32>, TileFault>
     Ok(numbers)
 }
 
-/// The number in front of packed ones, and how many bytes it takes.
+/// The first of packed numbers, and its length in bytes.
 fn packed_number(bytes: &[u8]) -> Result<(u64, usize), TileFault>
     ensures within { IfOk result (λ r. (0 < r.1) × (r.1 ≤ length bytes.now)) }
     ensures exact { Reads (λ r. r) result (number_at bytes.now) }
@@ -152,7 +154,7 @@ fn packed_number(bytes: &[u8]) -> Result<(u64, usize), TileFault>
     }
 }
 
-/// The numbers that stand one after the other, behind those before. There is room for as many as there are bytes.
+/// The packed numbers of `bytes`, appended to those before. Memory is reserved for as many numbers as there are bytes.
 fn with_packed(before: Vec<u32>, bytes: &[u8]) -> Result<Vec<u32>, TileFault>
     ensures { Gives TileFault.Memory (λ v. v.items) result (packed_in (length bytes.now) before.items bytes.now) }
 {
@@ -167,9 +169,10 @@ fn with_packed(before: Vec<u32>, bytes: &[u8]) -> Result<Vec<u32>, TileFault>
     Ok(numbers)
 }
 
+/// The numbers of a field, packed or not, after one item more.
 fn numbers_behind(number: u32, before: Vec<u32>, item: FieldItem<'_>) -> Result<Vec<u32>, TileFault>
     ensures exact { Gives TileFault.Memory (λ v. v.items) result (after number numbers_after before.items (item_view item.entry)) }
-    // An allocation fails only where numbers may stand.
+    // An allocation fails only if the item may hold numbers.
     ensures memory { IfErr result (λ d. d ≡ TileFault.Memory → IsTrue (holds_numbers (item_view item.entry))) }
 {
     match item {

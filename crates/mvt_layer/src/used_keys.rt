@@ -10,7 +10,7 @@ use std::collections::BTreeSet;
 /// How many key indices are looked through one by one. Few features have more tags.
 const FEW: usize = 16;
 
-/// Key indices: the first ones in a list, those behind them in a set, so that none takes many steps.
+/// Key indices: the first ones in a list, the others in a set, so that a look-up takes few steps.
 #[derive(Drop)]
 pub(crate) struct UsedKeys {
     few: Vec<u32>,
@@ -28,7 +28,7 @@ impl UsedKeys {
         }
     }
 
-    /// No key indices, in the same room.
+    /// No key indices, in the same memory.
     pub(crate) fn cleared(self) -> Self
         ensures { (q : ℕ) → uses result q ≡ false }
     {
@@ -38,6 +38,7 @@ impl UsedKeys {
         UsedKeys { few, many }
     }
 
+    /// Whether the key index was used.
     fn has(&self, key: u32) -> bool
         ensures { result ≡ uses self.now key }
     {

@@ -9,6 +9,9 @@ ghost use Rattle.mvt_layer.specs.Tile.{tag_view};
 ghost use Rattle.mvt_layer.specs.Reading.{has_kind as has_kind_of, plain_tag, zigzag_tag, text_at, value_after, meaning, last_value_in, tag_value_at};
 
 use crate::fault::TileFault;
+use crate::field_numbers::{
+    BOOL_VALUE, DOUBLE_VALUE, FLOAT_VALUE, INT_VALUE, SINT_VALUE, STRING_VALUE, UINT_VALUE,
+};
 use crate::tile::TagValue;
 use pb_wire::{Field, FieldValue, Fields, WireFault};
 
@@ -22,7 +25,7 @@ pub(crate) fn text_of(bytes: &[u8]) -> Result<&str, TileFault>
     }
 }
 
-/// The number that stands so far below -1.
+/// The number `-1 - below`.
 fn negative(below: u64) -> i64
     requires { below < 2 ^ 63 }
     ensures { result ≡ negsuc below }
@@ -35,10 +38,10 @@ fn has_kind(number: u32, value: FieldValue<'_>) -> bool
     ensures { result ≡ has_kind_of number (value_view value.entry) }
 {
     match value {
-        FieldValue::Bytes(_) => number == 1,
-        FieldValue::Four(_) => number == 2,
-        FieldValue::Eight(_) => number == 3,
-        FieldValue::Varint(_) => number > 3,
+        FieldValue::Bytes(_) => number == STRING_VALUE,
+        FieldValue::Four(_) => number == FLOAT_VALUE,
+        FieldValue::Eight(_) => number == DOUBLE_VALUE,
+        FieldValue::Varint(_) => number > DOUBLE_VALUE,
     }
 }
 
@@ -52,7 +55,7 @@ fn value_behind<'a>(
     match item {
         Err(_) => Err(TileFault::Wire),
         Ok(field) => {
-            if 0 < field.number && field.number < 8 {
+            if 0 < field.number && field.number <= BOOL_VALUE {
                 if !has_kind(field.number, field.value) {
                     return Err(TileFault::Kind);
                 }
@@ -98,7 +101,7 @@ fn eight_of(part: &[u8]) -> [u8; 8]
     eight
 }
 
-/// The number that is spelled `n` as it stands, in two's complement.
+/// The number whose two's complement is `n`.
 fn plain(n: u64) -> TagValue<'static>
     ensures { tag_view result ≡ plain_tag n }
 {
@@ -109,7 +112,7 @@ fn plain(n: u64) -> TagValue<'static>
     }
 }
 
-/// The number that is spelled `n` as a signed one near 0.
+/// The number whose zigzag encoding is `n`.
 fn signed(n: u64) -> TagValue<'static>
     ensures { tag_view result ≡ zigzag_tag n }
 {
@@ -130,9 +133,9 @@ fn meaning_of<'a>(field: Field<'a>) -> Result<TagValue<'a>, TileFault>
         FieldValue::Four(part) => Ok(TagValue::Float(four_of(part))),
         FieldValue::Eight(part) => Ok(TagValue::Double(eight_of(part))),
         FieldValue::Varint(n) => match field.number {
-            4 => Ok(plain(n)),
-            5 => Ok(TagValue::Natural(n)),
-            6 => Ok(signed(n)),
+            INT_VALUE => Ok(plain(n)),
+            UINT_VALUE => Ok(TagValue::Natural(n)),
+            SINT_VALUE => Ok(signed(n)),
             _ => Ok(TagValue::Truth(n != 0)),
         },
     }

@@ -1,5 +1,6 @@
 pub mod FaultLaws
 pub mod Laws
+pub mod LimitNumbers
 pub mod Message
 pub mod MessageLaws
 pub mod Offsets

@@ -1,3 +1,5 @@
+//! What can be wrong with a message.
+
 use thiserror::Error;
 
 /// What is wrong with the bytes of a message.
@@ -6,7 +8,7 @@ pub enum FaultKind {
     /// The bytes end inside a number or a value.
     #[error("the bytes end inside a number or a value")]
     Cut,
-    /// A number's tenth byte is above 1: it goes on, or passes 64 bits.
+    /// A number's tenth byte is above 1: the number is longer than ten bytes or exceeds 64 bits.
     #[error("a number is longer than ten bytes or passes 64 bits")]
     Varint,
     /// The number of a field is 0 or above 536,870,911.
@@ -17,12 +19,12 @@ pub enum FaultKind {
     WireType,
 }
 
-/// A fault of a message, or of a number that stands alone.
+/// A fault of a message, or of a single number.
 #[derive(Clone, Copy, Debug, PartialEq, Eq, Error)]
 #[error("{kind}, in the field at byte {at}")]
 pub struct WireFault {
-    /// Where the key of the field with the fault begins, counted in bytes from the message's first; 0 for a number that
-    /// stands alone.
+    /// The offset of the key of the field with the fault, in bytes from the start of the message; 0 for a single number.
     pub at: usize,
+    /// What is wrong there.
     pub kind: FaultKind,
 }

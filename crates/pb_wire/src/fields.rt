@@ -1,39 +1,40 @@
 //! The fields of a message.
 
 ghost use Rattle.std.specs.Prelude.{ℕ, ◌+◌, ◌<◌, ◌≤◌, ◌^◌, length, IsTrue};
+ghost use Rattle.pb_wire.specs.declared.limits.TheConstants.{MAX_FIELD};
 ghost use Rattle.pb_wire.specs.Lengths.{has_its_length};
 
 use crate::fault::WireFault;
 use crate::reading::field_of;
 
-/// The value of a field, by its wire type. What isn't a number is the part of the message's bytes that stands there.
+/// The value of a field, by its wire type. A value that is not a number borrows its part of the message's bytes.
 #[derive(Clone, Copy, Debug)]
 pub enum FieldValue<'a> {
-    /// A number (wire type 0).
+    /// A number (`WIRE_VARINT`).
     Varint(u64),
-    /// Eight bytes (wire type 1).
+    /// Eight bytes (`WIRE_I64`).
     Eight(&'a [u8]),
-    /// Bytes that stand behind their length: a text, a message inside, or packed numbers (wire type 2).
+    /// Bytes after their length: a text, a nested message, or packed numbers (`WIRE_LEN`).
     Bytes(&'a [u8]),
-    /// Four bytes (wire type 5).
+    /// Four bytes (`WIRE_I32`).
     Four(&'a [u8]),
 }
 
 /// A field of a message (Protocol Buffers, "Encoding", "Message Structure"). `Eight` and `Four` have their length.
 #[derive(Clone, Copy, Debug)]
 pub struct Field<'a> {
-    /// The field's number, 1 to 536,870,911.
+    /// The field's number, 1 to `MAX_FIELD`.
     pub number: u32,
     pub value: FieldValue<'a>,
     pub ghost fixed: { IsTrue (has_its_length value) },
-    pub ghost numbered: { (0 < number) × (number ≤ 536870911) },
+    pub ghost numbered: { (0 < number) × (number ≤ MAX_FIELD) },
 }
 
-/// Goes over the fields of a message, in the order of their bytes. A fault is the last item: behind it nothing is
+/// Iterates over the fields of a message, in the order of their bytes. A fault is the last item: nothing after it is
 /// read.
 ///
-/// A field's faults come in this order: its key is cut or no number; its number is out of range; its wire type is
-/// none of 0, 1, 2 and 5; its value is cut or no number. No item takes memory.
+/// A field's faults are checked in this order: its key is cut or overlong; its number is out of range; its wire type is
+/// not one of 0, 1, 2 and 5; its value is cut or overlong. No item allocates.
 #[derive(Drop)]
 pub struct Fields<'a> {
     rest: &'a [u8],
@@ -45,7 +46,7 @@ impl<'a> Fields<'a> {
     ghost use Rattle.std.specs.Prelude.{◌≡◌};
     ghost use Rattle.pb_wire.specs.Items.{fields_rest, items_of};
 
-    /// The fields of the message that the bytes are.
+    /// The fields of the message in `bytes`.
     pub fn new(bytes: &'a [u8]) -> Self
         ensures { fields_rest result ≡ items_of bytes.entry.now }
     {

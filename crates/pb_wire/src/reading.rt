@@ -1,4 +1,4 @@
-//! One field, read from the front of the bytes.
+//! Reads the first field of a message.
 
 ghost use Rattle.std.specs.Prelude.{◌≡◌, ℕ, ◌+◌, ◌<◌, ◌≤◌, ◌^◌, ◌%◌, length, IfOk, IsTrue};
 ghost use Rattle.reader.specs.Reading.{Reads};
@@ -7,9 +7,10 @@ ghost use Rattle.pb_wire.specs.Message.{value_at, field_at, front_at, value_view
 
 use crate::fault::FaultKind;
 use crate::fields::{Field, FieldValue};
+use crate::limits::{MAX_FIELD, WIRE_I32, WIRE_I64, WIRE_LEN, WIRE_VARINT};
 use crate::varint::read;
 
-/// The first `len` bytes.
+/// The first `len` bytes, or `Cut` if there are fewer.
 fn front(bytes: &[u8], len: usize) -> Result<&[u8], FaultKind>
     ensures long { IfOk result (λ x. length x.now ≡ len) }
     ensures exact { Reads (λ x. x.now) result (front_at len bytes.now) }
@@ -20,7 +21,7 @@ fn front(bytes: &[u8], len: usize) -> Result<&[u8], FaultKind>
     Ok(&bytes[..len])
 }
 
-/// The value of this wire type in front, and how many bytes it takes.
+/// The value of this wire type at the start of the bytes, and its length in bytes.
 #[tactic(auto, unfolding(crate::specs::Message::value_at))]
 fn value_of(wire: u64, bytes: &[u8]) -> Result<(FieldValue<'_>, usize), FaultKind>
     ensures within { IfOk result (λ r. r.1 ≤ length bytes.now) }
@@ -28,12 +29,12 @@ fn value_of(wire: u64, bytes: &[u8]) -> Result<(FieldValue<'_>, usize), FaultKin
     ensures exact { Reads (λ x. (value_view x.0, x.1)) result (value_at wire bytes.now) }
 {
     match wire {
-        0 => {
+        WIRE_VARINT => {
             let (n, len) = read(bytes)?;
             Ok((FieldValue::Varint(n), len))
         }
-        1 => Ok((FieldValue::Eight(front(bytes, 8)?), 8)),
-        2 => {
+        WIRE_I64 => Ok((FieldValue::Eight(front(bytes, 8)?), 8)),
+        WIRE_LEN => {
             let (n, len) = read(bytes)?;
             let rest = &bytes[len..];
             if (rest.len() as u64) < n {
@@ -42,12 +43,12 @@ fn value_of(wire: u64, bytes: &[u8]) -> Result<(FieldValue<'_>, usize), FaultKin
             let n = n as usize;
             Ok((FieldValue::Bytes(&rest[..n]), len + n))
         }
-        5 => Ok((FieldValue::Four(front(bytes, 4)?), 4)),
+        WIRE_I32 => Ok((FieldValue::Four(front(bytes, 4)?), 4)),
         _ => Err(FaultKind::WireType),
     }
 }
 
-/// The field in front, and how many bytes it takes.
+/// The field at the start of the bytes, and its length in bytes.
 #[tactic(auto, unfolding(crate::specs::Message::field_at))]
 pub(crate) fn field_of(bytes: &[u8]) -> Result<(Field<'_>, usize), FaultKind>
     ensures within { IfOk result (λ r. (0 < r.1) × (r.1 ≤ length bytes.now)) }
@@ -55,7 +56,7 @@ pub(crate) fn field_of(bytes: &[u8]) -> Result<(Field<'_>, usize), FaultKind>
 {
     let (key, len) = read(bytes)?;
     let number = key / 8;
-    if number == 0 || number > 536_870_911 {
+    if number == 0 || number > u64::from(MAX_FIELD) {
         return Err(FaultKind::Number);
     }
     let (value, value_len) = value_of(key % 8, &bytes[len..])?;

@@ -1,10 +1,10 @@
-//! Signed numbers as unsigned ones.
+//! Zigzag encoding: signed numbers as unsigned ones.
 
 ghost use Rattle.std.specs.Prelude.{◌≡◌};
 ghost use Rattle.pb_wire.specs.Zigzag.{zigzagged};
 
-/// A signed number as an unsigned one, small where it is near 0: numbers from 0 up are the even ones, 2v, and those
-/// below the odd ones, -2v - 1 (Protocol Buffers, "Encoding", "Signed Integers").
+/// A signed number as an unsigned one, small if it is near 0: a number from 0 up becomes the even number 2v, one below 0
+/// the odd number -2v - 1 (Protocol Buffers, "Encoding", "Signed Integers").
 pub fn zigzag(v: i64) -> u64
     ensures { result ≡ zigzagged v }
 {
@@ -15,7 +15,7 @@ pub fn zigzag(v: i64) -> u64
     }
 }
 
-/// The one number that `zigzag` gives `n` for.
+/// The number whose zigzag encoding is `n`.
 pub fn unzigzag(n: u64) -> i64
     ensures { zigzagged result ≡ n }
 {

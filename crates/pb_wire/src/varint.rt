@@ -1,4 +1,4 @@
-//! Numbers of seven bits a byte.
+//! Varints: numbers of seven bits a byte.
 
 ghost use Rattle.std.specs.Prelude.{◌≡◌, ℕ, ◌+◌, ◌<◌, ◌≤◌, ◌↔◌, ◌++◌, List, length, take, IfOk, IsErrOf, OnOk, OnErr, vec_len, vec_capacity};
 ghost use Rattle.pb_wire.specs.Varint.{varint, varint_at, IsVarint, IsCut, IsOverlong};
@@ -7,7 +7,7 @@ ghost use Rattle.pb_wire.specs.Fault.{with_offset};
 use crate::fault::{FaultKind, WireFault};
 use std::alloc::AllocError;
 
-/// How many bytes the shortest spelling of `n` takes: from 1 to 10.
+/// The length of the shortest encoding of `n` in bytes: from 1 to 10.
 fn varint_len(n: u64) -> usize
     ensures { result ≡ length (varint n) }
 {
@@ -20,9 +20,9 @@ fn varint_len(n: u64) -> usize
     len
 }
 
-/// Appends the shortest spelling of `n`: seven bits a byte, lowest first, the high bit set on each but the last
-/// (Protocol Buffers, "Encoding", "Base 128 Varints"). An `Err` changes nothing, and comes only where the vector had to
-/// grow.
+/// Appends the shortest encoding of `n`: seven bits a byte, lowest first, the high bit set on each but the last
+/// (Protocol Buffers, "Encoding", "Base 128 Varints"). An `Err` leaves `out` as it was, and is returned only if the
+/// vector had to grow.
 pub fn put_varint(out: &mut Vec<u8>, n: u64) -> Result<(), AllocError>
     ensures ok { OnOk result (out.new.items ≡ out.old.items ++ varint n) }
     ensures err { OnErr result (out.new.items ≡ out.old.items) }
@@ -38,13 +38,14 @@ pub fn put_varint(out: &mut Vec<u8>, n: u64) -> Result<(), AllocError>
     Ok(())
 }
 
-/// The number in front, and how many bytes it takes: at most ten, and not always the fewest. Bytes may follow it.
+/// The number at the start of the bytes, and its length in bytes: at most ten, and not always the shortest encoding.
+/// More bytes may follow.
 ///
-/// `Cut` is answered where the bytes end inside the number, `Varint` where its tenth byte is above 1.
+/// Returns `Cut` if the bytes end inside the number, and `Varint` if its tenth byte is above 1.
 pub fn get_varint(bytes: &[u8]) -> Result<(u64, usize), WireFault>
-    // What is found stands there.
+    // What is returned is encoded there.
     ensures found { IfOk result (λ r. (r.1 ≤ length bytes.now) × IsVarint (take r.1 bytes.now) r.0) }
-    // What stands there is found, whatever follows it.
+    // A number that is encoded there is returned, whatever follows it.
     ensures only { (front rest : List ℕ) (n : ℕ) → IsVarint front n → bytes.now ≡ front ++ rest → result ≡ Ok (n, length front) }
     ensures cut { IsErrOf result (record { at = 0; kind = FaultKind.Cut }) ↔ IsCut bytes.now }
     ensures overlong { IsErrOf result (record { at = 0; kind = FaultKind.Varint }) ↔ IsOverlong bytes.now }
@@ -53,7 +54,7 @@ pub fn get_varint(bytes: &[u8]) -> Result<(u64, usize), WireFault>
     read(bytes).map_err(|kind| WireFault { at: 0, kind })
 }
 
-/// The number in front, and how many bytes it takes; a fault without an offset. Most numbers take one byte.
+/// The number at the start of the bytes, and its length in bytes; a fault without an offset. Most numbers take one byte.
 pub(crate) fn read(bytes: &[u8]) -> Result<(u64, usize), FaultKind>
     ensures within { IfOk result (λ r. (0 < r.1) × (r.1 ≤ length bytes.now)) }
     ensures exact { result ≡ varint_at bytes.now }
@@ -64,7 +65,7 @@ pub(crate) fn read(bytes: &[u8]) -> Result<(u64, usize), FaultKind>
     }
 }
 
-/// The same, byte by byte.
+/// The same as `read`, byte by byte.
 fn read_groups(bytes: &[u8]) -> Result<(u64, usize), FaultKind>
     ensures within { IfOk result (λ r. (0 < r.1) × (r.1 ≤ length bytes.now)) }
     ensures exact { result ≡ varint_at bytes.now }
