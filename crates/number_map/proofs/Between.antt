@@ -30,14 +30,14 @@ module _ {T : Type 0} where
   ascends_right [] ys s = s
   ascends_right (e ∷ xs) ys s = ascends_right xs ys (ascends_tail e (xs ++ ys) s)
 
-  -- what stands before an entry is below its number
+  -- what comes before an entry is below its number
   pub below_before : (xs ys : List (ℕ × T)) (e : ℕ × T) → Ascends (xs ++ e ∷ ys) → AreBelow e.0 xs
   below_before [] ys e s = tt
   below_before (x ∷ xs) ys e s =
       ((above_right x.0 xs (e ∷ ys) (ascends_head x (xs ++ e ∷ ys) s)).0, below_before xs ys e (ascends_tail x (xs ++ e ∷ ys) s))
 
   module _ (n : ℕ) where
-    -- ---- behind lower entries
+    -- ---- after lower entries
 
     pub lookup_behind : (xs ys : List (ℕ × T)) → AreBelow n xs → lookup (is_at (nat_cmp n)) (xs ++ ys) ≡ lookup (is_at (nat_cmp n)) ys
     lookup_behind [] ys b = refl

@@ -43,7 +43,7 @@ module _ {T : Type 0} where
   found_on : (n : ℕ) (e : ℕ × T) (es : List (ℕ × T)) → e.0 < n → first_from n (e ∷ es) ≡ first_from n es
   found_on n e es h = ap (λ b. cond b (Some e) (first_from n es)) (is_more n e.0 h)
 
-  -- it stands where the number stands, or would
+  -- it is at the index of the number, or at the index where the number would be inserted
   pub from_stands : (es : List (ℕ × T)) (n i : ℕ) → StandsAt es n i → slice_get es i ≡ first_from n es
   from_stands [] n i h = absurd h
   from_stands (e ∷ es) n zero h = sym (found_here n e es (omega (arith, h)))
@@ -55,7 +55,7 @@ module _ {T : Type 0} where
   from_gap (e ∷ es) n zero h = sym (found_here n e es (omega (arith, h)))
   from_gap (e ∷ es) n (suc i) h = from_gap es n i h.1 ∙ sym (found_on n e es h.0)
 
-  -- ---- behind lower entries, and before higher ones
+  -- ---- after lower entries, and before higher ones
 
   from_behind : (n : ℕ) (xs ys : List (ℕ × T)) → AreBelow n xs → first_from n (xs ++ ys) ≡ first_from n ys
   from_behind n [] ys b = refl
@@ -87,7 +87,7 @@ module _ {T : Type 0} where
       of_filled (x ∷ xs) ys some = refl
 
   module _ (bs : List (List (ℕ × T))) (n i : ℕ) (home : IsHome bs n i) where
-    -- it is in the block where the number belongs, or the first one behind that
+    -- it is in the block where the number belongs, or the first one after that
     pub from_home : (b : List (ℕ × T)) → i < length bs → b ≡ get_or bs i b
         → first_from n (joined bs) ≡ option_or (first_from n b) (slice_get (joined (drop (i + 1) bs)) 0)
     from_home b lt is =

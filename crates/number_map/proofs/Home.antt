@@ -156,7 +156,7 @@ module _ {T : Type 0} where
     set_home_two v old b c lt old_is new_is =
         joined_two bs i b c lt ∙ ap (λ es. joined (take i bs) ++ (es ++ joined (drop (i + 1) bs))) new_is ∙ set_in v old lt old_is
 
-    -- a block of its own behind all others
+    -- a block of its own after all others
     pub set_last : (v : T) (b : List (ℕ × T)) → length bs ≤ i → b ≡ insert_entry nat_cmp [] n v → joined (bs ++ b ∷ []) ≡ insert_entry nat_cmp (joined bs) n v
     set_last v b past is =
         ap (λ es. joined (bs ++ es ∷ [])) is

@@ -7,7 +7,7 @@ use Rattle.std.proofs.lemmas.List.Concat.{flat_map-append}
 use Rattle.number_map.specs.Blocks.{joined}
 
 module _ {T : Type 0} where
-  -- the block at an index, between those before it and those behind it
+  -- the block at an index, between those before it and those after it
   pub joined_at : (bs : List (List (ℕ × T))) (i : ℕ) (d : List (ℕ × T)) → i < length bs
       → joined bs ≡ joined (take i bs) ++ (get_or bs i d ++ joined (drop (i + 1) bs))
   joined_at bs i d lt =

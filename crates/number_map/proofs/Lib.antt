@@ -4,6 +4,7 @@ mod Filled
 mod From
 mod Home
 mod Joined
+mod Last
 pub mod Numbers
 mod Places
 mod Search

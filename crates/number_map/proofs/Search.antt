@@ -29,7 +29,7 @@ module _ {T : Type 0} (n : ℕ) where
       let at_least : (get_or es i d).0 ≤ (get_or es j d).0 = grind (arith, ascend_at es i j d s, λ (same : i ≡ j). ap (λ k. (get_or es k d).0) same) in
       grind (arith, nat_tests)
 
-  -- where an entry of an index has the number, it stands there
+  -- an index at which an entry has the number is the number's index
   pub stands_there : (es : List (ℕ × T)) (i : ℕ) (d : ℕ × T) → Ascends es → i < length es → (get_or es i d).0 ≡ n → StandsAt es n i
   stands_there [] i d s lt h = absurd (omega arith)
   stands_there (e ∷ es) zero d s lt h = h
@@ -49,7 +49,7 @@ module _ {T : Type 0} (n : ℕ) where
   gap_for (e ∷ es) (suc i) le below above =
       (below 0 e (omega arith), gap_for es i (omega arith) (λ k d lt. below (suc k) d (omega arith)) (λ d lt. above d (omega arith)))
 
-  -- a binary search by number ends where the number stands, or in the gap for it
+  -- a binary search by number ends at the number's index, or in the gap for it
   pub searched : (es : List (ℕ × T)) (r : Result ℕ ℕ) → Ascends es → IsSearchInRange r (length es) → IsBinarySearchResult (λ e. nat_cmp e.0 n) es r
       → record { found : IfOk r (StandsAt es n); absent : IfErr r (IsGapFor es n) }
   searched es (Ok i) s in_range same = record { found = stands_at es i s in_range (λ d. ranked _ _ _ (sym (same d))); absent = tt }

@@ -1,9 +1,9 @@
 -- Entries in blocks.
-use Rattle.std.specs.Prelude.{◌≢◌, ℕ, ◌+◌, ◌<◌, ◌⊎◌, nat_le, [], ◌∷◌, List, length, take, drop, All, flat_map, slice_index_or, Option, IsSome}
+use Rattle.std.specs.Prelude.{◌≢◌, ℕ, ◌+◌, ◌<◌, ◌⊎◌, nat_le, [], ◌∷◌, List, length, take, drop, All, flat_map, slice_index_or, Option, None, IsSome}
 use Rattle.std.specs.Ordering.{nat_cmp}
 use Rattle.std.specs.Map.{keys_of, lookup}
 use Rattle.std.specs.BTreeMap.{is_at}
-use Rattle.std.specs.List.{AllByRecursion, find}
+use Rattle.std.specs.List.{AllByRecursion, find, last_or}
 use Rattle.std.specs.List.Sorted.{IsStrictlySortedBy}
 use Rattle.number_map.specs.declared.block.TheConstants.{CAPACITY}
 
@@ -24,7 +24,7 @@ module _ {T : Type 0} where
   abbrev pub AreAbove : ℕ → List (ℕ × T) → Type 0
   AreAbove n es = AllByRecursion (λ e. n < e.0) es
 
-  -- the first number, or 0 where there is none
+  -- the first number, or 0 if there are no entries
   abbrev pub first_number : List (ℕ × T) → ℕ
   first_number [] = 0
   first_number (e ∷ es) = e.0
@@ -33,7 +33,11 @@ module _ {T : Type 0} where
   abbrev pub first_from : ℕ → List (ℕ × T) → Option (ℕ × T)
   first_from n es = find (λ e. nat_le n e.0) es
 
-  -- a block has a place for a value of this number
+  -- the last number, which is the greatest one if the numbers ascend, or None if there are no entries
+  abbrev pub last_number : List (ℕ × T) → Option ℕ
+  last_number es = last_or None (keys_of es)
+
+  -- a block can store a value of this number
   abbrev pub Accepts : List (ℕ × T) → ℕ → Type 0
   Accepts es n = (length es < CAPACITY) ⊎ IsSome (lookup (is_at (nat_cmp n)) es)
 
@@ -50,7 +54,7 @@ module _ {T : Type 0} where
     pub ascending : Ascends (joined bs)
     pub filled : AreFilled bs
 
-  -- the blocks before this one have lower numbers, and those behind it higher ones
+  -- the blocks before this one have lower numbers, and those after it higher ones
   pub record IsHome (bs : List (List (ℕ × T))) (n i : ℕ) : Type 0 where
     pub below : AreBelow n (joined (take i bs))
     pub above : AreAbove n (joined (drop (i + 1) bs))

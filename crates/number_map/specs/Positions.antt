@@ -1,14 +1,14 @@
--- Where a number stands among entries.
+-- The index of a number among entries.
 use Rattle.std.specs.Prelude.{◌≡◌, ℕ, zero, suc, ◌<◌, [], ◌∷◌, List}
 
 module _ {T : Type 0} where
-  -- the number stands at this position, and lower ones before it
+  -- the entry at this index has the number, and those before it have lower ones
   abbrev pub StandsAt : List (ℕ × T) → ℕ → ℕ → Type 0
   StandsAt [] n i = ⊥
   StandsAt (e ∷ es) n zero = e.0 ≡ n
   StandsAt (e ∷ es) n (suc i) = (e.0 < n) × StandsAt es n i
 
-  -- the number would stand at this position: lower ones before it, a higher one there or none
+  -- a new number belongs at this index: lower ones before it, a higher one there or none
   abbrev pub IsGapFor : List (ℕ × T) → ℕ → ℕ → Type 0
   IsGapFor [] n zero = Unit {0}
   IsGapFor [] n (suc i) = ⊥

@@ -1,10 +1,12 @@
+//! Blocks of a few entries, ascending by number.
+
 ghost use Rattle.std.specs.Prelude.{◌≡◌, ◌+◌, ◌<◌, ◌≤◌, ◌++◌, [], length, take, drop, vec_len, vec_capacity};
 ghost use Rattle.std.specs.Prelude.{None, IfOk, IfErr, IfNone, IfSome, option_copied, option_map};
 ghost use Rattle.std.specs.Bool.{OnTrue, OnFalse};
 ghost use Rattle.std.specs.Ordering.{nat_cmp};
 ghost use Rattle.std.specs.Map.{lookup, remove_entry};
 ghost use Rattle.std.specs.BTreeMap.{insert_entry, is_at};
-ghost use Rattle.number_map.specs.Blocks.{Ascends, Accepts, AreBelow, first_from, first_number};
+ghost use Rattle.number_map.specs.Blocks.{Ascends, Accepts, AreBelow, first_from, first_number, last_number};
 ghost use Rattle.number_map.specs.Positions.{StandsAt, IsGapFor};
 
 use std::alloc::{AllocError, Global};
@@ -55,6 +57,7 @@ impl<T> Block<T> {
         })
     }
 
+    /// The number of entries.
     pub(crate) fn len(&self) -> usize
         ensures count { result ≡ length self.now }
         ensures few { result ≤ CAPACITY }
@@ -62,7 +65,7 @@ impl<T> Block<T> {
         self.entries.len()
     }
 
-    /// The first number, or 0 where there is none.
+    /// The first number, or 0 if the block is empty.
     pub(crate) fn first(&self) -> u64
         ensures { result ≡ first_number self.now }
     {
@@ -91,7 +94,17 @@ impl<T> Block<T> {
         }
     }
 
-    /// Whether there is a place for a value of this number.
+    /// The last number, or `None` if the block is empty.
+    pub(crate) fn last_number(&self) -> Option<u64>
+        ensures { result ≡ last_number self.now }
+    {
+        match self.entries.last() {
+            Some(entry) => Some(entry.0),
+            None => None,
+        }
+    }
+
+    /// Whether a value of this number can be stored: the block has it already, or isn't full.
     pub(crate) fn accepts(&self, number: u64) -> bool
         requires { Ascends self.now }
         ensures place { OnTrue result (Accepts self.now number) }
@@ -101,7 +114,7 @@ impl<T> Block<T> {
         self.entries.len() < CAPACITY || self.get(number).is_some()
     }
 
-    /// Whether this number stands behind all others, by a binary search.
+    /// Whether this number is greater than all numbers of the block, by a binary search.
     pub(crate) fn ends_before(&self, number: u64) -> bool
         requires { Ascends self.now }
         ensures { OnTrue result (AreBelow number self.now) }
@@ -162,7 +175,7 @@ impl<T: Drop> Block<T> {
     }
 }
 
-/// Where a number stands that the numbers before it lead up to without a gap.
+/// The index of a number if the numbers from the first up to it have no gap.
 fn place_in_row<T>(entries: &[Entry<T>], number: u64) -> Option<usize>
     requires { Ascends entries.now }
     ensures { IfSome result (StandsAt entries.now number) }
@@ -178,7 +191,7 @@ fn place_in_row<T>(entries: &[Entry<T>], number: u64) -> Option<usize>
     None
 }
 
-/// Where the number stands, or where it would. Among numbers without gaps no search is needed.
+/// The index of the number, or the index at which it would be inserted. Among numbers without gaps no search is needed.
 fn find<T>(entries: &[Entry<T>], number: u64) -> Result<usize, usize>
     requires { Ascends entries.now }
     ensures found { IfOk result (StandsAt entries.now number) }
@@ -190,7 +203,7 @@ fn find<T>(entries: &[Entry<T>], number: u64) -> Result<usize, usize>
     }
 }
 
-/// The first number, or 0 where there is none.
+/// The first number, or 0 if there are no entries.
 fn first_of<T>(entries: &[Entry<T>]) -> u64
     ensures { result ≡ first_number entries.now }
 {

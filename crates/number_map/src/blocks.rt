@@ -1,3 +1,5 @@
+//! The blocks of a map: where a number belongs, and changes that keep the blocks in order.
+
 ghost use Rattle.std.specs.Prelude.{◌≡◌, ℕ, ◌+◌, ◌<◌, ◌≤◌, ◌++◌, [], length, drop, All, slice_get, slice_index_or, vec_len, vec_capacity};
 ghost use Rattle.std.specs.Prelude.{IfNone, OnOk, OnErr, option_copied};
 ghost use Rattle.std.specs.Ordering.{nat_cmp};
@@ -8,7 +10,7 @@ ghost use Rattle.number_map.specs.Blocks.{joined, Ascends, Accepts, AreFilled, A
 use crate::block::{Block, CAPACITY, Entry};
 use std::alloc::{AllocError, Global};
 
-/// Two neighbours of so few entries together become one block, so that memory stays in proportion to the entries.
+/// Two neighbours with at most this many entries together become one block, so that memory stays in proportion to the entries.
 const FEW: usize = CAPACITY / 2;
 
 /// The index of the last block that begins at a number or below it, or 0.
@@ -22,8 +24,8 @@ pub(crate) fn home_of<T>(blocks: &[Block<T>], number: u64) -> usize
         .saturating_sub(1)
 }
 
-/// The first entry of the blocks behind this one.
-pub(crate) fn first_behind<T>(blocks: &[Block<T>], at: usize) -> Option<&Entry<T>>
+/// The first entry of the blocks after this one.
+pub(crate) fn first_after<T>(blocks: &[Block<T>], at: usize) -> Option<&Entry<T>>
     requires filled { AreFilled blocks.now }
     requires within { at < length blocks.now }
     ensures { option_copied result ≡ slice_get (joined (drop (at + 1) blocks.now)) 0 }
@@ -49,7 +51,7 @@ pub(crate) fn put<T>(blocks: &mut Vec<Block<T>>, at: usize, number: u64, value: 
     blocks[at].insert(number, value)
 }
 
-/// Gives a number this value beside a full block: in an empty one where it stands behind all of its entries, so that numbers
+/// Gives a number this value beside a full block: in an empty one if it is greater than all of its numbers, so that numbers
 /// that come in ascending order leave full blocks, else in one of both, once half of the entries are in the empty one.
 fn halve<T: Drop>(lower: &mut Block<T>, spare: Block<T>, number: u64, value: T) -> Block<T>
     requires ascending { Ascends lower.old }
@@ -155,7 +157,7 @@ fn join_next<T: Drop>(blocks: &mut Vec<Block<T>>, at: usize)
     blocks[at].append(next);
 }
 
-/// Adds empty blocks until there are so many. The only error: an allocation fails, and there are fewer then.
+/// Adds empty blocks until there are `count`. The only error: an allocation fails, and there are fewer then.
 pub(crate) fn add_empty<T: Drop>(
     alloc: Global,
     blocks: &mut Vec<Block<T>>,

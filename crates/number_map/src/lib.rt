@@ -1,7 +1,7 @@
 //! A map from numbers to values in which a change moves few entries, however many there are.
 //!
-//! The entries stand in blocks, ascending by number: a change moves entries of one block, and places of blocks. Room for
-//! an entry is made beforehand, so that a change takes no memory.
+//! The entries are stored in blocks, ascending by number: a change moves entries of one block, and blocks in their list.
+//! Memory for an entry is allocated beforehand, so that a change allocates nothing.
 #![tactic(auto)]
 
 mod block;

@@ -1,11 +1,13 @@
+//! The map: values by number.
+
 ghost use Rattle.std.specs.Prelude.{◌≡◌, ◌+◌, ◌<◌, ◌≤◌, ◌↔◌, ◌⊎◌, [], length, IsTrue, IsSome, IfSome, IfNone, OnOk, OnErr, option_copied, option_map};
 ghost use Rattle.std.specs.Ordering.{nat_cmp};
 ghost use Rattle.std.specs.Map.{lookup, remove_entry};
 ghost use Rattle.std.specs.BTreeMap.{insert_entry, is_at};
-ghost use Rattle.number_map.specs.Blocks.{joined, Ascends, first_from};
+ghost use Rattle.number_map.specs.Blocks.{joined, Ascends, first_from, last_number};
 
 use crate::block::{Block, Entry};
-use crate::blocks::{add_empty, first_behind, home_of, put, put_beside, take_out};
+use crate::blocks::{add_empty, first_after, home_of, put, put_beside, take_out};
 use std::alloc::{AllocError, Global};
 use std::marker::Model;
 
@@ -51,6 +53,7 @@ impl<T> NumberMap<T> {
         self.len
     }
 
+    /// Whether no number has a value.
     pub fn is_empty(&self) -> bool
         ensures { IsTrue result ↔ (self.now.entries ≡ []) }
     {
@@ -78,7 +81,18 @@ impl<T> NumberMap<T> {
         }
         match self.blocks[at].first_from(number) {
             Some(entry) => Some(entry),
-            None => first_behind(&self.blocks, at),
+            None => first_after(&self.blocks, at),
+        }
+    }
+
+    /// The greatest number that has a value, or `None` if the map is empty, without a search.
+    pub fn last_number(&self) -> Option<u64>
+        ensures last { result ≡ last_number self.now.entries }
+        ensures ascending { Ascends self.now.entries }
+    {
+        match self.blocks.last() {
+            Some(block) => block.last_number(),
+            None => None,
         }
     }
 
@@ -103,7 +117,7 @@ impl<T: Drop> NumberMap<T> {
         self.room_for(1)
     }
 
-    /// Makes room for so many numbers more, whichever they are. The only error: an allocation fails, and there is room for fewer then.
+    /// Makes room for `count` numbers more, whichever they are. The only error: an allocation fails, and there is room for fewer then.
     pub fn room_for(&mut self, count: usize) -> Result<(), AllocError>
         ensures entries { self.new.entries ≡ self.old.entries }
         ensures room { OnOk result (count ≤ self.new.spare) }

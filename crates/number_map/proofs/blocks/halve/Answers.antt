@@ -9,7 +9,7 @@ use Rattle.number_map.proofs.Filled.{IsFilled}
 use Rattle.number_map.proofs.Home.{above_block, below_part}
 use Rattle.number_map.proofs.blocks.halve.Goals as goal
 
--- the number stands behind all
+-- the number is greater than all
 pub insert-requires-clause-ascending : goal.insert-requires-clause-ascending
 insert-requires-clause-ascending g c = subst Ascends (sym c.requires.empty) ascends_none
 

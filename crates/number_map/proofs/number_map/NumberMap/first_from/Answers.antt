@@ -25,7 +25,7 @@ returns-in-None g c =
     let bs = c.self.inside.blocks.items in
     let at = c.home_of-at.result in
     let home = rw c.deref.ensures.value at c.home_of-at.ensures.home in
-    let behind = rw c.deref-in-None.ensures.value at c.first_behind.ensures in
+    let after = rw c.deref-in-None.ensures.value at c.first_after.ensures in
     rw (← c.self.view_is)
-    (behind ∙ sym (from_home bs c.args.number at home c.index.result.now (omega arith) c.index.ensures
+    (after ∙ sym (from_home bs c.args.number at home c.index.result.now (omega arith) c.index.ensures
     ∙ ap (λ o. option_or o (slice_get (joined (drop (at + 1) bs)) 0)) (sym c.in-None.ensures)))

@@ -47,7 +47,7 @@ invariant_of-self-else-is_none g c =
       spare = c.self.invariant.spare;
     }
 
--- ---- it has none, or there is no block
+-- ---- the block is full, or there is no block
 
 -- the number has no value then
 no_value : (g : given.Over) (c : After-pop g) → lookup (is_at (nat_cmp c.args.number)) (joined c.self.inside.blocks.items) ≡ None
