@@ -1,0 +1,161 @@
+"""A Chromium without a window that a test drives as a person would: by the mouse, the keyboard, and what is on the screen.
+
+It is spoken to by the DevTools protocol over two pipes (`--remote-debugging-pipe`), so nothing but the browser is needed.
+"""
+import base64
+import json
+import os
+import subprocess
+import time
+
+
+class Broken(Exception):
+    """Why the browser doesn't do what it is asked."""
+
+
+class Browser:
+    """A Chromium with a profile of its own in a folder."""
+
+    def __init__(self, folder, wide=1000, high=640):
+        to_browser, self.send = os.pipe()
+        self.read, from_browser = os.pipe()
+        # The browser reads its descriptor 3 and writes its descriptor 4.
+        place = f'exec 3<&{to_browser} 4>&{from_browser}; exec "$@"'
+        words = ["chromium", "--headless=new", "--no-sandbox", "--remote-debugging-pipe", "--hide-scrollbars", "--disable-gpu", "--no-first-run"]
+        words += [f"--user-data-dir={folder}", f"--window-size={wide},{high}", "about:blank"]
+        self.size = wide, high
+        self.child = subprocess.Popen(
+            ["nice", "bash", "-c", place, "chromium", *words],
+            pass_fds=[to_browser, from_browser],
+            stdout=subprocess.DEVNULL,
+            stderr=subprocess.DEVNULL,
+        )
+        os.close(to_browser)
+        os.close(from_browser)
+        self.last, self.held, self.events = 0, b"", []
+
+    def ask(self, method, session=None, **words):
+        """The result of a command."""
+        self.last += 1
+        asked = {"id": self.last, "method": method, "params": words, **({"sessionId": session} if session else {})}
+        os.write(self.send, json.dumps(asked).encode() + b"\0")
+        while True:
+            told = self.message()
+            if told.get("id") == self.last:
+                if "error" in told:
+                    raise Broken(f"{method}: {told['error']}")
+                return told["result"]
+            self.events.append(told)
+
+    def message(self):
+        """The next message of the browser."""
+        while b"\0" not in self.held:
+            part = os.read(self.read, 1 << 20)
+            if not part:
+                raise Broken("the browser has ended")
+            self.held += part
+        text, _, self.held = self.held.partition(b"\0")
+        return json.loads(text)
+
+    def open(self, url):
+        """A page of its own at an address."""
+        target = self.ask("Target.createTarget", url="about:blank", newWindow=True, width=self.size[0], height=self.size[1])["targetId"]
+        page = Page(self, self.ask("Target.attachToTarget", targetId=target, flatten=True)["sessionId"], target)
+        wide, high = self.size
+        page.ask("Emulation.setDeviceMetricsOverride", width=wide, height=high, deviceScaleFactor=1, mobile=False)
+        page.ask("Emulation.setFocusEmulationEnabled", enabled=True)
+        for part in ("Page", "Runtime", "Log"):
+            page.ask(part + ".enable")
+        page.ask("Page.navigate", url=url)
+        page.wait("document.readyState === 'complete'")
+        return page
+
+    def __enter__(self):
+        return self
+
+    def __exit__(self, *fault):
+        os.close(self.send)
+        self.child.terminate()
+        self.child.wait(60)
+        os.close(self.read)
+
+
+class Page:
+    """A page of the browser."""
+
+    def __init__(self, browser, session, target):
+        self.browser, self.session, self.target = browser, session, target
+
+    def ask(self, method, **words):
+        return self.browser.ask(method, self.session, **words)
+
+    def value(self, script):
+        """The value of an expression in the page."""
+        told = self.ask("Runtime.evaluate", expression=script, returnByValue=True, awaitPromise=True)
+        if "exceptionDetails" in told:
+            raise Broken(f"{script}: {told['exceptionDetails']}")
+        return told["result"].get("value")
+
+    def wait(self, script, seconds=20):
+        """Waits until an expression is true. Returns its value."""
+        end = time.monotonic() + seconds
+        while True:
+            value = self.value(script)
+            if value or time.monotonic() > end:
+                return value
+            time.sleep(0.05)
+
+    def mouse(self, kind, x, y, button="left", clicks=1):
+        self.ask("Input.dispatchMouseEvent", type=kind, x=x, y=y, button=button, clickCount=clicks, buttons=1 if button == "left" else 2)
+
+    def click(self, x, y, button="left", clicks=1):
+        """Clicks at a point of the screen."""
+        self.ask("Input.dispatchMouseEvent", type="mouseMoved", x=x, y=y)
+        for count in range(1, clicks + 1):
+            self.mouse("mousePressed", x, y, button, count)
+            self.mouse("mouseReleased", x, y, button, count)
+
+    def drag(self, start, end):
+        """Drags from one point of the screen to another."""
+        self.mouse("mousePressed", *start)
+        for step in range(1, 9):
+            self.mouse("mouseMoved", *(a + (b - a) * step / 8 for a, b in zip(start, end)))
+        self.mouse("mouseReleased", *end)
+
+    def press(self, text):
+        """Clicks at the button, or the word, that has a text."""
+        script = f"""(() => {{
+            const found = [...document.querySelectorAll("button, summary")].find(each => each.textContent === {json.dumps(text)} && each.offsetParent && !each.disabled);
+            found?.scrollIntoView({{block: "nearest"}});
+            const box = found?.getBoundingClientRect();
+            return box ? [box.x + box.width / 2, box.y + box.height / 2] : null;
+        }})()"""
+        place = self.wait(script)
+        if not place:
+            raise Broken(f"no button {text}")
+        self.click(*place)
+
+    def type(self, selector, text):
+        """Types a text into a field in place of what it has."""
+        self.value(f"(() => {{ const field = document.querySelector({json.dumps(selector)}); field.focus(); field.select?.(); }})()")
+        self.ask("Input.insertText", text=text)
+
+    def key(self, key, code=0, modifiers=0):
+        for kind in ("keyDown", "keyUp"):
+            self.ask("Input.dispatchKeyEvent", type=kind, key=key, windowsVirtualKeyCode=code, modifiers=modifiers)
+
+    def text(self, selector):
+        """The text of an element, or None."""
+        return self.value(f"document.querySelector({json.dumps(selector)})?.innerText ?? null")
+
+    def picture(self, path):
+        """Keeps what the screen shows as a PNG file."""
+        with open(path, "wb") as file:
+            file.write(base64.b64decode(self.ask("Page.captureScreenshot", format="png")["data"]))
+
+    def faults(self):
+        """What the page and the browser complained of."""
+        self.value("0")
+        mine = [event for event in self.browser.events if event.get("sessionId") == self.session]
+        thrown = [event["params"]["exceptionDetails"].get("exception", {}).get("description", "") for event in mine if event["method"] == "Runtime.exceptionThrown"]
+        return thrown + [event["params"]["entry"]["text"] for event in mine if event["method"] == "Log.entryAdded" and event["params"]["entry"]["level"] == "error"]

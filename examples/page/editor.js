@@ -1,0 +1,191 @@
+// What is edited: a draft of one feature, which is saved as a checked edit, and what becomes of it if somebody else was faster.
+import { conflictOf } from "./conflict.js";
+import { MINE, THEIRS, drawShape } from "./draw.js";
+import { formOf } from "./form.js";
+import { button, close, covered, element, open, table, tell } from "./panel.js";
+import { Changed, canonical } from "./server.js";
+import { begun, chainsOf, described, grabbed, isLarge, isWhole, listsOf, pointsOf, remove } from "./shape.js";
+import { isOutline } from "./style.js";
+import { bounds, rounded } from "./world.js";
+import { PIECE, changeAll, piecesOf, wholeOf } from "./whole.js";
+
+const hint = text => element("p", { className: "hint" }, text);
+
+export class Editor {
+    // The draft, or null: the `feature` (null: it is to be deleted) and its `form`; its `id` (null: a new one), what it `was` (null: nothing),
+    // its `pieces` if it is cut, earlier geometries (`undo`), whether it `isDrawn` just now, and `theirs` in a conflict.
+    draft = null;
+
+    /** `saved(edit)` is told of each edit. */
+    constructor(view, server, layers, saved) {
+        Object.assign(this, { view, server, layers, saved });
+    }
+
+    /** Begins to edit a feature of a tile, or to delete it, as the map has it now. */
+    async begin({ id, tags: { whole } }, deletes) {
+        const pieces = whole === undefined ? null : await piecesOf(this.server, whole);
+        const was = pieces ? wholeOf(pieces) : await this.server.feature(id);
+        if (!was) {
+            throw new Error("somebody else has deleted this feature");
+        }
+        this.draft = { id, was, pieces, feature: deletes ? null : structuredClone(was), undo: [] };
+        deletes ? this.ask() : this.openForm();
+    }
+
+    /** Begins to draw a new feature. */
+    draw(kind) {
+        const layer = this.layers().find(({ id }) => !isOutline(id)) ?? { id: "", minzoom: 10, maxzoom: 16 };
+        const feature = { layer: layer.id, minzoom: layer.minzoom, maxzoom: layer.maxzoom, geometry: begun(kind), tags: { name: "" } };
+        this.draft = { id: null, was: null, feature, undo: [], isDrawn: true };
+        const how = hint("A double click or Enter ends it, Backspace removes the last point.");
+        const more = kind === "points" ? [] : [how, button("Done", () => this.finish())];
+        open("Click where it is", ...more, button("Cancel", () => this.drop()));
+    }
+
+    /** Adds a point to what is drawn. */
+    add(place) {
+        const [{ points }] = listsOf(this.draft.feature.geometry), point = rounded(place);
+        String(points.at(-1)) === String(point) || points.push(point);
+        this.draft.feature.geometry.points && this.finish();
+    }
+
+    /** Ends the drawing, if there are points enough. */
+    finish() {
+        if (this.draft?.isDrawn && isWhole(this.draft.feature.geometry)) {
+            this.draft.isDrawn = false;
+            this.openForm();
+        }
+    }
+
+    openForm() {
+        const { feature, pieces, was, id } = this.draft;
+        this.draft.form = formOf(feature, this.layers().map(layer => layer.id).filter(name => !isOutline(name)));
+        const shape = pieces ? `The import cut it into ${pieces.length} pieces. Its shape can be changed by a desktop GIS (examples/gis.py).`
+            : `${described(feature.geometry)}. Drag a point to move it, or a small one to add it; a right click removes it, Ctrl+Z undoes.`;
+        const isWrong = !pieces && isLarge(feature);
+        const large = isWrong ? [hint("MapLibre draws it wrong: it is larger than a tile of its last zoom. The import cuts such features.")] : [];
+        open(was ? `Edit ${feature.layer} ${id}` : "New feature", this.draft.form, hint(shape), ...large,
+            button("Save", () => this.send(this.read())), button("Cancel", () => this.drop()));
+        this.uncover(feature);
+    }
+
+    ask() {
+        const { id, was, pieces } = this.draft, shape = pieces ? `${pieces.length} pieces` : described(was.geometry);
+        open(`Delete ${was.layer} ${id}?`, table(Object.entries(was.tags).map(([name, value]) => [name, String(value)])), hint(shape),
+            button("Delete it", () => this.send(null)), button("Cancel", () => this.drop()));
+    }
+
+    /** The feature that shape and form say. */
+    read() {
+        return { ...this.draft.feature, ...this.draft.form.read() };
+    }
+
+    /** Saves a feature, or deletes it (null), as a checked edit. */
+    async send(feature) {
+        const draft = this.draft, { was, pieces } = draft;
+        draft.feature = feature;
+        try {
+            const put = draft.id ?? await this.nextId();
+            const edit = pieces ? await changeAll(this.server, pieces, feature)
+                : await this.server.edit([feature ? { put, feature, was } : { delete: put, was }]);
+            this.drop();
+            tell(`feature ${put} saved, edit ${edit}`);
+            await this.saved(edit);
+        } catch (fault) {
+            if (!(fault instanceof Changed)) {
+                throw fault;
+            }
+            await (draft.id === null ? this.send(feature) : this.openConflict(draft));
+        }
+    }
+
+    /** The id after the greatest one in use, those of pieces aside. If somebody takes it first, the edit is refused, and gets another. */
+    async nextId() {
+        const { last } = await this.server.status();
+        let [least, end] = last < PIECE ? [Number(last ?? 0) + 1, 0] : [1, PIECE];
+        while (least < end) {
+            const middle = Math.floor((least + end) / 2), row = await this.server.from(middle);
+            [least, end] = row?.id < PIECE ? [row.id + 1, end] : [least, middle];
+        }
+        return least;
+    }
+
+    /** Shows both versions of a feature that somebody else has changed. */
+    async openConflict(draft) {
+        const { id, was, feature: mine } = draft;
+        draft.pieces &&= await piecesOf(this.server, id);
+        draft.theirs = draft.pieces ? wholeOf(draft.pieces) : await this.server.feature(id);
+        const save = chosen => {
+            const { theirs } = draft;
+            Object.assign(draft, { was: theirs, theirs: undefined });
+            return this.send(chosen);
+        };
+        open(`Changed by two: ${was.layer} ${id}`, ...conflictOf({ was, theirs: draft.theirs, mine }, save, () => this.drop()));
+        this.uncover(mine ?? was);
+    }
+
+    /** Moves the map so that the panel doesn't cover a feature. */
+    uncover({ geometry }) {
+        const [west, north, east, south] = bounds(pointsOf(geometry)), [x] = this.view.toScreen([(west + east) / 2, (north + south) / 2]);
+        const over = x - (2 * this.view.middle[0] - covered() - 40);
+        over > 0 ? this.view.move([this.view.centre[0] + over / this.view.scale, this.view.centre[1]]) : this.view.redraw();
+    }
+
+    drop() {
+        this.draft = null;
+        close();
+        this.view.redraw();
+    }
+
+    /** Whether something would be lost if the draft were dropped. */
+    get hasChanges() {
+        const { isDrawn, form, was } = this.draft ?? {};
+        try {
+            return isDrawn ? pointsOf(this.draft.feature.geometry).length > 0 : Boolean(form) && canonical(this.read()) !== canonical(was);
+        } catch {
+            return true;
+        }
+    }
+
+    /** Whether somebody else has changed what is edited. */
+    async isOvertaken() {
+        const { id, was, pieces, theirs } = this.draft ?? {};
+        return Boolean(was) && !pieces && theirs === undefined && canonical(await this.server.feature(id)) !== canonical(was);
+    }
+
+    /** The geometry whose points the mouse moves, or undefined. */
+    get shape() {
+        const { form, pieces, theirs, feature } = this.draft ?? {};
+        return form && !pieces && theirs === undefined ? feature.geometry : undefined;
+    }
+
+    /** Changes the shape so that it can be undone. Returns what the change does. */
+    change(action) {
+        const before = JSON.stringify(this.shape), done = action(this.shape, this.view.toScreen);
+        (done || before !== JSON.stringify(this.shape)) && this.draft.undo.push(before);
+        this.view.redraw();
+        return done;
+    }
+
+    grab(point) {
+        return this.shape && this.change((shape, toScreen) => grabbed(shape, point, toScreen));
+    }
+
+    remove(point) {
+        this.shape && this.change((shape, toScreen) => remove(shape, point, toScreen));
+    }
+
+    undo() {
+        if (this.shape && this.draft.undo.length) {
+            this.draft.feature.geometry = JSON.parse(this.draft.undo.pop());
+        }
+    }
+
+    /** Draws the shapes of the draft. */
+    over(context) {
+        const { feature, pieces, theirs } = this.draft ?? {};
+        const onScreen = ({ geometry }) => chainsOf(geometry).map(chain => ({ ...chain, points: chain.points.map(this.view.toScreen) }));
+        theirs && !pieces && drawShape(context, onScreen(theirs), THEIRS, false);
+        feature && !pieces && drawShape(context, onScreen(feature), MINE, theirs === undefined);
+    }
+}

@@ -1,0 +1,119 @@
+// The page: what is selected, and how the parts of this folder work together.
+import { Editor } from "./editor.js";
+import { button, byId, close, element, open, table, tell } from "./panel.js";
+import { Server } from "./server.js";
+import { listsOf, pointsOf } from "./shape.js";
+import { Style, isOutline, plain } from "./style.js";
+import { View } from "./view.js";
+import { bounds, distance, isInside } from "./world.js";
+
+const SECONDS_BETWEEN_LOOKS = 4;
+const server = new Server(new URL("../", location.href));
+let style, view, editor, layers, isEditor;
+// The feature that is selected, as a tile has it, and those that clicks at the same place have selected before.
+let selected = null, clicked = { at: [0, 0], ids: [] };
+
+/** How well a point of the screen meets a feature: points before lines before areas, small areas before large ones; Infinity if it doesn't. */
+function rank(point, { kind, chains, tags }) {
+    if (kind === "polygons") {
+        const [west, north, east, south] = bounds(chains.flat());
+        return !isInside(point, chains) ? Infinity : "whole" in tags ? 1e15 : 20 + (east - west) * (south - north);
+    }
+    const far = Math.min(...chains.flatMap(chain => chain.map((place, at) => distance(point, chain[Math.max(at - 1, 0)], place))));
+    return kind === "points" ? far < 11 ? far / 11 : Infinity : far < 6 ? 10 + far : Infinity;
+}
+
+/** Selects a feature at a point of the screen, the next one if one there is selected already. */
+function select(point) {
+    if (editor.draft) {
+        editor.draft.isDrawn && editor.add(view.toWorld(point));
+        view.redraw();
+        return;
+    }
+    const found = view.near(point).map(feature => ({ ...feature, id: feature.tags.whole ?? feature.id, rank: rank(point, feature) }));
+    const hit = found.filter(({ rank }) => rank < Infinity).sort((one, other) => one.rank - other.rank);
+    const before = Math.hypot(point[0] - clicked.at[0], point[1] - clicked.at[1]) < 4 ? clicked.ids : [];
+    selected = hit.find(({ id }) => !before.includes(id)) ?? hit[0] ?? null;
+    clicked = { at: point, ids: before.includes(selected?.id) ? [selected.id] : [...before, selected?.id] };
+    selected ? show(selected) : close();
+    view.redraw();
+}
+
+/** Shows a feature as a tile has it. */
+function show(feature) {
+    const { whole, ...tags } = feature.tags, parts = [table(Object.entries(tags).map(([name, value]) => [name, String(value)]))];
+    whole === undefined || parts.push(element("p", { className: "hint" }, "A large feature, which the import cut into pieces."));
+    isEditor && parts.push(button("Edit", () => editor.begin(feature, false)), button("Delete", () => editor.begin(feature, true)));
+    open(`${plain(feature.layer)} ${feature.id}`, ...parts);
+}
+
+/** Shows the map with an edit. */
+async function showEdit(edit) {
+    view.showEdit(edit);
+    layers = await server.layers();
+    view.maxzoom = Math.max(0, ...layers.map(layer => layer.maxzoom));
+    const toggle = (id, isShown) => {
+        isShown ? style.hidden.delete(id) : style.hidden.add(id);
+        view.restyle();
+    };
+    byId("legend").lastElementChild.replaceChildren(...layers.filter(({ id }) => !isOutline(id)).map(({ id }) => element("label", {},
+        element("input", { type: "checkbox", checked: !style.hidden.has(id), onchange: event => toggle(id, event.target.checked) }),
+        element("i", { style: `background: ${style.colourOf(id)}` }), id)));
+}
+
+/** Looks whether somebody else has edited the map, and shows it. */
+async function look() {
+    const status = document.hidden ? null : await server.status();
+    if (status?.edits > view.edit) {
+        await showEdit(status.edits);
+        tell(`${status.features} features, edit ${status.edits}`);
+        await editor.isOvertaken() && tell("somebody else has just changed what you edit: when you save, you see both", true);
+    }
+}
+
+function listen() {
+    byId("nearer").onclick = () => view.zoomBy(1);
+    byId("farther").onclick = () => view.zoomBy(-1);
+    byId("adding").onclick = ({ target }) => target.value && !editor.hasChanges && editor.draw(target.value);
+    view.canvas.ondblclick = () => editor.finish();
+    view.canvas.oncontextmenu = event => {
+        event.preventDefault();
+        editor.remove([event.offsetX, event.offsetY]);
+    };
+    addEventListener("keydown", ({ key, ctrlKey, target }) => {
+        const { isDrawn, feature } = editor.draft ?? {};
+        key === "Enter" && editor.finish();
+        key === "Escape" && !editor.hasChanges && editor.drop();
+        key === "Backspace" && isDrawn && listsOf(feature.geometry)[0].points.pop();
+        key === "z" && ctrlKey && !target.matches("input") && editor.undo();
+        view.redraw();
+    });
+    addEventListener("beforeunload", event => editor.hasChanges && event.preventDefault());
+}
+
+/** The box of sixteen of the map's features, or of the world. */
+async function boxOfMap({ last }) {
+    const ids = [...Array(16).keys()].map(part => Math.floor(Number(last ?? 0) * part / 15));
+    const rows = await Promise.all(ids.map(id => server.from(id)));
+    const points = rows.filter(Boolean).flatMap(({ feature }) => pointsOf(feature.geometry));
+    return points.length ? bounds(points) : [0, 0, 2 ** 32, 2 ** 32];
+}
+
+async function start() {
+    style = new Style(await (await fetch("style.json")).json());
+    const status = await server.status();
+    isEditor = status !== null;
+    byId("adding").hidden = !isEditor;
+    view = new View(byId("map"), server, style, {
+        select, grab: point => editor.grab(point), over: context => editor.over(context), failed: fault => tell(`a tile can't be read: ${fault.message}`, true),
+    });
+    view.isSelected = ({ id, tags }) => !editor.draft && (tags.whole ?? id) === selected?.id && !byId("panel").hidden;
+    editor = new Editor(view, server, () => layers, showEdit);
+    await showEdit(status?.edits ?? 0);
+    listen();
+    view.goTo(location.hash.slice(1)) || view.goTo(style.centre ?? "") || isEditor && view.show(await boxOfMap(status));
+    tell(isEditor ? `${status.features} features, edit ${status.edits}` : "view only: this machine may not edit the map");
+    isEditor && setInterval(() => look().catch(fault => tell(fault.message, true)), SECONDS_BETWEEN_LOOKS * 1000);
+}
+
+start().catch(fault => tell(fault.message, true));

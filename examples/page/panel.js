@@ -1,0 +1,43 @@
+// The elements of the page, its panel, and what is told at its foot.
+export const byId = id => document.getElementById(id);
+const panel = byId("panel");
+
+/** An element with properties and children. */
+export function element(name, properties, ...children) {
+    const made = Object.assign(document.createElement(name), properties);
+    made.append(...children);
+    return made;
+}
+
+/** A table of rows of texts and elements, the first of each row its heading. */
+export function table(rows) {
+    return element("table", {}, ...rows.map(([name, ...cells]) => element("tr", {}, element("th", {}, name), ...cells.map(cell => element("td", {}, cell)))));
+}
+
+/** A button. While what it does goes on, no button works; if it fails, the panel tells why. */
+export function button(name, action) {
+    const switched = isOff => panel.querySelectorAll("button").forEach(each => each.disabled = isOff);
+    const onclick = async () => {
+        panel.querySelector("p.fault")?.remove();
+        switched(true);
+        await Promise.resolve().then(action).catch(fault => panel.append(element("p", { className: "fault" }, fault.message)));
+        switched(false);
+    };
+    return element("button", { type: "button", onclick }, name);
+}
+
+export function open(title, ...parts) {
+    panel.replaceChildren(element("h2", {}, title), ...parts);
+    panel.hidden = false;
+}
+
+export function close() {
+    panel.hidden = true;
+}
+
+/** The pixels at the right of the page that the panel covers. */
+export const covered = () => panel.hidden ? 0 : panel.offsetWidth + 20;
+
+export function tell(text, isFault = false) {
+    Object.assign(byId("told"), { textContent: text, className: isFault ? "fault" : "" });
+}

@@ -1,0 +1,125 @@
+// The server of the map: tiles, features, and checked edits, which are made only if each feature is what its author saw (docs/HTTP.md).
+const WHY = {
+    403: "this machine may not edit the map",
+    404: "the server takes no checked edits: it needs --admin",
+    413: "the feature is too long to be saved here: use examples/gis.py",
+    502: "the server doesn't run, or starts just now: save again",
+    504: "the server is busy: save again",
+    "E3 Layer": "the layer's name needs 1 to 64 bytes",
+    "E4 Zoom": "zooms go from 0 to 19, the first at most the last",
+    "E6 Tags": "a feature has at most 64 tags, each with a name of 1 to 64 bytes",
+    "E7 Value": "a text has at most 1,024 bytes, a number is from -2^63 to 2^64 - 1",
+    "E8 Long": "the feature is too long: give it fewer points or shorter texts",
+    "E9 Reach": "the feature covers too many tiles: begin at a greater zoom, or end at a smaller one",
+    JournalFull: "the server has no room for edits until the map is published: tell the operator, and save again",
+    NeedsUpgrade: "the server's disk is of an old version: tell the operator",
+    Device: "the server's disk failed: tell the operator. The edit may be stored or not",
+    Broken: "the server's disk has failed: tell the operator",
+    Memory: "the server is out of memory: save again later",
+};
+const MAX_BODY = 65536;
+const bytesOf = text => new TextEncoder().encode(text).length;
+
+/** A feature isn't what the author of an edit saw. Nothing was changed. */
+export class Changed extends Error {
+}
+
+/** A refusal with its cause. Nothing was changed. */
+function refusal(status, word) {
+    const known = Object.keys(WHY).find(key => word.startsWith(key)) ?? status;
+    return new Error(WHY[known] ? `${WHY[known]} (${word.split("\n")[0].slice(0, 60) || status})` : `${status} ${word}`);
+}
+
+/** A value of the server's JSON. An integer that a number of JavaScript would round is a BigInt. */
+function parse(json) {
+    return JSON.parse(json, (key, value, context) => typeof value === "number" && !Number.isSafeInteger(value) ? BigInt(context.source) : value);
+}
+
+/** A value as JSON. */
+export function text(value) {
+    return JSON.stringify(value, (key, part) => typeof part === "bigint" ? JSON.rawJSON(String(part)) : part);
+}
+
+/** A text of a feature that equal features have in common: members and tags in order. */
+export function canonical(feature) {
+    const inOrder = object => Object.fromEntries(Object.entries(object).sort(([one], [other]) => one < other ? -1 : 1));
+    return text(feature && inOrder({ ...feature, tags: inOrder(feature.tags) }));
+}
+
+export class Server {
+    /** The server at an address that ends in a slash. */
+    constructor(base) {
+        this.base = base;
+    }
+
+    async ask(path, words) {
+        const reply = await fetch(new URL(path, this.base), { cache: "no-store", ...words });
+        return { status: reply.status, content: await reply.arrayBuffer() };
+    }
+
+    /** The value of a reply, or null if there is none. */
+    async value(path) {
+        const { status, content } = await this.ask(path), word = new TextDecoder().decode(content);
+        if (status !== 200 && status !== 404) {
+            throw refusal(status, word);
+        }
+        return status === 200 ? parse(word) : null;
+    }
+
+    /** The bytes of a tile of the map with this edit. */
+    async tile(name, edit, signal) {
+        const { status, content } = await this.ask(`map/${name}.mvt?edit=${edit}`, { signal, cache: "default" });
+        if (status !== 200 && status !== 204) {
+            throw refusal(status, new TextDecoder().decode(content));
+        }
+        return new Uint8Array(content);
+    }
+
+    /** What the server tells of itself, or null if it tells this machine nothing: then it may not edit. */
+    status() {
+        return this.value("admin/status").catch(() => null);
+    }
+
+    async layers() {
+        return (await this.value("map/metadata")).vector_layers;
+    }
+
+    feature(id) {
+        return this.value(`features/${id}`);
+    }
+
+    /** The first feature with this id or a greater one, or null. */
+    from(id) {
+        return this.value(`admin/features/from/${id}`);
+    }
+
+    /** Makes changes as one edit, and returns its number. What gets no reply is sent again: a checked edit is made once. */
+    async edit(changes) {
+        const body = text({ changes });
+        if (bytesOf(body) > MAX_BODY) {
+            throw refusal(413, "");
+        }
+        const send = () => this.ask("admin/edits", { method: "POST", body, headers: { "Content-Type": "application/json" } });
+        const { status, content } = await send().catch(send).catch(() => {
+            throw new Error("the server doesn't answer: the edit may be made or not. Save again: it isn't made twice");
+        });
+        const word = new TextDecoder().decode(content).trim();
+        if (status === 409 && word.startsWith("Changed")) {
+            // It may be this very edit that changed the feature, by a request whose reply was lost.
+            if (await this.isMade(changes)) {
+                return (await this.value("admin/status")).edits;
+            }
+            throw new Changed(word);
+        }
+        if (status !== 200) {
+            throw refusal(status, word);
+        }
+        return parse(word).edit;
+    }
+
+    /** Whether each feature is what these changes make of it. */
+    async isMade(changes) {
+        const now = await Promise.all(changes.map(change => this.feature(change.put ?? change.delete)));
+        return changes.every(({ feature = null }, at) => canonical(now[at]) === canonical(feature));
+    }
+}

@@ -1,0 +1,206 @@
+// The view of the map: where it is, the tiles that it shows, and what mouse and wheel do to it.
+import { EXTENT, drawNames, drawTile, markTile, prepare } from "./draw.js";
+import { decode } from "./tile.js";
+import { WORLD, fromDegrees, toDegrees } from "./world.js";
+
+// Pixels of a tile at its own zoom, the greatest zoom of the view, tiles that are kept, and how many zooms up a substitute is sought.
+const SIDE = 512, MAX_ZOOM = 21, MAX_TILES = 300, MAX_UP = 5;
+const clamped = (value, least, greatest) => Math.min(Math.max(value, least), greatest);
+
+export class View {
+    /** `hooks`: what a click does (`select`), what a drag moves (`grab`), what is drawn above (`over`), and who is told of a fault (`failed`). */
+    constructor(canvas, server, style, hooks) {
+        Object.assign(this, { canvas, server, style, hooks, context: canvas.getContext("2d"), centre: [WORLD / 2, WORLD / 2], zoom: 1 });
+        // The tiles by their names: the `edit` of which each is, its `layers`, what is `drawn` of them, and the request that `loads` it.
+        Object.assign(this, { tiles: new Map(), edit: 0, maxzoom: 0, isSelected: () => false });
+        this.toScreen = point => point.map((part, axis) => (part - this.centre[axis]) * this.scale + this.middle[axis]);
+        this.listen();
+        new ResizeObserver(() => this.redraw()).observe(canvas);
+    }
+
+    /** Pixels of a unit of the world. */
+    get scale() {
+        return SIDE * 2 ** this.zoom / WORLD;
+    }
+
+    get middle() {
+        return [this.canvas.clientWidth / 2, this.canvas.clientHeight / 2];
+    }
+
+    toWorld(point) {
+        return point.map((part, axis) => this.centre[axis] + (part - this.middle[axis]) / this.scale);
+    }
+
+    /** Goes to a place that is written as zoom/latitude/longitude. Returns whether it is one. */
+    goTo(text) {
+        const [zoom, latitude, longitude] = text.split("/").map(Number), isPlace = Number.isFinite(zoom + latitude + longitude);
+        isPlace && this.move(fromDegrees(longitude, latitude), zoom);
+        return isPlace;
+    }
+
+    /** Shows a box of the world. */
+    show([west, north, east, south]) {
+        const share = Math.max((east - west) / this.canvas.clientWidth, (south - north) / this.canvas.clientHeight, 1);
+        this.move([(west + east) / 2, (north + south) / 2], Math.min(Math.log2(WORLD / SIDE / share) - 0.2, 17));
+    }
+
+    move(centre, zoom = this.zoom) {
+        this.centre = centre.map(part => clamped(part, 0, WORLD));
+        this.zoom = clamped(zoom, 0, MAX_ZOOM);
+        const [longitude, latitude] = toDegrees(this.centre);
+        history.replaceState(null, "", `#${this.zoom.toFixed(2)}/${latitude.toFixed(6)}/${longitude.toFixed(6)}`);
+        this.redraw();
+    }
+
+    /** Changes the zoom and keeps the place below a point of the screen. */
+    zoomBy(step, point = this.middle) {
+        const before = this.toWorld(point);
+        this.zoom = clamped(this.zoom + step, 0, MAX_ZOOM);
+        this.move(this.toWorld(point).map((part, axis) => this.centre[axis] + before[axis] - part));
+    }
+
+    /** Shows the map with an edit. Tiles from before it are asked for again, and shown until then. */
+    showEdit(edit) {
+        this.edit = Math.max(this.edit, edit);
+        this.redraw();
+    }
+
+    /** Draws the tiles in a changed style. */
+    restyle() {
+        this.tiles.forEach(tile => tile.drawn = null);
+        this.redraw();
+    }
+
+    redraw() {
+        this.frame ??= requestAnimationFrame(() => {
+            this.frame = null;
+            this.draw();
+        });
+    }
+
+    /** The tiles on the screen: each with the square that it has there. */
+    squares() {
+        const z = Math.min(Math.floor(this.zoom), this.maxzoom), side = SIDE * 2 ** (this.zoom - z), corner = this.toScreen([0, 0]), found = [];
+        const [west, north] = corner.map(at => Math.max(Math.floor(-at / side), 0));
+        const [east, south] = corner.map((at, axis) => Math.min(Math.floor((2 * this.middle[axis] - at) / side), 2 ** z - 1));
+        for (let row = north; row <= south; row++) {
+            for (let column = west; column <= east; column++) {
+                found.push({ z, column, row, side, left: corner[0] + column * side, top: corner[1] + row * side });
+            }
+        }
+        return found;
+    }
+
+    /** What there is to draw in a square: its tile, or the part of one above it that begins `from` there and is `part` long. */
+    contentOf({ z, column, row, side }) {
+        for (let up = 0; up <= Math.min(z, MAX_UP); up++) {
+            const tile = this.tiles.get(`${z - up}/${column >> up}/${row >> up}`), part = EXTENT / 2 ** up;
+            if (tile?.layers) {
+                return { tile, part, from: [column % 2 ** up * part, row % 2 ** up * part], unit: part / side };
+            }
+        }
+        return null;
+    }
+
+    draw() {
+        const { canvas, context, style } = this, ratio = devicePixelRatio, names = [], squares = this.squares();
+        [canvas.width, canvas.height] = this.middle.map(half => Math.round(2 * half * ratio));
+        context.fillStyle = style.background;
+        context.fillRect(0, 0, canvas.width, canvas.height);
+        this.load(squares.map(({ z, column, row }) => `${z}/${column}/${row}`));
+        for (const square of squares) {
+            const content = this.contentOf(square);
+            if (content) {
+                this.drawSquare(square, content, ratio);
+                names.push(...content.tile.drawn.names.filter(name => name.from <= this.zoom).map(({ at, length, ...name }) => ({
+                    ...name, length: length / content.unit,
+                    x: square.left + (at[0] - content.from[0]) / content.unit, y: square.top + (at[1] - content.from[1]) / content.unit,
+                })));
+            }
+        }
+        context.setTransform(ratio, 0, 0, ratio, 0, 0);
+        drawNames(context, names.sort((one, other) => (other.kind === "points") - (one.kind === "points")));
+        this.hooks.over(context);
+    }
+
+    /** Draws the content of a square, whose sides are whole pixels of the screen, so that no gap shows between two. */
+    drawSquare({ left, top, side }, { tile, part, from, unit }, ratio) {
+        const { context } = this, [west, north, east, south] = [left, top, left + side, top + side].map(at => Math.round(at * ratio));
+        const [wide, high] = [(east - west) / part, (south - north) / part];
+        context.save();
+        context.beginPath();
+        context.rect(west, north, east - west, south - north);
+        context.clip();
+        context.setTransform(wide, 0, 0, high, west - from[0] * wide, north - from[1] * high);
+        tile.drawn ??= prepare(tile.layers, this.style);
+        drawTile(context, tile.drawn, this.style, this.zoom, unit);
+        markTile(context, tile.layers, this.isSelected, unit);
+        context.restore();
+    }
+
+    /** Asks for the tiles of these names that aren't of the last edit that is known, and for no other any more. */
+    load(names) {
+        for (const [name, tile] of this.tiles) {
+            if (!names.includes(name)) {
+                tile.loads?.abort();
+                this.tiles.size > MAX_TILES && this.tiles.delete(name);
+            }
+        }
+        for (const name of names) {
+            const tile = this.tiles.get(name) ?? { edit: -1 };
+            this.tiles.delete(name);
+            this.tiles.set(name, tile);
+            !tile.loads && tile.edit < this.edit && this.fetch(name, tile, this.edit);
+        }
+    }
+
+    async fetch(name, tile, edit) {
+        tile.loads = new AbortController();
+        const { signal } = tile.loads;
+        try {
+            Object.assign(tile, { layers: decode(await this.server.tile(name, edit, signal)), edit, drawn: null });
+        } catch (fault) {
+            signal.aborted || this.hooks.failed(fault);
+            await new Promise(resolve => setTimeout(resolve, signal.aborted ? 0 : 3000));
+        }
+        tile.loads = null;
+        this.redraw();
+    }
+
+    /** The features of the tile at a point of the screen, each with its layer and its lists of points in pixels. */
+    near([x, y]) {
+        const square = this.squares().find(({ left, top, side }) => left <= x && x < left + side && top <= y && y < top + side);
+        const { tile, from, unit } = square && this.contentOf(square) || { tile: { layers: [] } };
+        const toPixels = ([column, row]) => [square.left + (column - from[0]) / unit, square.top + (row - from[1]) / unit];
+        return tile.layers.flatMap(({ name, features }) => features.filter(({ tags }) => this.style.placeOf(name, tags) >= 0).map(feature => ({
+            ...feature, layer: name, chains: feature.chains.map(chain => chain.map(toPixels)),
+        })));
+    }
+
+    listen() {
+        const place = event => [event.offsetX, event.offsetY];
+        let drag = null;
+        const on = (name, action) => this.canvas.addEventListener(name, action);
+        on("pointerdown", event => {
+            this.canvas.setPointerCapture(event.pointerId);
+            drag = { from: place(event), last: place(event), moves: event.button === 0 && this.hooks.grab(place(event)), isClick: event.button === 0 };
+        });
+        on("pointermove", event => {
+            const point = place(event);
+            if (drag && !(drag.isClick &&= Math.hypot(point[0] - drag.from[0], point[1] - drag.from[1]) < 4)) {
+                drag.moves ? drag.moves(this.toWorld(point)) : this.move(this.centre.map((part, axis) => part - (point[axis] - drag.last[axis]) / this.scale));
+                drag.last = point;
+                this.redraw();
+            }
+        });
+        on("pointerup", event => {
+            drag?.isClick && this.hooks.select(place(event));
+            drag = null;
+        });
+        on("wheel", event => {
+            event.preventDefault();
+            this.zoomBy(-event.deltaY * (event.deltaMode ? 30 : 1) / 300, place(event));
+        });
+        addEventListener("hashchange", () => this.goTo(location.hash.slice(1)));
+    }
+}
