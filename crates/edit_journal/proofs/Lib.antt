@@ -3,6 +3,7 @@ mod Frames
 mod Fronts
 mod Heads
 mod Joined
+mod LimitNumbers
 pub mod Laws
 pub mod Pieces
 mod Places

@@ -31,7 +31,7 @@ IsAt records journal history = Keeps (ring_of journal) journal.place journal.edi
 abbrev pub IsFree : Ring → (place used at : ℕ) → Type 0
 IsFree ring place used at = (offset : ℕ) × (used ≤ offset) × (offset < ring.places) × (at ≡ sector_at ring (place + offset))
 
--- each other sector has what might have stood there
+-- each other sector has what it might have had before
 abbrev pub AsBefore : Ring → (place used : ℕ) → History → Image → Type 0
 AsBefore ring place used old image = (at : ℕ) → (IsFree ring place used at → ⊥) → MayHold old at (image at)
 
@@ -67,16 +67,16 @@ syncs_in (wrote sector bytes before) = syncs_in before
 syncs_in (tried sector bytes before) = syncs_in before
 syncs_in (synced before) = suc (syncs_in before)
 
--- how many syncs the record of so many parts takes: one behind its bodies, if it has any, and one behind its head
+-- how many syncs a record of this count of parts takes: one after its bodies, if it has any, and one after its head
 abbrev pub syncs_of : ℕ → ℕ
 syncs_of parts = if parts == 1 then 1 else 2
 
--- what a record of so many parts takes: a write for each of them, and its syncs
+-- what a record of this count of parts takes: a write for each of them, and its syncs
 pub record TakesSteps (parts : ℕ) (old new : History) : Type 0 where
   pub writes : writes_in new ≡ writes_in old + parts
   pub syncs : syncs_in new ≡ syncs_in old + syncs_of parts
 
--- why an append of so many parts comes to nothing, and what it makes of the count of faults
+-- why an append of this count of parts fails, and what it makes of the count of faults
 abbrev pub IsAppendFault : Journal → (parts old new : ℕ) → JournalFault → Type 0
 IsAppendFault journal parts old new NumbersSpent = (journal.last ≡ 2 ^ 64 - 1) × (new ≡ old)
 IsAppendFault journal parts old new (Full need free) = (journal.last < 2 ^ 64 - 1) × (need ≡ parts) × (free ≡ journal.places - journal.used)

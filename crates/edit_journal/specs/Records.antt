@@ -2,7 +2,8 @@
 use Rattle.std.specs.Prelude.{◌≡◌, ◌≤◌, ◌+◌, ◌-◌, ◌*◌, ◌/◌, ◌==◌, if◌then◌else◌, ℕ}
 use Rattle.std.specs.Prelude.{List, map, ◌∷◌, ◌++◌, length, replicate, take, drop, slice_index, slice_range, All}
 use Rattle.std.specs.Int.{w16, w32, w64, to_le_bytes, from_le_bytes}
-use Rattle.edit_journal.specs.declared.sizes.TheConstants.{FIRST_RECORD_VERSION, LAST_RECORD_VERSION, MAX_RECORD_BYTES, PART_BYTES}
+use Rattle.edit_journal.specs.declared.sizes.TheConstants.{FIRST_RECORD_VERSION, LAST_RECORD_VERSION, MAX_RECORD_BYTES}
+use Rattle.edit_journal.specs.declared.sizes.TheConstants.{FRONT_BYTES, PART_BYTES, HEAD_KIND, BODY_KIND}
 use Rattle.edit_journal.specs.declared.records.Record.{Record}
 
 -- what a record of the journal has, beside its number
@@ -44,10 +45,10 @@ parts_of bytes = (bytes + (PART_BYTES - 1)) / PART_BYTES
 abbrev pub piece : List ℕ → ℕ → List ℕ
 piece text part = take PART_BYTES (drop (PART_BYTES * part) text)
 
--- the first 16 bytes of a part's sector: 1 in the head or 2 in a body, the record's version, how many parts there are or which one this is,
+-- the front of a part's sector: its kind, the record's version, how many parts there are or which one this is,
 -- the edit's number, the length of its text
 unfoldable pub part_front : (version number bytes part : ℕ) → List ℕ
-part_front version number bytes part = (if part == 0 then 1 else 2) ∷ (version
+part_front version number bytes part = (if part == 0 then HEAD_KIND else BODY_KIND) ∷ (version
     ∷ (to_le_bytes w16 (if part == 0 then parts_of bytes else part) ++ (to_le_bytes w64 number ++ to_le_bytes w32 bytes)))
 
 -- the sector of a part as it is written: the front, the bytes of the text, zeros
@@ -57,12 +58,12 @@ record_sector version number text part =
 
 -- the sector begins with the front of this part
 abbrev pub HasFront : (version number bytes part : ℕ) → List ℕ → Type 0
-HasFront version number bytes part sector = take 16 sector ≡ part_front version number bytes part
+HasFront version number bytes part sector = take FRONT_BYTES sector ≡ part_front version number bytes part
 
 -- The sector is that of a part: its front and its bytes of the text are stored there, and anything after them.
 pub record IsPart (version number : ℕ) (text : List ℕ) (part : ℕ) (sector : List ℕ) : Type 0 where
   pub front : HasFront version number (length text) part sector
-  pub bytes : take (length (piece text part)) (drop 16 sector) ≡ piece text part
+  pub bytes : take (length (piece text part)) (drop FRONT_BYTES sector) ≡ piece text part
 
 -- the edit's number in a sector
 abbrev pub number_from : List ℕ → ℕ
@@ -74,7 +75,7 @@ length_from sector = from_le_bytes w32 (slice_range sector 12 16)
 
 -- the sector is the head of the record of this version and number
 pub record IsHeadOf (version number : ℕ) (sector : List ℕ) : Type 0 where
-  pub kind_is : slice_index sector 0 ≡ 1
+  pub kind_is : slice_index sector 0 ≡ HEAD_KIND
   pub version_is : slice_index sector 1 ≡ version
   pub number_is : number_from sector ≡ number
 

@@ -4,7 +4,7 @@ use Rattle.std.proofs.Common.{suc}
 use Rattle.sector_disk.specs.Disk.{Image}
 use Rattle.edit_journal.specs.Records.{RecordData, IsRecordVersion, IsRecordLength, parts_of, IsPart, IsHeadOf}
 
--- the sectors of a ring: so many from the first on
+-- the sectors of a ring: this many places, from its first sector on
 pub record Ring : Type 0 where
   pub first : ℕ
   pub places : ℕ
@@ -14,7 +14,7 @@ pub record RecordStart : Type 0 where
   pub place : ℕ
   pub number : ℕ
 
--- the sector of a place, where behind the last place comes place 0
+-- the sector of a place, where place 0 comes after the last place
 abbrev pub sector_at : Ring → ℕ → ℕ
 sector_at ring place = ring.first + place % ring.places
 

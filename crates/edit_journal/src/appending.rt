@@ -15,17 +15,17 @@ use crate::journal::Journal;
 use sector_disk::{DiskFault, Sectors};
 
 impl Journal {
-    /// The sector of the place so many behind the first record in use.
+    /// The sector of the place that is `offset` places after the first record in use.
     pub(crate) fn sector_of(&self, offset: u64) -> u64
         requires { offset < self.now.places }
         ensures is { result ≡ sector_at (ring_of self.now) (self.now.place + offset) }
         ensures within { result < self.now.first + self.now.places }
     {
-        let behind = self.places - self.place;
-        if offset < behind {
+        let to_end = self.places - self.place;
+        if offset < to_end {
             self.first + (self.place + offset)
         } else {
-            self.first + (offset - behind)
+            self.first + (offset - to_end)
         }
     }
 }

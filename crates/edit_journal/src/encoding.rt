@@ -4,7 +4,7 @@ ghost use Rattle.sector_disk.specs.declared.disk.TheConstants.{SECTOR_BYTES};
 ghost use Rattle.edit_journal.specs.declared.sizes.TheConstants.{LAST_RECORD_VERSION};
 ghost use Rattle.edit_journal.specs.Records.{most_bytes, IsRecordLength, parts_of, piece, part_front, record_sector};
 
-use crate::sizes::PART_BYTES;
+use crate::sizes::{BODY_KIND, FRONT_BYTES, HEAD_KIND, PART_BYTES};
 use byteorder::{ByteOrder, LittleEndian};
 use sector_disk::SECTOR_BYTES;
 
@@ -16,18 +16,18 @@ pub(crate) fn count_parts(length: u32) -> u16
     length.div_ceil(PART_BYTES as u32) as u16
 }
 
-/// The first 16 bytes of a part's sector.
+/// The front of a part's sector.
 #[tactic(auto, unfolding(crate::specs::Records::part_front))]
-pub(crate) fn front_bytes(version: u32, number: u64, length: u32, part: u16) -> [u8; 16]
+pub(crate) fn front_bytes(version: u32, number: u64, length: u32, part: u16) -> [u8; FRONT_BYTES]
     requires { IsRecordLength version length }
     ensures { result ≡ part_front version number length part }
 {
     let (kind, count) = if part == 0 {
-        (1, count_parts(length))
+        (HEAD_KIND, count_parts(length))
     } else {
-        (2, part)
+        (BODY_KIND, part)
     };
-    let mut front = [0; 16];
+    let mut front = [0; FRONT_BYTES];
     front[0] = kind;
     front[1] = version as u8;
     LittleEndian::write_u16(&mut front[2..4], count);
@@ -36,13 +36,14 @@ pub(crate) fn front_bytes(version: u32, number: u64, length: u32, part: u16) -> 
     front
 }
 
-/// The first bytes of what is left of a text, as many as a sector has.
+/// The first `PART_BYTES` bytes of what is left of a text, or all of them if there are fewer.
 fn first_piece(rest: &[u8]) -> &[u8]
     ensures { result.now ≡ take PART_BYTES rest.now }
 {
     &rest[..PART_BYTES.min(rest.len())]
 }
 
+/// The bytes of a text in one of its parts.
 fn piece_of(text: &[u8], part: u16) -> &[u8]
     requires { part < parts_of (length text.now) }
     ensures { result.now ≡ piece text.now part }
@@ -50,6 +51,7 @@ fn piece_of(text: &[u8], part: u16) -> &[u8]
     first_piece(&text[PART_BYTES * usize::from(part)..])
 }
 
+/// Puts bytes into a sector, from an offset on.
 fn put_bytes(sector: &mut [u8; SECTOR_BYTES], at: usize, bytes: &[u8])
     requires { at + length bytes.now ≤ SECTOR_BYTES }
     ensures { sector.new ≡ take at sector.old ++ (bytes.now ++ drop (at + length bytes.now) sector.old) }
@@ -69,6 +71,6 @@ pub fn part_sector(version: u32, number: u64, text: &[u8], part: u16) -> [u8; SE
         0,
         &front_bytes(version, number, text.len() as u32, part),
     );
-    put_bytes(&mut sector, 16, piece_of(text, part));
+    put_bytes(&mut sector, FRONT_BYTES, piece_of(text, part));
     sector
 }

@@ -1,3 +1,5 @@
+//! Why a call of the journal fails.
+
 use thiserror::Error;
 
 /// Why the journal doesn't take a record, or isn't recovered.

@@ -4,7 +4,7 @@ ghost use Rattle.edit_journal.specs.declared.sizes.TheConstants.{FIRST_RECORD_VE
 ghost use Rattle.edit_journal.specs.Records.{IsRecordLength, parts_of, number_from, length_from, IsHeadOf, IsExpectedHead, HasFront};
 
 use crate::encoding::{count_parts, front_bytes};
-use crate::sizes::{FIRST_RECORD_VERSION, LAST_RECORD_VERSION, MAX_RECORD_BYTES};
+use crate::sizes::{FIRST_RECORD_VERSION, HEAD_KIND, LAST_RECORD_VERSION, MAX_RECORD_BYTES};
 use byteorder::{ByteOrder, LittleEndian};
 use sector_disk::SECTOR_BYTES;
 
@@ -53,12 +53,14 @@ impl Head {
     }
 }
 
+/// The edit's number in a sector.
 fn number_in(sector: &[u8; SECTOR_BYTES]) -> u64
     ensures { result ≡ number_from sector.now }
 {
     LittleEndian::read_u64(&sector[4..12])
 }
 
+/// The length of a text in a sector, in bytes.
 fn length_in(sector: &[u8; SECTOR_BYTES]) -> u32
     ensures { result ≡ length_from sector.now }
 {
@@ -71,7 +73,7 @@ pub fn head_version(sector: &[u8; SECTOR_BYTES], number: u64, most: u32) -> Opti
         (λ version. (FIRST_RECORD_VERSION ≤ version) × (version ≤ most) × IsHeadOf version number sector.now) }
 {
     let version = u32::from(sector[1]);
-    if sector[0] == 1
+    if sector[0] == HEAD_KIND
         && FIRST_RECORD_VERSION <= version
         && version <= most
         && number_in(sector) == number

@@ -4,13 +4,13 @@ ghost use Rattle.std.specs.Prelude.{◌≡◌, ◌≤◌, ◌<◌, ◌+◌, ◌-
 /// Where the records in use begin.
 #[derive(Clone, Copy, Debug, PartialEq, Eq)]
 pub struct JournalPosition {
-    /// The place of the first of them, or of the next one where there is none.
+    /// The place of the first of them, or of the next one if there is none.
     pub place: u64,
     /// How many edits came before it: its number is one more.
     pub edits: u64,
 }
 
-/// The records in use in a ring of sectors, and the places behind them that are free.
+/// The records in use in a ring of sectors. The places after them are free.
 #[derive(Clone, Copy, Debug, PartialEq, Eq)]
 pub struct Journal {
     /// The sector that is place 0.
@@ -23,7 +23,7 @@ pub struct Journal {
     pub edits: u64,
     /// How many places the records in use have.
     pub used: u64,
-    /// The number of the last record, from 1 on, or 0 where there was none yet.
+    /// The number of the last record, from 1 on, or 0 if there was none yet.
     pub last: u64,
     ghost begins: { place < places },
     ghost room: { used ≤ places },
@@ -43,15 +43,15 @@ impl Journal {
     pub fn next(&self) -> JournalPosition
         ensures { (result.place ≡ (self.now.place + self.now.used) % self.now.places) × (result.edits ≡ self.now.last) }
     {
-        let behind = self.places - self.place;
-        if self.used < behind {
+        let to_end = self.places - self.place;
+        if self.used < to_end {
             JournalPosition {
                 place: self.place + self.used,
                 edits: self.last,
             }
         } else {
             JournalPosition {
-                place: self.used - behind,
+                place: self.used - to_end,
                 edits: self.last,
             }
         }

@@ -16,4 +16,7 @@ pub use fault::JournalFault;
 pub use head::{Head, head_in, head_version};
 pub use journal::{Journal, JournalPosition};
 pub use records::Record;
-pub use sizes::{FIRST_RECORD_VERSION, LAST_RECORD_VERSION, MAX_RECORD_BYTES, PART_BYTES};
+pub use sizes::{
+    BODY_KIND, FIRST_RECORD_VERSION, FRONT_BYTES, HEAD_KIND, LAST_RECORD_VERSION, MAX_RECORD_BYTES,
+    PART_BYTES,
+};

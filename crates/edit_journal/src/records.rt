@@ -1,3 +1,5 @@
+//! A record of the journal.
+
 /// A record of the journal, as it is read.
 #[derive(Debug, Drop)]
 pub struct Record {

@@ -7,7 +7,7 @@ ghost use Rattle.edit_journal.specs.Ring.{sector_at, places_of};
 ghost use Rattle.edit_journal.specs.Appends.{ring_of, start_of};
 ghost use Rattle.edit_journal.specs.Recovers.{EndsAt, IsJournal, PartsStand, FrontsStand, IsDamaged, TellsRecoverFault};
 ghost use Rattle.edit_journal.specs.Releases.{IsCounted};
-ghost use Rattle.edit_journal.specs.declared.sizes.TheConstants.{LAST_RECORD_VERSION};
+ghost use Rattle.edit_journal.specs.declared.sizes.TheConstants.{FRONT_BYTES, LAST_RECORD_VERSION};
 ghost use Rattle.edit_journal.specs.declared.fault.JournalFault.TheVariants.{Damaged, Device, Memory};
 
 use crate::encoding::count_parts;
@@ -15,17 +15,17 @@ use crate::fault::JournalFault;
 use crate::head::{Head, head_in, head_version};
 use crate::journal::{Journal, JournalPosition};
 use crate::records::Record;
-use crate::sizes::PART_BYTES;
+use crate::sizes::{FRONT_BYTES, PART_BYTES};
 use sector_disk::{DiskFault, SECTOR_BYTES, Sectors};
 use std::alloc::{AllocError, Global};
 
 /// The bytes of the text in a part's sector, where the whole text has this length.
 fn piece_in(sector: &[u8; SECTOR_BYTES], length: u32, part: u16) -> &[u8]
     requires { PART_BYTES * part < length }
-    ensures { result.now ≡ take (min PART_BYTES (length - PART_BYTES * part)) (drop 16 sector.now) }
+    ensures { result.now ≡ take (min PART_BYTES (length - PART_BYTES * part)) (drop FRONT_BYTES sector.now) }
 {
     let rest = length as usize - PART_BYTES * part as usize;
-    &sector[16..16 + PART_BYTES.min(rest)]
+    &sector[FRONT_BYTES..FRONT_BYTES + PART_BYTES.min(rest)]
 }
 
 /// Adds bytes to a text.
@@ -39,7 +39,7 @@ fn add_bytes(text: &mut Vec<u8>, bytes: &[u8]) -> Result<(), JournalFault>
     }
 }
 
-/// Reads the sector of the place so many behind the first record in use.
+/// Reads the sector of the place that is `offset` places after the first record in use.
 fn read_place<D: Sectors>(
     journal: &Journal,
     disk: &mut D,
@@ -61,7 +61,7 @@ fn read_place<D: Sectors>(
     }
 }
 
-/// Reads the text of the next record, whose head stands in this sector.
+/// Reads the text of the next record, whose head this sector is.
 fn read_text<D: Sectors>(
     alloc: Global,
     journal: &Journal,
@@ -96,7 +96,7 @@ fn read_text<D: Sectors>(
     Ok(text)
 }
 
-/// Reads the record after the others, of a version from 1 to `most`, or none where the journal ends.
+/// Reads the record after the others, of a version from 1 to `most`, or `None` if the journal ends there.
 fn read_record<D: Sectors>(
     alloc: Global,
     journal: &Journal,
@@ -139,7 +139,7 @@ fn read_record<D: Sectors>(
 }
 
 impl Journal {
-    /// The journal with no records, where so many edits came before the next, whose record begins in this place.
+    /// The journal with no records, after `edits` edits, where the next record begins in place `place`.
     fn empty(first: u64, places: u64, place: u64, edits: u64) -> Journal
         requires small { first + places < 2 ^ 64 }
         requires place { place < places }
@@ -177,7 +177,7 @@ impl Journal {
         }
     }
 
-    /// Reads the records from a start on, in a ring of so many places whose place 0 is the first sector: the journal, and its records
+    /// Reads the records from a start on, in a ring of `places` places whose place 0 is sector `first`: the journal, and its records
     /// in order. A record is expected in a version from 1 to `version`, the disk's: at a head of a later one the journal ends.
     /// Nothing is written. `Damaged`: a record that was expected isn't whole. The other errors are `Device` and `Memory`.
     pub fn recover<D: Sectors>(

@@ -1,4 +1,4 @@
-//! Records that are no longer wanted.
+//! The release of records that are no longer needed.
 ghost use Rattle.std.specs.Prelude.{◌≡◌, ◌≤◌, ◌+◌, ◌%◌, ℕ, List, length, take, drop};
 ghost use Rattle.sector_disk.specs.Disk.{History};
 ghost use Rattle.edit_journal.specs.Records.{RecordData};
@@ -24,7 +24,7 @@ impl Journal {
     }
 
     /// Frees the places of the first records in use: of all that come before a start that `next` gave since the first of them was
-    /// written. Nothing is written: until they are written over, the records stand there.
+    /// written. Nothing is written: the disk has the records until they are overwritten.
     pub fn release(&mut self, start: JournalPosition)
         requires { (behind : ℕ) × IsBehind self.old start behind }
         ensures same { (ring_of self.new ≡ ring_of self.old) × (self.new.last ≡ self.old.last) }

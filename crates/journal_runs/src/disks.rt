@@ -2,7 +2,7 @@
 use crate::lines::{DiskVerb, Line};
 use crate::trial::{Trial, fixed_text, outcome_text};
 use script_bytes::{choices_of, push_number, sector_of, spelled, used_part};
-use sector_disk::{FailingCalls, FaultyDisk, MemoryDisk, Sectors};
+use sector_disk::{FailingCalls, FaultyDisk, MemoryDisk, SECTOR_BYTES, Sectors};
 use std::alloc::{AllocError, Global};
 
 fn make(alloc: Global, trial: &mut Trial, sectors: u64) -> Result<Option<String>, AllocError> {
@@ -29,7 +29,7 @@ fn sector(alloc: Global, trial: &mut Trial, at: u64) -> Result<Option<String>, A
     if at >= trial.disk.count() {
         return fixed_text(alloc, "no sector");
     }
-    let mut sector = [0; 512];
+    let mut sector = [0; SECTOR_BYTES];
     match trial.disk.read(at, &mut sector) {
         Ok(()) => Ok(Some(spelled(alloc, used_part(&sector))?)),
         Err(fault) => outcome_text(alloc, fault, 1),
@@ -38,7 +38,7 @@ fn sector(alloc: Global, trial: &mut Trial, at: u64) -> Result<Option<String>, A
 
 /// Whether a sector is not all zeros.
 fn is_used(disk: &mut FaultyDisk<MemoryDisk>, at: u64) -> bool {
-    let mut sector = [0; 512];
+    let mut sector = [0; SECTOR_BYTES];
     if at < disk.count() {
         let _ = disk.read(at, &mut sector);
     }

@@ -2,8 +2,8 @@
 use crate::lines::{GenerationVerb, Line};
 use crate::trial::{Trial, fixed_text, outcome_text};
 use generations::{
-    FIRST_VERSION, LAST_VERSION, Layout, Root, format, format_version, install, read_root, upgrade,
-    write_area,
+    FIRST_VERSION, JOURNAL_START, LAST_VERSION, Layout, Root, format, format_version, install,
+    read_root, upgrade, write_area,
 };
 use script_bytes::sector_of;
 use sector_disk::Sectors;
@@ -68,7 +68,7 @@ fn install_root(
     trial: &mut Trial,
     root: Root,
 ) -> Result<Option<String>, AllocError> {
-    if trial.disk.count() < 3 {
+    if trial.disk.count() < JOURNAL_START {
         return fixed_text(alloc, "no sector");
     }
     let before = trial.disk.calls();

@@ -10,7 +10,7 @@ use edit_journal::{
     head_in, head_version,
 };
 use script_bytes::spelled_briefly;
-use sector_disk::Sectors;
+use sector_disk::{SECTOR_BYTES, Sectors};
 use std::alloc::{AllocError, Global};
 
 /// The text of a journal and its records, each its version and its text.
@@ -135,8 +135,8 @@ fn release(alloc: Global, trial: &mut Trial, behind: u64) -> Result<Option<Strin
 }
 
 /// A sector of the disk, or zeros if it has no such sector.
-fn sector_at(trial: &mut Trial, at: u64) -> [u8; 512] {
-    let mut sector = [0; 512];
+fn sector_at(trial: &mut Trial, at: u64) -> [u8; SECTOR_BYTES] {
+    let mut sector = [0; SECTOR_BYTES];
     if at < trial.disk.count() {
         let _ = trial.disk.read(at, &mut sector);
     }
