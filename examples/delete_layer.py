@@ -1,62 +1,95 @@
 #!/usr/bin/env python3
-"""Deletes the features of layers from the map of a running `vtserve serve`.
+"""Deletes the features of layers from the map of a running `vtserve serve --admin`.
 
     python3 examples/delete_layer.py parish parish-outline --url http://127.0.0.1:8080
     python3 examples/delete_layer.py parish --numbers 1-3000 --url http://127.0.0.1:8080
 
-The server has no list of its features. So the map is published, and its archive tells which features the layers have; those that no tile
-shows aren't found. With --numbers each of these numbers is asked for instead: it is complete if the numbers are. Up to 64 features are
-deleted by one request; with --no-batches one. When the journal is full, the map is published. The published archive shows the layers until
-the next publication.
+It asks the server for the list of its features; of a server without --admin name the ids with --numbers. Up to 55 features are deleted by one
+request, which take a sector of the journal; with --no-batches one. A feature that somebody else changes meanwhile is left, and reported: run
+the same command again. The published archive shows the layers until the next publication.
 
-It prints how many features of each layer are deleted. It ends with 1 if the server doesn't answer or refuses a request, and with 130 if it
-was interrupted: run the same command again. Needs no package.
+Nothing is published unless the journal has no room. It works while a publication is under way, and on a map that no longer fits on its disk
+(`AreaFull`), as long as the journal has a sector: then features are deleted without looking at them again, which takes the fewest sectors. If
+the journal is full too, nothing can be edited any more, and it says how much is left.
+
+It prints how many features of each layer are deleted. It ends with 1 if some are left, with 3 if the server doesn't answer, and with 130 if
+it was interrupted. Needs no package.
 """
 import argparse
-import json
 import sys
+from collections import Counter
 
-from edits import MOST_CHANGES, delete
-from map_backup import ranges
-from map_client import Client, NoAnswer, Stopped, word
+from edits import DELETES_OF_A_SECTOR, batches, checked, delete
+from map_client import Client, NoAnswer, Stopped, ranges
 
 
-def layers_of(client, numbers):
-    """The layer of each feature that has one of these numbers."""
-    found = {}
-    for number in numbers:
-        status, content = client.ask("GET", f"/features/{number}")
-        if status == 200:
-            found[number] = json.loads(content)["layer"]
-        elif word(content) != "NotFound":
-            client.stop_at(status, content)
-            raise Stopped(f"GET /features/{number}: {status} {word(content)}")
-    return found
+def found_in(client, layers, numbers):
+    """The features of these layers, by their ids: of the whole map, or of these ids."""
+    if numbers is not None:
+        there = ((number, client.feature(number)) for number in ranges(numbers))
+    elif client.status() is not None:
+        there = client.features()
+    else:
+        raise Stopped("the server doesn't list its features: start it with --admin, or give --numbers")
+    return {number: feature for number, feature in there if feature is not None and feature["layer"] in layers}
+
+
+def changes_for(client, found):
+    """The deletions: checked ones if the journal has, or gets by a publication, a sector for each request."""
+    plain = [delete(number) for number in found]
+    status = client.status()
+    if status is None:
+        return plain
+    made = [checked(change, found[change.number]) for change in plain]
+    if len(list(batches(made, client.most))) > status["journal"]["places"] - status["journal"]["used"]:
+        try:
+            client.publish()
+        except Stopped as fault:
+            print(f"note: {fault}. Features are deleted without looking at them again", flush=True)
+            return plain
+    return made
+
+
+def delete_all(client, found, deleted):
+    """Deletes the features. Counts those of each layer that are deleted. Returns whether all are."""
+    for change, refusal in client.make(changes_for(client, found)):
+        if refusal:
+            print(f"feature {change.number}: {refusal}", flush=True)
+        else:
+            deleted[found[change.number]["layer"]] += 1
+    return deleted.total() == len(found)
+
+
+def tell_rest(client, found, deleted):
+    """Says what is left, and what room the journal has."""
+    status = client.status()
+    room = "" if status is None else f"; the journal has {status['journal']['places'] - status['journal']['used']:,} of its sectors free"
+    print(f"{len(found) - deleted.total():,} features are left{room}")
 
 
 def main():
     parser = argparse.ArgumentParser(description="Deletes the features of layers from the map of a running vtserve.")
     parser.add_argument("layers", nargs="+", metavar="LAYER", help="the name of a layer")
     parser.add_argument("--url", default="http://127.0.0.1:8080", help="the server (http://127.0.0.1:8080)")
-    parser.add_argument("--numbers", help="the numbers to ask for, as in 1-3000,5000, instead of those in the published archive")
+    parser.add_argument("--numbers", help="the ids to ask for, as in 1-3000,5000, instead of the whole list")
     parser.add_argument("--no-batches", action="store_true", help="delete each feature in a request of its own")
     words = parser.parse_args()
-    client = Client(words.url, True, 1 if words.no_batches else MOST_CHANGES)
-    deleted, end = dict.fromkeys(words.layers, 0), 0
+    client = Client(words.url, True, 1 if words.no_batches else DELETES_OF_A_SECTOR)
+    found, deleted, end = {}, Counter(), 1
     try:
-        there = client.layers() if words.numbers is None else layers_of(client, ranges(words.numbers))
-        for change, refusal in client.make(delete(number) for number in sorted(there) if there[number] in deleted):
-            if refusal:
-                raise Stopped(f"DELETE of feature {change.number}: {refusal}")
-            deleted[there[change.number]] += 1
-    except (NoAnswer, Stopped) as fault:
+        found = found_in(client, words.layers, words.numbers)
+        end = 0 if delete_all(client, found, deleted) else 1
+    except Stopped as fault:
         print(f"stopped: {fault}")
-        end = 1
+        tell_rest(client, found, deleted)
+    except NoAnswer as fault:
+        print(f"stopped: {fault}")
+        end = 3
     except KeyboardInterrupt:
         print("interrupted: run the same command again")
         end = 130
-    for layer, count in deleted.items():
-        print(f"{count} features of {layer} deleted")
+    for layer in words.layers:
+        print(f"{deleted[layer]} features of {layer} deleted")
     return end
 
 

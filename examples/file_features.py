@@ -1,4 +1,5 @@
-"""The features of a file that GDAL reads, for import_features.py: geometry in the units of the map, attributes as tags."""
+"""The features of a file that GDAL reads, for import_features.py: geometry in the units of the map, attributes as tags, ids of GeoJSON."""
+import json
 import math
 
 from osgeo import gdal, ogr, osr
@@ -9,6 +10,9 @@ HALF = 20037508.342789244
 # The texts of a file that names no encoding and isn't UTF-8 are read as this one.
 GUESS = "cp1252"
 MOST_TEXT_BYTES = 1024
+# Columns of x and y of a CSV file, as they are usually named; which of them are longitude and latitude.
+DEGREES = [("lon", "lat"), ("lng", "lat"), ("long", "lat"), ("longitude", "latitude")]
+COLUMNS = [*DEGREES, ("x", "y"), ("easting", "northing")]
 KINDS = {
     ogr.wkbPoint: "points",
     ogr.wkbMultiPoint: "points",
@@ -44,33 +48,57 @@ class Unreadable(Exception):
     """Why a file can't be read."""
 
 
-class Reader:
-    """Reads features. `encoding` is that of its texts if the file doesn't say it or says a wrong one, `cuts` whether long texts are cut."""
+class Nowhere(Exception):
+    """A feature without a geometry: nothing is wrong with it, but no map can show it."""
 
-    def __init__(self, path, source=None, crs=None, encoding=None, cuts=False):
-        self.path, self.crs, self.encoding, self.cuts = path, crs, encoding, cuts
+
+class Reader:
+    """Reads features. `encoding` is that of its texts if the file doesn't say it or says a wrong one, `cuts` whether long texts are cut,
+    `columns` the names of the columns of x and y of a table, `id_field` the field of the ids."""
+
+    def __init__(self, path, source=None, crs=None, encoding=None, cuts=False, columns=None, id_field=None):
+        self.path, self.crs, self.encoding, self.cuts, self.id_field = path, crs, encoding, cuts, id_field
         self.notes = Notes()
-        self.file = opened(path, encoding)
+        self.file = opened(path, encoding, keeps_text=id_field == "id")
+        self.kind = self.file.GetDriver().ShortName
+        if self.kind == "CSV" and (columns or is_table(self.file.GetLayer(0))):
+            self.read_columns(columns)
+        elif columns:
+            raise Unreadable("--x and --y name columns of a CSV file")
         if source is None:
-            self.layers = [self.file.GetLayer(at) for at in range(self.file.GetLayerCount())]
+            layers = [self.file.GetLayer(at) for at in range(self.file.GetLayerCount())]
+            self.layers = [layer for layer in layers if not is_table(layer)] if len(layers) > 1 else layers
+            for layer in layers:
+                if layer not in self.layers:
+                    print(f"note: the layer {layer.GetName()} of the file is a table without geometry, and isn't read", flush=True)
         else:
             self.layers = [self.file.GetLayerByName(source)]
             if self.layers[0] is None:
-                raise Unreadable(f"{path} has no layer {source}")
+                names = ", ".join(self.file.GetLayer(at).GetName() for at in range(self.file.GetLayerCount()))
+                raise Unreadable(f"{path} has no layer {source}: its layers are {names}")
+
+    def read_columns(self, columns):
+        """Opens a CSV file again, with points of two of its columns. Longitude and latitude need no --crs."""
+        layer = self.file.GetLayer(0).GetLayerDefn()
+        names = {layer.GetFieldDefn(at).GetName().lower(): layer.GetFieldDefn(at).GetName() for at in range(layer.GetFieldCount())}
+        x, y = columns or next((pair for pair in COLUMNS if set(pair) <= set(names)), (None, None))
+        if x is None or not {x.lower(), y.lower()} <= set(names):
+            raise Unreadable(f"{self.path}: name the columns of the points by --x and --y: its columns are {', '.join(names.values())}")
+        x, y = names[x.lower()], names[y.lower()]
+        if self.crs is None and (x.lower(), y.lower()) in DEGREES:
+            self.crs = "EPSG:4326"
+        self.file = gdal.OpenEx(self.path, gdal.OF_VECTOR, open_options=[f"X_POSSIBLE_NAMES={x}", f"Y_POSSIBLE_NAMES={y}", "KEEP_GEOM_COLUMNS=NO"])
 
     def projection(self, layer):
         """From the layer's coordinate system to Web Mercator, x before y in both."""
         source = layer.GetSpatialRef()
-        if source is None:
-            if self.crs is None:
-                raise Unreadable(f"the layer {layer.GetName()} has no coordinate system: name it with --crs, as in --crs EPSG:4326")
-            source = osr.SpatialReference()
-            try:
-                known = source.SetFromUserInput(self.crs) == ogr.OGRERR_NONE
-            except RuntimeError:
-                known = False
-            if not known:
-                raise Unreadable(f"GDAL knows no coordinate system {self.crs}")
+        # GDAL takes GeoJSON for longitude and latitude, whatever it is.
+        if self.crs is not None and (source is None or self.kind.startswith("GeoJSON")):
+            source = system_of(self.crs)
+        elif source is None:
+            raise Unreadable(f"the layer {layer.GetName()} has no coordinate system: name it with --crs, as in --crs EPSG:4326")
+        elif self.crs is not None:
+            print(f"note: the layer {layer.GetName()} names its coordinate system itself: --crs isn't used", flush=True)
         source = source.Clone()
         target = osr.SpatialReference()
         target.ImportFromEPSG(3857)
@@ -81,7 +109,7 @@ class Reader:
     def shape(self, geometry, projection):
         """The shape of a geometry."""
         if geometry is None or geometry.IsEmpty():
-            raise Unfit("it has no geometry")
+            raise Nowhere
         if geometry.Is3D():
             self.notes.add("heights (Z) are dropped")
         if geometry.IsMeasured():
@@ -95,8 +123,21 @@ class Reader:
             raise Unfit("it can't be projected to Web Mercator")
         lists = lists_of(kind, geometry)
         if not lists:
-            raise Unfit("it has no geometry")
+            raise Nowhere
         return kind, lists
+
+    def identity(self, feature):
+        """The value of the field of the ids: of GeoJSON `id` is the feature's own, `FID` is GDAL's."""
+        text = feature.GetNativeData() if self.id_field == "id" and self.kind.startswith("GeoJSON") else None
+        own = json.loads(text).get("id") if text else None
+        if own is not None:
+            return own
+        at = feature.GetFieldIndex(self.id_field)
+        if at < 0 and self.id_field.upper() == "FID":
+            return feature.GetFID()
+        if at < 0 or not feature.IsFieldSetAndNotNull(at):
+            raise Unfit(f"it has no {self.id_field}")
+        return self.value(feature, at, self.id_field)
 
     def name(self, feature, at):
         """The name of a field."""
@@ -169,12 +210,12 @@ class Reader:
         return raw[:MOST_TEXT_BYTES].decode("utf-8", "ignore")
 
 
-def opened(path, encoding):
-    """The file, which has to outlive its layers."""
+def opened(path, encoding, keeps_text):
+    """The file, which has to outlive its layers. `keeps_text`: GDAL keeps the text of each feature of GeoJSON."""
     gdal.UseExceptions()
     gdal.PushErrorHandler("CPLQuietErrorHandler")
     try:
-        file = gdal.OpenEx(path, gdal.OF_VECTOR)
+        file = gdal.OpenEx(path, gdal.OF_VECTOR, open_options=["NATIVE_DATA=YES"] if keeps_text else [])
         # Texts of a Shapefile as they are: GDAL doesn't recode them by what the file says of its encoding.
         if file is not None and encoding is not None and file.GetDriver().ShortName == "ESRI Shapefile":
             file = gdal.OpenEx(path, gdal.OF_VECTOR, open_options=["ENCODING="])
@@ -183,6 +224,23 @@ def opened(path, encoding):
     if file is None:
         raise Unreadable(f"GDAL can't read {path}: {gdal.GetLastErrorMsg()}")
     return file
+
+
+def is_table(layer):
+    """Whether a layer has no geometry at all."""
+    return layer.GetGeomType() == ogr.wkbNone
+
+
+def system_of(name):
+    """The coordinate system of a name such as `EPSG:4326`."""
+    system = osr.SpatialReference()
+    try:
+        known = system.SetFromUserInput(name) == ogr.OGRERR_NONE
+    except RuntimeError:
+        known = False
+    if not known:
+        raise Unreadable(f"GDAL knows no coordinate system {name}")
+    return system
 
 
 def moment(kind, parts):

@@ -13,7 +13,7 @@ MOST_TILES = 1000000
 
 
 def area_of(sectors):
-    """The sectors of an area of a disk of so many sectors."""
+    """The sectors of an area of a disk of this size."""
     return (sectors - 3 - sectors // 4) // 2
 
 

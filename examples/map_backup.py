@@ -2,268 +2,137 @@
 """Saves the features of the map of a running `vtserve serve` in a file, and puts them back into the map of another one.
 
     python3 examples/map_backup.py save map.geojson --url http://127.0.0.1:8080
+    python3 examples/map_backup.py save map.geojson --disk /var/lib/vtserve/map.disk
     python3 examples/map_backup.py load map.geojson --url http://127.0.0.1:8081 --publish
 
-The file is GeoJSON (longitude and latitude, a feature a line), which other programs read too: the member `id` is the feature's number,
+The file is GeoJSON (longitude and latitude, a feature a line), which other programs read too: the member `id` is the feature's id,
 `properties` are its tags, and `layer`, `minzoom` and `maxzoom` are members beside them. `load` puts back exactly the features that `save`
 read: coordinates are the centres of the squares of 9 mm (at the equator) that the map distinguishes. A file whose name ends in `.jsonl` has
 a line for each feature in place of that, as the server itself writes it: `{"feature":{..},"id":7}`.
 
-`save` asks the server for one feature after the other (`/admin/features/from/`), which a server with `--admin` serves. Of another one the
-numbers have to be known:
-    --numbers 1-3000,5000-5999    asks for each of these numbers; complete if the numbers are
-    --archive                     publishes the map, downloads the archive, and asks for each number in its tiles. Features that no
+`save --disk FILE` reads the disk file, which a server may serve meanwhile, and saves the map of one moment; it says after which edit. It
+needs the right to read the file, and no --admin. Otherwise `save` asks the server for one feature after the other
+(`/admin/features/from/`), which a server with `--admin` serves: features that are edited meanwhile are saved as they are when it reads them.
+Of a server without it the ids have to be known:
+    --numbers 1-3000,5000-5999    asks for each of these ids; complete if the ids are
+    --archive                     publishes the map, downloads the archive, and asks for each id in its tiles. Features that no
                                   tile shows (for instance polygons too small to have an area at their greatest zoom) are missed
 
-Features that are edited while `save` runs are saved as they are when it reads them: the file isn't of one moment. `load` with --publish
-frees the journal by a publication whenever it is full; it puts up to 64 features in a request, and with --no-batches one. Both end with 1 if
-a request is refused; `save` leaves FILE as it was then, and what it got in FILE.part. Needs no package, and edits.py beside it.
+`save --wholes` is for other programs: a feature that the import cut is one again, the union of its pieces, without the lines of its
+outline. Such a file is no backup: `load` refuses it, and `import_features.py` puts it into a map.
+
+`load` with --publish frees the journal by a publication whenever it is full; it puts up to 64 features in a request, and with --no-batches
+one. It ends with 1 if a request is refused, both end with 3 if the server doesn't answer; `save` leaves FILE as it was then, and what it got
+in FILE.part. Needs no package.
 """
 import argparse
-import http.client
 import json
-import math
 import os
-import struct
 import sys
-import urllib.parse
 
-from edits import MOST_CHANGES, Editor, put
+from archive_ids import ids_in
+from disk_file import Damaged, moment_of
+from edits import MOST_CHANGES, put
+from geojson import feature_of, geojson_of
+from map_client import Client, NoAnswer, Stopped, ranges
+from wholes import wholes_of
 
-WORLD = 2 ** 32
-NUMBER_END = 2 ** 63
+START, END = '{"type":"FeatureCollection","features":[', "\n]}\n"
+START_OF_WHOLES = '{"type":"FeatureCollection","wholes":true,"features":['
 
 
 class Refused(Exception):
-    """A reply with an unexpected status, or none."""
+    """Why nothing is saved or put."""
 
 
-class Server(Editor):
-    """A running server: one connection, opened again if the server closed it between two requests."""
-
-    def __init__(self, url, publishes=False, most=MOST_CHANGES):
-        self.url, self.publishes, self.most = urllib.parse.urlsplit(url), publishes, most
-        self.connection = None
-
-    def ask(self, method, path, body=None):
-        """The status and the content of the reply."""
-        for again in (True, False):
-            if self.connection is None:
-                kind = http.client.HTTPSConnection if self.url.scheme == "https" else http.client.HTTPConnection
-                self.connection = kind(self.url.netloc, timeout=600)
-            try:
-                self.connection.request(method, self.url.path.rstrip("/") + path, body, {"Content-Type": "application/json"} if body else {})
-                reply = self.connection.getresponse()
-                return reply.status, reply.read()
-            except (OSError, http.client.HTTPException) as fault:
-                self.connection.close()
-                self.connection = None
-                if not again:
-                    raise Refused(f"{method} {path}: no reply: {fault}") from fault
-        return None
-
-    def content_of(self, method, path):
-        """The content of a reply 200."""
-        status, content = self.ask(method, path)
-        if status != 200:
-            raise Refused(f"{method} {path}: {status} {content.decode('utf-8', 'replace').strip()}")
-        return content
-
-    def publish(self):
-        """Publishes by steps."""
-        content = self.content_of("POST", "/publish/begin")
-        while json.loads(content)["left"] > 0:
-            content = self.content_of("POST", "/publish/step")
-
-    def edit(self, change):
-        """Puts one feature. Returns the refusal, or an empty text."""
-        status, content = self.send("PUT", f"/features/{change.number}", change.body)
-        return "" if status == 200 else f"PUT /features/{change.number}: {status} {content.decode('utf-8', 'replace').strip()}"
-
-    def stop_at(self, status, content):
-        """Stops at the refusal of a batch."""
-        raise Refused(f"POST /edits: {status} {content.decode('utf-8', 'replace').strip()}")
+def listed(client):
+    """Each feature of the map with its id, in ascending order."""
+    if client.status() is None:
+        raise Refused("the server doesn't list its features: start it with --admin, or give --disk, --numbers or --archive")
+    return client.features()
 
 
-def degrees(point):
-    """Longitude and latitude of a point of the world."""
-    x, y = ((part + 0.5) / WORLD for part in point)
-    return [x * 360 - 180, math.degrees(math.atan(math.sinh(math.pi * (1 - 2 * y))))]
+def ids_of_archive(client):
+    """The ids in the tiles of the map, which is published for it."""
+    client.publish()
+    status, archive = client.ask("GET", "/map.pmtiles")
+    return ids_in(archive if status == 200 else b"")
 
 
-def world(place):
-    """The point of the world of a longitude and latitude."""
-    longitude, latitude = place[:2]
-    x = (longitude + 180) / 360
-    y = 0.5 - math.asinh(math.tan(math.radians(latitude))) / (2 * math.pi)
-    return [min(max(math.floor(share * WORLD), 0), WORLD - 1) for share in (x, y)]
-
-
-def geojson_of(number, feature):
-    """A feature of the map as one of GeoJSON."""
-    (kind, parts), = feature["geometry"].items()
-    if kind == "points":
-        name, places = "Point", [degrees(point) for point in parts]
-    elif kind == "lines":
-        name, places = "LineString", [[degrees(point) for point in line] for line in parts]
-    else:
-        name, places = "Polygon", [[[degrees(point) for point in [*ring, ring[0]]] for ring in rings] for rings in parts]
-    geometry = {"type": name, "coordinates": places[0]} if len(places) == 1 else {"type": "Multi" + name, "coordinates": places}
-    rest = {name: feature[name] for name in ("layer", "minzoom", "maxzoom")}
-    return {"type": "Feature", "id": number, **rest, "properties": feature["tags"], "geometry": geometry}
-
-
-def feature_of(row):
-    """The body of a PUT, from a feature that `geojson_of` made."""
-    name, places = row["geometry"]["type"], row["geometry"]["coordinates"]
-    if not name.startswith("Multi"):
-        places = [places]
-    if name.endswith("Point"):
-        geometry = {"points": [world(place) for place in places]}
-    elif name.endswith("LineString"):
-        geometry = {"lines": [[world(place) for place in line] for line in places]}
-    else:
-        geometry = {"polygons": [[[world(place) for place in ring[:-1]] for ring in rings] for rings in places]}
-    return {**{name: row[name] for name in ("layer", "minzoom", "maxzoom")}, "geometry": geometry, "tags": row["properties"]}
-
-
-def varint(data, at):
-    """A number of Protocol Buffers or of a directory, and where it ends."""
-    value = shift = 0
-    while True:
-        byte = data[at]
-        value |= (byte & 127) << shift
-        at, shift = at + 1, shift + 7
-        if byte < 128:
-            return value, at
-
-
-def fields(data):
-    """The fields of a message of a tile of vtserve: numbers and bytes alone."""
-    at = 0
-    while at < len(data):
-        key, at = varint(data, at)
-        value, at = varint(data, at)
-        if key & 7 == 2:
-            value, at = data[at:at + value], at + value
-        yield key >> 3, value
-
-
-def contents(archive, at, length, leaves, tiles):
-    """The contents of the tiles of a directory: offset and length of each."""
-    data, rows, found = archive[at:at + length], [], []
-    count, at = varint(data, 0)
-    for _ in range(4):
-        row = []
-        for _ in range(count):
-            value, at = varint(data, at)
-            row.append(value)
-        rows.append(row)
-    _, runs, lengths, offsets = rows
-    place = 0
-    for run, size, offset in zip(runs, lengths, offsets):
-        place = offset - 1 if offset else place
-        found += [(tiles + place, size)] if run else contents(archive, leaves + place, size, leaves, tiles)
-        place += size
-    return found
-
-
-def numbers_in(archive):
-    """The ids of the features in the tiles of an archive, ascending."""
-    if not archive:
-        return []
-    root, root_length, _, _, leaves, _, tiles = struct.unpack_from("<7Q", archive, 8)
-    found = set()
-    for at, length in set(contents(archive, root, root_length, leaves, tiles)):
-        for number, layer in fields(archive[at:at + length]):
-            for part, feature in fields(layer) if number == 3 else ():
-                if part == 2:
-                    found.add(next(value for name, value in fields(feature) if name == 1))
-    return sorted(found)
-
-
-def ranges(text):
-    """The numbers of `1-3000,5000`."""
-    for part in text.split(","):
-        first, _, last = part.partition("-")
-        yield from range(int(first), int(last or first) + 1)
-
-
-def found(server, path):
-    """The value of a reply 200, or None of a reply 404."""
-    status, content = server.ask("GET", path)
-    if status not in (200, 404):
-        raise Refused(f"GET {path}: {status} {content.decode('utf-8', 'replace').strip()}")
-    return json.loads(content) if status == 200 else None
-
-
-def listed(server):
-    """Each feature of the map with its number, in ascending order."""
-    if found(server, "/admin/status") is None:
-        raise Refused("the server doesn't list its features: start it with --admin, or give --numbers or --archive")
-    number = 0
-    while number < NUMBER_END:
-        row = found(server, f"/admin/features/from/{number}")
-        if row is None:
-            return
-        yield row["id"], row["feature"]
-        number = row["id"] + 1
-
-
-def wanted(words, server):
-    """Each number that is asked for, with its feature or None."""
-    if words.archive:
-        server.publish()
-        status, archive = server.ask("GET", "/map.pmtiles")
-        numbers = numbers_in(archive if status == 200 else b"")
-    elif words.numbers:
-        numbers = ranges(words.numbers)
-    else:
-        yield from listed(server)
-        return
-    for number in numbers:
-        yield number, found(server, f"/features/{number}")
+def wanted(words, client):
+    """Each id that is asked for, with its feature or None."""
+    if words.numbers is None and not words.archive:
+        return listed(client)
+    numbers = ids_of_archive(client) if words.archive else ranges(words.numbers)
+    return ((number, client.feature(number)) for number in numbers)
 
 
 def is_lines(name):
     return name.endswith(".jsonl")
 
 
-def save(words, server):
-    """Saves features in the file, which has what it had until all of them are there."""
-    saved = missing = 0
-    lines = is_lines(words.file)
-    with open(words.file + ".part", "w", encoding="utf-8") as file:
-        file.write("" if lines else '{"type":"FeatureCollection","features":[')
-        for number, feature in wanted(words, server):
-            if feature is None:
-                missing += 1
-                continue
-            row = {"feature": feature, "id": number} if lines else geojson_of(number, feature)
-            text = json.dumps(row, ensure_ascii=False, separators=(",", ":") if lines else None)
-            file.write(text + "\n" if lines else (",\n" if saved else "\n") + text)
+def row_of(number, feature, lines):
+    """A feature as a line of the file."""
+    if lines:
+        return json.dumps({"feature": feature, "id": number}, ensure_ascii=False, separators=(",", ":"), sort_keys=True)
+    return json.dumps(geojson_of(number, feature), ensure_ascii=False)
+
+
+def written(path, features, start):
+    """Writes the file, which has what it had until all features are there. Returns how many they are."""
+    saved, lines = 0, is_lines(path)
+    with open(path + ".part", "w", encoding="utf-8") as file:
+        file.write("" if lines else start)
+        for number, feature in features:
+            file.write(("" if lines else ",\n" if saved else "\n") + row_of(number, feature, lines) + ("\n" if lines else ""))
             saved += 1
-        file.write("" if lines else "\n]}\n")
+        file.write("" if lines else END)
         file.flush()
         os.fsync(file.fileno())
-    os.replace(words.file + ".part", words.file)
-    print(f"{saved} features saved" + (f", {missing} numbers without one" if words.numbers or words.archive else ""))
+    os.replace(path + ".part", path)
+    return saved
 
 
-def saved_in(file, name):
-    """The numbers and features of a file."""
-    if is_lines(name):
-        return [(row["id"], row["feature"]) for row in map(json.loads, file)]
-    return [(row["id"], feature_of(row)) for row in json.load(file)["features"]]
+def save(words):
+    """Saves features in the file."""
+    moment = moment_of(words.disk) if words.disk else None
+    found = moment.features.items() if moment else wanted(words, Client(words.url))
+    missing = []
+
+    def there():
+        for number, feature in found:
+            if feature is None:
+                missing.append(number)
+            else:
+                yield number, feature
+
+    features = ((whole.number, whole.feature) for whole in wholes_of(there())) if words.wholes else there()
+    saved = written(words.file, features, START_OF_WHOLES if words.wholes else START)
+    of_moment = f", of the map after edit {moment.edit:,}" if moment else ""
+    of_ids = f", {len(missing)} ids without one" if words.numbers or words.archive else ""
+    print(f"{saved} features saved{of_moment}{of_ids}")
+    if moment and moment.passed:
+        print(f"note: reading began again {moment.passed} times, since a publication passed")
 
 
-def load(words, server):
+def saved_in(path):
+    """The ids and features of a file."""
+    with open(path, encoding="utf-8") as file:
+        if is_lines(path):
+            return [(row["id"], row["feature"]) for row in map(json.loads, file)]
+        whole = json.load(file)
+    if whole.get("wholes"):
+        raise Refused(f"{path} was saved with --wholes: put it into a map by import_features.py, which cuts large features again")
+    return [(row["id"], feature_of(row)) for row in whole["features"]]
+
+
+def load(words):
     """Puts the features of the file back."""
-    with open(words.file, encoding="utf-8") as file:
-        rows = saved_in(file, words.file)
-    for _, refusal in server.make(put(number, feature) for number, feature in rows):
+    rows = saved_in(words.file)
+    client = Client(words.url, words.publish, 1 if words.no_batches else MOST_CHANGES)
+    for change, refusal in client.make(put(number, feature) for number, feature in rows):
         if refusal:
-            raise Refused(refusal)
+            raise Refused(f"feature {change.number}: {refusal}")
     print(f"{len(rows)} features put")
 
 
@@ -272,19 +141,24 @@ def main():
     parser.add_argument("task", choices=["save", "load"])
     parser.add_argument("file", help="the GeoJSON file, or a file of lines of JSON if its name ends in .jsonl")
     parser.add_argument("--url", default="http://127.0.0.1:8080", help="the server (http://127.0.0.1:8080)")
-    parser.add_argument("--numbers", help="save: the numbers to ask for, as in 1-3000,5000")
-    parser.add_argument("--archive", action="store_true", help="save: publish, and take the numbers from the archive")
+    source = parser.add_mutually_exclusive_group()
+    source.add_argument("--disk", metavar="FILE", help="save: read this disk file, which may be served meanwhile")
+    source.add_argument("--numbers", help="save: the ids to ask for, as in 1-3000,5000")
+    source.add_argument("--archive", action="store_true", help="save: publish, and take the ids from the archive")
+    parser.add_argument("--wholes", action="store_true", help="save: features that the import cut as one, for other programs")
     parser.add_argument("--publish", action="store_true", help="load: publish by steps when the journal is full")
     parser.add_argument("--no-batches", action="store_true", help="load: put each feature in a request of its own")
     words = parser.parse_args()
-    if words.archive and words.numbers is not None:
-        parser.error("save takes one of --numbers and --archive")
     try:
-        server = Server(words.url, words.publish, 1 if words.no_batches else MOST_CHANGES)
-        (save if words.task == "save" else load)(words, server)
-    except Refused as fault:
-        sys.exit(str(fault))
+        (save if words.task == "save" else load)(words)
+    except NoAnswer as fault:
+        print(fault, file=sys.stderr)
+        return 3
+    except (Refused, Stopped, Damaged, OSError) as fault:
+        print(fault, file=sys.stderr)
+        return 1
+    return 0
 
 
 if __name__ == "__main__":
-    main()
+    sys.exit(main())

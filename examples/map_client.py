@@ -1,11 +1,22 @@
-"""A client of a running vtserve, for import_features.py and delete_layer.py: edits, publications by steps, the published archive."""
+"""A client of a running vtserve, for the scripts beside it: edits, the list of features, publications by steps. Needs no package.
+
+    client = Client("http://127.0.0.1:8080")
+    for number, feature in client.features(): ..                  # the list of a server with --admin
+    for change, refusal in client.make([checked(put(7, feature), was)]): ..
+
+A checked change (edits.py) replaces nothing that its author hasn't seen: if the map has another version, it is refused as a conflict, with
+that version. One whose reply was lost is sent again, and made once.
+"""
 import http.client
 import json
 import urllib.parse
+from dataclasses import dataclass
 
-from edits import MOST_CHANGES, Editor
-from map_backup import contents, fields
+from edits import MOST_CHANGES, NOTHING, batches, body_of, delete, encoded, fits
+from wholes import PIECE
 
+NUMBER_END = 2 ** 63
+CHECKED, PLAIN = "/admin/edits", "/edits"
 WHY = {
     "Json": "the body is no JSON text",
     "Body": "the body has over 65,536 bytes",
@@ -37,6 +48,13 @@ STATUSES = {
     503: "the proxy in front of the server doesn't reach it",
     504: "the proxy in front of the server waited too long for it",
 }
+# Statuses of a batch that its features, or their number, may be the cause of.
+OF_ITS_FEATURES = (400, 404, 413, 507)
+NO_BATCHES = {
+    409: "the disk of the server has version 1: features are sent one by one, which takes longer (upgrade it: docs/DEPLOYING.md)",
+    404: "the server, or a proxy in front of it, has no /edits: features are sent one by one, which takes longer (upgrade them: docs/DEPLOYING.md)",
+}
+NO_CHECKS = "the server makes no checked edits: it is older than they are, or the proxy in front of it doesn't pass /admin/ (docs/nginx.conf)"
 
 
 class NoAnswer(Exception):
@@ -47,55 +65,224 @@ class Stopped(Exception):
     """Why no further request makes sense."""
 
 
-class Client(Editor):
-    """The server at a URL. Each request has a connection of its own: the server has others to serve."""
+@dataclass
+class Refusal:
+    """Why a change isn't made. A conflict: `now` is what the map has of the feature (None: nothing), which isn't what the author saw."""
 
-    def __init__(self, url, publishes, most=MOST_CHANGES):
+    text: str
+    is_conflict: bool = False
+    now: dict | None = None
+
+    def __str__(self):
+        return self.text
+
+
+class Client:
+    """The server at a URL, by one connection that is kept. `publishes`: when the journal is full. `most`: the most changes of a request."""
+
+    def __init__(self, url, publishes=False, most=MOST_CHANGES):
         self.url, self.publishes, self.most = urllib.parse.urlsplit(url), publishes, most
-        self.length = None
+        self.connection = None
+        # Whether a batch has been accepted; the first change of those that were sent last and aren't known to be made.
+        self.has_batches = False
+        self.last = None
+
+    # ---- requests
 
     def ask(self, method, path, body=b""):
-        """The status and the content of the reply to one request."""
-        kind = http.client.HTTPSConnection if self.url.scheme == "https" else http.client.HTTPConnection
-        connection = kind(self.url.netloc, timeout=600)
-        try:
-            kind_of_body = {"Content-Type": "application/json"} if body else {}
-            connection.request(method, self.url.path.rstrip("/") + path, body, {"Connection": "close", **kind_of_body})
-            reply = connection.getresponse()
-            self.length = reply.getheader("content-length")
-            return reply.status, reply.read()
-        except (OSError, http.client.HTTPException) as fault:
-            raise NoAnswer(f"no reply of {urllib.parse.urlunsplit(self.url)}: {fault}") from fault
-        finally:
-            connection.close()
+        """The status and the content of the reply to one request. If the server has closed the kept connection, it is sent again."""
+        kind_of_body = {"Content-Type": "application/json"} if body else {}
+        for is_kept in (True, False) if self.connection else (False,):
+            try:
+                if not is_kept:
+                    kind = http.client.HTTPSConnection if self.url.scheme == "https" else http.client.HTTPConnection
+                    self.connection = kind(self.url.netloc, timeout=600)
+                self.connection.request(method, self.url.path.rstrip("/") + path, body, kind_of_body)
+                reply = self.connection.getresponse()
+                return reply.status, reply.read()
+            except (OSError, http.client.HTTPException) as fault:
+                self.close()
+                if not is_kept:
+                    raise NoAnswer(f"no reply of {urllib.parse.urlunsplit(self.url)}: {fault}") from fault
+            except BaseException:
+                self.close()
+                raise
+        return None
+
+    def close(self):
+        """Ends the kept connection."""
+        if self.connection:
+            self.connection.close()
+        self.connection = None
+
+    def found(self, path):
+        """The JSON of a reply 200, or None of a reply 404."""
+        status, content = self.ask("GET", path)
+        if status == 200:
+            return json.loads(content)
+        if word(content) != "NotFound":
+            self.stop_at(status, content)
+            raise Stopped(f"GET {path}: {status} {word(content)}")
+        return None
 
     def status(self):
-        """What the server tells of itself, or None if it doesn't serve that."""
+        """What the server tells of itself, or None if it tells nothing (no --admin, or a proxy that doesn't pass it on)."""
         status, content = self.ask("GET", "/admin/status")
         return json.loads(content) if status == 200 else None
 
+    def feature(self, number):
+        """A feature of the map, or None."""
+        return self.found(f"/features/{number}")
+
+    def features(self, first=0, end=NUMBER_END):
+        """Each feature of the map with its id, from a first id to one before the end, in ascending order."""
+        while first < end:
+            row = self.found(f"/admin/features/from/{first}")
+            if row is None or row["id"] >= end:
+                return
+            yield row["id"], row["feature"]
+            first = row["id"] + 1
+
+    def next_id(self, status):
+        """The id after the greatest one in use. Where pieces of cut features have ids above 2^40, those are left out."""
+        last = status["last"]
+        if last is None or last < PIECE - 1:
+            return 1 if last is None else last + 1
+        low, high = 0, PIECE
+        while low < high:
+            middle = (low + high) // 2
+            if next(self.features(middle, PIECE), None):
+                low = middle + 1
+            else:
+                high = middle
+        return low
+
+    # ---- publications
+
     def post(self, path):
-        """The sectors that are left after a step of a publication."""
-        status, content = self.ask("POST", path)
-        if status != 200:
-            self.stop_at(status, content)
-            raise Stopped(f"{path}: {status} {word(content)}")
-        return json.loads(content)["left"]
+        """The reply to a step of a publication, on a connection of its own: it is sent once."""
+        self.close()
+        return self.ask("POST", path)
 
     def publish(self):
-        """Publishes by steps, which frees the journal."""
-        left = self.post("/publish/begin")
-        while left > 0:
-            left = self.post("/publish/step")
+        """Publishes by steps, which frees the journal. A publication that is under way is finished first, whoever began it."""
+        status, content = self.post("/publish/begin")
+        if word(content) == "Busy":
+            self.finish()
+            status, content = self.post("/publish/begin")
+        self.finish(self.left(status, content))
 
-    def edit(self, change):
-        """Makes one change alone. Returns the refusal, or an empty text."""
+    def finish(self, left=None):
+        """Does the steps that are left of a publication. Somebody else may do some of them meanwhile."""
+        while left is None or left > 0:
+            status, content = self.post("/publish/step")
+            if word(content) == "Idle":
+                return
+            left = self.left(status, content)
+
+    def left(self, status, content):
+        """The sectors that are left after a step."""
+        if status != 200:
+            self.stop_at(status, content)
+            raise Stopped(f"a publication: {status} {word(content)}")
+        return json.loads(content)["left"]
+
+    # ---- edits
+
+    def make(self, changes):
+        """Makes changes in their order. Yields each with its refusal, which is None if it is made."""
+        for group in batches(changes, self.most):
+            self.last = group[0].number
+            yield from self.make_plain(group) if group[0].was is None else self.make_checked(group)
+
+    def make_checked(self, group):
+        """Makes checked changes as one edit. Changes whose feature somebody else has changed are left out, and are conflicts."""
+        while group:
+            if len(group) == 1 and not fits(group[0]):
+                yield group[0], self.make_large(group[0])
+                return
+            status, content = self.send("POST", CHECKED, body_of(group))
+            if status == 200:
+                yield from ((change, None) for change in group)
+                return
+            if status == 409 and content.startswith(b"Changed "):
+                seen = [(change, self.feature(change.number)) for change in group]
+                group = [change for change, now in seen if encoded(now) == change.was]
+                yield from ((change, conflict(change, now)) for change, now in seen if encoded(now) != change.was)
+                continue
+            if status == 404:
+                raise Stopped(NO_CHECKS)
+            if status not in OF_ITS_FEATURES or len(group) == 1:
+                self.stop_at(status, content)
+                yield from ((change, refusal(status, content, len(change.body or b""))) for change in group)
+                return
+            for change in group:
+                self.last = change.number
+                yield from self.make_checked([change])
+            return
+
+    def make_large(self, change):
+        """Makes a change that is too large for a request beside what its author saw: the feature is deleted, then put as a new one."""
+        removal = delete(change.number)._replace(was=change.was)
+        if change.was == NOTHING or not fits(removal):
+            return Refusal(f"its JSON, and that of the version before, have over 65,536 bytes: {WHY['E8 Long'].split(': ')[1]}")
+        refused = self.alone(removal)
+        if refused is None and change.body is not None:
+            refused = self.alone(change._replace(was=NOTHING))
+            if refused is not None:
+                self.alone(change._replace(body=change.was, was=NOTHING))
+        return refused
+
+    def alone(self, change):
+        """Makes one checked change. Returns its refusal."""
+        (_, refused), = self.make_checked([change])
+        return refused
+
+    def make_plain(self, group):
+        """Makes changes as one edit, whatever the map has of their features; one by one if the server refuses them together."""
+        is_made = len(group) > 1 and self.is_made(group)
+        for change in group:
+            self.last = change.number
+            yield change, None if is_made else self.make_alone(change)
+
+    def make_alone(self, change):
+        """Makes one change alone. Returns its refusal."""
         method, body = ("DELETE", b"") if change.body is None else ("PUT", change.body)
         status, content = self.send(method, f"/features/{change.number}", body)
         if status == 200 or (method == "DELETE" and status == 404 and word(content) == "NotFound"):
-            return ""
+            return None
         self.stop_at(status, content)
         return refusal(status, content, len(body))
+
+    def is_made(self, group):
+        """Whether a batch is made. If it isn't, nothing is changed, and each of its changes is to be sent alone."""
+        if self.most == 1:
+            return False
+        status, content = self.send("POST", PLAIN, body_of(group))
+        if status == 200:
+            self.has_batches = True
+        elif (status == 409 and content.startswith(b"NeedsUpgrade")) or (status == 404 and not self.knows_edits()):
+            self.most = 1
+            print(f"note: {NO_BATCHES[status]}", flush=True)
+        elif status not in OF_ITS_FEATURES:
+            self.stop_at(status, content)
+        return status == 200
+
+    def knows_edits(self):
+        """Whether the server has the path of batches: 404 may also speak of a feature that is to be deleted. A batch of no change is asked for."""
+        if not self.has_batches:
+            status, content = self.ask("POST", PLAIN, body_of([]))
+            self.has_batches = status == 400 and content.startswith(b"E10")
+        return self.has_batches
+
+    def send(self, method, path, body):
+        """Status and content of the reply to an edit. If the journal is full, it is sent again after a publication."""
+        status, content = self.ask(method, path, body)
+        if status == 507 and content.startswith(b"JournalFull") and self.publishes:
+            print("        the journal is full: a publication", flush=True)
+            self.publish()
+            status, content = self.ask(method, path, body)
+        return status, content
 
     def stop_at(self, status, content):
         """Stops at a refusal that every further request would get."""
@@ -105,31 +292,12 @@ class Client(Editor):
         if status in STATUSES and first not in WHY:
             raise Stopped(f"{status} ({STATUSES[status]})")
 
-    def layers(self):
-        """The layer of each feature in the tiles of the map, which is published for it."""
-        self.publish()
-        status, archive = self.ask("GET", "/map.pmtiles")
-        if status == 404:
-            return {}
-        if status != 200:
-            raise Stopped(f"/map.pmtiles: {status} {word(archive)}")
-        return layers_in(archive)
 
-    def area_used(self):
-        """The sectors that the map takes of an area now: those of a publication that is begun and cancelled."""
-        status, content = self.ask("POST", "/publish/begin")
-        if status == 200:
-            self.ask("POST", "/publish/cancel")
-            return json.loads(content)["left"] - 1
-        words = word(content).split(" ")
-        if words[0] == "AreaFull":
-            return int(words[2])
-        if words[0] == "Busy":
-            # Somebody else publishes: the archive before it is known.
-            status, _ = self.ask("HEAD", "/map.pmtiles")
-            return -(-int(self.length or 0) // 512) if status == 200 else 0
-        self.stop_at(status, content)
-        raise Stopped(f"/publish/begin: {status} {word(content)}")
+def conflict(change, now):
+    """The refusal of a change whose feature isn't as its author saw it; None if it is as the change makes it, so the change is made."""
+    if (now is None and change.body is None) or (now is not None and encoded(now) == change.body):
+        return None
+    return Refusal("somebody else has deleted it meanwhile" if now is None else "somebody else has changed it meanwhile", True, now)
 
 
 def word(content):
@@ -142,24 +310,14 @@ def refusal(status, content, length):
     """A refusal with its cause."""
     first = word(content)
     if first in WHY:
-        return f"{first} ({WHY[first]})"
+        return Refusal(f"{first} ({WHY[first]})")
     if status == 413:
-        return f"413 (a proxy in front of the server takes no body of {length:,} bytes: client_max_body_size of nginx, 65,536 in docs/nginx.conf)"
-    return f"{status} {first}"
+        return Refusal(f"413 (a proxy in front of the server takes no body of {length:,} bytes: client_max_body_size of nginx, 65,536 in docs/nginx.conf)")
+    return Refusal(f"{status} {first}")
 
 
-def layers_in(archive):
-    """The layer of each feature in the tiles of an archive."""
-    found = {}
-    if not archive:
-        return found
-    root, root_length, _, _, leaves, _, tiles = (int.from_bytes(archive[at:at + 8], "little") for at in range(8, 64, 8))
-    for at, length in set(contents(archive, root, root_length, leaves, tiles)):
-        for number, layer in fields(archive[at:at + length]):
-            if number == 3:
-                parts = list(fields(layer))
-                name = next(value for part, value in parts if part == 1).decode()
-                for part, feature in parts:
-                    if part == 2:
-                        found[next(value for name_of, value in fields(feature) if name_of == 1)] = name
-    return found
+def ranges(text):
+    """The numbers of `1-3000,5000`."""
+    for part in text.split(","):
+        first, _, last = part.partition("-")
+        yield from range(int(first), int(last or first) + 1)

@@ -156,11 +156,11 @@ def measured(folder):
         for at in range(ROUNDS):
             times = {name: [] for name in rounds}
             for turn in range(at * TURNS, (at + 1) * TURNS):
-                alone, group = point(1, turn), [point(number, turn) for number in range(101, 101 + edits.MAX_CHANGES)]
+                alone, group = point(1, turn), [point(number, turn) for number in range(101, 101 + edits.MOST_CHANGES)]
                 count = edits.sectors(group)
                 times["alone"].append(peer.ask(request(b"PUT", b"/features/1", alone.body)))
                 times["bare"].append(ordered.write(slot, 1))
-                times["batch"].append(peer.ask(request(b"POST", b"/edits", edits.FRAME % b",".join(map(edits.spelled, group)))))
+                times["batch"].append(peer.ask(request(b"POST", b"/edits", edits.FRAME % b",".join(map(edits.json_of, group)))))
                 times["ordered"].append(ordered.write(slot + 1, count))
                 times["at once"].append(at_once.write(slot + 1, count))
                 slot += 1 + count
@@ -172,7 +172,7 @@ def measured(folder):
 def edits_a_second(folder):
     """Prints the times of changes alone and in batches. Returns whether the ratios are as wanted."""
     rounds, count = measured(folder)
-    rate, times = 1 / statistics.median(rounds["alone"]), edits.MAX_CHANGES
+    rate, times = 1 / statistics.median(rounds["alone"]), edits.MOST_CHANGES
     print(f"a change alone: {told(rounds['alone'])}, {rate:,.0f} a second; a write and a sync of its sector {told(rounds['bare'])}; "
         f"ratio {ratio(rounds['alone'], rounds['bare'])[1]}", flush=True)
     rate = times / statistics.median(rounds["batch"])
@@ -213,7 +213,7 @@ def imports(folder):
     for _ in range(IMPORTS):
         for name, words in (("in batches", []), ("one by one", ["--no-batches"])):
             with Server(folder, "imported.disk") as server:
-                tool = [SYSTEM_PYTHON, os.path.join(EXAMPLES, "import_features.py"), path, "--layer", "houses", "--url", server.url, *words]
+                tool = [SYSTEM_PYTHON, os.path.join(EXAMPLES, "import_features.py"), path, "--layer", "houses", "--first", "1", "--url", server.url, *words]
                 began = time.perf_counter()
                 child = subprocess.run(tool, capture_output=True, text=True)
                 times[name].append(time.perf_counter() - began)

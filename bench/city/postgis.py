@@ -126,7 +126,7 @@ class Vtserve:
         self.port = port
         link = http.client.HTTPConnection("127.0.0.1", port)
         for batch in edits.batches([edits.put(number, body) for number, body in features]):
-            link.request("POST", "/edits", edits.FRAME % b",".join(edits.spelled(change) for change in batch))
+            link.request("POST", "/edits", edits.FRAME % b",".join(edits.json_of(change) for change in batch))
             reply = link.getresponse()
             if reply.status != 200:
                 sys.exit(f"POST /edits: {reply.status} {reply.read()!r}")

@@ -12,7 +12,7 @@ import sys
 from osgeo import gdal
 
 sys.path.append(os.path.join(os.path.dirname(os.path.abspath(__file__)), "..", "..", "examples"))
-from map_backup import contents  # noqa: E402
+from archive_ids import contents  # noqa: E402
 
 
 def extent(content):

@@ -114,7 +114,7 @@ class Vtserve:
         changes = [edits.put(number, body) for number, body in features]
         link = http.client.HTTPConnection("127.0.0.1", self.port)
         for batch in edits.batches(changes):
-            link.request("POST", "/edits", edits.FRAME % b",".join(edits.spelled(change) for change in batch))
+            link.request("POST", "/edits", edits.FRAME % b",".join(edits.json_of(change) for change in batch))
             reply = link.getresponse()
             said = reply.read()
             if reply.status != 200:
