@@ -7,6 +7,8 @@ use Rattle.std.specs.List.Sorted.{IsStrictlySortedBy}
 use Rattle.std.specs.Str.{IsUtf8}
 use Rattle.feature_model.specs.declared.limits.TheConstants.{MAX_ZOOM, MAX_NAME_BYTES, MIN_LINE, MIN_RING, MAX_TAGS, MAX_TEXT_BYTES}
 use Rattle.feature_model.specs.declared.feature.World.{World}
+use Rattle.feature_model.specs.declared.kinds.TheConstants.{POINTS_KIND, LINES_KIND, POLYGONS_KIND, TEXT_KIND, NATURAL_KIND, NEGATIVE_KIND}
+use Rattle.feature_model.specs.declared.kinds.TheConstants.{PUT_KIND, DELETE_KIND}
 use Rattle.feature_model.specs.Data.{TagData, ChangeData}
 use Rattle.feature_model.specs.Limits.{IsName, IsCount, AreZooms, CountFits, NumberFits, GeometryFits, ValueFits, HasAscendingKeys, keys_of}
 use Rattle.feature_model.specs.Limits.{AreEnough, IsNew, AreDistinct, ChangeFits}
@@ -16,11 +18,11 @@ use Rattle.feature_model.specs.Types.{IsOfWorld, LiesInWorld, TagFitsTypes, Chan
 
 -- ---- ends
 
--- The bytes end inside a field of so many bytes.
+-- The bytes end inside a field of `len` bytes.
 abbrev pub EndsWithin : ℕ → List ℕ → Type 0
 EndsWithin len bytes = length bytes < len
 
--- They have a whole first part, which is allowed, and end inside what comes behind it.
+-- They have a whole first part, which is allowed, and end inside what comes after it.
 abbrev pub EndsBehind : {A : Type 0} → (A → List ℕ) → (A → Type 0) → (A → List ℕ → Type 0) → List ℕ → Type 0
 EndsBehind {A} spell Is Ends bytes = (x : A) × (rest : List ℕ) × Is x × (bytes ≡ spell x ++ rest) × Ends x rest
 
@@ -32,7 +34,7 @@ one_byte b = b ∷ []
 abbrev pub EndsBehindKind : ℕ → (List ℕ → Type 0) → List ℕ → Type 0
 EndsBehindKind kind Ends bytes = (rest : List ℕ) × (bytes ≡ kind ∷ rest) × Ends rest
 
--- They have fewer than so many whole parts, which are allowed together, and end inside the next.
+-- They have fewer than `count` whole parts, which are allowed together, and end inside the next.
 abbrev pub EndsAmong : {A : Type 0} → (A → List ℕ) → (List A → Type 0) → (List A → List ℕ → Type 0) → ℕ → List ℕ → Type 0
 EndsAmong {A} spell Are Ends count bytes = (xs : List A) × (rest : List ℕ) × (length xs < count) × Are xs × (bytes ≡ flat_map spell xs ++ rest) × Ends xs rest
 
@@ -51,7 +53,7 @@ abbrev pub EndsInList : {A : Type 0} → ℕ → (A → List ℕ) → (A → Typ
 EndsInList least spell Is Ends bytes =
     EndsWithin 2 bytes ⊎ EndsBehind two_bytes (IsCount least) (EndsAmong spell (All Is) (λ _. Ends)) bytes
 
--- inside a list of points, which has at least so many
+-- inside a list of at least `least` points
 abbrev pub EndsInLine : ℕ → List ℕ → Type 0
 EndsInLine least bytes = EndsInList least spelled_point IsOfWorld (EndsWithin 8) bytes
 
@@ -66,23 +68,23 @@ IsPolygon rings = CountFits 1 rings × All (IsLine MIN_RING) rings
 
 abbrev pub EndsInGeometry : List ℕ → Type 0
 EndsInGeometry bytes = EndsWithin 1 bytes
-    ⊎ EndsBehindKind 1 (EndsInLine 1) bytes
-    ⊎ EndsBehindKind 2 (EndsInList 1 spelled_line (IsLine MIN_LINE) (EndsInLine MIN_LINE)) bytes
-    ⊎ EndsBehindKind 3 (EndsInList 1 (spelled_list spelled_line) IsPolygon EndsInRings) bytes
+    ⊎ EndsBehindKind POINTS_KIND (EndsInLine 1) bytes
+    ⊎ EndsBehindKind LINES_KIND (EndsInList 1 spelled_line (IsLine MIN_LINE) (EndsInLine MIN_LINE)) bytes
+    ⊎ EndsBehindKind POLYGONS_KIND (EndsInList 1 (spelled_list spelled_line) IsPolygon EndsInRings) bytes
 
 -- ---- tags
 
 abbrev pub EndsInValue : List ℕ → Type 0
 EndsInValue bytes = EndsWithin 1 bytes
-    ⊎ EndsBehindKind 1 EndsInText bytes
-    ⊎ EndsBehindKind 2 (EndsWithin 8) bytes
-    ⊎ EndsBehindKind 3 (EndsWithin 8) bytes
+    ⊎ EndsBehindKind TEXT_KIND EndsInText bytes
+    ⊎ EndsBehindKind NATURAL_KIND (EndsWithin 8) bytes
+    ⊎ EndsBehindKind NEGATIVE_KIND (EndsWithin 8) bytes
 
 -- a key that may follow these tags
 abbrev pub IsNextKey : List TagData → List ℕ → Type 0
 IsNextKey tags key = IsName key × IsUtf8 key × IsStrictlySortedBy (slice_cmp nat_cmp) (keys_of tags ++ key ∷ [])
 
--- inside the tag behind these
+-- inside the tag after these
 abbrev pub EndsInTag : List TagData → List ℕ → Type 0
 EndsInTag tags bytes = EndsInName bytes ⊎ EndsBehind spelled_name (IsNextKey tags) (λ _. EndsInValue) bytes
 
@@ -97,11 +99,11 @@ EndsInTags bytes = EndsWithin 1 bytes ⊎ EndsBehind one_byte (λ count. count �
 abbrev pub EndsInZooms : List ℕ → Type 0
 EndsInZooms bytes = EndsWithin 1 bytes ⊎ EndsBehind one_byte (λ zoom. zoom ≤ MAX_ZOOM) (λ _. EndsWithin 1) bytes
 
--- behind the zooms
+-- after the zooms
 abbrev pub EndsInShape : List ℕ → Type 0
 EndsInShape bytes = EndsInGeometry bytes ⊎ EndsBehind spelled_geometry (λ g. GeometryFits g × LiesInWorld g) (λ _. EndsInTags) bytes
 
--- behind the layer
+-- after the layer
 abbrev pub EndsInBody : List ℕ → Type 0
 EndsInBody bytes = EndsInZooms bytes
     ⊎ EndsBehind (λ zooms. zooms.0 ∷ zooms.1 ∷ []) (λ zooms. AreZooms zooms.0 zooms.1) (λ (zooms : ℕ × ℕ). EndsInShape) bytes
@@ -109,17 +111,17 @@ EndsInBody bytes = EndsInZooms bytes
 abbrev pub EndsInFeature : List ℕ → Type 0
 EndsInFeature bytes = EndsInName bytes ⊎ EndsBehind spelled_name (λ layer. IsName layer × IsUtf8 layer) (λ _. EndsInBody) bytes
 
--- the number of a change behind these
+-- the number of a change after these
 abbrev pub IsNextNumber : List ChangeData → ℕ → Type 0
 IsNextNumber done id = NumberFits id × IsNew done id
 
--- inside a change behind these, where it sets a feature
+-- inside a change after these, where it sets a feature
 abbrev pub EndsInPut : List ChangeData → List ℕ → Type 0
 EndsInPut done bytes = EndsWithin 8 bytes ⊎ EndsBehind eight_bytes (IsNextNumber done) (λ _. EndsInFeature) bytes
 
--- inside the change behind these
+-- inside the change after these
 abbrev pub EndsInChange : List ChangeData → List ℕ → Type 0
-EndsInChange done bytes = EndsWithin 1 bytes ⊎ EndsBehindKind 1 (EndsInPut done) bytes ⊎ EndsBehindKind 2 (EndsWithin 8) bytes
+EndsInChange done bytes = EndsWithin 1 bytes ⊎ EndsBehindKind PUT_KIND (EndsInPut done) bytes ⊎ EndsBehindKind DELETE_KIND (EndsWithin 8) bytes
 
 abbrev pub AreChanges : List ChangeData → Type 0
 AreChanges cs = All (λ c. ChangeFits c × ChangeFitsTypes c) cs × AreDistinct cs

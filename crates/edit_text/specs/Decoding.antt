@@ -1,6 +1,7 @@
--- What stands in front of bytes.
+-- Changes and edits in front of bytes.
 use Rattle.std.specs.Prelude.{◌≡◌, ℕ, ◌<◌, List, [], ◌∷◌, ◌++◌, length}
 use Rattle.feature_model.specs.declared.limits.TheConstants.{MAX_EDIT_BYTES}
+use Rattle.feature_model.specs.declared.kinds.TheConstants.{PUT_KIND}
 use Rattle.feature_model.specs.Data.{ChangeData, EditData}
 use Rattle.feature_model.specs.Limits.{AreEnough}
 use Rattle.feature_model.specs.Spelled.{spelled_change, spelled}
@@ -21,7 +22,7 @@ BeginsWith e bytes = Begins spelled IsEdit e bytes
 
 -- The bytes begin as the text of a change does that sets a feature.
 abbrev pub BeginsAsPut : List ℕ → Type 0
-BeginsAsPut bytes = (rest : List ℕ) × (bytes ≡ 1 ∷ rest)
+BeginsAsPut bytes = (rest : List ℕ) × (bytes ≡ PUT_KIND ∷ rest)
 
 -- The bytes begin as the text of an edit does: with a count of changes.
 abbrev pub BeginsAsEdit : List ℕ → Type 0

@@ -1,4 +1,4 @@
--- Reading from left to right: what stands in front and the bytes behind it, or the first fault that is met.
+-- Reading from left to right: what is in front and the bytes after it, or the first fault that is met.
 use Rattle.std.specs.Prelude.{◌≡◌, ℕ, ◌+◌, ◌^◌, ◌==◌, ◌&&◌, Bool, true, false, nat_lt, nat_le, if◌then◌else◌}
 use Rattle.std.specs.Prelude.{List, [], ◌∷◌, ◌++◌, length, take, drop, Ok, Err, IsOk}
 use Rattle.std.specs.Ordering.{nat_cmp, is_lt}
@@ -8,6 +8,8 @@ use Rattle.std.specs.Str.{is_utf8}
 use Rattle.feature_model.specs.declared.limits.TheConstants.{MIN_LINE, MIN_RING, MAX_TAGS, MAX_TEXT_BYTES, MAX_EDIT_BYTES}
 use Rattle.feature_model.specs.declared.limits.TheConstants.{NUMBER_END, MAX_ZOOM, MAX_NAME_BYTES, MAX_CHANGES}
 use Rattle.feature_model.specs.declared.feature.World.{World}
+use Rattle.feature_model.specs.declared.kinds.TheConstants.{POINTS_KIND, LINES_KIND, POLYGONS_KIND, TEXT_KIND, NATURAL_KIND, NEGATIVE_KIND}
+use Rattle.feature_model.specs.declared.kinds.TheConstants.{FALSE_KIND, TRUE_KIND, PUT_KIND, DELETE_KIND}
 use Rattle.feature_model.specs.Data.{GeometryData, world_points, world_lines, world_polygons, ValueData, text_value, natural_value}
 use Rattle.feature_model.specs.Data.{negative_value, truth_value, TagData, FeatureData, ChangeData, put, delete, EditData, number_of}
 use Rattle.feature_model.specs.Limits.{is_count}
@@ -15,13 +17,13 @@ use Rattle.edit_text.specs.declared.fault.TextFault.{TextFault}
 use Rattle.edit_text.specs.declared.fault.TextFault.TheVariants.{Cut, Bad}
 use Rattle.reader.specs.Reading.{Read, ◌>>=◌, repeated}
 
--- what was read and the bytes behind it, or a fault
+-- what was read and the bytes after it, or a fault
 abbrev pub Part : Type 0 → Type 0
 Part A = Read TextFault (A × List ℕ)
 
 -- ---- ways to read
 
--- first this, then what it leads to, from the bytes behind it
+-- first this, then what it leads to, from the bytes after it
 abbrev pub then_read : {A B : Type 0} → Part A → (A → List ℕ → Part B) → Part B
 then_read part next = part >>= (λ x. next x.0 x.1)
 
@@ -33,11 +35,11 @@ read_as make part = part >>= (λ x. Ok (make x.0, x.1))
 abbrev pub read_if : {A : Type 0} → (A → Bool) → Part A → Part A
 read_if test part = part >>= (λ x. if test x.0 then Ok x else Err Bad)
 
--- one more behind those that were read; how it is read may depend on them
+-- one more after those that were read; how it is read may depend on them
 abbrev pub next_at : {A : Type 0} → (List A → List ℕ → Part A) → List A × List ℕ → Part (List A)
 next_at read so_far = then_read (read so_far.0 so_far.1) (λ x rest. Ok (so_far.0 ++ x ∷ [], rest))
 
--- so many more behind those that were read
+-- `count` more after those that were read
 abbrev pub many_at : {A : Type 0} → (List A → List ℕ → Part A) → ℕ → List A → List ℕ → Part (List A)
 many_at read count done bytes = repeated (next_at read) count (done, bytes)
 
@@ -73,11 +75,11 @@ long_text_at bytes = then_read (read_if (λ len. nat_le len MAX_TEXT_BYTES) (two
 unfoldable pub point_at : List ℕ → Part World
 point_at bytes = then_read (four_at bytes) (λ x rest. read_as (λ y. record { x = x; y = y }) (four_at rest))
 
--- a count of at least so many, and not too many
+-- a count of at least `least`, and not too great
 abbrev pub count_at : ℕ → List ℕ → Part ℕ
 count_at least bytes = read_if (is_count least) (two_at bytes)
 
--- a count of at least so many, and what is counted
+-- such a count, and what is counted
 abbrev pub list_at : {A : Type 0} → ℕ → (List ℕ → Part A) → List ℕ → Part (List A)
 list_at least read bytes = then_read (count_at least bytes) (λ count. many_at (λ _. read) count [])
 
@@ -96,9 +98,9 @@ polygons_at bytes = list_at 1 (lines_at MIN_RING) bytes
 
 unfoldable pub geometry_behind : ℕ → List ℕ → Part GeometryData
 geometry_behind kind bytes =
-    if kind == 1 then read_as world_points (line_at 1 bytes)
-    else (if kind == 2 then read_as world_lines (lines_at MIN_LINE bytes)
-    else (if kind == 3 then read_as world_polygons (polygons_at bytes)
+    if kind == POINTS_KIND then read_as world_points (line_at 1 bytes)
+    else (if kind == LINES_KIND then read_as world_lines (lines_at MIN_LINE bytes)
+    else (if kind == POLYGONS_KIND then read_as world_polygons (polygons_at bytes)
     else Err Bad))
 
 unfoldable pub geometry_at : List ℕ → Part GeometryData
@@ -112,23 +114,23 @@ negative_at bytes = read_if (λ n. nat_le (2 ^ 63) n) (eight_at bytes)
 
 unfoldable pub value_behind : ℕ → List ℕ → Part ValueData
 value_behind kind bytes =
-    if kind == 1 then read_as text_value (long_text_at bytes)
-    else (if kind == 2 then read_as natural_value (eight_at bytes)
-    else (if kind == 3 then read_as (λ n. negative_value (cast_signed w64 n)) (negative_at bytes)
-    else (if kind == 4 then Ok (truth_value false, bytes)
-    else (if kind == 5 then Ok (truth_value true, bytes)
+    if kind == TEXT_KIND then read_as text_value (long_text_at bytes)
+    else (if kind == NATURAL_KIND then read_as natural_value (eight_at bytes)
+    else (if kind == NEGATIVE_KIND then read_as (λ n. negative_value (cast_signed w64 n)) (negative_at bytes)
+    else (if kind == FALSE_KIND then Ok (truth_value false, bytes)
+    else (if kind == TRUE_KIND then Ok (truth_value true, bytes)
     else Err Bad))))
 
 unfoldable pub value_at : List ℕ → Part ValueData
 value_at bytes = then_read (byte_at bytes) value_behind
 
--- the key comes behind the last of these tags
+-- the key comes after that of the last of these tags
 unfoldable pub is_next_key : List TagData → List ℕ → Bool
 is_next_key [] key = true
 is_next_key (t ∷ []) key = is_lt (slice_cmp nat_cmp t.key key)
 is_next_key (t ∷ u ∷ ts) key = is_next_key (u ∷ ts) key
 
--- the tag behind these
+-- the tag after these
 unfoldable pub tag_at : List TagData → List ℕ → Part TagData
 tag_at tags bytes = then_read (read_if (is_next_key tags) (name_at bytes)) (λ key rest. read_as (λ value. record { key = key; value = value }) (value_at rest))
 
@@ -158,7 +160,7 @@ unfoldable pub is_new : List ChangeData → ℕ → Bool
 is_new [] id = true
 is_new (c ∷ cs) id = if number_of c == id then false else is_new cs id
 
--- the number of a change behind these
+-- the number of a change after these
 unfoldable pub next_number_at : List ChangeData → List ℕ → Part ℕ
 next_number_at done bytes = read_if (is_new done) (number_at bytes)
 
@@ -167,11 +169,11 @@ put_at done bytes = then_read (next_number_at done bytes) (λ id rest. read_as (
 
 unfoldable pub change_behind : List ChangeData → ℕ → List ℕ → Part ChangeData
 change_behind done kind bytes =
-    if kind == 1 then put_at done bytes
-    else (if kind == 2 then read_as delete (next_number_at done bytes)
+    if kind == PUT_KIND then put_at done bytes
+    else (if kind == DELETE_KIND then read_as delete (next_number_at done bytes)
     else Err Bad)
 
--- the change behind these
+-- the change after these
 unfoldable pub change_at : List ChangeData → List ℕ → Part ChangeData
 change_at done bytes = then_read (byte_at bytes) (change_behind done)
 
@@ -186,7 +188,7 @@ abbrev pub cut_as_bad : {A : Type 0} → Part A → Part A
 cut_as_bad (Err Cut) = Err Bad
 cut_as_bad part = part
 
--- what stands in front, in a text of at most so many bytes
+-- what is in front, in a text of at most `most` bytes
 abbrev pub read_within : {A : Type 0} → ℕ → (List ℕ → Part A) → List ℕ → Part A
 read_within most read bytes = if nat_lt (length bytes) most then read bytes else cut_as_bad (read (take most bytes))
 

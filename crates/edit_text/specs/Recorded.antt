@@ -26,7 +26,7 @@ most_in version = if version == 1 then MAX_EDIT_BYTES else edit_most
 abbrev pub IsRecordVersion : ℕ → Type 0
 IsRecordVersion version = (version ≡ 1) ⊎ (version ≡ 2)
 
--- a record of the version can have an edit of so many changes: one in version 1
+-- a record of the version can have an edit of this count of changes: one in version 1
 pub record FitsVersion (version : ℕ) (cs : EditData) : Type 0 where
   pub is : IsRecordVersion version
   pub one : version ≡ 1 → length cs ≡ 1

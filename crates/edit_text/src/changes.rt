@@ -1,6 +1,7 @@
 //! Features and changes in front of bytes.
 
 ghost use Rattle.std.specs.Prelude.{◌≡◌, ◌≢◌, ℕ, map};
+ghost use Rattle.feature_model.specs.declared.kinds.TheConstants.{PUT_KIND};
 ghost use Rattle.feature_model.specs.Data.{feature_data, change_data};
 ghost use Rattle.edit_text.specs.Decoding.{BeginsAsPut};
 ghost use Rattle.reader.specs.Reading.{Reads, Gives};
@@ -10,7 +11,7 @@ use crate::fault::TextFault;
 use crate::fields::{read_byte, read_name, read_number};
 use crate::shapes::read_geometry;
 use crate::tags::read_tags;
-use feature_model::{Change, Feature, MAX_ZOOM, is_new, zooms_fit};
+use feature_model::{Change, DELETE_KIND, Feature, MAX_ZOOM, PUT_KIND, is_new, zooms_fit};
 use std::alloc::Global;
 
 /// The first and the last zoom.
@@ -29,6 +30,7 @@ fn read_zooms(bytes: &[u8]) -> Result<((u8, u8), &[u8]), TextFault>
     Ok(((first, last), rest))
 }
 
+/// The layer, zooms, geometry and tags of a feature.
 #[tactic(auto, unfolding(crate::specs::Reading::feature_at))]
 fn read_feature(alloc: Global, bytes: &[u8]) -> Result<(Feature, &[u8]), TextFault>
     ensures { Gives TextFault.Memory (λ r. (feature_data r.0, r.1.now)) result (feature_at bytes.now) }
@@ -55,7 +57,7 @@ fn is_next(changes: &[Change], number: u64) -> bool
     is_new(changes, number)
 }
 
-/// The number of the change behind these.
+/// The number of the change after these.
 #[tactic(auto, unfolding(crate::specs::Reading::next_number_at))]
 fn read_next_number<'a>(changes: &[Change], bytes: &'a [u8]) -> Result<(u64, &'a [u8]), TextFault>
     ensures { Reads (λ r. (r.0, r.1.now)) result (next_number_at (map change_data changes.now) bytes.entry.now) }
@@ -67,6 +69,7 @@ fn read_next_number<'a>(changes: &[Change], bytes: &'a [u8]) -> Result<(u64, &'a
     Ok((number, rest))
 }
 
+/// A change that gives a number a feature, without its kind.
 #[tactic(auto, unfolding(crate::specs::Reading::put_at))]
 fn read_put<'a>(
     alloc: Global,
@@ -80,7 +83,7 @@ fn read_put<'a>(
     Ok((Change::Put { id, feature }, rest))
 }
 
-/// The change of this kind behind these.
+/// The change of this kind after these.
 #[tactic(auto, unfolding(crate::specs::Reading::change_behind))]
 fn read_change_of<'a>(
     alloc: Global,
@@ -90,12 +93,12 @@ fn read_change_of<'a>(
 ) -> Result<(Change, &'a [u8]), TextFault>
     ensures change { Gives TextFault.Memory (λ r. (change_data r.0, r.1.now)) result (change_behind (map change_data changes.now) kind bytes.entry.now) }
     // Only a Put allocates.
-    ensures other { kind ≢ 1 → Reads (λ r. (change_data r.0, r.1.now)) result (change_behind (map change_data changes.now) kind bytes.entry.now) }
-    ensures memory { result ≡ Err TextFault.Memory → kind ≡ 1 }
+    ensures other { kind ≢ PUT_KIND → Reads (λ r. (change_data r.0, r.1.now)) result (change_behind (map change_data changes.now) kind bytes.entry.now) }
+    ensures memory { result ≡ Err TextFault.Memory → kind ≡ PUT_KIND }
 {
     match kind {
-        1 => read_put(alloc, changes, bytes),
-        2 => {
+        PUT_KIND => read_put(alloc, changes, bytes),
+        DELETE_KIND => {
             let (id, rest) = read_next_number(changes, bytes)?;
             Ok((Change::Delete { id }, rest))
         }
@@ -103,7 +106,7 @@ fn read_change_of<'a>(
     }
 }
 
-/// The change behind these.
+/// The change after these.
 #[tactic(auto, unfolding(crate::specs::Reading::change_at))]
 pub(crate) fn read_change<'a>(
     alloc: Global,

@@ -19,7 +19,7 @@ const MAX_CHANGE_BYTES: usize = MAX_EDIT_BYTES as usize;
 /// The most bytes of the text of an edit: its count, and the texts of its changes.
 const MAX_BYTES: usize = 1 + MAX_CHANGE_BYTES;
 
-/// The change in front, whose text is no longer than the longest, and the bytes up to there that are behind it.
+/// The change in front, and the bytes after it, up to the length of the longest text of a change.
 #[tactic(auto, unfolding(crate::specs::Reading::decode_change_at))]
 fn read_short_change(alloc: Global, bytes: &[u8]) -> Result<(Change, &[u8]), TextFault>
     ensures change { Gives TextFault.Memory (λ r. (change_data r.0, r.1.now)) result (decode_change_at bytes.now) }
@@ -35,21 +35,21 @@ fn read_short_change(alloc: Global, bytes: &[u8]) -> Result<(Change, &[u8]), Tex
     }
 }
 
-/// The change whose text stands in front, and how many bytes the text has. Bytes may follow it.
+/// The change whose text is in front, and the length of the text in bytes. Bytes may follow it.
 pub fn decode_change(alloc: Global, bytes: &[u8]) -> Result<(Change, usize), TextFault>
-    // What is found stands there, and its text has this length.
+    // What is found is in front, and its text has this length.
     ensures found { IfOk result (λ r. BeginsWithChange (change_data r.0) bytes.now) }
     ensures len { IfOk result (λ r. r.1 ≡ length (spelled_change (change_data r.0))) }
-    // What stands there is found, whatever follows it, out of memory aside.
+    // What is in front is found, whatever follows it, unless memory runs out.
     ensures only { (c : ChangeData) → BeginsWithChange c bytes.now
         → MatchResult result (λ r. change_data r.0 ≡ c) (λ fault. fault ≡ TextFault.Memory) }
-    // `Cut` is returned exactly where the bytes are cut, out of memory aside.
+    // `Cut` is returned exactly if the bytes are cut, unless memory runs out.
     ensures cut { result ≡ Err TextFault.Cut → IsCutChange bytes.now }
     ensures only_cut { IsCutChange bytes.now
         → (result ≡ Err TextFault.Cut) ⊎ (result ≡ Err TextFault.Memory) }
     // An allocation fails only at what begins as a Put.
     ensures memory { result ≡ Err TextFault.Memory → BeginsAsPut bytes.now }
-    // All other bytes are bad, out of memory aside.
+    // All other bytes are bad, unless memory runs out.
     ensures bad { result ≡ Err TextFault.Bad → ¬ IsCutChange bytes.now × ((c : ChangeData) → ¬ BeginsWithChange c bytes.now) }
 {
     let (change, rest) = read_short_change(alloc, bytes)?;
@@ -57,7 +57,7 @@ pub fn decode_change(alloc: Global, bytes: &[u8]) -> Result<(Change, usize), Tex
     Ok((change, len))
 }
 
-/// The edit in front, whose text is no longer than the longest, and the bytes up to there that are behind it.
+/// The edit in front, and the bytes after it, up to the length of the longest text of an edit.
 #[tactic(auto, unfolding(crate::specs::Reading::decode_at))]
 fn read_short(alloc: Global, bytes: &[u8]) -> Result<(Edit, &[u8]), TextFault>
     ensures edit { Gives TextFault.Memory (λ r. (edit_data r.0, r.1.now)) result (decode_at bytes.now) }
@@ -73,7 +73,7 @@ fn read_short(alloc: Global, bytes: &[u8]) -> Result<(Edit, &[u8]), TextFault>
     }
 }
 
-/// The edit whose text stands in front, and how many bytes the text has. Bytes may follow it.
+/// The edit whose text is in front, and the length of the text in bytes. Bytes may follow it.
 pub fn decode(alloc: Global, bytes: &[u8]) -> Result<(Edit, usize), TextFault>
     // The clauses are those of `decode_change`.
     ensures found { IfOk result (λ r. BeginsWith (edit_data r.0) bytes.now) }
@@ -83,7 +83,7 @@ pub fn decode(alloc: Global, bytes: &[u8]) -> Result<(Edit, usize), TextFault>
     ensures cut { result ≡ Err TextFault.Cut → IsCut bytes.now }
     ensures only_cut { IsCut bytes.now
         → (result ≡ Err TextFault.Cut) ⊎ (result ≡ Err TextFault.Memory) }
-    // An allocation fails only behind a count of changes.
+    // An allocation fails only after a count of changes was read.
     ensures memory { result ≡ Err TextFault.Memory → BeginsAsEdit bytes.now }
     ensures bad { result ≡ Err TextFault.Bad → ¬ IsCut bytes.now × ((e : EditData) → ¬ BeginsWith e bytes.now) }
 {

@@ -12,7 +12,7 @@ use crate::fields::read_byte;
 use feature_model::{Change, Edit, change_count_fits};
 use std::alloc::Global;
 
-/// So many changes, each of a number of its own.
+/// `count` changes, each of a number of its own.
 fn read_each_change(
     alloc: Global,
     count: u8,
@@ -41,6 +41,7 @@ fn read_change_count(bytes: &[u8]) -> Result<(u8, &[u8]), TextFault>
     Ok((count, rest))
 }
 
+/// The count of changes, and each one.
 #[tactic(auto, unfolding(crate::specs::Reading::edit_at))]
 pub(crate) fn read_edit(alloc: Global, bytes: &[u8]) -> Result<(Edit, &[u8]), TextFault>
     ensures edit { Gives TextFault.Memory (λ r. (edit_data r.0, r.1.now)) result (edit_at bytes.now) }

@@ -12,10 +12,13 @@ ghost use Rattle.feature_model.specs.Spelled.{spelled_change, spelled_changes, s
 ghost use Rattle.feature_model.specs.Types.{IsOfWorld, LiesInWorld, ValueFitsTypes, TagFitsTypes, FeatureFitsTypes, IsChange, IsEdit};
 
 use feature_model::{
-    Change, Edit, EditValue, Feature, Geometry, Tag, World, change_text_len, put_text_len,
+    Change, DELETE_KIND, Edit, EditValue, FALSE_KIND, Feature, Geometry, LINES_KIND, NATURAL_KIND,
+    NEGATIVE_KIND, POINTS_KIND, POLYGONS_KIND, PUT_KIND, TEXT_KIND, TRUE_KIND, Tag, World,
+    change_text_len, put_text_len,
 };
 use std::alloc::{AllocError, Global};
 
+/// A count in two bytes.
 #[tactic(auto, unfolding(feature_model::specs::Spelled::two_bytes))]
 fn put_count(out: &mut Vec<u8>, count: usize) -> Result<(), AllocError>
     requires { count ≤ MAX_ELEMENTS }
@@ -24,6 +27,7 @@ fn put_count(out: &mut Vec<u8>, count: usize) -> Result<(), AllocError>
     out.extend_from_slice(&(count as u16).to_le_bytes())
 }
 
+/// The name of a layer or a key: its length in one byte, and its bytes.
 #[tactic(auto, unfolding(feature_model::specs::Spelled::spelled_name))]
 fn put_name(out: &mut Vec<u8>, name: &str) -> Result<(), AllocError>
     requires { IsName name.now }
@@ -34,6 +38,7 @@ fn put_name(out: &mut Vec<u8>, name: &str) -> Result<(), AllocError>
     out.extend_from_slice(name.as_bytes())
 }
 
+/// A point: its column and its row, in four bytes each.
 #[tactic(auto, unfolding(feature_model::specs::Spelled::spelled_point, feature_model::specs::Spelled::four_bytes))]
 fn put_point(out: &mut Vec<u8>, point: &World) -> Result<(), AllocError>
     ensures text { OnOk result (out.new.items ≡ out.old.items ++ spelled_point point.now) }
@@ -43,6 +48,7 @@ fn put_point(out: &mut Vec<u8>, point: &World) -> Result<(), AllocError>
     out.extend_from_slice(&point.y.to_le_bytes())
 }
 
+/// A list of points: their count, and each one.
 fn put_line(out: &mut Vec<u8>, points: &[World]) -> Result<(), AllocError>
     requires { length points.now ≤ MAX_ELEMENTS }
     ensures text { OnOk result (out.new.items ≡ out.old.items ++ spelled_line points.now) }
@@ -55,6 +61,7 @@ fn put_line(out: &mut Vec<u8>, points: &[World]) -> Result<(), AllocError>
     Ok(())
 }
 
+/// A list of lines, or the rings of a polygon.
 fn put_lines(out: &mut Vec<u8>, lines: &[Vec<World>]) -> Result<(), AllocError>
     requires count { length lines.now ≤ MAX_ELEMENTS }
     requires points { All (λ l. length l.items ≤ MAX_ELEMENTS) lines.now }
@@ -69,6 +76,7 @@ fn put_lines(out: &mut Vec<u8>, lines: &[Vec<World>]) -> Result<(), AllocError>
     Ok(())
 }
 
+/// A list of polygons.
 fn put_polygons(out: &mut Vec<u8>, polygons: &[Vec<Vec<World>>]) -> Result<(), AllocError>
     requires count { length polygons.now ≤ MAX_ELEMENTS }
     requires rings { All (λ p. length p.items ≤ MAX_ELEMENTS) polygons.now }
@@ -85,6 +93,7 @@ fn put_polygons(out: &mut Vec<u8>, polygons: &[Vec<Vec<World>>]) -> Result<(), A
     Ok(())
 }
 
+/// The kind and the lists of a geometry.
 #[tactic(auto, using(crate::proofs::GeometryKinds::geometries))]
 fn put_geometry(out: &mut Vec<u8>, geometry: &Geometry) -> Result<(), AllocError>
     requires { GeometryFits (geometry_data geometry.now) }
@@ -94,20 +103,21 @@ fn put_geometry(out: &mut Vec<u8>, geometry: &Geometry) -> Result<(), AllocError
 {
     match geometry {
         Geometry::Points(points) => {
-            out.push(1)?;
+            out.push(POINTS_KIND)?;
             put_line(out, points)
         }
         Geometry::Lines(lines) => {
-            out.push(2)?;
+            out.push(LINES_KIND)?;
             put_lines(out, lines)
         }
         Geometry::Polygons(polygons) => {
-            out.push(3)?;
+            out.push(POLYGONS_KIND)?;
             put_polygons(out, polygons)
         }
     }
 }
 
+/// A number in eight bytes.
 #[tactic(auto, unfolding(feature_model::specs::Spelled::eight_bytes))]
 fn put_number(out: &mut Vec<u8>, number: u64) -> Result<(), AllocError>
     ensures { OnOk result (out.new.items ≡ out.old.items ++ eight_bytes number) }
@@ -115,6 +125,7 @@ fn put_number(out: &mut Vec<u8>, number: u64) -> Result<(), AllocError>
     out.extend_from_slice(&number.to_le_bytes())
 }
 
+/// The text of a value: its length in two bytes, and its bytes.
 fn put_text(out: &mut Vec<u8>, text: &str) -> Result<(), AllocError>
     requires { length text.now ≤ MAX_TEXT_BYTES }
     ensures text { OnOk result
@@ -125,6 +136,7 @@ fn put_text(out: &mut Vec<u8>, text: &str) -> Result<(), AllocError>
     out.extend_from_slice(text.as_bytes())
 }
 
+/// The kind and the bytes of a value.
 #[tactic(auto, unfolding(feature_model::specs::Spelled::spelled_value))]
 fn put_value(out: &mut Vec<u8>, value: &EditValue) -> Result<(), AllocError>
     requires { ValueFits (value_data value.now) }
@@ -133,19 +145,19 @@ fn put_value(out: &mut Vec<u8>, value: &EditValue) -> Result<(), AllocError>
 {
     match value {
         EditValue::Text(text) => {
-            out.push(1)?;
+            out.push(TEXT_KIND)?;
             put_text(out, text.as_str())
         }
         EditValue::Natural(number) => {
-            out.push(2)?;
+            out.push(NATURAL_KIND)?;
             put_number(out, *number)
         }
         EditValue::Negative(number) => {
-            out.push(3)?;
+            out.push(NEGATIVE_KIND)?;
             put_number(out, number.cast_unsigned())
         }
         EditValue::Truth(truth) => {
-            out.push(if *truth { 5 } else { 4 })?;
+            out.push(if *truth { TRUE_KIND } else { FALSE_KIND })?;
             Ok(())
         }
     }
@@ -163,6 +175,7 @@ fn put_tag(out: &mut Vec<u8>, tag: &Tag) -> Result<(), AllocError>
     put_value(out, &tag.value)
 }
 
+/// The count of tags, and each one.
 fn put_tags(out: &mut Vec<u8>, tags: &[Tag]) -> Result<(), AllocError>
     requires keys { TagsFit (map tag_data tags.now) }
     requires values { ValuesFit (map tag_data tags.now) }
@@ -176,6 +189,7 @@ fn put_tags(out: &mut Vec<u8>, tags: &[Tag]) -> Result<(), AllocError>
     Ok(())
 }
 
+/// The layer, zooms, geometry and tags of a feature.
 #[tactic(auto, using(crate::proofs::FeatureTexts::features))]
 fn put_feature(out: &mut Vec<u8>, feature: &Feature) -> Result<(), AllocError>
     requires layer { LayerFits (feature_data feature.now) }
@@ -198,7 +212,7 @@ pub fn delete_text(id: u64) -> [u8; 9]
     ensures { result ≡ spelled_change (delete id) }
 {
     let [a, b, c, d, e, f, g, h] = id.to_le_bytes();
-    [2, a, b, c, d, e, f, g, h]
+    [DELETE_KIND, a, b, c, d, e, f, g, h]
 }
 
 /// The text of the edit that takes the number's feature away, and does no more: ten bytes. The number is below `NUMBER_END`.
@@ -218,7 +232,7 @@ pub fn append_put(out: &mut Vec<u8>, id: u64, feature: &Feature) -> Result<(), A
     ensures text { OnOk result (out.new.items ≡ out.old.items ++ spelled_change (put id (feature_data feature.now))) }
     ensures types { OnOk result (FeatureFitsTypes (feature_data feature.now)) }
 {
-    out.push(1)?;
+    out.push(PUT_KIND)?;
     put_number(out, id)?;
     put_feature(out, feature)
 }

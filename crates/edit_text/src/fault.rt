@@ -1,10 +1,12 @@
+//! Why bytes are not read as an edit.
+
 ghost use Rattle.edit_text.specs.declared.fault.TextFault.TheVariants.{Memory};
 ghost use Rattle.std.specs.Prelude.{◌≡◌};
 
 use std::alloc::{AllocError, AllocFailed};
 use thiserror::Error;
 
-/// Why no text of an edit stands in front of some bytes.
+/// Why some bytes don't begin with the text of an edit.
 #[derive(Clone, Copy, Debug, PartialEq, Eq, Error)]
 pub enum TextFault {
     /// Fewer than `MAX_EDIT_BYTES` bytes, which end before the text does, and each field that is whole among them is allowed.

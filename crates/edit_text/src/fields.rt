@@ -1,13 +1,14 @@
-//! Numbers and texts in front of bytes, each with the bytes behind it.
+//! Reads numbers and texts in front of bytes, and returns each with the bytes after it.
 
 ghost use Rattle.std.specs.Prelude.{◌≡◌, ℕ, ◌≤◌, length, IfOk};
 ghost use Rattle.reader.specs.Reading.{Reads};
 ghost use Rattle.edit_text.specs.Reading.{byte_at, front_at, two_at, four_at, eight_at, number_at, text_at, name_at, long_text_at};
 
-use byteorder::{ByteOrder, LittleEndian};
 use crate::fault::TextFault;
+use byteorder::{ByteOrder, LittleEndian};
 use feature_model::{MAX_NAME_BYTES, MAX_TEXT_BYTES, NUMBER_END};
 
+/// One byte.
 #[tactic(auto, unfolding(crate::specs::Reading::byte_at))]
 pub(crate) fn read_byte(bytes: &[u8]) -> Result<(u8, &[u8]), TextFault>
     ensures { Reads (λ r. (r.0, r.1.now)) result (byte_at bytes.now) }
@@ -18,7 +19,7 @@ pub(crate) fn read_byte(bytes: &[u8]) -> Result<(u8, &[u8]), TextFault>
     }
 }
 
-/// So many bytes.
+/// `len` bytes.
 #[tactic(auto, unfolding(crate::specs::Reading::front_at))]
 fn read_front(bytes: &[u8], len: usize) -> Result<(&[u8], &[u8]), TextFault>
     ensures exact { Reads (λ r. (r.0.now, r.1.now)) result (front_at len bytes.now) }
@@ -30,6 +31,7 @@ fn read_front(bytes: &[u8], len: usize) -> Result<(&[u8], &[u8]), TextFault>
     Ok(bytes.split_at(len))
 }
 
+/// A number in two bytes, the lowest first.
 #[tactic(auto, unfolding(crate::specs::Reading::two_at))]
 pub(crate) fn read_u16(bytes: &[u8]) -> Result<(u16, &[u8]), TextFault>
     ensures { Reads (λ r. (r.0, r.1.now)) result (two_at bytes.now) }
@@ -38,6 +40,7 @@ pub(crate) fn read_u16(bytes: &[u8]) -> Result<(u16, &[u8]), TextFault>
     Ok((LittleEndian::read_u16(front), rest))
 }
 
+/// A number in four bytes, the lowest first.
 #[tactic(auto, unfolding(crate::specs::Reading::four_at))]
 pub(crate) fn read_u32(bytes: &[u8]) -> Result<(u32, &[u8]), TextFault>
     ensures { Reads (λ r. (r.0, r.1.now)) result (four_at bytes.now) }
@@ -46,6 +49,7 @@ pub(crate) fn read_u32(bytes: &[u8]) -> Result<(u32, &[u8]), TextFault>
     Ok((LittleEndian::read_u32(front), rest))
 }
 
+/// A number in eight bytes, the lowest first.
 #[tactic(auto, unfolding(crate::specs::Reading::eight_at))]
 pub(crate) fn read_u64(bytes: &[u8]) -> Result<(u64, &[u8]), TextFault>
     ensures { Reads (λ r. (r.0, r.1.now)) result (eight_at bytes.now) }
@@ -66,7 +70,7 @@ pub(crate) fn read_number(bytes: &[u8]) -> Result<(u64, &[u8]), TextFault>
     Ok((number, rest))
 }
 
-/// So many bytes of UTF-8.
+/// `len` bytes of UTF-8.
 #[tactic(auto, using(crate::proofs::Utf8Tests::utf8_tests), unfolding(crate::specs::Reading::text_at))]
 fn read_text(bytes: &[u8], len: usize) -> Result<(&str, &[u8]), TextFault>
     ensures { Reads (λ r. (r.0.now, r.1.now)) result (text_at len bytes.now) }

@@ -78,10 +78,10 @@ fn edit_of(alloc: Global, text: &[u8]) -> Result<Edit, TextFault>
 pub fn decode_record(alloc: Global, version: u32, text: &[u8]) -> Result<Edit, TextFault>
     // What is found has this text in this version.
     ensures found { IfOk result (λ edit. IsRecordOf version (edit_data edit) text.now) }
-    // An edit that has this text in this version is found, out of memory aside.
+    // An edit that has this text in this version is found, unless memory runs out.
     ensures only { (cs : EditData) → IsRecordOf version cs text.now
         → MatchResult result (λ edit. edit_data edit ≡ cs) (λ fault. fault ≡ TextFault.Memory) }
-    // Where no edit has it, it is bad.
+    // If no edit has it, it is bad.
     ensures fault { IfErr result (λ fault. (fault ≡ TextFault.Bad) ⊎ (fault ≡ TextFault.Memory)) }
     // No other version allocates.
     ensures memory { result ≡ Err TextFault.Memory → IsRecordVersion version }

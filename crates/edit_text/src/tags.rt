@@ -9,7 +9,9 @@ ghost use Rattle.edit_text.specs.Reading.{many_at, negative_at, value_behind, va
 
 use crate::fault::TextFault;
 use crate::fields::{read_byte, read_long_text, read_name, read_u64};
-use feature_model::{EditValue, Tag, tag_count_fits};
+use feature_model::{
+    EditValue, FALSE_KIND, NATURAL_KIND, NEGATIVE_KIND, TEXT_KIND, TRUE_KIND, Tag, tag_count_fits,
+};
 use std::alloc::Global;
 
 /// The bits of a number below 0: the first of them is set.
@@ -30,24 +32,25 @@ fn read_value_of(alloc: Global, kind: u8, bytes: &[u8]) -> Result<(EditValue, &[
     ensures { Finds TextFault.Memory (λ r. (value_data r.0, r.1.now)) result (value_behind kind bytes.now) }
 {
     match kind {
-        1 => {
+        TEXT_KIND => {
             let (text, rest) = read_long_text(bytes)?;
             Ok((EditValue::Text(String::from_str(alloc, text)?), rest))
         }
-        2 => {
+        NATURAL_KIND => {
             let (number, rest) = read_u64(bytes)?;
             Ok((EditValue::Natural(number), rest))
         }
-        3 => {
+        NEGATIVE_KIND => {
             let (bits, rest) = read_negative(bytes)?;
             Ok((EditValue::Negative(bits.cast_signed()), rest))
         }
-        4 => Ok((EditValue::Truth(false), bytes)),
-        5 => Ok((EditValue::Truth(true), bytes)),
+        FALSE_KIND => Ok((EditValue::Truth(false), bytes)),
+        TRUE_KIND => Ok((EditValue::Truth(true), bytes)),
         _ => Err(TextFault::Bad),
     }
 }
 
+/// A kind and the value of it.
 #[tactic(auto, unfolding(crate::specs::Reading::value_at))]
 fn read_value(alloc: Global, bytes: &[u8]) -> Result<(EditValue, &[u8]), TextFault>
     ensures { Finds TextFault.Memory (λ r. (value_data r.0, r.1.now)) result (value_at bytes.now) }
@@ -63,7 +66,7 @@ fn is_before(key: &str, other: &str) -> bool
     key < other
 }
 
-/// Whether a key comes behind the last of these tags.
+/// Whether a key comes after that of the last of these tags.
 fn is_next(tags: &[Tag], key: &str) -> bool
     ensures { result ≡ is_next_key (map tag_data tags.now) key.now }
 {
@@ -73,7 +76,7 @@ fn is_next(tags: &[Tag], key: &str) -> bool
     }
 }
 
-/// The tag behind these.
+/// The tag after these.
 #[tactic(auto, unfolding(crate::specs::Reading::tag_at))]
 fn read_tag<'a>(alloc: Global, tags: &[Tag], bytes: &'a [u8]) -> Result<(Tag, &'a [u8]), TextFault>
     ensures { Finds TextFault.Memory (λ r. (tag_data r.0, r.1.now)) result (tag_at (map tag_data tags.now) bytes.entry.now) }
@@ -87,18 +90,18 @@ fn read_tag<'a>(alloc: Global, tags: &[Tag], bytes: &'a [u8]) -> Result<(Tag, &'
     Ok((Tag { key, value }, rest))
 }
 
-/// So many tags.
+/// `count` tags.
 fn read_each_tag(alloc: Global, count: u8, bytes: &[u8]) -> Result<(Vec<Tag>, &[u8]), TextFault>
     ensures tags { Gives TextFault.Memory (λ r. (map tag_data r.0.items, r.1.now)) result (many_at tag_at count [] bytes.now) }
-    // An allocation fails only where a first tag is there.
+    // An allocation fails only if there is a first tag.
     ensures first { result ≡ Err TextFault.Memory → IsOk (tag_at [] bytes.now) }
 {
     let mut tags = Vec::new(alloc);
     let mut rest = bytes;
     for _ in 0..count {
-        let (tag, behind) = read_tag(alloc, &tags, rest)?;
+        let (tag, after) = read_tag(alloc, &tags, rest)?;
         tags.push(tag)?;
-        rest = behind;
+        rest = after;
     }
     Ok((tags, rest))
 }

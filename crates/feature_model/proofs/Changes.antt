@@ -21,7 +21,7 @@ within_map xs i l = omega (arith, l, length-map xs change_data)
 
 -- ---- numbers
 
--- none of the first so many changes is of the number of one before it
+-- none of the first n changes is of the number of one before it
 abbrev pub AreDistinctTo : ℕ → EditData → Type 0
 AreDistinctTo i cs = (k : ℕ) (d : ChangeData) → k < i → k < length cs → IsNew (take k cs) (number_of (get_or cs k d))
 
@@ -41,7 +41,7 @@ distinct_step i xs x l is new so_far =
     distinct_at i (map change_data xs) (change_data x) (within_map xs i l) (read_is xs i x l is)
     (subst (λ cs. IsNew cs (number_of (change_data x))) (sym (take-map change_data i xs)) new) so_far
 
--- one whose number stands before it
+-- one whose number an earlier one has
 pub not_distinct : (i : ℕ) (xs : List Change) (x : Change) → i < length xs → x ≡ get_or xs i x
     → (IsNew (map change_data (take i xs)) (number_of (change_data x)) → ⊥) → AreDistinct (map change_data xs) → ⊥
 not_distinct i xs x l is twice distinct = twice (subst (λ cs. IsNew cs (number_of (change_data x))) (take-map change_data i xs)

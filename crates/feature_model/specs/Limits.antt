@@ -16,7 +16,7 @@ use Rattle.feature_model.specs.Spelled.{spelled_change, spelled_changes}
 abbrev pub IsName : List ℕ → Type 0
 IsName bytes = (1 ≤ length bytes) × (length bytes ≤ MAX_NAME_BYTES)
 
--- so many are enough, and not too many
+-- a count is at least this number, and not too great
 abbrev pub IsCount : ℕ → ℕ → Type 0
 IsCount least count = (least ≤ count) × (count ≤ MAX_ELEMENTS)
 
@@ -118,7 +118,7 @@ IsFirstFault id f _ = ⊥
 
 -- ---- the limits of an edit, in the order in which its faults are returned
 
--- so many changes are one at least, and not too many
+-- a count of changes is at least one, and not too great
 abbrev pub AreEnough : ℕ → Type 0
 AreEnough count = (1 ≤ count) × (count ≤ MAX_CHANGES)
 

@@ -1,3 +1,5 @@
+//! Why a feature or an edit is refused.
+
 ghost use Rattle.feature_model.specs.declared.fault.EditFault.TheVariants.{Memory};
 ghost use Rattle.std.specs.Prelude.{◌≡◌};
 

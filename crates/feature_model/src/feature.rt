@@ -1,3 +1,5 @@
+//! Features, their parts, and edits.
+
 /// A point of the world: `x` grows to the right, `y` downwards, and the whole world is 2^32 wide and high.
 #[derive(Clone, Copy, Debug, PartialEq, Eq)]
 pub struct World {

@@ -50,7 +50,7 @@ pub fn zooms_fit(minzoom: u8, maxzoom: u8) -> bool
     minzoom <= maxzoom && maxzoom <= MAX_ZOOM
 }
 
-/// Whether a list of so many elements has enough, and at most `MAX_ELEMENTS`.
+/// Whether a list of `count` elements has at least `least`, and at most `MAX_ELEMENTS`.
 pub fn count_fits(count: usize, least: usize) -> bool
     ensures { IsTrue result ↔ IsCount least count }
 {
@@ -78,6 +78,7 @@ fn each_polygon_fits(polygons: &[Vec<Vec<World>>]) -> bool
     polygons.iter().all(|rings| rings_fit(rings))
 }
 
+/// Whether there is a polygon, and each has enough rings and points.
 fn polygons_fit(polygons: &[Vec<Vec<World>>]) -> bool
     ensures { IsTrue result
         ↔ GeometryFits (world_polygons (map (λ p. map (λ r. r.items) p.items) polygons.now)) }
@@ -85,6 +86,7 @@ fn polygons_fit(polygons: &[Vec<Vec<World>>]) -> bool
     count_fits(polygons.len(), 1) && each_polygon_fits(polygons)
 }
 
+/// Whether each list of a geometry has enough elements, and not too many.
 fn geometry_fits(geometry: &Geometry) -> bool
     ensures { IsTrue result ↔ GeometryFits (geometry_data geometry.now) }
 {
@@ -121,13 +123,14 @@ fn keys_ascend(tags: &[Tag]) -> bool
     true
 }
 
-/// Whether a feature may have so many tags: at most `MAX_TAGS`.
+/// Whether a feature may have `count` tags: at most `MAX_TAGS`.
 pub fn tag_count_fits(count: usize) -> bool
     ensures { IsTrue result ↔ (count ≤ MAX_TAGS) }
 {
     count <= MAX_TAGS
 }
 
+/// Whether tags are few, and their keys are names and ascend.
 fn tags_fit(tags: &[Tag]) -> bool
     ensures { IsTrue result ↔ TagsFit (map tag_data tags.now) }
 {
@@ -141,6 +144,7 @@ pub fn is_tag_text(text: &str) -> bool
     text.len() <= MAX_TEXT_BYTES
 }
 
+/// Whether a text is short, and a number that is said to be negative is below 0.
 fn value_fits(value: &EditValue) -> bool
     ensures { IsTrue result ↔ ValueFits (value_data value.now) }
 {
@@ -151,6 +155,7 @@ fn value_fits(value: &EditValue) -> bool
     }
 }
 
+/// The same of the value of each tag.
 fn values_fit(tags: &[Tag]) -> bool
     ensures { IsTrue result ↔ ValuesFit (map tag_data tags.now) }
 {
@@ -210,7 +215,7 @@ impl Change {
     }
 }
 
-/// Whether an edit may have so many changes: one, and at most `MAX_CHANGES`.
+/// Whether an edit may have `count` changes: at least one, and at most `MAX_CHANGES`.
 pub fn change_count_fits(count: usize) -> bool
     ensures { IsTrue result ↔ AreEnough count }
 {
