@@ -217,7 +217,7 @@ def imports(folder):
                 began = time.perf_counter()
                 child = subprocess.run(tool, capture_output=True, text=True)
                 times[name].append(time.perf_counter() - began)
-                if child.returncode != 0 or "note: " in child.stdout:
+                if child.returncode != 0 or "one by one" in child.stdout:
                     sys.exit(f"import {name}:\n{child.stdout}{child.stderr}")
     for name, values in times.items():
         print(f"an import of {POINTS:,} points {name}: {statistics.median(values):.2f} s ({min(values):.2f} to {max(values):.2f})")
