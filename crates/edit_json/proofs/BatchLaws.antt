@@ -19,6 +19,7 @@ use Rattle.edit_json.specs.Batches.{AskedData, put_asked, delete_asked, asked_nu
 use Rattle.edit_json.specs.Batches.{IsJsonChange, IsBatch, HasMembers, Asks, BeginsAsked, NumbersDiffer}
 use Rattle.edit_json.specs.Batches.{IsSound, IsFirstAskedFault, IsFirstAsked, IsFirstBatchFault}
 use Rattle.edit_json.proofs.FaultLaws.{feature-one, feature-faultless}
+use Rattle.edit_json.proofs.ListLaws.{list-one, all-one, begins-there}
 
 -- ---- a value asks for one list of changes
 
@@ -29,32 +30,8 @@ asked-one (put_asked id d) (delete_asked n) same = cc
 asked-one (delete_asked id) (put_asked n e) same = cc
 asked-one (delete_asked id) (delete_asked n) same = cc
 
-items-one : (ds es : List Data) → items_of ds ≡ items_of es → ds ≡ es
-items-one [] [] same = refl
-items-one [] (e ∷ es) same = absurd (cc)
-items-one (d ∷ ds) [] same = absurd (cc)
-items-one (d ∷ ds) (e ∷ es) same =
-    let first : d ≡ e = cc in
-    let rest : items_of ds ≡ items_of es = cc in
-    let more = items-one ds es rest in
-    λ i. first i ∷ more i
-
-all-one : (ys bs : List AskedData) → map asked_json ys ≡ map asked_json bs → ys ≡ bs
-all-one [] [] same = refl
-all-one [] (b ∷ bs) same = absurd (cc)
-all-one (a ∷ ys) [] same = absurd (cc)
-all-one (a ∷ ys) (b ∷ bs) same =
-    let first : asked_json a ≡ asked_json b = cc in
-    let rest : map asked_json ys ≡ map asked_json bs = cc in
-    let one = asked-one a b first in
-    let more = all-one ys bs rest in
-    λ i. one i ∷ more i
-
-list-one : (ds es : List Data) → list_json ds ≡ list_json es → ds ≡ es
-list-one ds es same = let items : items_of ds ≡ items_of es = cc in items-one ds es items
-
 pub asks-one : (d : Data) (ys bs : List AskedData) → d ≡ asks_json ys → d ≡ asks_json bs → ys ≡ bs
-asks-one d ys bs is too = all-one ys bs (list-one (map asked_json ys) (map asked_json bs) (sym is ∙ too))
+asks-one d ys bs is too = all-one asked_json asked-one ys bs (list-one (map asked_json ys) (map asked_json bs) (sym is ∙ too))
 
 -- ---- and is the value of one edit
 
@@ -104,7 +81,7 @@ asked-number : (c : ChangeData) → asked_number (asked_of c) ≡ number_of c
 asked-number (put id f) = refl
 asked-number (delete id) = refl
 
-numbers-of : (cs : EditData) → map asked_number (map asked_of cs) ≡ map number_of cs
+pub numbers-of : (cs : EditData) → map asked_number (map asked_of cs) ≡ map number_of cs
 numbers-of [] = refl
 numbers-of (c ∷ cs) = let first = asked-number c in let rest = numbers-of cs in λ i. first i ∷ rest i
 
@@ -188,41 +165,6 @@ batch-faultless d cs e is h = absurd (first-asked d cs e is h.0 h.1 h.2.2)
 
 -- ---- what the reader's loops keep
 
--- one more object is read
-pub read-more : (vs : List Value) (i : ℕ) (v : Value) (ys : List AskedData) (a : AskedData) → i < length vs → v ≡ get_or vs i v
-    → view v ≡ asked_json a → map view (take i vs) ≡ map asked_json ys → map view (take (i + 1) vs) ≡ map asked_json (ys ++ a ∷ [])
-read-more vs i v ys a l is here so_far =
-    map_more view vs i v l ∙ ap (λ ds. ds ++ view (get_or vs i v) ∷ []) so_far
-    ∙ ap (λ d. map asked_json ys ++ d ∷ []) (ap view (sym is) ∙ here) ∙ sym (map-append asked_json ys (a ∷ []))
-
--- some objects are read, so the first value asks for a change
-pub begins-asked : (vs : List Value) (k : ℕ) (ys : List AskedData) → map view (take k vs) ≡ map asked_json ys → All HasMembers ys
-    → 0 < length ys → BeginsAsked (map view vs)
-begins-asked vs k [] so_far members some = absurd (omega (arith, some))
-begins-asked [] zero (y ∷ ys) so_far members some = absurd (cc)
-begins-asked [] (suc k) (y ∷ ys) so_far members some = absurd (cc)
-begins-asked (v ∷ vs) zero (y ∷ ys) so_far members some = absurd (cc)
-begins-asked (v ∷ vs) (suc k) (y ∷ ys) so_far members some =
-    let first : view v ≡ asked_json y = cc in
-    (y, map view vs, λ j. first j ∷ map view vs, All-head HasMembers y ys members)
-
--- the first value asks for the first change
-begins-there : (ys : List AskedData) → All HasMembers ys → 0 < length ys → BeginsAsked (map asked_json ys)
-begins-there [] members some = absurd (omega (arith, some))
-begins-there (y ∷ ys) members some = (y, map asked_json ys, refl, All-head HasMembers y ys members)
-
--- one that asks for nothing
-pub read-refused : (vs : List Value) (i : ℕ) (v : Value) → i < length vs → v ≡ get_or vs i v
-    → ((a : AskedData) → view v ≡ asked_json a → HasMembers a → ⊥)
-    → (ys : List AskedData) → map view vs ≡ map asked_json ys → All HasMembers ys → ⊥
-read-refused vs i v l is none ys same members =
-    let len : length vs ≡ length ys = sym (length-map vs view) ∙ ap length same ∙ length-map ys asked_json in
-    let within : i < length ys = omega (arith, l, len) in
-    let there : view v ≡ get_or (map view vs) i (view v) = ap view is ∙ sym (get_or-map view vs i v (view v) l) in
-    let asked : get_or (map asked_json ys) i (view v) ≡ asked_json (get_or ys i (delete_asked 0)) =
-    get_or-map asked_json ys i (delete_asked 0) (view v) within in
-    none (get_or ys i (delete_asked 0)) (there ∙ ap (λ ds. get_or ds i (view v)) same ∙ asked) (members i (delete_asked 0) within)
-
 pub asked-more : (xs : List Asked) (i : ℕ) (x : Asked) (ns : List ℕ) → i < length xs → x ≡ get_or xs i x
     → ns ≡ map asked_number (map asked_data (take i xs)) → ns ++ asked_number (asked_data x) ∷ [] ≡ map asked_number (map asked_data (take (i + 1) xs))
 asked-more xs i x ns l is so_far =
@@ -305,7 +247,8 @@ module _ (d : Data) (xs : List Asked) (is : d ≡ asks_json (map asked_data xs))
   module _ (enough : AreEnough (length xs)) where
     pub memory-refused : IsFirstBatchFault d faults.Memory
     memory-refused =
-        (map asked_json (map asked_data xs), is, begins-there (map asked_data xs) members (omega (arith, enough, length-map xs asked_data)))
+        let some : 0 < length (map asked_data xs) = omega (arith, enough, length-map xs asked_data) in
+        (map asked_json (map asked_data xs), is, begins-there asked_json HasMembers (map asked_data xs) members some)
 
     enough-asked : AreEnough (length (map asked_data xs))
     enough-asked = subst AreEnough (sym (length-map xs asked_data)) enough

@@ -1,3 +1,4 @@
+mod ListLaws
 mod BatchLaws
 mod SoFar
 mod ListLemmas
@@ -7,3 +8,4 @@ mod WriteLemmas
 pub mod GeometryLaws
 pub mod TagLaws
 pub mod FaultLaws
+pub mod CheckedLaws

@@ -68,9 +68,13 @@ pub record Asks (d : Data) (ys : List AskedData) : Type 0 where
 abbrev pub HasAsked : Data → (List AskedData → Type 0) → Type 0
 HasAsked d P = (ys : List AskedData) × Asks d ys × P ys
 
--- the first value of the list asks for a change, which has its members
+-- the first value of the list is the JSON of something, which has its members
+abbrev pub Begins : {A : Type 0} → (json : A → Data) → (Has : A → Type 0) → List Data → Type 0
+Begins {A} json Has ds = (a : A) × (rest : List Data) × (ds ≡ json a ∷ rest) × Has a
+
+-- the first value asks for a change
 abbrev pub BeginsAsked : List Data → Type 0
-BeginsAsked ds = (a : AskedData) × (rest : List Data) × (ds ≡ asked_json a ∷ rest) × HasMembers a
+BeginsAsked = Begins asked_json HasMembers
 
 -- none of the numbers stands before itself
 abbrev pub NumbersDiffer : List ℕ → Type 0

@@ -1,18 +1,25 @@
 -- What a JSON value says of an edit that is made only if the map still has what its author saw.
-use Rattle.std.specs.Prelude.{◌≡◌, ◌⊎◌, List, [], ◌∷◌, ◌++◌, map, All, Option, Some, None, ⊤}
+use Rattle.std.specs.Prelude.{◌≡◌, ◌≢◌, ◌⊎◌, List, [], ◌∷◌, ◌++◌, map, All, Option, Some, None, ⊤}
 use Rattle.serde_json.specs.Data.{null, unsigned, Data, number, object, no_members, member}
+use Rattle.serde_json.specs.View.{view}
 use Rattle.feature_model.specs.declared.fault.EditFault.{EditFault}
 use Rattle.feature_model.specs.declared.fault.EditFault.TheVariants as faults
 use Rattle.feature_model.specs.Data.{FeatureData, EditData}
 use Rattle.feature_model.specs.Seen.{SeenData}
 use Rattle.edit_json.specs.Json.{name_bytes, OutlineData, json_of}
 use Rattle.edit_json.specs.Faults.{IsFeature, IsOutline, IsFirstJsonFault}
-use Rattle.edit_json.specs.Batches.{AskedData, put_asked, delete_asked, asked_number, list_json, asks_json, IsBatch, HasMembers, IsFirstBatchFault}
+use Rattle.edit_json.specs.declared.checked.Checked.{Checked}
+use Rattle.edit_json.specs.Asked.{asked_data}
+use Rattle.edit_json.specs.Batches.{AskedData, put_asked, delete_asked, asked_number, list_json, asks_json, IsBatch, HasMembers, Begins, IsFirstBatchFault}
 
 -- a change as its JSON value asks for it, and the JSON of what its author saw
 pub record CheckedData : Type 0 where
   pub asked : AskedData
   pub was : Data
+
+-- the same, as the reader holds it
+abbrev pub checked_data : Checked → CheckedData
+checked_data c = record { asked = asked_data c.asked; was = view c.was.now }
 
 -- the change's object, with one member more
 abbrev pub with_was : AskedData → Data → Data
@@ -30,14 +37,21 @@ HasWas w = (w ≡ null) ⊎ ((o : OutlineData) × IsOutline w o)
 abbrev pub HasCheckedMembers : CheckedData → Type 0
 HasCheckedMembers x = HasMembers x.asked × HasWas x.was
 
+-- the list of what is asked for, under its name
+abbrev pub checks_json : List CheckedData → Data
+checks_json xs = list_json (map checked_json xs)
+
 -- the value asks for these changes, each with its members
 pub record AsksChecked (d : Data) (xs : List CheckedData) : Type 0 where
-  pub is : d ≡ list_json (map checked_json xs)
+  pub is : d ≡ checks_json xs
   pub members : All HasCheckedMembers xs
 
--- the value of the same changes as a batch, without what was seen
+-- the same changes without what was seen, and the value of a batch of them
+abbrev pub plain : List CheckedData → List AskedData
+plain xs = map (λ x. x.asked) xs
+
 abbrev pub plain_json : List CheckedData → Data
-plain_json xs = asks_json (map (λ x. x.asked) xs)
+plain_json xs = asks_json (plain xs)
 
 -- ---- its value
 
@@ -61,21 +75,22 @@ pub record IsChecked (d : Data) (cs : EditData) (all : List SeenData) : Type 0 w
 
 -- ---- the faults
 
--- the first of what was seen that is neither null nor a feature has this fault; the members are there
+-- the first of what was seen that is neither null nor a feature has this fault
 pub record IsFirstWas (xs : List CheckedData) (fault : EditFault) : Type 0 where
   pub before : List CheckedData
   pub checked : CheckedData
   pub rest : List CheckedData
   pub is : xs ≡ before ++ checked ∷ rest
   pub sound : All (λ x. (o : Option FeatureData) × IsWas x.was o) before
+  pub other : checked.was ≢ null
   pub fault_is : IsFirstJsonFault checked.was fault
 
--- the value asks for a first change, and memory is asked for
+-- the first value of the list asks for a change
 abbrev pub BeginsChecked : Data → Type 0
-BeginsChecked d = (ds : List Data) × (d ≡ list_json ds) × (x : CheckedData) × (rest : List Data) × (ds ≡ checked_json x ∷ rest) × HasCheckedMembers x
+BeginsChecked d = (ds : List Data) × (d ≡ list_json ds) × Begins checked_json HasCheckedMembers ds
 
 -- The fault is the value's, and none before it is: first the members of all, then those of the changes without what was seen, and then
--- those of what was seen.
+-- those of what was seen. Memory is asked for only once the first value of the list asks for a change.
 abbrev pub IsFirstCheckedFault : Data → EditFault → Type 0
 IsFirstCheckedFault d faults.Member = (xs : List CheckedData) → ¬ AsksChecked d xs
 IsFirstCheckedFault d faults.Memory = BeginsChecked d

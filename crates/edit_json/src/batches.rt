@@ -25,7 +25,7 @@ pub(crate) enum Asked<'v> {
 
 /// The list of an edit's object.
 #[tactic(auto, unfolding(crate::specs::Json::name_bytes))]
-fn read_list(value: &Value) -> Option<&[Value]>
+pub(crate) fn read_list(value: &Value) -> Option<&[Value]>
     ensures { MatchOption result
         ((ds : List Data) → view value.now ≢ list_json ds)
         (λ list. view value.now ≡ list_json (map view list.now)) }
@@ -109,7 +109,8 @@ fn are_enough(all: &[Asked<'_>]) -> bool
     change_count_fits(all.len())
 }
 
-fn number(asked: Asked<'_>) -> u64
+/// The number of the change.
+pub(crate) fn number(asked: Asked<'_>) -> u64
     ensures { result ≡ asked_number (asked_data asked.entry) }
 {
     match asked {

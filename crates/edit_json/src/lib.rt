@@ -16,5 +16,6 @@ mod tags;
 mod writer;
 
 pub use batches::batch_from_json;
+pub use checked::checked_from_json;
 pub use reading::feature_from_json;
 pub use writer::feature_to_json;
