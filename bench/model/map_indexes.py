@@ -86,9 +86,9 @@ def box_lines():
                               (LAST, LAST, 255, [4])]:
         yield f"query {x} {x} {y} {y} {zoom}", str(found)
     yield f"query {world} 4", "[1, 2, 3, 4]"
-    yield "# A row of boxes, each beside the next, is split and joined; a copy stays as it is."
-    yield from ["boxes", "scatter 1000 4 0", "keep", ("query 2002 2008 0 8 3", "[500, 501, 502]"), ("gather 1000 4 0 0", "1000 taken"),
-                (f"query {world} 3", "[]"), "swap", ("query 2002 2008 0 8 3", "[500, 501, 502]")]
+    yield "# A row of boxes, each beside the next, is split and joined."
+    yield from ["boxes", "scatter 1000 4 0", ("query 2002 2008 0 8 3", "[500, 501, 502]"), ("gather 1000 4 0 0", "1000 taken"),
+                (f"query {world} 3", "[]")]
     yield "# Blocks stay in proportion: any two neighbours that entries left have more than 64 together."
     yield from ["boxes", "scatter 20000 7000001 4", ("gather 20000 7000001 4 40", "19500 taken"), ("boxblocks 16", "at most 16 blocks"),
                 "query 0 1000000000 0 40000 5"]
@@ -108,9 +108,8 @@ def any_box_lines(chance, seed):
         else:
             yield f"take {held.pop(chance.below(len(held)))}"
         yield f"query {any_bounds(chance)} {chance.below(18)}"
-    yield "keep"
     yield from [f"take {entry}" for entry in held]
-    yield from [("gather 300 14000001 9000011 0", "300 taken"), (f"query 0 {LAST} 0 {LAST} 8", "[]"), "swap", f"query 0 {LAST} 0 {LAST} 8"]
+    yield from [("gather 300 14000001 9000011 0", "300 taken"), (f"query 0 {LAST} 0 {LAST} 8", "[]")]
 
 
 PARTS = [number_lines, box_lines]

@@ -23,7 +23,7 @@ use Rattle.box_index.proofs.Shown.{none_shown, ids_shown-append}
 
 -- ---- what a query finds
 
--- a list up to an element behind this one
+-- a list up to an element after this one
 pub take_both : {X : Type 0} (n m : ℕ) (xs : List X) → take (n + m) xs ≡ take n xs ++ take m (drop n xs)
 take_both n m xs =
     sym (take-append-drop n (take (n + m) xs))
@@ -135,7 +135,7 @@ covered_push ss bs last_run wide len all h = λ r k s b first last below within.
           (all j b inside))
     ]
 
--- two changes, each of what stands behind an element
+-- two changes, each of what comes after an element
 pub same_before : {X : Type 0} (i j : ℕ) (old between new : List X) → j ≡ i - 1 → take i between ≡ take i old → take j new ≡ take j between
     → take (i - 1) new ≡ take (i - 1) old
 same_before i j old between new is first second =

@@ -36,7 +36,7 @@ fn span_of_blocks(blocks: &[IndexBlock]) -> Span
     span
 }
 
-/// Widens the span of the run in which a block stands.
+/// Widens the span of a block's run.
 pub(crate) fn widen(runs: &mut Vec<Span>, block: usize, span: Span)
     requires { block / RUN < vec_len runs.old }
     ensures span { (s : Span) → Covers (slice_index_or runs.new.items (block / RUN) s) span }
@@ -62,7 +62,7 @@ pub(crate) fn cover_from(runs: &mut Vec<Span>, blocks: &[IndexBlock], block: usi
     }
 }
 
-/// Puts the ids of the entries that show behind others. The only error: an allocation fails.
+/// Appends the ids of the entries that show to `found`. The only error: an allocation fails.
 fn add_shown(
     blocks: &[IndexBlock],
     found: &mut Vec<u64>,

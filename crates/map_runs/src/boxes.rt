@@ -4,13 +4,11 @@ use box_index::{BoxIndex, IndexEntry, Span};
 use feature_model::WorldBox;
 use script_bytes::short;
 use std::alloc::{AllocError, Global};
-use std::mem;
 
-/// An index, and a copy that was kept of it.
+/// An index of boxes.
 #[derive(Drop)]
 pub(crate) struct Boxes {
     index: BoxIndex,
-    kept: BoxIndex,
 }
 
 /// The box of these columns and rows.
@@ -131,18 +129,6 @@ impl Boxes {
         format!(in alloc; "{count} blocks")
     }
 
-    /// Keeps a copy.
-    fn keep(&mut self, alloc: Global) -> Result<String, AllocError> {
-        self.kept = self.index.copy()?;
-        String::from_str(alloc, "kept")
-    }
-
-    /// Has the copy and the index change places.
-    fn swap(&mut self, alloc: Global) -> Result<String, AllocError> {
-        mem::swap(&mut self.index, &mut self.kept);
-        String::from_str(alloc, "swapped")
-    }
-
     /// What a line over an index comes to.
     pub(crate) fn answer(
         &mut self,
@@ -161,8 +147,6 @@ impl Boxes {
                 Some(format!(in alloc; "{taken} taken"))
             }
             "boxblocks" => Some(self.blocks(alloc, first as usize)),
-            "keep" => Some(self.keep(alloc)),
-            "swap" => Some(self.swap(alloc)),
             _ => None,
         }
     }
