@@ -1,5 +1,5 @@
 -- The archive of the live root is the one that a disk holds.
-use Rattle.std.proofs.Common.{◌≡◌, ◌⊎◌, inl, inr, ℕ, ◌+◌, List, length, refl, sym, ap, ◌∙◌, subst}
+use Rattle.std.proofs.Common.{◌≡◌, ◌⊎◌, inl, inr, ℕ, ◌+◌, List, refl, sym, ◌∙◌, subst}
 use Rattle.sector_disk.specs.Disk.{Image}
 use Rattle.sector_bytes.specs.Bytes.{StandsIn}
 use Rattle.sector_bytes.specs.Source.{AreItsBytes}

@@ -1,9 +1,8 @@
 -- A disk is formatted in four parts, each of which outlives a crash before the next begins.
 use Rattle.std.proofs.Common.{◌≡◌, ◌⊎◌, inl, inr, ⊎_elim, ℕ, ◌≤◌, ◌<◌, ◌+◌, List, slice_index, take, refl, sym, ◌∙◌, ap, subst, arith}
-use Rattle.std.proofs.Common.{rules, Result, Ok, Err}
+use Rattle.std.proofs.Common.{Result}
 use Rattle.std.proofs.lemmas.Bool.{cases_eq}
-use Rattle.sector_disk.specs.Asked.{TellsFailure}
-use Rattle.sector_disk.specs.Disk.{History, Image, seen, MayHold, MayLeave, Writes, Syncs, CountsFault}
+use Rattle.sector_disk.specs.Disk.{History, Image, seen, MayHold, MayLeave, Writes, Syncs}
 use Rattle.sector_disk.specs.Disk.History.{wrote, synced}
 use Rattle.sector_disk.specs.Moments.{Within, LeavesOnly}
 use Rattle.sector_disk.specs.declared.disk.DiskFault.{DiskFault}

@@ -3,6 +3,7 @@ use Rattle.std.proofs.Common.{◌≡◌, ⊎_elim, ℕ, zero, suc, ◌<◌, ◌�
 use Rattle.std.proofs.Common.{◌++◌, length, length-append, replicate, take, drop, slice_range, sym, ◌∙◌, ap, arith}
 use Rattle.std.proofs.lemmas.List.{take-take, take_at, drop_at, drop-drop, drop-take, length-take, length-drop, length-replicate}
 use Rattle.sector_disk.specs.Disk.{Image}
+use Rattle.generations.specs.Areas.{sectors_of}
 use Rattle.sector_disk.specs.declared.disk.TheConstants.{SECTOR_BYTES}
 use Rattle.std.proofs.lemmas.Bool.{cases_lt}
 use Rattle.std.proofs.lemmas.Slice.{take-put_mid}
@@ -105,3 +106,40 @@ module _ (image : Image) (first at done part index offset : ℕ) (there : SECTOR
       (next_is ∙ ap (λ (n : ℕ). take n (drop offset (image (first + index)))) (omega (arith, size_is)))
       (front_is ∙ ap (λ (n : ℕ). take n (drop at (bytes_from image first count))) (omega arith))
       ∙ ap (λ (n : ℕ). take n (drop at (bytes_from image first count))) (omega arith)
+
+-- ---- bytes after whole sectors that are skipped
+
+-- after the first k sectors come the others
+pub bytes_after : (image : Image) (first k count : ℕ)
+    → drop (SECTOR_BYTES * k) (bytes_from image first (k + count)) ≡ bytes_from image (first + k) count
+bytes_after image first zero count =
+    let none : SECTOR_BYTES * zero ≡ 0 = omega arith in
+    let all : zero + count ≡ count = omega arith in
+    let here : first ≡ first + zero = omega arith in
+    ap (λ (n : ℕ). drop n (bytes_from image first (zero + count))) none
+    ∙ ap (λ (n : ℕ). bytes_from image first n) all
+    ∙ ap (λ (n : ℕ). bytes_from image n count) here
+bytes_after image first (suc k) count =
+    let more : suc k + count ≡ suc (k + count) = omega arith in
+    let there : suc first + k ≡ first + suc k = omega arith in
+    ap (λ (n : ℕ). drop (SECTOR_BYTES * suc k) (bytes_from image first n)) more
+    ∙ behind (whole_sector (image first)) (bytes_from image (suc first) (k + count)) k (whole_length (image first))
+    ∙ bytes_after image (suc first) k count
+    ∙ ap (λ (n : ℕ). bytes_from image n count) there
+
+-- Byte at of the bytes from sector first on is byte offset of those from k sectors later on.
+module _ (image : Image) (first k at offset n : ℕ) (is : at ≡ SECTOR_BYTES * k + offset) where
+  pub shifted_read : slice_range (bytes_from image (first + k) (sectors_of (offset + n))) offset (offset + n)
+      ≡ slice_range (bytes_from image first (sectors_of (at + n))) at (at + n)
+  shifted_read =
+      let count : ℕ = sectors_of (offset + n) in
+      ap (λ (m : ℕ). take m (drop offset (bytes_from image (first + k) count))) (omega arith)
+      ∙ ap (λ (l : List ℕ). take (at + n - at) (drop offset l)) (sym (bytes_after image first k count))
+      ∙ ap (take (at + n - at)) (drop-drop offset (SECTOR_BYTES * k) (bytes_from image first (k + count)))
+      ∙ ap (λ (m : ℕ). take (at + n - at) (drop m (bytes_from image first (k + count)))) (sym is)
+      ∙ ap (λ (m : ℕ). take (at + n - at) (drop at (bytes_from image first m))) (omega (arith, is))
+
+  pub shifted_whole : AreWhole (first + k) offset n image → AreWhole first at n image
+  shifted_whole whole place from below =
+      ap (λ (m : ℕ). length (image m)) (omega (arith, is, from))
+      ∙ whole (place - SECTOR_BYTES * k) (omega (arith, is, from)) (omega (arith, is, from, below))

@@ -1,8 +1,9 @@
 //! The bytes of sectors as a source of bytes.
 ghost use Rattle.std.specs.Prelude.{◌≡◌, ◌≤◌, ◌<◌, ◌+◌, ◌^◌, length, OnOk, IfSome, Some, slice_range};
 ghost use Rattle.generations.specs.Areas.{sectors_of};
-ghost use Rattle.sector_bytes.specs.Bytes.{bytes_from};
+ghost use Rattle.sector_bytes.specs.Bytes.{bytes_from, AreWhole};
 ghost use Rattle.sector_bytes.specs.Source.{SourceView, AreItsBytes, IsUntouched, untouched_none, untouched_on};
+ghost use Rattle.sector_disk.specs.Asked.{TellsFailure};
 ghost use Rattle.sector_disk.specs.Disk.{seen};
 ghost use Rattle.sector_disk.specs.declared.disk.TheConstants.{SECTOR_BYTES};
 
@@ -63,6 +64,7 @@ impl<'a, D: Sectors> SectorBytes<'a, D> {
         requires inside { index < sectors_of self.old.len }
         requires fits { offset + length into.old ≤ SECTOR_BYTES }
         ensures untouched { IsUntouched D.sectors D.honest D.history D.faults self.old self.new }
+        ensures failed { TellsFailure result (D.faults self.old.disk.now) (D.faults self.new.disk.now) }
         ensures len { self.new.len ≡ self.old.len }
         ensures length { length into.new ≡ length into.old }
         ensures whole { D.honest self.new.disk.now
@@ -81,6 +83,7 @@ impl<'a, D: Sectors> SectorBytes<'a, D> {
     fn read_sector(&mut self, index: u64) -> Result<(), ReadFault>
         requires inside { index < sectors_of self.old.len }
         ensures untouched { IsUntouched D.sectors D.honest D.history D.faults self.old self.new }
+        ensures failed { TellsFailure result (D.faults self.old.disk.now) (D.faults self.new.disk.now) }
         ensures len { self.new.len ≡ self.old.len }
         ensures last { OnOk result (self.new.last ≡ Some index) }
     {
@@ -93,12 +96,15 @@ impl<'a, D: Sectors> SectorBytes<'a, D> {
         Ok(())
     }
 
-    /// Reads bytes from an offset on, as many as fit in `into`, sector by sector.
-    fn read_parts(&mut self, at: u64, into: &mut [u8]) -> Result<(), ReadFault>
+    /// Fills `into` with the bytes from an offset on, sector by sector. After a fault `into` is unspecified.
+    pub(crate) fn read_parts(&mut self, at: u64, into: &mut [u8]) -> Result<(), ReadFault>
         requires inside { at + length into.old ≤ self.old.len }
         ensures untouched { IsUntouched D.sectors D.honest D.history D.faults self.old self.new }
+        ensures failed { TellsFailure result (D.faults self.old.disk.now) (D.faults self.new.disk.now) }
         ensures len { self.new.len ≡ self.old.len }
         ensures length { length into.new ≡ length into.old }
+        ensures whole { D.honest self.new.disk.now
+            → OnOk result (AreWhole self.old.first at (length into.old) (seen (D.history self.old.disk.now))) }
         ensures read { D.honest self.new.disk.now → OnOk result (into.new ≡ slice_range
             (bytes_from (seen (D.history self.old.disk.now)) self.old.first (sectors_of (at + length into.old))) at (at + length into.old)) }
     {

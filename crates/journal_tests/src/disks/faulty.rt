@@ -18,7 +18,7 @@ fn script<D: Sectors>(disk: &mut D) -> (bool, bool, bool, u8)
     (wrote, synced, again, first(disk, 2))
 }
 
-/// Which calls fail; what is reported to the script; what the disk behind then holds, and what a crash leaves of it by the
+/// Which calls fail; what is reported to the script; what the inner disk then holds, and what a crash leaves of it by the
 /// choice of the old content.
 const ROWS: [(FailingCalls, (bool, bool, bool, u8), u8, u8); 18] = [
     (AllFrom(0), (false, false, false, 255), 0, 0),
@@ -41,7 +41,7 @@ const ROWS: [(FailingCalls, (bool, bool, bool, u8), u8, u8); 18] = [
     (OneNotMade(5), (true, true, true, 8), 8, 7),
 ];
 
-/// What is reported to the script, how many calls it makes, what the disk behind then holds, and what a crash leaves of it.
+/// What is reported to the script, how many calls it makes, what the inner disk then holds, and what a crash leaves of it.
 fn seen(
     alloc: Global,
     failing: FailingCalls,
@@ -49,9 +49,9 @@ fn seen(
     let mut disk = FaultyDisk::new(MemoryDisk::new(alloc, 3)?, failing);
     let reported = script(&mut disk);
     let calls = disk.calls();
-    let mut behind = disk.into_disk();
-    let holds = first(&mut behind, 2);
-    let left = first(&mut behind.crash(&[])?, 2);
+    let mut inner = disk.into_disk();
+    let holds = first(&mut inner, 2);
+    let left = first(&mut inner.crash(&[])?, 2);
     Ok((reported, calls, holds, left))
 }
 
@@ -71,7 +71,7 @@ fn fails_at_its_calls(rt: HostRuntime) -> Result<(), Fail> {
     Ok(())
 }
 
-/// Which calls fail, and how many of the four are passed on, or made all the same: each is one call of the disk behind.
+/// Which calls fail, and how many of the four are passed on, or made all the same: each is one call of the inner disk.
 const PASSED_ON: [(FailingCalls, u64); 15] = [
     (AllFrom(1), 0),
     (AllFrom(2), 1),
@@ -94,15 +94,15 @@ const PASSED_ON: [(FailingCalls, u64); 15] = [
 fn nested(
     alloc: Global,
     failing: FailingCalls,
-    behind: FailingCalls,
+    inner: FailingCalls,
 ) -> Result<FaultyDisk<FaultyDisk<MemoryDisk>>, Fail>
     ensures { IfOk result (λ disk. ⟦<FaultyDisk<FaultyDisk<MemoryDisk>> as Sectors>⟧.sectors disk ≡ 3) }
 {
-    let behind = FaultyDisk::new(MemoryDisk::new(alloc, 3)?, behind);
-    Ok(FaultyDisk::new(behind, failing))
+    let inner = FaultyDisk::new(MemoryDisk::new(alloc, 3)?, inner);
+    Ok(FaultyDisk::new(inner, failing))
 }
 
-/// How many calls the script makes of the disk behind.
+/// How many calls the script makes of the inner disk.
 fn passed_on(alloc: Global, failing: FailingCalls) -> Result<u64, Fail> {
     let mut disk = nested(alloc, failing, AllFrom(9))?;
     script(&mut disk);
@@ -120,12 +120,12 @@ fn other_number(alloc: Global) -> Result<Option<FailingCalls>, Fail> {
 }
 
 #[test]
-fn asks_once_of_what_is_behind(rt: HostRuntime) -> Result<(), Fail> {
+fn asks_once_of_the_inner_disk(rt: HostRuntime) -> Result<(), Fail> {
     assert_eq!(rt; other_number(rt.alloc())?, None);
     Ok(())
 }
 
-/// Which calls fail of the disk behind and of the one before it, and what is reported: a fault behind is one of the disk before too.
+/// Which calls fail of the inner disk and of the outer one, and what is reported: a fault of the inner disk is one of the outer disk too.
 const FAULTS: [(FailingCalls, FailingCalls, (bool, bool, bool, u8)); 2] = [
     (AllFrom(2), OneNotMade(4), (true, false, false, 255)),
     (OneNotMade(3), AllFrom(10), (true, true, false, 7)),
@@ -135,16 +135,16 @@ const FAULTS: [(FailingCalls, FailingCalls, (bool, bool, bool, u8)); 2] = [
 fn reported(
     alloc: Global,
     failing: FailingCalls,
-    behind: FailingCalls,
+    inner: FailingCalls,
 ) -> Result<(bool, bool, bool, u8), Fail> {
-    let mut disk = nested(alloc, failing, behind)?;
+    let mut disk = nested(alloc, failing, inner)?;
     Ok(script(&mut disk))
 }
 
 #[test]
 fn passes_faults_on(rt: HostRuntime) -> Result<(), Fail> {
-    for (behind, failing, told) in FAULTS {
-        assert_eq!(rt; reported(rt.alloc(), failing, behind)?, told);
+    for (inner, failing, told) in FAULTS {
+        assert_eq!(rt; reported(rt.alloc(), failing, inner)?, told);
     }
     Ok(())
 }

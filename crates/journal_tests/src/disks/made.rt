@@ -18,7 +18,7 @@ const PATH: &str = "folder/disk";
 enum Call {
     /// To make a new file at `PATH`, to read and to write.
     Make,
-    /// To make the file so many bytes long.
+    /// To make the file this many bytes long.
     SetLen(u64),
     SyncAll,
     /// To remove the file at `PATH`.

@@ -85,7 +85,7 @@ fn keeps_what_was_synced(rt: HostRuntime) -> Result<(), Fail> {
     Ok(())
 }
 
-/// How many sectors a disk has in a file of so many bytes.
+/// How many sectors a disk has in a file of this many bytes.
 fn count_of(rt: &HostRuntime, path: &str, bytes: u64) -> Result<u64, Fail> {
     set_len(rt, path, bytes)?;
     Ok(FileDisk::open(rt, path, Unknown)?.count())

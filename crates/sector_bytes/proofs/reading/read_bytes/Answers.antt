@@ -1,44 +1,34 @@
-use Rattle.std.proofs.Common.{◌≡◌, ◌<◌, ◌≤◌, ◌+◌, ◌-◌, ◌*◌, ◌/◌, ◌%◌, ◌∙◌, refl, ap, sym, arith, length, take, drop, slice_range, length-take, length-drop}
+use Rattle.std.proofs.Common.{◌≡◌, ◌+◌, ◌*◌, ◌/◌, ◌%◌, ◌∙◌, ℕ, length, slice_range, rules, arith, ap, subst}
 use Rattle.generations.specs.Areas.{sectors_of}
-use Rattle.sector_disk.specs.Disk.{History, seen}
+use Rattle.sector_disk.specs.Disk.{seen}
 use Rattle.sector_disk.specs.declared.disk.TheConstants.{SECTOR_BYTES}
-use Rattle.sector_disk.proofs.AskedLaws.{reads_on}
-use Rattle.sector_bytes.proofs.Pieces.{put_length, next_whole, next_put}
+use Rattle.sector_bytes.specs.Bytes.{bytes_from, AreWhole}
+use Rattle.sector_bytes.proofs.Pieces.{shifted_read, shifted_whole}
 use Rattle.sector_bytes.proofs.reading.read_bytes.Goals as goal
 
-pub loop-done-preserved : goal.loop-done-preserved
-loop-done-preserved g c =
-    let inv = c.loop-done.invariant in
-    let ok = c.in_ok-read_part.ensures in
+pub returns-in-Ok-clause-whole : goal.returns-in-Ok-clause-whole
+returns-in-Ok-clause-whole g c honest =
     let at = c.args.at in
-    let done = c.loop-done.done in
-    let part = c.min-part.result in
+    let n = length c.args.into.now in
     let image = seen (g.D.Sectors.history c.args.disk.now) in
-    let index = at / SECTOR_BYTES + (at % SECTOR_BYTES + done) / SECTOR_BYTES in
-    let offset = (at % SECTOR_BYTES + done) % SECTOR_BYTES in
-    let there : SECTOR_BYTES * index + offset ≡ at + done = omega arith in
-    let fits : offset + part ≤ SECTOR_BYTES = omega (arith, c.min-part.ensures) in
-    let within : done + part ≤ length c.args.into.now = omega (arith, c.min-part.ensures, c.loop-done-test.true, inv.length_is) in
-    let lt : index < sectors_of (at + length c.args.into.now) = omega (arith, c.loop-done-test.true, inv.length_is) in
-    let within_now : done + part ≤ length c.loop-done.into = omega (arith, within, inv.length_is) in
-    let room = take (done + part - done) (drop done c.loop-done.into) in
-    let size = length room in
-    let size_is : size ≡ part =
-    omega (arith, length-take (done + part - done) (drop done c.loop-done.into), length-drop done c.loop-done.into, within_now) in
-    let long : length c.read_part.new.into ≡ part = ok.length ∙ size_is in
-    record {
-      disk = reads_on inv.disk ok.disk;
-      faults = ok.failed ∙ inv.faults;
-      length_is = put_length done part _ c.loop-done.into c.read_part.new.into within_now (omega arith) long ∙ inv.length_is;
-      done = within;
-      skipped = refl;
-      whole = λ honest. next_whole image c.args.first at done part index offset there fits
-          (ap (λ (h : History). length (seen h (c.args.first + index))) (sym (inv.disk.same_history (ok.disk.was_honest honest))) ∙ ok.whole honest)
-          (inv.whole (ok.disk.was_honest honest));
-      read = λ honest. next_put image c.args.first at done part index offset there fits
-          (ap (λ (h : History). length (seen h (c.args.first + index))) (sym (inv.disk.same_history (ok.disk.was_honest honest))) ∙ ok.whole honest)
-          (sectors_of (at + length c.args.into.now)) size _ c.loop-done.into c.read_part.new.into lt size_is (omega (arith, within_now)) long
-          (ok.read honest ∙ ap (λ (h : History). slice_range (seen h (c.args.first + index)) (offset)
-          (offset + size)) (inv.disk.same_history (ok.disk.was_honest honest)))
-          (inv.read (ok.disk.was_honest honest));
-    }
+    let source = c.new-source.result in
+    let truthful : g.D.Sectors.honest c.read_parts-outcome.new.self.disk.now = search (rules, honest) in
+    let split : at ≡ SECTOR_BYTES * (at / SECTOR_BYTES) + at % SECTOR_BYTES = omega arith in
+    shifted_whole image c.args.first (at / SECTOR_BYTES) at (at % SECTOR_BYTES) n split
+    (subst (λ (first : ℕ). AreWhole first (at % SECTOR_BYTES) n image) c.new-source.ensures.first
+    (subst (λ (d : _). AreWhole source.first (at % SECTOR_BYTES) n (seen (g.D.Sectors.history d))) c.new-source.ensures.disk
+    (c.in-Ok.ensures.whole truthful)))
+
+pub returns-in-Ok-clause-read : goal.returns-in-Ok-clause-read
+returns-in-Ok-clause-read g c honest =
+    let at = c.args.at in
+    let n = length c.args.into.now in
+    let image = seen (g.D.Sectors.history c.args.disk.now) in
+    let source = c.new-source.result in
+    let from = at % SECTOR_BYTES in
+    let truthful : g.D.Sectors.honest c.read_parts-outcome.new.self.disk.now = search (rules, honest) in
+    let split : at ≡ SECTOR_BYTES * (at / SECTOR_BYTES) + at % SECTOR_BYTES = omega arith in
+    c.in-Ok.ensures.read truthful
+    ∙ ap (λ (d : _). slice_range (bytes_from (seen (g.D.Sectors.history d)) source.first (sectors_of (from + n))) from (from + n)) c.new-source.ensures.disk
+    ∙ ap (λ (first : ℕ). slice_range (bytes_from image first (sectors_of (from + n))) from (from + n)) c.new-source.ensures.first
+    ∙ shifted_read image c.args.first (at / SECTOR_BYTES) at from n split

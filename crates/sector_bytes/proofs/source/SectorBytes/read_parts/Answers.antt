@@ -2,7 +2,7 @@ use Rattle.std.proofs.Common.{◌≡◌, ◌<◌, ◌≤◌, ◌+◌, ◌-◌, �
 use Rattle.generations.specs.Areas.{sectors_of}
 use Rattle.sector_disk.specs.Disk.{History, seen}
 use Rattle.sector_disk.specs.declared.disk.TheConstants.{SECTOR_BYTES}
-use Rattle.sector_bytes.proofs.Pieces.{put_length, next_put}
+use Rattle.sector_bytes.proofs.Pieces.{put_length, next_whole, next_put}
 use Rattle.sector_bytes.specs.Source.{untouched_on}
 use Rattle.sector_bytes.proofs.source.SectorBytes.read_parts.Goals as goal
 
@@ -27,16 +27,19 @@ loop-done-preserved g c =
     let size_is : size ≡ part =
     omega (arith, length-take (done + part - done) (drop done c.loop-done.into), length-drop done c.loop-done.into, within_now) in
     let long : length c.read_part.new.into ≡ part = ok.length ∙ size_is in
+    let sector_whole : g.D.Sectors.honest c.read_part.new.self.disk.now → length (image (first + index)) ≡ SECTOR_BYTES =
+    λ honest. ap (λ (h : History). length (seen h (first + index))) (sym (inv.untouched.same_history (ok.untouched.was_honest honest)))
+    ∙ ap (λ (n : ℕ). length (seen (g.D.Sectors.history c.loop-done.self.disk.now) (n + index))) (sym inv.untouched.same_first) ∙ ok.whole honest in
     record {
       untouched = untouched_on inv.untouched ok.untouched;
+      faults = ok.failed ∙ inv.faults;
       len = ok.len ∙ inv.len;
       length_is = put_length done part _ c.loop-done.into c.read_part.new.into within_now (omega arith) long ∙ inv.length_is;
       done = within;
+      whole = λ honest. next_whole image first at done part index offset there fits (sector_whole honest) (inv.whole (ok.untouched.was_honest honest));
       read = λ honest.
           let was = inv.untouched.same_history (ok.untouched.was_honest honest) in
-          next_put image first at done part index offset there fits
-          (ap (λ (h : History). length (seen h (first + index))) (sym was)
-          ∙ ap (λ (n : ℕ). length (seen (g.D.Sectors.history c.loop-done.self.disk.now) (n + index))) (sym inv.untouched.same_first) ∙ ok.whole honest)
+          next_put image first at done part index offset there fits (sector_whole honest)
           (sectors_of (at + length c.args.into.now)) size _ c.loop-done.into c.read_part.new.into lt size_is (omega (arith, within_now)) long
           (ok.read honest
           ∙ ap (λ (n : ℕ). slice_range (seen (g.D.Sectors.history c.loop-done.self.disk.now) (n + index)) offset (offset + size)) inv.untouched.same_first
