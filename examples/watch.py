@@ -1,54 +1,202 @@
 #!/usr/bin/env python3
 """Looks at a running `vtserve serve --admin`, and says what an operator should do before it is too late.
 
-    python3 examples/watch.py [URL] [--at PERCENT]        URL is http://127.0.0.1:8080, PERCENT 80
+    python3 examples/watch.py [URL] [--at PERCENT] [--state FILE] [--record FILE] [--metrics FILE]     URL is http://127.0.0.1:8080
 
-It prints a line for each thing to do, and ends with 1 if there is one: for cron, which mails what is printed, or for a monitor that
-looks at the status. With nothing to do it prints one line, and ends with 0. If the server doesn't answer, it ends with 2. Needs no package.
+It prints a line for each thing to do, and with nothing to do one line. It ends with 0 if nothing is to be done, 1 if something is to be done
+soon, 2 if something doesn't work any more (no server, a failed disk, a full journal, a refused publication), and 3 if that isn't known:
+as monitors such as Nagios expect, and cron mails what is printed.
+
+--state FILE keeps what was seen, for the next look: whether the journal fills before the next publication. --record FILE is what
+publish.sh --record keeps: whether the last publication was refused, and when it was. --metrics FILE is written for Prometheus, by the
+textfile collector of node_exporter. Needs no package.
 """
 import argparse
 import json
+import os
 import sys
+import time
 import urllib.error
 import urllib.request
 
+SECTOR, DAY = 512, 24 * 3600
+# Edits of less than this share of the journal say nothing of how fast it fills.
+MANY = 20
+SOON, NOW, UNKNOWN = 1, 2, 3
+LARGER = "move the map to a larger disk (docs/DEPLOYING.md): once it is full, nothing can be published, and when the journal is full too, nothing can be edited"
+IN_FRONT = "the proxy in front of the server answers, but the server doesn't: systemctl status vtserve"
+FAULTS = {
+    403: (UNKNOWN, "the proxy in front of the server doesn't let this machine see it (`allow` in docs/nginx.conf)"),
+    404: (UNKNOWN, "is the server started with --admin?"),
+    421: (UNKNOWN, "the proxy in front of the server doesn't know this name (`server_name` in docs/nginx.conf)"),
+    502: (NOW, IN_FRONT),
+    503: (NOW, IN_FRONT),
+    504: (NOW, IN_FRONT),
+}
+METRICS = [
+    ("up", "gauge", "Whether the server answers."),
+    ("broken", "gauge", "Whether the disk has failed."),
+    ("edits_total", "counter", "The sequence number of the last edit."),
+    ("published_edit", "gauge", "The last edit in the published archive."),
+    ("publications_total", "counter", "How often an archive was published."),
+    ("publication_left_sectors", "gauge", "What is left of the publication under way, 0 if none is."),
+    ("features", "gauge", "The features of the map."),
+    ("archive_bytes", "gauge", "The length of the published archive."),
+    ("journal_used_sectors", "gauge", "The sectors of the journal that are used."),
+    ("journal_sectors", "gauge", "The sectors of the journal."),
+    ("area_used_sectors", "gauge", "The sectors of an area that the last publication takes."),
+    ("area_next_sectors", "gauge", "The sectors of an area that the next publication may take."),
+    ("area_sectors", "gauge", "The sectors of an area."),
+    ("watch_result", "gauge", "What watch.py ends with: 0 nothing to do, 1 soon, 2 now, 3 unknown."),
+]
 
-def tasks(status, most):
-    """What is to be done."""
+
+class Unseen(Exception):
+    """Why the server's status isn't known: the level and the text."""
+
+
+def status_of(url):
+    """What the server tells of itself."""
+    try:
+        with urllib.request.urlopen(url, timeout=60) as reply:
+            return json.load(reply)
+    except urllib.error.HTTPError as error:
+        level, text = FAULTS.get(error.code, (NOW, "it isn't the reply of a vtserve"))
+        raise Unseen(level, f"{url}: {error.code}: {text}") from error
+    except (OSError, ValueError) as error:
+        raise Unseen(NOW, f"{url}: {error}") from error
+
+
+def next_area(status):
+    """The sectors that the next publication may take: those of the last one, and those of the edits since, as the last one needed for its map."""
+    used, journal = status["area"]["used"], status["journal"]["used"]
+    snapshot = used - -(-status["archive"] // SECTOR)
+    return used + round(journal * (used / snapshot if snapshot > 0 else 1))
+
+
+def fullness(status, most):
+    """What is full, or will be."""
     journal, area = status["journal"], status["area"]
     if status["broken"]:
-        yield "the disk failed: edits are refused until the server is started again (docs/DEPLOYING.md, After 500 Device)"
+        yield NOW, "the disk failed: edits are refused until the server is started again (docs/DEPLOYING.md, After 500 Device)"
+    if journal["used"] == journal["places"]:
+        yield NOW, "the journal is full: no edit is taken until the map is published (examples/publish.sh)"
     for used, whole, name, what in [
         (journal["used"], journal["places"], "the journal", "publish (examples/publish.sh)"),
-        (area["used"], area["sectors"], "an area", "move the map to a larger disk (docs/DEPLOYING.md): once it is full, nothing can be published, "
-         "and when the journal is full too, nothing can be edited"),
+        (area["used"], area["sectors"], "an area", LARGER),
     ]:
         if used * 100 >= whole * most:
-            yield f"{used:,} of the {whole:,} sectors of {name} are used: {what}"
+            yield SOON, f"{used:,} of the {whole:,} sectors of {name} are used: {what}"
+    if next_area(status) > area["sectors"] > area["used"]:
+        yield SOON, f"the next publication may not fit: about {next_area(status):,} sectors, an area has {area['sectors']:,}. Publish now, and {LARGER}"
+
+
+def left(status, url, wait):
+    """Whether a publication was left under way: nothing of it is done for a while."""
+    if status["left"] is None:
+        return
+    time.sleep(wait)
+    later = status_of(url)
+    if later["left"] == status["left"]:
+        yield SOON, f"a publication was left with {status['left']:,} sectors to go: examples/publish.sh finishes it, or drops it with --cancel"
+
+
+def speed(status, path, now, every):
+    """Whether the journal fills before the next publication, at the speed since the last one. Keeps in a file what was seen."""
+    try:
+        with open(path, encoding="utf-8") as file:
+            seen = json.load(file)
+    except (OSError, ValueError):
+        seen = {"generation": None, "interval": None, "time": None}
+    used, free = status["journal"]["used"], status["journal"]["places"] - status["journal"]["used"]
+    if seen["generation"] != status["generation"]:
+        interval = now - seen["time"] if seen["generation"] is not None else None
+        seen = {"generation": status["generation"], "interval": interval, "time": now, "used": used}
+        with open(path + ".new", "w", encoding="utf-8") as file:
+            json.dump(seen, file)
+        os.replace(path + ".new", path)
+    elif (used - seen["used"]) * MANY > status["journal"]["places"]:
+        hours = free * (now - seen["time"]) / (used - seen["used"]) / 3600
+        between = every if every is not None else (seen["interval"] or DAY) / 3600
+        if hours < between:
+            publish = f"publications come every {between:.1f} hours: publish more often"
+            yield SOON, f"the journal is full in {hours:.1f} hours, if edits go on like this, and {publish}"
+
+
+def recorded(path, now, every):
+    """What publish.sh recorded of the last publication."""
+    try:
+        with open(path, encoding="utf-8") as file:
+            last = json.load(file)
+    except (OSError, ValueError) as error:
+        yield UNKNOWN, f"{path}: {error}: has publish.sh run with --record?"
+        return
+    hours = (now - last["time"]) / 3600
+    if last["result"] != "published":
+        yield NOW, f"the publication {hours:.1f} hours ago wasn't made: {last['result']}"
+    elif every is not None and hours > 2 * every:
+        yield SOON, f"the last publication was {hours:.1f} hours ago, and they are to come every {every:.1f} hours"
+
+
+def metrics(path, status, result):
+    """Writes the metrics; without a status those that are known."""
+    values = {"up": int(status is not None), "watch_result": result}
+    if status is not None:
+        journal, area = status["journal"], status["area"]
+        values |= {
+            "broken": int(status["broken"]),
+            "edits_total": status["edits"],
+            "published_edit": status.get("published", 0),
+            "publications_total": status["generation"],
+            "publication_left_sectors": status["left"] or 0,
+            "features": status["features"],
+            "archive_bytes": status["archive"],
+            "journal_used_sectors": journal["used"],
+            "journal_sectors": journal["places"],
+            "area_used_sectors": area["used"],
+            "area_next_sectors": next_area(status),
+            "area_sectors": area["sectors"],
+        }
+    with open(path + ".new", "w", encoding="utf-8") as file:
+        for name, kind, text in METRICS:
+            if name in values:
+                file.write(f"# HELP vtserve_{name} {text}\n# TYPE vtserve_{name} {kind}\nvtserve_{name} {values[name]}\n")
+    os.chmod(path + ".new", 0o644)
+    os.replace(path + ".new", path)
+
+
+def tasks(words, url, now):
+    """The status, or None, and what is to be done, each with its level."""
+    found = list(recorded(words.record, now, words.every)) if words.record else []
+    try:
+        status = status_of(url)
+        found += [*fullness(status, words.at), *left(status, url, words.wait)]
+        found += speed(status, words.state, now, words.every) if words.state else []
+    except Unseen as fault:
+        return None, [*found, fault.args]
+    return status, found
 
 
 def main():
     parser = argparse.ArgumentParser(description="Says what is to be done about a running vtserve.")
     parser.add_argument("url", nargs="?", default="http://127.0.0.1:8080", help="the server (http://127.0.0.1:8080)")
     parser.add_argument("--at", type=int, default=80, metavar="PERCENT", help="how full the journal and an area may be (80)")
+    parser.add_argument("--every", type=float, metavar="HOURS", help="how often the map is to be published (as often as was seen)")
+    parser.add_argument("--wait", type=float, default=5, metavar="SECONDS", help="how long nothing is done of a publication that was left (5)")
+    parser.add_argument("--state", metavar="FILE", help="keep what was seen for the next look")
+    parser.add_argument("--record", metavar="FILE", help="what publish.sh --record keeps")
+    parser.add_argument("--metrics", metavar="FILE", help="write metrics for Prometheus")
     words = parser.parse_args()
-    url = words.url.rstrip("/") + "/admin/status"
-    try:
-        with urllib.request.urlopen(url, timeout=60) as reply:
-            status = json.load(reply)
-    except urllib.error.HTTPError as error:
-        print(f"{url}: {error.code}: is the server started with --admin?")
-        sys.exit(2)
-    except (OSError, ValueError) as error:
-        print(f"{url}: {error}")
-        sys.exit(2)
-    found = list(tasks(status, words.at))
-    for task in found:
-        print(task)
-    if found:
-        sys.exit(1)
-    print(f"{status['features']:,} features, edit {status['edits']:,}, generation {status['generation']:,}: nothing to do")
+    status, found = tasks(words, words.url.rstrip("/") + "/admin/status", time.time())
+    result = next((level for level in (NOW, UNKNOWN, SOON) if any(level == one for one, _ in found)), 0)
+    for _, text in found:
+        print(text)
+    if not found:
+        print(f"{status['features']:,} features, edit {status['edits']:,}, generation {status['generation']:,}: nothing to do")
+    if words.metrics:
+        metrics(words.metrics, status, result)
+    return result
 
 
 if __name__ == "__main__":
-    main()
+    sys.exit(main())
