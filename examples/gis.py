@@ -1,0 +1,307 @@
+#!/usr/bin/env python3
+"""Gives a desktop GIS the features of a map to edit, and sends what it changed.
+
+    python3 examples/gis.py checkout town.gpkg --url http://127.0.0.1:8000
+    (edit town.gpkg in QGIS, and save the edits there)
+    python3 examples/gis.py checkin town.gpkg
+
+`checkout` writes a GeoPackage with a table for each layer of the map, or only those that --layer names, or only the features in --bbox
+WEST,SOUTH,EAST,NORTH (degrees). A layer that has points, lines and areas is several tables. Tags are columns, and so are the zooms that
+show a feature. A feature that the import has cut is one feature here.
+
+`checkin` compares the file with what was checked out, and sends the difference by checked edits: a feature that somebody else has changed
+meanwhile is left as it is on the map, and listed with both changes as a conflict; --mine 7,9 sends yours of these all the same. What others
+changed elsewhere is listed too. New features get ids that are free. Large shapes are cut for that (needs GDAL's Python module: run it by
+/usr/bin/python3). What was sent is remembered in the file, so a second `checkin` sends the rest. --dry-run sends nothing and lists.
+
+The server needs --admin. It ends with 1 if there are conflicts or refusals, with 2 if the file or the command is wrong, with 3 if the
+server doesn't answer.
+"""
+import argparse
+import os
+import sys
+from collections import Counter
+
+import geopackage
+from edits import checked, delete, put
+from gis_file import ZOOMS, Checkout, Row, Unusable, write
+from map_client import Client, NoAnswer, Stopped
+from wholes import OUTLINE, PIECE, WHOLE, wholes_of
+
+try:
+    from cut_features import FeatureCutter
+    from world_shapes import Unfit
+except ImportError:
+    FeatureCutter, Unfit = None, ValueError
+
+# More deletions than this, and than half of all that was checked out, are taken for a mistake.
+MANY = 20
+# A shape of this width, in units of a tile, is safe wherever it is (docs/HTTP.md, "Large features").
+SAFE_UNITS = 4031
+
+
+# ---- checkout
+
+def points_of(geometry):
+    """All points of a geometry."""
+    (kind, lists), = geometry.items()
+    if kind == "points":
+        return lists
+    return [point for line in (lists if kind == "lines" else [ring for rings in lists for ring in rings]) for point in line]
+
+
+class Choice:
+    """Which features are checked out."""
+
+    def __init__(self, layers, box):
+        self.layers, self.box = layers, box
+        if box:
+            west, south, east, north = box
+            self.corners = geopackage.world((west, north), geopackage.DEGREES), geopackage.world((east, south), geopackage.DEGREES)
+
+    def has(self, whole):
+        if self.layers and whole.feature["layer"] not in self.layers:
+            return False
+        if not self.box:
+            return True
+        (west, north), (east, south) = self.corners
+        xs, ys = zip(*points_of(whole.feature["geometry"]))
+        return min(xs) <= east and max(xs) >= west and min(ys) <= south and max(ys) >= north
+
+
+def checkout(words, client):
+    """Writes the file."""
+    if os.path.exists(words.file) and not words.force:
+        raise Unusable(f"{words.file} exists: check it in, and give --force to write it anew")
+    status = needed(client.status())
+    choice = Choice(words.layer, words.bbox)
+    wholes = [whole for whole in wholes_of(client.features()) if choice.has(whole)]
+    if not wholes:
+        raise Unusable("the map has no such features")
+    tables = write(words.file, wholes, {"url": words.url, "edit": status["edits"], "layers": words.layer, "bbox": words.bbox})
+    print(f"{words.file}: {len(wholes):,} features in {tables} tables, of edit {status['edits']}")
+    return 0
+
+
+def needed(status):
+    """The status, which a server without --admin doesn't tell."""
+    if status is None:
+        raise Stopped("the server doesn't list its features: start it with --admin, or use an address from where that is allowed (docs/nginx.conf)")
+    return status
+
+
+# ---- checkin
+
+def pieces_of(row):
+    """The features by their ids that a row is to be on the map. Raises `Unfit`."""
+    base, feature = row.base, row.feature
+    if feature is None:
+        return {}
+    is_cut = base is not None and len(base.pieces) > 1
+    if is_cut and feature["geometry"] == base.feature["geometry"]:
+        return {number: {**feature, "layer": feature["layer"] + (OUTLINE if was["layer"].endswith(OUTLINE) else ""), "geometry": was["geometry"],
+                         "tags": {**feature["tags"], WHOLE: base.number}} for number, was in base.pieces.items()}
+    if base is not None and feature["geometry"] == base.feature["geometry"]:
+        return {row.number: feature}
+    made = cut(row, is_cut)
+    ids = [row.number, *(number for number in (base.pieces if base else ()) if number != row.number)]
+    step = 1
+    while len(ids) < len(made):
+        if row.number + step * PIECE not in ids:
+            ids.append(row.number + step * PIECE)
+        step += 1
+    return dict(zip(ids, made))
+
+
+def cut(row, is_cut):
+    """The features of a new shape: itself, or its pieces."""
+    feature = row.feature
+    (kind, lists), = feature["geometry"].items()
+    if kind == "points" or not 0 <= feature["minzoom"] <= feature["maxzoom"] <= 19:
+        return [feature]
+    if FeatureCutter:
+        cutter = FeatureCutter(range(feature["minzoom"], feature["maxzoom"] + 1))
+        return cutter.features(row.number, (kind, lists), feature["tags"], feature["layer"])[0]
+    if is_cut or is_large(feature):
+        raise Unfit("it is so large that it has to be cut, which needs GDAL's Python module: run this by /usr/bin/python3 (Debian: python3-gdal)")
+    return [feature]
+
+
+def is_large(feature):
+    """Whether a shape may be larger than a tile of its last zoom."""
+    xs, ys = zip(*points_of(feature["geometry"]))
+    return max(max(xs) - min(xs), max(ys) - min(ys)) > SAFE_UNITS * 2 ** (20 - feature["maxzoom"])
+
+
+def told_change(before, after):
+    """What one version of a feature changed of another."""
+    if after is None or before is None:
+        return "deleted" if after is None else "put anew"
+    old, new = ({**feature["tags"], **{f"({name})": feature[name] for name in ("layer", *ZOOMS)}} for feature in (before, after))
+    parts = [f"{name}: {old.get(name)!r} -> {new.get(name)!r}" for name in sorted({*old, *new}) if old.get(name) != new.get(name)]
+    return ", ".join(parts + (["its shape"] if before["geometry"] != after["geometry"] else [])) or "nothing"
+
+
+def seen_of(row, now):
+    """What the map has now of a row: the features by their ids, and the whole that they are, or None."""
+    ids = row.base.pieces if row.base else ()
+    pieces = {number: now[number] for number in ids if number in now}
+    whole = next(iter(wholes_of(pieces.items())), None)
+    return pieces, whole and whole.feature
+
+
+class Checkin:
+    """Sends what was changed, and counts."""
+
+    def __init__(self, words, client, file):
+        self.words, self.client, self.file = words, client, file
+        self.conflicts = self.refused = 0
+        self.done = Counter()
+
+    def run(self):
+        """Sends what was changed in the file."""
+        status = needed(self.client.status())
+        now = dict(self.client.features())
+        rows = list(self.file.rows())
+        for fault in self.file.unreadable:
+            self.refused += 1
+            print(f"refused: {fault}")
+        self.refuse_many([row for row in rows if row.feature is None])
+        self.give_ids([row for row in rows if row.base is None], now, self.client.next_id(status))
+        sent = [row for row in rows if self.is_sent(row, now)]
+        if not self.words.dry_run:
+            self.send(sent)
+        self.tell_others(now, {row.number for row in rows})
+        return self.told(sent)
+
+    def refuse_many(self, gone):
+        """Takes very many deletions for a mistake."""
+        if len(gone) > max(MANY, len(self.file.base) // 2) and not self.words.delete_many:
+            raise Unusable(f"{len(gone):,} of {len(self.file.base):,} features are gone from the file: give --delete-many if they are to be deleted")
+
+    def give_ids(self, rows, now, free):
+        """Gives new features ids that are free. Each is noted in the file, so that a feature is made once if this process ends before the reply."""
+        for row in rows:
+            row.number = self.file.noted.get((row.table, row.fid))
+            if row.number is None or now.get(row.number, row.feature) != row.feature:
+                row.number, free = free, free + 1
+        if not self.words.dry_run:
+            self.file.note(rows)
+
+    def is_sent(self, row, now):
+        """Whether a row is to be sent: what the map has of it is what was checked out, or its author says so."""
+        seen, theirs = seen_of(row, now)
+        mine = told_change(row.base.feature, row.feature) if row.base else "new"
+        try:
+            row.wanted = pieces_of(row)
+        except Unfit as fault:
+            self.refused += 1
+            print(f"refused: {row}: {fault}")
+            return False
+        there = {number: now[number] for number in {*seen, *row.wanted} if number in now}
+        if row.base and seen != row.base.pieces and there != row.wanted and str(row.number) not in self.words.mine:
+            self.conflicts += 1
+            print(f"conflict: {row}: yours: {mine}; on the map now: {told_change(row.base.feature, theirs)}")
+            return False
+        row.changes = [checked(put(number, feature), there.get(number)) for number, feature in row.wanted.items() if feature != there.get(number)]
+        row.changes += [checked(delete(number), feature) for number, feature in there.items() if number not in row.wanted]
+        print(f"{'would be sent' if self.words.dry_run else 'sending' if row.changes else 'on the map already'}: {row}: {mine}")
+        return True
+
+    def send(self, rows):
+        """Sends rows, and remembers those that are made."""
+        owners = {change.number: row for row in rows for change in row.changes}
+        left = Counter(row.number for row in owners.values())
+        for change, refusal in self.client.make(change for row in rows for change in row.changes):
+            row = owners[change.number]
+            left[row.number] -= 1
+            if refusal:
+                row.refusals.append(refusal)
+            if left[row.number] == 0:
+                self.finish(row)
+        for row in rows:
+            if not row.changes:
+                self.finish(row)
+
+    def finish(self, row):
+        """Remembers a row that was sent, or tells why it is refused."""
+        if not row.refusals:
+            self.file.remember([row])
+            self.done["deleted" if row.feature is None else "changed" if row.base else "new"] += 1
+            return
+        refusal = row.refusals[0]
+        self.conflicts += refusal.is_conflict
+        self.refused += not refusal.is_conflict
+        print(f"{'conflict' if refusal.is_conflict else 'refused'}: {row}: {refusal}")
+
+    def tell_others(self, now, mine):
+        """Lists what others changed of what was checked out, and what they added."""
+        ours = {number for base in self.file.base.values() for number in base.pieces}
+        for (table, fid), base in sorted(self.file.base.items()):
+            theirs = seen_of(Row(table, fid, base, None), now)
+            if theirs[0] != base.pieces and base.number not in mine:
+                print(f"changed by others: {base.feature['layer']} {base.number}: {told_change(base.feature, theirs[1])}")
+        choice = Choice(self.file.told["layers"], self.file.told["bbox"])
+        for whole in wholes_of((number, feature) for number, feature in now.items() if number not in ours):
+            if whole.number not in mine and whole.feature["tags"].get(WHOLE) not in ours and choice.has(whole):
+                print(f"new by others: {whole.feature['layer']} {whole.number}")
+
+    def told(self, rows):
+        """Tells the counts, and gives the status of the process."""
+        counts = ", ".join(f"{self.done[name]:,} {name}" for name in ("new", "changed", "deleted"))
+        print(f"{counts}, {self.conflicts} conflicts, {self.refused} refused" + (f"; {len(rows):,} would be sent" if self.words.dry_run else ""))
+        return 1 if self.conflicts or self.refused else 0
+
+
+def checkin(words):
+    """Sends what was changed in the file."""
+    file = Checkout(words.file)
+    client = Client(words.url or file.told["url"], words.publish)
+    try:
+        return Checkin(words, client, file).run()
+    finally:
+        file.file.close()
+
+
+def asked():
+    """What the command line asks."""
+    parser = argparse.ArgumentParser(description="Gives a desktop GIS the features of a map to edit, and sends what it changed.")
+    tasks = parser.add_subparsers(dest="task", required=True)
+    out = tasks.add_parser("checkout", help="writes a GeoPackage with features of the map")
+    out.add_argument("file", help="the GeoPackage (.gpkg) that is written")
+    out.add_argument("--layer", action="append", help="a layer of the map; may be repeated (all)")
+    out.add_argument("--bbox", type=box_of, help="only what meets this box: WEST,SOUTH,EAST,NORTH in degrees")
+    out.add_argument("--force", action="store_true", help="replace the file if it is there")
+    out.add_argument("--url", default="http://127.0.0.1:8000", help="the server (http://127.0.0.1:8000)")
+    back = tasks.add_parser("checkin", help="sends what was changed in the file")
+    back.add_argument("file", help="the GeoPackage that `checkout` wrote")
+    back.add_argument("--mine", type=lambda text: text.split(","), default=[], help="ids of which yours replaces what others made of it")
+    back.add_argument("--dry-run", action="store_true", help="list what would be sent, and send nothing")
+    back.add_argument("--delete-many", action="store_true", help="delete even more than half of the features that were checked out")
+    back.add_argument("--publish", action="store_true", help="publish when the journal is full")
+    back.add_argument("--url", help="the server, if it isn't that of `checkout`")
+    return parser.parse_args()
+
+
+def box_of(text):
+    """The box of four numbers."""
+    west, south, east, north = map(float, text.split(","))
+    if not (-180 <= west < east <= 180 and -85.06 <= south < north <= 85.06):
+        raise argparse.ArgumentTypeError("west, south, east and north in degrees are needed, as in 7.4,54.4,7.6,54.6")
+    return [west, max(south, -85.0511), east, min(north, 85.0511)]
+
+
+def main():
+    words = asked()
+    try:
+        return checkout(words, Client(words.url)) if words.task == "checkout" else checkin(words)
+    except Unusable as fault:
+        print(fault, file=sys.stderr)
+        return 2
+    except (NoAnswer, Stopped) as fault:
+        print(fault, file=sys.stderr)
+        return 3
+
+
+if __name__ == "__main__":
+    sys.exit(main())
