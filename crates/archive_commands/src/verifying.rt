@@ -27,5 +27,5 @@ pub fn verify(alloc: Global, archive: &[u8]) -> Result<Report, ArchiveFault>
         Ok(archive) => archive,
         Err((_, fault)) => return Err(fault),
     };
-    archive.verify(alloc)
+    archive.verify()
 }

@@ -1,6 +1,7 @@
 pub mod CountedLaws
 pub mod CountedListed
 pub mod KeepsLaws
+pub mod LimitNumbers
 pub mod ListedClauses
 pub mod ListedEntries
 pub mod ListedLaws
@@ -8,6 +9,7 @@ pub mod ListedSteps
 pub mod LookedLaws
 pub mod LookedSteps
 pub mod LookupLaws
+pub mod MetadataLaws
 pub mod OpenedLaws
 pub mod VerifiedFaults
 pub mod VerifiedLaws

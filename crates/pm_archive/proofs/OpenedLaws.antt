@@ -6,6 +6,7 @@ use Rattle.std.specs.Result.{is_ok}
 use Rattle.std.proofs.lemmas.List.{get_or-take, take-take, drop-take}
 use Rattle.pm_header.specs.declared.header.TheConstants.{HEADER_BYTES}
 use Rattle.pm_header.specs.declared.header.Header.{Header}
+use Rattle.pm_header.specs.Compression.{IsPlain}
 use Rattle.pm_header.specs.Layout.{IsHeader, magic, header_at, part_at, number_at, position_at}
 use Rattle.pm_header.proofs.Fields.{same_header}
 use Rattle.pm_directory.specs.declared.entry.DirectoryEntry.{DirectoryEntry}
@@ -115,18 +116,15 @@ not_misplaced count h s placed (IsMisplaced.tiles_misplaced e r t m l past) = ab
 pub are_placed : (bytes : List ℕ) (h : Header) → HasSections bytes h → ArePlaced (length bytes) h
 are_placed bytes h has = (has.root_inside, has.root_early, has.metadata_inside, has.leaves_inside, has.tiles_inside)
 
-not_lt : (a b : ℕ) → (a < b → ⊥) → b ≤ a
-not_lt a b other = search (rules, other)
-
 -- the faults behind a header, by how many bytes there are
 module _ (bytes : List ℕ) (h : Header) (count : ℕ) (all : count ≡ length bytes) (is : IsHeader bytes h) where
   pub misplaced_fault : (s : Section) → IsMisplaced count h s → OpeningHas bytes (faults.Section s)
   misplaced_fault s at = OpeningHas.misplaced h s refl is (subst (λ (n : ℕ). IsMisplaced n h s) all at)
 
-  pub compressed_fault : ArePlaced count h → (h.internal < 2 → ⊥) → OpeningHas bytes (faults.Compressed h.internal)
-  compressed_fault placed other = OpeningHas.compressed h refl is (subst (λ (n : ℕ). ArePlaced n h) all placed) (not_lt h.internal 2 other)
+  pub compressed_fault : ArePlaced count h → ¬ IsPlain h.internal → OpeningHas bytes (faults.Compressed h.internal)
+  compressed_fault placed other = OpeningHas.compressed h refl is (subst (λ (n : ℕ). ArePlaced n h) all placed) other
 
-  pub has_sections : ArePlaced count h → h.internal < 2 → HasSections bytes h
+  pub has_sections : ArePlaced count h → IsPlain h.internal → HasSections bytes h
   has_sections placed plain = record {
     header = is;
     root_inside = omega (arith, placed.0);
@@ -167,8 +165,8 @@ opens bytes h root d has dir (OpeningHas.other_magic e long other) = other has.h
 opens bytes h root d has dir (OpeningHas.other_version e long m other) = other has.header.version_is
 opens bytes h root d has dir (OpeningHas.misplaced g s e is at) =
     not_misplaced (length bytes) h s (are_placed bytes h has) (subst (λ (x : Header). IsMisplaced (length bytes) x s) (one_header bytes g h is has.header) at)
-opens bytes h root d has dir (OpeningHas.compressed g e is placed much) =
-    let same : g.internal ≡ h.internal = ap (λ (x : Header). x.internal) (one_header bytes g h is has.header) in absurd (omega (arith, has.plain))
+opens bytes h root d has dir (OpeningHas.compressed g e is placed packed) =
+    packed (subst (λ (x : Header). IsPlain x.internal) (sym (one_header bytes g h is has.header)) has.plain)
 opens bytes h root d has dir (OpeningHas.no_directory g e others none) =
     none root (subst (λ (x : Header). IsDirectory (section_bytes x.root bytes) root) (one_header bytes h g has.header others.header) dir)
 

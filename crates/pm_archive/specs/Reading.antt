@@ -5,6 +5,7 @@ use Rattle.reader.specs.Reading.{Read, ◌>>=◌}
 use Rattle.hilbert_id.specs.declared.number.TheConstants.{TILE_IDS}
 use Rattle.pm_header.specs.declared.header.Header.{Header}
 use Rattle.pm_header.specs.declared.header.TheConstants.{HEADER_BYTES}
+use Rattle.pm_header.specs.Compression.{IsPlain}
 use Rattle.pm_header.specs.Layout.{IsHeader, magic}
 use Rattle.pm_directory.specs.declared.entry.DirectoryEntry.{DirectoryEntry}
 use Rattle.pm_directory.specs.declared.fault.DirectoryFault.{DirectoryFault}
@@ -40,7 +41,7 @@ pub data OpeningHas (bytes : List ℕ) (d : ArchiveFault) : Type 0 where
   other_magic : d ≡ faults.Magic → HEADER_BYTES ≤ length bytes → take 7 bytes ≢ magic → OpeningHas bytes d
   other_version : d ≡ faults.Version (slice_index bytes 7) → HEADER_BYTES ≤ length bytes → take 7 bytes ≡ magic → slice_index bytes 7 ≢ 3 → OpeningHas bytes d
   misplaced : (h : Header) → (s : Section) → d ≡ faults.Section s → IsHeader bytes h → IsMisplaced (length bytes) h s → OpeningHas bytes d
-  compressed : (h : Header) → d ≡ faults.Compressed h.internal → IsHeader bytes h → ArePlaced (length bytes) h → 2 ≤ h.internal → OpeningHas bytes d
+  compressed : (h : Header) → d ≡ faults.Compressed h.internal → IsHeader bytes h → ArePlaced (length bytes) h → ¬ IsPlain h.internal → OpeningHas bytes d
   no_directory : (h : Header) → d ≡ faults.Directory h.root.offset → HasSections bytes h
       → ((entries : List DirectoryEntry) → ¬ IsDirectory (section_bytes h.root bytes) entries) → OpeningHas bytes d
 

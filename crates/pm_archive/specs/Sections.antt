@@ -1,7 +1,8 @@
 -- The sections of an archive.
-use Rattle.std.specs.Prelude.{ℕ, ◌+◌, ◌<◌, ◌≤◌, List, length, slice_range}
+use Rattle.std.specs.Prelude.{ℕ, ◌+◌, ◌≤◌, List, length, slice_range}
 use Rattle.pm_header.specs.declared.section_span.SectionSpan.{SectionSpan}
 use Rattle.pm_header.specs.declared.header.Header.{Header}
+use Rattle.pm_header.specs.Compression.{IsPlain}
 use Rattle.pm_header.specs.Layout.{IsHeader}
 use Rattle.pm_archive.specs.declared.limits.TheConstants.{OPENING_END}
 
@@ -22,4 +23,4 @@ pub record HasSections (bytes : List ℕ) (h : Header) : Type 0 where
   pub metadata_inside : end_of h.metadata ≤ length bytes
   pub leaves_inside : end_of h.leaves ≤ length bytes
   pub tiles_inside : end_of h.tiles ≤ length bytes
-  pub plain : h.internal < 2
+  pub plain : IsPlain h.internal

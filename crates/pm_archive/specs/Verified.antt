@@ -4,6 +4,8 @@ use Rattle.std.specs.List.{AllByRecursion}
 use Rattle.mvt_layer.specs.Tile.{LayerView}
 use Rattle.mvt_layer.specs.Reads.{ReadsAs}
 use Rattle.pm_header.specs.declared.header.Header.{Header}
+use Rattle.pm_header.specs.declared.header.TheConstants.{VECTOR_TILES}
+use Rattle.pm_header.specs.declared.compression.TheConstants.{NOT_COMPRESSED}
 use Rattle.pm_directory.specs.declared.entry.DirectoryEntry.{DirectoryEntry}
 use Rattle.pm_archive.specs.declared.report.Report.{Report}
 use Rattle.pm_archive.specs.declared.fault.ArchiveFault.{ArchiveFault}
@@ -22,7 +24,7 @@ IsTile content = (layers : List LayerView) × ReadsAs content layers
 
 -- the tiles are vector tiles, not compressed
 abbrev pub AreVector : Header → Type 0
-AreVector h = (h.kind ≡ 1) × (h.compression ≡ 1)
+AreVector h = (h.kind ≡ VECTOR_TILES) × (h.compression ≡ NOT_COMPRESSED)
 
 abbrev pub HasTile : List ℕ → Header → DirectoryEntry → Type 0
 HasTile bytes h e = IsTile (entry_bytes h.tiles e bytes)

@@ -1,6 +1,6 @@
 //! Archives that are open.
 
-ghost use Rattle.std.specs.Prelude.{◌≡◌, ℕ, List, Option, slice_get, IfOk, IfErr, MatchResult, option_map};
+ghost use Rattle.std.specs.Prelude.{◌≡◌, ◌<◌, ℕ, List, Option, slice_get, IfOk, IfErr, MatchResult, option_map};
 ghost use Rattle.reader.specs.Reading.{GivesUnless};
 ghost use Rattle.std.specs.List.{AllByRecursion};
 ghost use Rattle.pm_header.specs.declared.header.Header.{Header};
@@ -96,7 +96,7 @@ impl<B: Bytes + Drop> Archive<B> {
     ///
     /// `Directory`, `Order`, `Depth`, `Place`, the first that is met going through the directories in order, each leaf
     /// directory where it is named. `Memory` only where there is a first entry, and its bytes lie inside their section.
-    pub fn list(&mut self, alloc: Global) -> Result<Vec<DirectoryEntry>, ArchiveFault>
+    pub fn list(&mut self) -> Result<Vec<DirectoryEntry>, ArchiveFault>
         ensures header { self.new.header ≡ self.old.header }
         ensures root { self.new.root ≡ self.old.root }
         ensures source { Keeps B.count B.holds B.fails B.unchanged self.old.source self.new.source }
@@ -108,6 +108,7 @@ impl<B: Bytes + Drop> Archive<B> {
         ensures read { result ≡ Err ArchiveFault.Read → B.fails self.old.source }
         ensures memory { result ≡ Err ArchiveFault.Memory → LiesInside self.old.header (slice_get self.old.root 0) }
     {
+        let alloc = *self.root.allocator();
         entries_below(alloc, &mut self.source, &self.header, &self.root)
     }
 
@@ -118,7 +119,7 @@ impl<B: Bytes + Drop> Archive<B> {
     ///
     /// `Directory`, `Depth`, `Place`, the first on the way; where `list` has no fault there is none. `Memory` only where an
     /// entry of the root directory leads to the id, and its bytes lie inside their section.
-    pub fn tile(&mut self, alloc: Global, id: u64) -> Result<Option<Vec<u8>>, ArchiveFault>
+    pub fn tile(&mut self, id: u64) -> Result<Option<Vec<u8>>, ArchiveFault>
         ensures header { self.new.header ≡ self.old.header }
         ensures root { self.new.root ≡ self.old.root }
         ensures source { Keeps B.count B.holds B.fails B.unchanged self.old.source self.new.source }
@@ -129,6 +130,7 @@ impl<B: Bytes + Drop> Archive<B> {
         ensures read { result ≡ Err ArchiveFault.Read → B.fails self.old.source }
         ensures memory { result ≡ Err ArchiveFault.Memory → LiesInside self.old.header (leading_of id self.old.root) }
     {
+        let alloc = *self.root.allocator();
         let mut kept = Leaves::none(alloc);
         content_below(
             alloc,
@@ -146,7 +148,7 @@ impl<B: Bytes + Drop> Archive<B> {
     /// # Errors
     ///
     /// `Metadata`, then those of `list`, then `Count` (addressed, entries, contents), then `Tile`, the first that there is.
-    pub fn verify(&mut self, alloc: Global) -> Result<Report, ArchiveFault>
+    pub fn verify(&mut self) -> Result<Report, ArchiveFault>
         ensures header { self.new.header ≡ self.old.header }
         ensures root { self.new.root ≡ self.old.root }
         ensures source { Keeps B.count B.holds B.fails B.unchanged self.old.source self.new.source }
@@ -155,7 +157,9 @@ impl<B: Bytes + Drop> Archive<B> {
             → MatchResult result (λ told. told ≡ report) IsOutside }
         ensures fault { (bytes : List ℕ) → B.holds self.new.source bytes → IfErr result (UnlessOutside (VerifyingHas bytes self.old.header self.old.root)) }
         ensures read { result ≡ Err ArchiveFault.Read → B.fails self.old.source }
+        ensures memory { result ≡ Err ArchiveFault.Memory → 0 < self.old.header.metadata.length }
     {
+        let alloc = *self.root.allocator();
         verdict_below(alloc, &mut self.source, &self.header, &self.root)
     }
 }

@@ -80,7 +80,6 @@ impl Lookup {
     /// source as it was.
     pub fn tile<B: Bytes>(
         &mut self,
-        alloc: Global,
         source: &mut B,
         id: u64,
     ) -> Result<Option<Vec<u8>>, ArchiveFault>
@@ -97,6 +96,7 @@ impl Lookup {
             → GivesUnless IsOutside (option_map (λ v. v.items)) result (looked_at bytes self.old.header self.old.root id) }
         ensures read { result ≡ Err ArchiveFault.Read → B.fails source.old }
     {
+        let alloc = *self.root.allocator();
         content_below(
             alloc,
             source,

@@ -26,6 +26,7 @@ fn refused(error: &Error) -> Result<bool, AllocError>
 /// Memory ran out. That is never answered of no bytes.
 pub fn is_metadata(alloc: Global, bytes: &[u8]) -> Result<bool, AllocError>
     ensures metadata { IfOk result (λ is. IsTrue is ↔ IsMetadata bytes.now) }
+    ensures some { IfOk result (λ is. IsTrue is → 0 < length bytes.now) }
     ensures memory { OnErr result (0 < length bytes.now) }
 {
     match Value::from_slice(alloc, bytes) {

@@ -1,6 +1,6 @@
 //! The header and the root directory of an archive.
 
-ghost use Rattle.std.specs.Prelude.{◌≡◌, ◌≢◌, ◌↔◌, ℕ, ◌<◌, ◌≤◌, List, length, Err, IfOk, IfErr, IfSome, IfNone, IsTrue};
+ghost use Rattle.std.specs.Prelude.{◌≡◌, ◌≢◌, ◌↔◌, ℕ, ◌≤◌, List, length, Err, IfOk, IfErr, IfSome, IfNone, IsTrue};
 ghost use Rattle.pm_header.specs.declared.header.Header.{Header};
 ghost use Rattle.pm_header.specs.Layout.{IsHeader};
 ghost use Rattle.pm_directory.specs.declared.entry.DirectoryEntry.{DirectoryEntry};
@@ -67,13 +67,6 @@ fn misplaced(header: &Header, count: u64) -> Option<Section>
     }
 }
 
-// The directories aren't compressed, as far as the header says.
-fn is_plain(header: &Header) -> bool
-    ensures { IsTrue result ↔ (header.now.internal < 2) }
-{
-    header.internal < 2
-}
-
 // The header, and the entries of the root directory.
 pub(crate) fn header_and_root<B: Bytes>(
     alloc: Global,
@@ -93,7 +86,7 @@ pub(crate) fn header_and_root<B: Bytes>(
     if let Some(section) = misplaced(&header, source.len()) {
         return Err(ArchiveFault::Section(section));
     }
-    if !is_plain(&header) {
+    if !header.has_plain_directories() {
         return Err(ArchiveFault::Compressed(header.internal));
     }
     let root = directory_from(alloc, source, header.root.offset, header.root.length)?;

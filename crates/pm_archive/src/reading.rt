@@ -1,6 +1,6 @@
 //! Pieces of a source: its bytes and its directories.
 
-ghost use Rattle.std.specs.Prelude.{◌≡◌, ◌↔◌, ℕ, ◌+◌, ◌≤◌, List, Err, length, IfOk, IfErr, OnOk, IsTrue, slice_range};
+ghost use Rattle.std.specs.Prelude.{◌≡◌, ◌↔◌, ℕ, ◌+◌, ◌<◌, ◌≤◌, List, Err, length, IfOk, IfErr, OnOk, IsTrue, slice_range};
 ghost use Rattle.reader.specs.Reading.{GivesUnless};
 ghost use Rattle.std.specs.List.{AllByRecursion};
 ghost use Rattle.pm_directory.specs.Directory.{IsAscending, IsEntry};
@@ -30,23 +30,27 @@ fn read_into<B: Bytes>(source: &mut B, offset: u64, into: &mut [u8]) -> Result<(
     }
 }
 
-// The bytes from an offset on.
+// `count` bytes from an offset on.
 pub(crate) fn bytes_at<B: Bytes>(
     alloc: Global,
     source: &mut B,
     offset: u64,
-    length: u64,
+    count: u64,
 ) -> Result<Vec<u8>, ArchiveFault>
-    requires { offset + length ≤ B.count source.old }
+    requires { offset + count ≤ B.count source.old }
     ensures source { Keeps B.count B.holds B.fails B.unchanged source.old source.new }
-    ensures bytes { (bytes : List ℕ) → B.holds source.new bytes → IfOk result (λ v. v.items ≡ slice_range bytes offset (offset + length)) }
+    ensures bytes { (bytes : List ℕ) → B.holds source.new bytes → IfOk result (λ v. v.items ≡ slice_range bytes offset (offset + count)) }
+    ensures len { IfOk result (λ v. length v.items ≡ count) }
     ensures fault { IfErr result IsOutside }
     ensures read { result ≡ Err ArchiveFault.Read → B.fails source.old }
+    ensures memory { result ≡ Err ArchiveFault.Memory → 0 < count }
 {
-    let mut bytes = match vec![in alloc; 0; length as usize] {
+    let mut bytes = match Vec::with_capacity(alloc, count as usize) {
         Ok(bytes) => bytes,
         Err(_) => return Err(ArchiveFault::Memory),
     };
+    // The capacity suffices, so this doesn't fail.
+    bytes.resize(count as usize, 0).unwrap();
     read_into(source, offset, &mut bytes)?;
     Ok(bytes)
 }

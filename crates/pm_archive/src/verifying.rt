@@ -35,7 +35,9 @@ fn check_metadata<B: Bytes>(
     ensures source { Keeps B.count B.holds B.fails B.unchanged source.old source.new }
     ensures found { (bytes : List ℕ) → B.holds source.new bytes → OnOk result (IsMetadata (section_bytes header.now.metadata bytes)) }
     ensures fault { (bytes : List ℕ) → B.holds source.new bytes → IfErr result (UnlessOutside (IsMetadataFault bytes header.now)) }
+    ensures some { OnOk result (0 < header.now.metadata.length) }
     ensures read { result ≡ Err ArchiveFault.Read → B.fails source.old }
+    ensures memory { result ≡ Err ArchiveFault.Memory → 0 < header.now.metadata.length }
 {
     let metadata = bytes_at(
         alloc,
@@ -103,6 +105,7 @@ pub(crate) fn verdict_below<B: Bytes>(
     ensures found { (bytes : List ℕ) → B.holds source.new bytes → IfOk result (IsVerified bytes header.now root.now) }
     ensures fault { (bytes : List ℕ) → B.holds source.new bytes → IfErr result (UnlessOutside (VerifyingHas bytes header.now root.now)) }
     ensures read { result ≡ Err ArchiveFault.Read → B.fails source.old }
+    ensures memory { result ≡ Err ArchiveFault.Memory → 0 < header.now.metadata.length }
 {
     check_metadata(alloc, source, header)?;
     let listed = entries_below(alloc, source, header, root)?;

@@ -63,7 +63,6 @@ impl Opened {
     /// The content of a tile id.
     fn tile<B: Bytes>(
         &mut self,
-        alloc: Global,
         source: &mut B,
         id: u64,
     ) -> Result<Option<Vec<u8>>, ArchiveFault>
@@ -74,7 +73,7 @@ impl Opened {
         ensures content { (bytes : List ℕ) (content : ℕ → Option (List ℕ)) → B.holds source.new bytes → IsLookupOf bytes self.old.lookup
             → IsArchiveOf bytes content → MatchResult result (λ found. option_map (λ v. v.items) found ≡ content id) IsOutside }
     {
-        self.lookup.tile(alloc, source, id)
+        self.lookup.tile(source, id)
     }
 }
 
@@ -95,11 +94,11 @@ fn look_up<B: Bytes>(
 {
     if let Some(kept) = opened {
         if kept.is_of(archive) {
-            return kept.tile(alloc, source, id);
+            return kept.tile(source, id);
         }
     }
     let mut made = Opened::open(alloc, source, archive)?;
-    let content = made.tile(alloc, source, id);
+    let content = made.tile(source, id);
     *opened = Some(made);
     content
 }

@@ -46,7 +46,7 @@ fn list(alloc: Global, bytes: &[u8]) -> Result<String, AllocError> {
         Ok(archive) => archive,
         Err((_, fault)) => return fault.to_string(alloc),
     };
-    match archive.list(alloc) {
+    match archive.list() {
         Ok(entries) => format!(in alloc; "{entries:?}"),
         Err(fault) => fault.to_string(alloc),
     }
@@ -82,7 +82,7 @@ fn contents_of(
 ) -> Result<String, AllocError> {
     let mut told = Vec::new(alloc);
     for id in ids.split(',') {
-        let found = archive.tile(alloc, number_in(id));
+        let found = archive.tile(number_in(id));
         add_content(alloc, &mut told, found)?;
     }
     format!(in alloc; "{told:?}")
@@ -104,7 +104,7 @@ fn looks(alloc: Global, ids: &str, bytes: &[u8]) -> Result<String, AllocError> {
     };
     let mut told = Vec::new(alloc);
     for id in ids.split(',') {
-        let found = lookup.tile(alloc, &mut source, number_in(id));
+        let found = lookup.tile(&mut source, number_in(id));
         add_content(alloc, &mut told, found)?;
     }
     format!(in alloc; "{told:?}")

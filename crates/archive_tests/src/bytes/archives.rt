@@ -64,7 +64,7 @@ fn look_up<D: Sectors>(
             return Err(fault);
         }
     };
-    let content = archive.tile(alloc, id);
+    let content = archive.tile(id);
     let _disk = archive.into_source().into_disk();
     content
 }

@@ -10,12 +10,12 @@ returns-in-Some-clause-fault g c = λ bytes holds _.
     ∙ sym (g.met.B.Bytes.sized c.args.source.now bytes (c.header_in.ensures.source.no_others bytes holds)) in
     misplaced_fault bytes c.in_ok-header.header c.len.result all (c.in_ok-header.ensures.found bytes holds) c.in-Some.section c.in-Some.ensures.section
 
-pub returns-then-not-is_plain-clause-fault : goal.returns-then-not-is_plain-clause-fault
-returns-then-not-is_plain-clause-fault g c = λ bytes holds _.
+pub returns-then-not-has_plain_directories-clause-fault : goal.returns-then-not-has_plain_directories-clause-fault
+returns-then-not-has_plain_directories-clause-fault g c = λ bytes holds _.
     let all : c.len.result ≡ length bytes = c.len.ensures ∙ c.header_in.ensures.source.same_count
     ∙ sym (g.met.B.Bytes.sized c.args.source.now bytes (c.header_in.ensures.source.no_others bytes holds)) in
     compressed_fault bytes c.in_ok-header.header c.len.result all (c.in_ok-header.ensures.found bytes holds) c.in_default.ensures.none
-    (λ plain. absurd (false≢true (c.if-not-is_plain.ensures.1 plain)))
+    (λ plain. absurd (false≢true (c.if-not-has_plain_directories.ensures.1 plain)))
 
 pub returns-clause-found : goal.returns-clause-found
 returns-clause-found g c = λ bytes holds.
@@ -24,7 +24,7 @@ returns-clause-found g c = λ bytes holds.
     let all : c.len.result ≡ length bytes = c.len.ensures ∙ c.header_in.ensures.source.same_count
     ∙ sym (g.met.B.Bytes.sized c.args.source.now bytes before) in (
       has_sections bytes c.in_ok-header.header c.len.result all (c.in_ok-header.ensures.found bytes header) c.in_default.ensures.none
-          (c.if-not-is_plain.ensures.0 refl),
+          (c.if-not-has_plain_directories.ensures.0 refl),
       root_read bytes c.in_ok-header.header c.in_ok-root.root.items (c.in_ok-root.ensures.directory bytes holds),
     )
 
@@ -36,5 +36,5 @@ returns-in_err-root-clause-fault g c =
     let before = c.header_in.ensures.source.no_others bytes header in
     let all : c.len.result ≡ length bytes = c.len.ensures ∙ c.header_in.ensures.source.same_count ∙ sym (g.met.B.Bytes.sized c.args.source.now bytes before) in
     let has = has_sections bytes c.in_ok-header.header c.len.result all (c.in_ok-header.ensures.found bytes header) c.in_default.ensures.none
-    (c.if-not-is_plain.ensures.0 refl) in
+    (c.if-not-has_plain_directories.ensures.0 refl) in
     root_refused bytes c.in_ok-header.header c.in_err-root.field-0.0 has (c.in_err-root.ensures.directory bytes holds))
