@@ -1,5 +1,5 @@
 -- What a path asks for: the route that the router finds, and the numbers in its place.
-use Rattle.std.specs.Prelude.{ℕ, ◌-◌, ◌^◌, ◌&&◌, Bool, true, false, if◌then◌else◌, nat_lt, nat_le, nat_eq}
+use Rattle.std.specs.Prelude.{◌≡◌, ⊤, ℕ, ◌-◌, ◌^◌, ◌&&◌, Bool, true, false, if◌then◌else◌, nat_lt, nat_le, nat_eq}
 use Rattle.std.specs.Prelude.{List, [], ◌∷◌, length, take, drop, codes, Option, Some, None, Result, Ok, Err}
 use Rattle.std.specs.Cmp.Lexicographic.{pointwise}
 use Rattle.std.specs.List.{list_all}
@@ -7,7 +7,7 @@ use Rattle.std.specs.Char.{is_ascii}
 use Rattle.matchit.specs.Rows.{RowsOf}
 use Rattle.matchit.specs.Order.{placed}
 use Rattle.matchit.specs.Route.{parse_route, Scan}
-use Rattle.matchit.specs.Router.{RouteOf, route_from}
+use Rattle.matchit.specs.Router.{RouteOf, route_from, nearest}
 use Rattle.matchit.specs.Params.{walk, named}
 use Rattle.matchit.specs.Seek.{first}
 use Rattle.matchit.specs.declared.error.InsertError.{InsertError}
@@ -36,6 +36,16 @@ abbrev pub with_routes : List (List ℕ × Route) → RowsOf (RouteOf Route) →
 with_routes [] rows = rows
 with_routes (path ∷ more) rows = with_routes more (with_route path.0 path.1 rows)
 
+-- a route's text can be read, and no row conflicts with it
+abbrev pub Fits : Result Scan InsertError → RowsOf (RouteOf Route) → Type 0
+Fits (Ok scan) rows = nearest scan.pattern rows ≡ None
+Fits (Err error) rows = ⊥
+
+-- each path fits the rows of those before it
+abbrev pub AllFit : List (List ℕ × Route) → RowsOf (RouteOf Route) → Type 0
+AllFit [] rows = ⊤
+AllFit (path ∷ more) rows = Fits (parse_route path.0) rows × AllFit more (with_route path.0 path.1 rows)
+
 -- the paths that are served, those under /admin/ where they are wanted
 unfoldable pub served_paths : List (List ℕ × Route)
 served_paths =
@@ -50,6 +60,7 @@ served_paths =
     ∷ (codes "/publish/cancel", routes.Action actions.PublishCancel)
     ∷ (codes "/admin/status", routes.View views.Status)
     ∷ (codes "/admin/features/from/{id}", routes.FeatureFrom)
+    ∷ (codes "/admin/edits", routes.Action actions.CheckedEdits)
     ∷ []
 
 -- these, as the router keeps them
@@ -133,6 +144,7 @@ asked_by path = if list_all is_ascii path then asked_at (first served_rows path)
 abbrev pub is_admin : Asked → Bool
 is_admin (asked_from id) = true
 is_admin (asked_view views.Status) = true
+is_admin (asked_action actions.CheckedEdits) = true
 is_admin asked = false
 
 -- what is asked for at a path, where it is served

@@ -3,7 +3,7 @@ ghost use Rattle.std.specs.Prelude.{◌≡◌};
 ghost use Rattle.tile_routes.specs.Paths.{granted};
 ghost use Rattle.tile_routes.specs.Targets.{asked_of, IsInRange};
 
-use crate::target::{Target, View};
+use crate::target::{Action, Target, View};
 
 /// Which paths are served.
 #[derive(Clone, Copy, Debug, PartialEq, Eq)]
@@ -21,7 +21,12 @@ impl Target {
         ensures range { IsInRange self → IsInRange result }
     {
         match (access, self) {
-            (Access::Map, Target::FeatureFrom(_) | Target::View(View::Status)) => Target::Nothing,
+            (
+                Access::Map,
+                Target::FeatureFrom(_)
+                | Target::View(View::Status)
+                | Target::Action(Action::CheckedEdits),
+            ) => Target::Nothing,
             _ => self,
         }
     }

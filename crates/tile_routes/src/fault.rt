@@ -1,3 +1,4 @@
+//! Why a request is refused by its path and method.
 /// Why a request by its path and the name of its method is refused.
 #[derive(Clone, Copy, Debug, PartialEq, Eq)]
 pub enum RouteFault {

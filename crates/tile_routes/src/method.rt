@@ -1,3 +1,4 @@
+//! The methods, by their names, and those that a path allows.
 ghost use Rattle.std.specs.Prelude.{◌≡◌};
 ghost use Rattle.tile_routes.specs.Methods.{methods_of, method_named, method_on, is_among, allow_of};
 ghost use Rattle.tile_routes.specs.Targets.{asked_of};

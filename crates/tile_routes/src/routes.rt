@@ -1,9 +1,10 @@
-ghost use Rattle.std.specs.Prelude.{◌≡◌, [], map, true, false, IfOk, MatchOption};
+//! The table of the paths that are served, and what a path asks for.
+ghost use Rattle.std.specs.Prelude.{◌≡◌, [], map, true, false, IfOk, IfErr, MatchOption};
 ghost use Rattle.std.specs.List.{list_all};
 ghost use Rattle.std.specs.Char.{is_ascii};
 ghost use Rattle.matchit.specs.Seek.{first};
 ghost use Rattle.matchit.specs.Params.{AllText};
-ghost use Rattle.tile_routes.specs.Paths.{served_rows, with_routes, asked_on, part_named, asked_at, asked_by};
+ghost use Rattle.tile_routes.specs.Paths.{served_rows, with_routes, AllFit, asked_on, part_named, asked_at, asked_by};
 ghost use Rattle.tile_routes.specs.Targets.{asked_of, IsInRange, parts_of, row_path};
 
 use crate::target::{Action, Target, View, feature_target, from_target, tile_target};
@@ -52,11 +53,14 @@ const SERVED: &[(&str, Route)] = &[
     ("/publish/cancel", Route::Action(Action::PublishCancel)),
     ("/admin/status", Route::View(View::Status)),
     ("/admin/features/from/{id}", Route::FeatureFrom),
+    ("/admin/edits", Route::Action(Action::CheckedEdits)),
 ];
 
-/// The router of a table of paths.
+/// The router of a table of paths that don't conflict.
 fn router_of(alloc: Global, rows: &[(&str, Route)]) -> Result<Router<Route>, InsertError>
-    ensures { IfOk result (λ router. router ≡ with_routes (map row_path rows.now) []) }
+    requires { AllFit (map row_path rows.now) [] }
+    ensures rows { IfOk result (λ router. router ≡ with_routes (map row_path rows.now) []) }
+    ensures memory { IfErr result (λ fault. fault ≡ InsertError.OutOfMemory) }
 {
     let mut router = Router::new(alloc);
     for (path, route) in rows {
@@ -65,10 +69,11 @@ fn router_of(alloc: Global, rows: &[(&str, Route)]) -> Result<Router<Route>, Ins
     Ok(router)
 }
 
-/// The router of the paths that are served.
+/// The router of the paths that are served. It fails only for want of memory: no two of the paths conflict.
 #[tactic(auto, unfolding(crate::specs::Paths::served_paths, crate::specs::Paths::served_rows))]
 fn served(alloc: Global) -> Result<Router<Route>, InsertError>
-    ensures { IfOk result (λ router. router ≡ served_rows) }
+    ensures rows { IfOk result (λ router. router ≡ served_rows) }
+    ensures memory { IfErr result (λ fault. fault ≡ InsertError.OutOfMemory) }
 {
     router_of(alloc, SERVED)
 }
@@ -120,11 +125,12 @@ fn route_target(route: Route, params: &Params<'_, '_>) -> Target
 }
 
 impl Routes {
-    /// The router, which is made once and then asked for each request.
+    /// The router, which is made once and then asked for each request. It fails only for want of memory.
     pub fn new(alloc: Global) -> Result<Routes, AllocError> {
         match served(alloc) {
             Ok(router) => Ok(Routes { router }),
-            Err(_) => Err(AllocError),
+            Err(InsertError::OutOfMemory) => Err(AllocError),
+            Err(_) => unreachable!(),
         }
     }
 

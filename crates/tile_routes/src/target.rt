@@ -1,3 +1,4 @@
+//! What a path can ask for.
 ghost use Rattle.std.specs.Prelude.{◌≡◌, IsTrue};
 ghost use Rattle.std.specs.Option.{option_map};
 ghost use Rattle.tile_routes.specs.Number.{number_of};
@@ -33,6 +34,8 @@ pub enum View {
 pub enum Action {
     /// `/edits`: makes several changes of the map as one edit, all of them or none.
     Edits,
+    /// `/admin/edits`: the same, if each feature still is what the author of the edit saw.
+    CheckedEdits,
     /// `/publish`: publishes the whole map.
     Publish,
     /// `/publish/begin`: begins a publication by steps.
