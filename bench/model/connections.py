@@ -256,6 +256,7 @@ ROUTES = [
 ADMIN_ROUTES = [
     (rb"/admin/status", "status", "GET, HEAD"),
     (rb"/admin/features/from/" + NUMBER, "from", "GET, HEAD"),
+    (rb"/admin/edits", "checked", "POST"),
 ]
 
 
@@ -296,6 +297,15 @@ def put(service, number, body):
 
 def batch(service, body):
     return json_reply({"edit": service.batch([as_stored(change) for change in read_body(body, features.body_of)])})
+
+
+def checked_batch(service, body):
+    """A batch that is made if each number has the feature that its author saw."""
+    changes, seen = read_body(body, features.checked_of)
+    changed = service.first_changed([(change.number, feature) for change, feature in zip(changes, seen)])
+    if changed is not None:
+        return refusal(409, f"Changed {changed}")
+    return json_reply({"edit": service.batch([as_stored(change) for change in changes])})
 
 
 def tile_reply(service, at, ending):
@@ -385,6 +395,8 @@ def reply_to(service, request, is_admin):
             return on_feature(service, numbers[0], request)
         if name == "edits":
             return batch(service, request.body)
+        if name == "checked":
+            return checked_batch(service, request.body)
         if name == "tile":
             return tile_reply(service, numbers, ending)
         if name == "from":

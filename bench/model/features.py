@@ -139,14 +139,39 @@ def change_of(value):
     return Change(number, value.get("feature"))
 
 
-def body_of(text):
-    """The changes of an edit's JSON text, or its first fault: `Json`, E1 of any change, and then those of `check_changes`."""
+def changes_in(text):
+    """The list of the changes in an edit's JSON text."""
     value = value_of(text)
     if not isinstance(value, dict) or set(value) != {"changes"} or not isinstance(value["changes"], list):
         raise Fault("E1 Member")
-    found = [change_of(change) for change in value["changes"]]
+    return value["changes"]
+
+
+def body_of(text):
+    """The changes of an edit's JSON text, or its first fault: `Json`, E1 of any change, and then those of `check_changes`."""
+    found = [change_of(change) for change in changes_in(text)]
     check_changes(found)
     return found
+
+
+def checked_of(text):
+    """The changes of a checked edit's JSON text, and the feature that its author saw of each number, or None. Or its first fault: `Json`, E1 of
+    any change and of any feature that was seen, those of `check_changes`, and then E3 to E7 of the features that were seen.
+    """
+    changes, seen = changes_in(text), []
+    for change in changes:
+        if not isinstance(change, dict) or "was" not in change:
+            raise Fault("E1 Member")
+        seen.append(change["was"])
+    found = [change_of({name: value for name, value in change.items() if name != "was"}) for change in changes]
+    for feature in seen:
+        if feature is not None:
+            check_members(feature)
+    check_changes(found)
+    for feature in seen:
+        if feature is not None:
+            check_fields(feature)
+    return found, seen
 
 
 def changes_of(text):

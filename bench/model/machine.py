@@ -1,5 +1,7 @@
 """A model of a service on a disk: the answer to each call and the calls of the disk that it makes, from docs/FORMATS.md, docs/HTTP.md and
 docs/DECISIONS.md. It shares no code with the product."""
+import json
+
 from calls import append, install, write_area
 from crashes import Failed, Seen
 from disk import FIRST_VERSION, LAST_NUMBER, LONGEST, MAX_CHANGES, SECTOR, Change, Record, Root, after, in_order, parts_of, read_disk, record_text
@@ -93,6 +95,11 @@ def as_stored(change):
     if change.feature is None:
         return change
     return Change(change.number, {**change.feature, "tags": dict(in_order(change.feature["tags"]))})
+
+
+def is_same(one, other):
+    """Whether two features have the same members: points in the same order, and the same value for each tag. Or there is neither."""
+    return json.dumps(one, sort_keys=True) == json.dumps(other, sort_keys=True)
 
 
 # ---- the service
@@ -194,6 +201,10 @@ class Service:
         if any(change.feature is None and change.number not in self.map for change in changes):
             raise Refused("NotFound")
         return self.edit(changes)
+
+    def first_changed(self, seen):
+        """The first of these numbers that doesn't have the feature beside it, or None."""
+        return next((number for number, feature in seen if not is_same(self.map.get(number), feature)), None)
 
     # ---- publications
 

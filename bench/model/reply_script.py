@@ -6,6 +6,7 @@ import sys
 
 import connections
 import reply_admin
+import reply_checked
 import reply_edits
 import reply_heads
 import reply_hostile
@@ -91,7 +92,7 @@ def hold_to_examples():
 
 
 BLOCKS = [*reply_heads.BLOCKS, *reply_routes.BLOCKS, *reply_edits.BLOCKS, *reply_publications.BLOCKS, reply_random.at_random, *reply_hostile.BLOCKS]
-BLOCKS += [*reply_hostile_edits.BLOCKS, *reply_turns.BLOCKS, *reply_admin.BLOCKS]
+BLOCKS += [*reply_hostile_edits.BLOCKS, *reply_turns.BLOCKS, *reply_admin.BLOCKS, *reply_checked.BLOCKS]
 
 
 def files():

@@ -10,7 +10,7 @@ use Rattle.tile_service.specs.Service.{ServiceView, status_of, TellsDevice}
 use Rattle.tile_service.specs.declared.fault.ServiceFault.TheVariants.{Device}
 use Rattle.tile_service.specs.declared.publishing_whole.Published.{Published}
 use Rattle.tile_service.specs.declared.fault.ServiceFault.{ServiceFault}
-use Rattle.map_replies.specs.Meanings.{MeansCall, MeansChange, OrNoMemory, MeansEdit, MeansPublish, Answers}
+use Rattle.map_replies.specs.Meanings.{MeansCall, MeansChange, OrNoMemory, MeansBody, MeansEdit, MeansPublish, Answers}
 use Rattle.map_replies.specs.Sending.{IsAnswered}
 use Rattle.map_replies.specs.Words.{refusal_of, shown_reply, published_reply, outcome_reply}
 use Rattle.map_replies.specs.declared.fault.RequestFault.{RequestFault}
@@ -61,21 +61,27 @@ module _ {D : Type 0} (sectors : D → ℕ) (honest : D → Type 0) (history : D
   shown call reply_of old new a (Err fault) is same takes takes_none =
       called call (shown_reply reply_of) old new no_memory (refusal_of fault) (ap refusal_of same) takes_none
 
-  -- the body says what to edit, and a call was made for that
+  -- the body says something, and the reply means that
+  pub body_said : {A : Type 0} (Says : A → Type 0) (Has : RequestFault → Type 0) (Means : A → ReplyView → List Happening → Type 0) (a : A)
+      (old new : ServiceView D) (reply : ReplyView) → Says a → Answers sectors honest history (Means a) old new reply
+      → Answers sectors honest history (MeansBody Says Has Means) old new reply
+  body_said Says Has Means a old new reply says is = (is.0, inl (a, says, is.1), is.2)
+
+  -- it says what to edit, and a call was made for that
   pub edited : {A : Type 0} (before after : ℕ) (Says : A → Type 0) (Has : RequestFault → Type 0) (call : A → Result ℕ ServiceFault → Happening)
       (old new : ServiceView D) (a : A) (outcome : Result ℕ ServiceFault) (reply : ReplyView) → Says a → reply ≡ outcome_reply outcome
       → TellsDevice outcome before after → Takes sectors honest history old (call a outcome) new
-      → Answers sectors honest history (MeansEdit (HasFailed before after) Says Has call) old new reply
-  edited before after Says Has call old new a outcome reply says is counts takes =
-      let made = changed before after (call a) outcome_reply old new outcome reply is counts takes in
-      (made.0, inl (a, says, made.1), made.2)
+      → Answers sectors honest history (MeansBody Says Has (λ (x : A). MeansEdit (HasFailed before after) (call x))) old new reply
+  edited {A} before after Says Has call old new a outcome reply says is counts takes =
+      body_said Says Has (λ (x : A). MeansEdit (HasFailed before after) (call x)) a old new reply says
+      (changed before after (call a) outcome_reply old new outcome reply is counts takes)
 
   -- the body has a fault, or there is no memory
-  pub body_refused : {A : Type 0} (failed : Type 0) (Says : A → Type 0) (Has : RequestFault → Type 0) (call : A → Result ℕ ServiceFault → Happening)
+  pub body_refused : {A : Type 0} (Says : A → Type 0) (Has : RequestFault → Type 0) (Means : A → ReplyView → List Happening → Type 0)
       (fault : RequestFault) (old : ServiceView D) → (fault ≡ Memory) ⊎ Has fault
-      → Answers sectors honest history (MeansEdit failed Says Has call) old old (refusal_of fault)
-  body_refused failed Says Has call fault old (inl is) = ([], inr (inr (ap refusal_of is, refl)), refl)
-  body_refused failed Says Has call fault old (inr is) = ([], inr (inl (fault, is, (refl, refl))), refl)
+      → Answers sectors honest history (MeansBody Says Has Means) old old (refusal_of fault)
+  body_refused Says Has Means fault old (inl is) = ([], inr (inr (ap refusal_of is, refl)), refl)
+  body_refused Says Has Means fault old (inr is) = ([], inr (inl (fault, is, (refl, refl))), refl)
 
   pub no_memory_first : (IsMeant : ReplyView → List Happening → Type 0) (old new : ServiceView D) → new ≡ old
       → Answers sectors honest history (OrNoMemory IsMeant) old new (refusal_of Memory)

@@ -4,10 +4,11 @@ use Rattle.serde_json.specs.Data.{Data}
 use Rattle.feature_model.specs.declared.fault.EditFault.{EditFault}
 use Rattle.feature_model.specs.declared.fault.EditFault.TheVariants as edits
 use Rattle.edit_json.specs.Batches.{IsFirstBatchFault}
+use Rattle.edit_json.specs.Checked.{IsFirstCheckedFault}
 use Rattle.edit_json.specs.Faults.{IsFirstJsonFault}
 use Rattle.map_replies.specs.declared.fault.RequestFault.{RequestFault}
 use Rattle.map_replies.specs.declared.fault.RequestFault.TheVariants.{NotFound, Json, Edit, Memory}
-use Rattle.map_replies.specs.Bodies.{told_as, IsEditFault, IsJson, HasFault, HasBodyFault, HasBatchFault}
+use Rattle.map_replies.specs.Bodies.{told_as, IsEditFault, IsJson, HasFault, HasBodyFault, HasBatchFault, HasCheckedFault}
 
 -- a fault that satisfies P is reported as out of memory or as itself
 pub told : (P : EditFault → Type 0) (e : EditFault) → P e → (told_as e ≡ Memory) ⊎ IsEditFault P (told_as e)
@@ -39,3 +40,8 @@ value_fault body d fault json is = at_value IsFirstJsonFault body d fault json i
 -- a value in a body that isn't a batch
 pub batch_fault : (body : List ℕ) (d : Data) (fault : RequestFault) → IsJson body d → IsEditFault (IsFirstBatchFault d) fault → HasBatchFault body fault
 batch_fault body d fault json is = at_value IsFirstBatchFault body d fault json is
+
+-- a value in a body that isn't a checked edit
+pub checked_fault : (body : List ℕ) (d : Data) (fault : RequestFault) → IsJson body d → IsEditFault (IsFirstCheckedFault d) fault
+    → HasCheckedFault body fault
+checked_fault body d fault json is = at_value IsFirstCheckedFault body d fault json is

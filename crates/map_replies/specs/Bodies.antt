@@ -1,11 +1,13 @@
--- The feature, or the changes of a batch, in the body of a request.
+-- The feature, or the changes of an edit, in the body of a request.
 use Rattle.std.specs.Prelude.{◌≡◌, ◌≢◌, ℕ, List, Some, IsUtf8}
 use Rattle.serde_json.specs.Data.{Data}
 use Rattle.serde_json.specs.Read.{read}
 use Rattle.feature_model.specs.Data.{FeatureData, EditData}
 use Rattle.feature_model.specs.declared.fault.EditFault.{EditFault}
 use Rattle.feature_model.specs.declared.fault.EditFault.TheVariants as edits
+use Rattle.feature_model.specs.Seen.{SeenData}
 use Rattle.edit_json.specs.Batches.{IsBatch, IsFirstBatchFault}
+use Rattle.edit_json.specs.Checked.{IsChecked, IsFirstCheckedFault}
 use Rattle.edit_json.specs.Faults.{IsFeature, IsFirstJsonFault}
 use Rattle.map_replies.specs.declared.fault.RequestFault.{RequestFault}
 use Rattle.map_replies.specs.declared.fault.RequestFault.TheVariants.{Json, Edit, Memory}
@@ -29,6 +31,17 @@ pub record SaysChanges (body : List ℕ) (cs : EditData) : Type 0 where
   pub value : Data
   pub json : IsJson body value
   pub batch : IsBatch value cs
+
+-- the changes of an edit, and what its author saw of their numbers
+pub record CheckedEdit : Type 0 where
+  pub changes : EditData
+  pub seen : List SeenData
+
+-- the body encodes the changes, and what their author saw
+pub record SaysChecked (body : List ℕ) (e : CheckedEdit) : Type 0 where
+  pub value : Data
+  pub json : IsJson body value
+  pub checked : IsChecked value e.changes e.seen
 
 -- the request fault that reports the fault of an edit
 abbrev pub told_as : EditFault → RequestFault
@@ -54,3 +67,7 @@ HasBodyFault = HasFault IsFirstJsonFault
 -- a fault of a body that should encode the changes of a batch
 abbrev pub HasBatchFault : List ℕ → RequestFault → Type 0
 HasBatchFault = HasFault IsFirstBatchFault
+
+-- a fault of a body that should encode changes, and what their author saw
+abbrev pub HasCheckedFault : List ℕ → RequestFault → Type 0
+HasCheckedFault = HasFault IsFirstCheckedFault

@@ -1,5 +1,4 @@
 pub mod Bodies
-pub mod Checked
 pub mod Meanings
 pub mod Parts
 pub mod Sending

@@ -1,5 +1,5 @@
 -- Which happenings of the service a reply reports: one table, for a single reply and for a connection.
-use Rattle.std.specs.Prelude.{◌≡◌, ◌<◌, ◌⊎◌, ℕ, List, [], ◌∷◌, ◌++◌, length, Option, None, IfSome, Result, Ok, Err, IfOk, IfErr}
+use Rattle.std.specs.Prelude.{◌≡◌, ◌≢◌, ◌<◌, ◌⊎◌, ℕ, List, [], ◌∷◌, ◌++◌, length, map, All, Option, None, IfSome, Result, Ok, Err, IfOk, IfErr}
 use Rattle.http_serve.specs.Requests.{RequestView}
 use Rattle.http_serve.specs.Reply.{ReplyView}
 use Rattle.sector_disk.specs.Disk.{History, HasFailed}
@@ -14,10 +14,13 @@ use Rattle.tile_routes.specs.declared.target.View.TheVariants as views
 use Rattle.tile_routes.specs.Methods.{method_on}
 use Rattle.tile_routes.specs.Paths.{Asked, asked_tile, asked_feature, asked_from, asked_view, asked_action, asked_nothing, asked_by, granted}
 use Rattle.tile_routes.specs.declared.access.Access.{Access}
-use Rattle.feature_model.specs.Data.{FeatureData, EditData, put, delete}
-use Rattle.tile_service.specs.Machine.{Happening, single, batched, recorded_in, recorded_change, edit, begin, step, cancel, tile, look, look_from, metadata}
-use Rattle.tile_service.specs.Machine.{read}
+use Rattle.feature_model.specs.Data.{FeatureData, EditData, put, delete, number_of}
+use Rattle.feature_model.specs.Seen.{SeenData}
+use Rattle.feature_store.specs.Store.{FeatureMap}
+use Rattle.tile_service.specs.Machine.{Happening, single, batched, recorded_in, recorded_change, edit, begin, step, cancel}
+use Rattle.tile_service.specs.Machine.{got, tile, look, look_from, metadata, read}
 use Rattle.tile_service.specs.Runs.{begin_and_steps, TakesAll}
+use Rattle.tile_service.specs.Seen.{IsAsSeen}
 use Rattle.tile_service.specs.Service.{ServiceView, status_of}
 use Rattle.tile_service.specs.declared.publishing_whole.Published.{Published}
 use Rattle.tile_service.specs.declared.status.Status.{Status}
@@ -27,9 +30,9 @@ use Rattle.map_replies.specs.declared.fault.RequestFault.{RequestFault}
 use Rattle.map_replies.specs.declared.fault.RequestFault.TheVariants.{NotFound, Memory}
 use Rattle.map_replies.specs.declared.parts.ArchiveRange.{ArchiveRange}
 use Rattle.map_replies.specs.declared.parts.ArchiveRange.TheVariants.{Beyond}
-use Rattle.map_replies.specs.Bodies.{SaysFeature, SaysChanges, HasBodyFault, HasBatchFault}
+use Rattle.map_replies.specs.Bodies.{SaysFeature, SaysChanges, CheckedEdit, SaysChecked, HasBodyFault, HasBatchFault, HasCheckedFault}
 use Rattle.map_replies.specs.Parts.{range_for, IsPart, start_of, size_of, part_reply, bytes_reply}
-use Rattle.map_replies.specs.Words.{refusal_of, not_allowed_reply, outcome_reply, left_reply, published_reply, cancel_reply}
+use Rattle.map_replies.specs.Words.{refusal_of, not_allowed_reply, outcome_reply, changed_reply, left_reply, published_reply, cancel_reply}
 use Rattle.map_replies.specs.Words.{shown_reply, content_reply, found_reply, numbered_reply, metadata_reply, status_reply}
 
 -- ---- one call of the service
@@ -52,27 +55,64 @@ MeansRefusal fault reply happenings = (reply ≡ refusal_of fault) × (happening
 abbrev pub OrNoMemory : (ReplyView → List Happening → Type 0) → ReplyView → List Happening → Type 0
 OrNoMemory Means reply happenings = Means reply happenings ⊎ MeansRefusal Memory reply happenings
 
+-- the body says something, and that is what is meant, unless the body has a fault or there is no memory
+abbrev pub MeansBody : {A : Type 0} → (Says : A → Type 0) → (Has : RequestFault → Type 0) → (Means : A → ReplyView → List Happening → Type 0)
+    → ReplyView → List Happening → Type 0
+MeansBody {A} Says Has Means reply happenings =
+    ((a : A) × Says a × Means a reply happenings)
+    ⊎ ((fault : RequestFault) × Has fault × MeansRefusal fault reply happenings) ⊎ MeansRefusal Memory reply happenings
+
 -- ---- edits, which are recorded in the version of the service's disk
 
--- The body says what to edit, and the edit of that is made, unless the body has a fault.
-abbrev pub MeansEdit : {A : Type 0} → (failed : Type 0) → (Says : A → Type 0) → (Has : RequestFault → Type 0)
-    → (call : A → Result ℕ ServiceFault → Happening) → ReplyView → List Happening → Type 0
-MeansEdit {A} failed Says Has call reply happenings =
-    ((a : A) × Says a × MeansChange failed (call a) outcome_reply reply happenings)
-    ⊎ ((fault : RequestFault) × Has fault × MeansRefusal fault reply happenings) ⊎ MeansRefusal Memory reply happenings
+-- an edit is asked for, and its outcome is reported
+abbrev pub MeansEdit : (failed : Type 0) → (call : Result ℕ ServiceFault → Happening) → ReplyView → List Happening → Type 0
+MeansEdit failed call = MeansChange failed call outcome_reply
 
 -- the feature of the body is set
 abbrev pub MeansPut : (failed : Type 0) → (version : ℕ) → ℕ → List ℕ → ReplyView → List Happening → Type 0
 MeansPut failed version id body =
-    MeansEdit failed (SaysFeature body) (HasBodyFault body) (λ (f : FeatureData). edit single (recorded_change version (put id f)))
+    MeansBody (SaysFeature body) (HasBodyFault body) (λ (f : FeatureData). MeansEdit failed (edit single (recorded_change version (put id f))))
 
 -- the changes of the body are made as one edit, all of them or none
 abbrev pub MeansBatch : (failed : Type 0) → (version : ℕ) → List ℕ → ReplyView → List Happening → Type 0
 MeansBatch failed version body =
-    MeansEdit failed (SaysChanges body) (HasBatchFault body) (λ (cs : EditData). edit batched (recorded_in version cs))
+    MeansBody (SaysChanges body) (HasBatchFault body) (λ (cs : EditData). MeansEdit failed (edit batched (recorded_in version cs)))
 
 abbrev pub MeansDelete : (failed : Type 0) → (version : ℕ) → ℕ → ReplyView → List Happening → Type 0
-MeansDelete failed version id = OrNoMemory (MeansChange failed (edit single (recorded_change version (delete id))) outcome_reply)
+MeansDelete failed version id = OrNoMemory (MeansEdit failed (edit single (recorded_change version (delete id))))
+
+-- ---- edits that are made only if the map still has what their authors saw
+
+-- a look at each number, which finds what was seen
+abbrev pub looks : List SeenData → List Happening
+looks all = map (λ s. look s.id (got s.feature)) all
+
+-- each number still has what was seen, and the changes are made as one edit, as without that
+abbrev pub MeansUnchanged : (failed : Type 0) → (version : ℕ) → CheckedEdit → ReplyView → List Happening → Type 0
+MeansUnchanged failed version e reply happenings = (after : List Happening) × (happenings ≡ looks e.seen ++ after)
+    × MeansEdit failed (edit batched (recorded_in version e.changes)) reply after
+
+-- the first number that has something else is reported, and nothing else happens
+abbrev pub MeansChanged : List SeenData → ReplyView → List Happening → Type 0
+MeansChanged all reply happenings = (before : List SeenData) × (seen : SeenData) × (rest : List SeenData) × (found : Option FeatureData)
+    × (all ≡ before ++ seen ∷ rest) × (found ≢ seen.feature) × (reply ≡ changed_reply seen.id)
+    × (happenings ≡ looks before ++ look seen.id (got found) ∷ [])
+
+-- the changes are made if each number still has what was seen
+abbrev pub MeansChecked : (failed : Type 0) → (version : ℕ) → CheckedEdit → ReplyView → List Happening → Type 0
+MeansChecked failed version e reply happenings = MeansUnchanged failed version e reply happenings ⊎ MeansChanged e.seen reply happenings
+
+-- the same of the changes of the body, and what it says that their author saw
+abbrev pub MeansCheckedBatch : (failed : Type 0) → (version : ℕ) → List ℕ → ReplyView → List Happening → Type 0
+MeansCheckedBatch failed version body = MeansBody (SaysChecked body) (HasCheckedFault body) (MeansChecked failed version)
+
+-- The body says what to change and what its author saw, and the map has that of each number that is changed: the edit replaces no
+-- feature that its author hadn't seen.
+pub record ReplacesSeen (m : FeatureMap) (body : List ℕ) : Type 0 where
+  pub edit : CheckedEdit
+  pub says : SaysChecked body edit
+  pub numbers : map number_of edit.changes ≡ map (λ s. s.id) edit.seen
+  pub seen : All (IsAsSeen m) edit.seen
 
 -- ---- a whole publication
 
@@ -123,6 +163,7 @@ MeansView failed old views.Status method range = OrNoMemory (MeansStatus old)
 -- what POST does
 abbrev pub MeansAction : (failed : Type 0) → (old new : Status) → Action → List ℕ → ReplyView → List Happening → Type 0
 MeansAction failed old new actions.Edits body = MeansBatch failed old.version body
+MeansAction failed old new actions.CheckedEdits body = MeansCheckedBatch failed old.version body
 MeansAction failed old new actions.Publish body = OrNoMemory (MeansPublish failed old new)
 MeansAction failed old new actions.PublishBegin body = OrNoMemory (MeansCall begin left_reply)
 MeansAction failed old new actions.PublishStep body = OrNoMemory (MeansChange failed step left_reply)

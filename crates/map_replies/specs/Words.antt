@@ -145,6 +145,14 @@ outcome_reply = number_reply edit_start
 abbrev pub left_reply : Result ℕ ServiceFault → ReplyView
 left_reply = number_reply left_start
 
+-- the word of an edit of a number that has another feature than its author saw
+unfoldable pub changed_word : ℕ → List ℕ
+changed_word id = codes "Changed " ++ decimal id ++ codes "\n"
+
+-- 409 Conflict, with that word
+abbrev pub changed_reply : ℕ → ReplyView
+changed_reply id = plain_reply 409 (Some text_type) (changed_word id)
+
 -- what was published: the length of the archive in bytes, the sequence number of the last edit in it, and its generation
 unfoldable pub published_body : Published → List ℕ
 published_body p =

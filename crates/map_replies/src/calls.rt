@@ -26,7 +26,7 @@ pub(crate) struct Calls<D: Sectors + Drop> {
 }
 
 impl<D: Sectors + Drop> Calls<D> {
-    /// Handles an allowed method on a feature.
+    /// Handles an allowed method on a feature. POST isn't allowed there, and a method that isn't allowed doesn't get here.
     fn on_feature(&mut self, id: u64, method: Method, body: &[u8]) -> Result<Reply, RequestFault>
         ensures answered { IsAnswered (Answers D.sectors D.honest D.history
             (MeansOnFeature (DiskFailed D.faults self.old.service self.new.service) self.old.service.version id method body.now)
@@ -73,6 +73,7 @@ impl<D: Sectors + Drop> Calls<D> {
     {
         match action {
             Action::Edits => self.batch(body),
+            Action::CheckedEdits => self.checked_batch(body),
             Action::Publish => self.publish(),
             Action::PublishBegin => self.publish_begin(),
             Action::PublishStep => self.publish_step(),

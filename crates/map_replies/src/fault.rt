@@ -1,9 +1,10 @@
+//! Why a request is refused.
 use feature_model::EditFault;
 
 /// Why a request is refused, other than by the service. Nothing is changed.
 #[derive(Clone, Copy, Debug, PartialEq, Eq)]
 pub enum RequestFault {
-    /// The path or the method is not served.
+    /// The path isn't served, or nothing is stored there: no feature of that id, no archive.
     NotFound,
     /// The body isn't JSON.
     Json,

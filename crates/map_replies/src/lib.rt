@@ -14,5 +14,6 @@ mod service;
 mod showing;
 mod telling;
 
+pub use checking::replaces_what_was_seen;
 pub use fault::RequestFault;
 pub use service::{MapReplies, serve_map, serve_map_turns};

@@ -3,10 +3,9 @@ ghost use Rattle.std.specs.Prelude.{◌≡◌, ◌≤◌, [], length, vec_capaci
 ghost use Rattle.http_serve.specs.Reply.{content_bytes, reply_view, InParts, IsWhole};
 ghost use Rattle.map_replies.specs.Words.{fault_word, service_word, edit_word, full_word, fault_status, service_status, edit_status};
 ghost use Rattle.map_replies.specs.Words.{service_refusal, not_allowed_reply, json_reply, empty_reply, number_body, number_reply};
-ghost use Rattle.map_replies.specs.Words.{outcome_reply, left_reply};
+ghost use Rattle.map_replies.specs.Words.{outcome_reply, changed_word, changed_reply, left_reply};
 ghost use Rattle.map_replies.specs.Words.{published_body, published_reply, cancel_reply};
 ghost use Rattle.map_replies.specs.Words.{format_type, format_content, content_reply, tile_reply, refusal_of};
-ghost use Rattle.map_replies.specs.Checked.{changed_word, changed_reply};
 ghost use Rattle.tile_routes.specs.Targets.{asked_of};
 ghost use Rattle.map_replies.specs.Words.{text_type, json_type, tile_type};
 ghost use Rattle.map_replies.specs.declared.replies.TheConstants.{MAX_TEXT};
@@ -256,8 +255,8 @@ pub(crate) fn outcome(text: Vec<u8>, outcome: Result<u64, ServiceFault>) -> Repl
     number(text, b"{\"edit\":", outcome)
 }
 
-/// The word of a number that has another feature than was seen, with a line feed.
-#[tactic(auto, unfolding(crate::specs::Checked::changed_word))]
+/// The word of an edit of a number that has another feature than its author saw, with a line feed.
+#[tactic(auto, unfolding(crate::specs::Words::changed_word))]
 fn changed_word(text: Vec<u8>, id: u64) -> Vec<u8>
     requires empty { text.items ≡ [] }
     requires room { MAX_TEXT ≤ vec_capacity text }

@@ -9,13 +9,15 @@ use Rattle.map_replies.proofs.calls.Calls.make_checked.Goals as goal
 pub returns-in-Some-clause-answered : goal.returns-in-Some-clause-answered
 returns-in-Some-clause-answered g c =
     let d = g.D.Sectors in
-    told_changed d.sectors d.honest d.history _ _ (map change_data c.args.changes.items) (map seen_data c.args.all.now) c.in-Some.id _ _
+    told_changed d.sectors d.honest d.history _ _
+    (record { changes = map change_data c.args.changes.items; seen = map seen_data c.args.all.now }) c.in-Some.id _ _
     c.changed.ensures.reply c.in-Some.ensures
 
 pub returns-clause-answered : goal.returns-clause-answered
 returns-clause-answered g c =
     let d = g.D.Sectors in
     let call = c.batch-outcome.ensures in
-    made_unchanged d.sectors d.honest d.history _ _ _ (map change_data c.args.changes.items) (map seen_data c.args.all.now) _ _
+    made_unchanged d.sectors d.honest d.history _ _ _
+    (record { changes = map change_data c.args.changes.items; seen = map seen_data c.args.all.now }) _ _
     c.batch-outcome.result _ c.outcome.ensures.reply c.in_default.ensures call.takes.failed
     (edit_step d.sectors d.honest d.history d.faults _ _ batched _ c.batch-outcome.result call.machine call.takes)

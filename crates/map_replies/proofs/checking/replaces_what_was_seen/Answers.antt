@@ -1,0 +1,5 @@
+use Rattle.map_replies.proofs.CheckedEdits.{replaced_seen}
+use Rattle.map_replies.proofs.checking.replaces_what_was_seen.Goals as goal
+
+pub returns : goal.returns
+returns g c = let d = g.D.Sectors in replaced_seen d.sectors d.honest d.history
