@@ -1,3 +1,5 @@
+//! Command integers.
+
 ghost use Rattle.std.specs.Prelude.{◌≡◌, ◌<◌, ◌^◌};
 ghost use Rattle.geometry_commands.specs.Commands.{command};
 ghost use Rattle.geometry_commands.specs.Identifiers.{id_number};
@@ -19,7 +21,7 @@ impl CommandId {
         self as u32
     }
 
-    /// The integer of this command, done `count` times.
+    /// The integer of this command, executed `count` times.
     pub(crate) fn times(self, count: u32) -> u32
         requires { count < 2 ^ 29 }
         ensures { result ≡ command (id_number self) count }

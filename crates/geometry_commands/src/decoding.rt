@@ -1,3 +1,5 @@
+//! Decodes shapes.
+
 ghost use Rattle.std.specs.Prelude.{◌≡◌, ◌≢◌, ◌+◌, ◌*◌, ◌/◌, ◌<◌, ◌≤◌, ◌⊎◌, Bool, List, length, map, vec_len, vec_capacity, Ok, Err, IfOk, IfErr, OnOk};
 ghost use Rattle.reader.specs.Reading.{Reads, Gives};
 ghost use Rattle.geometry_commands.specs.Faulty.{ShapeHas};
@@ -16,19 +18,19 @@ use pb_wire::unzigzag;
 use std::alloc::{AllocError, AllocFailed, Global};
 use thiserror::Error;
 
-/// Why integers are no shape of a kind, or that an allocation failed.
+/// Why integers are not a shape of their kind, or that an allocation failed.
 #[derive(Clone, Copy, Debug, PartialEq, Eq, Error)]
 pub enum GeometryFault {
-    /// Another command stands where one must, or something behind the points.
+    /// A command is another than the shape needs, or integers follow the points.
     #[error("another command than one that must stand there")]
     Command,
-    /// A command is done fewer or more times than the kind allows.
+    /// A command's count is lower or higher than the kind allows.
     #[error("a command is done fewer or more times than it may be")]
     Count,
-    /// The integers end where a command or a point must stand.
+    /// The integers end before a command or a point that the shape needs.
     #[error("the integers end inside the shape")]
     Cut,
-    /// A coordinate leaves 64 bits.
+    /// A coordinate exceeds 64 bits.
     #[error("a coordinate leaves 64 bits")]
     Cursor,
     #[error("out of memory")]
@@ -51,14 +53,14 @@ impl From<AllocError> for GeometryFault {
     }
 }
 
-/// Where a number leads along one axis.
+/// A coordinate after the zigzag encoded step `way`, or `None` if it exceeds 64 bits.
 fn along(from: i64, way: u32) -> Option<i64>
     ensures { result ≡ along_at from way }
 {
     from.checked_add(unzigzag(u64::from(way)))
 }
 
-/// The point that two numbers lead to from another.
+/// The point after the zigzag encoded steps `dx` and `dy`, or `None` if a coordinate exceeds 64 bits.
 #[tactic(auto, unfolding(crate::specs::Ways::led_to, crate::specs::Ways::fits))]
 fn moved(from: Pt, dx: u32, dy: u32) -> Option<Pt>
     ensures { result ≡ moved_at from dx dy }
@@ -68,7 +70,7 @@ fn moved(from: Pt, dx: u32, dy: u32) -> Option<Pt>
     Some(Pt { x, y })
 }
 
-/// How many times this command is done, which must stand in front, and what stands behind it.
+/// The count of the first command, which must be this one, and the integers after it.
 #[tactic(auto, unfolding(crate::specs::Decoding::command_at))]
 fn command_of(id: CommandId, ints: &[u32]) -> Result<(u32, &[u32]), GeometryFault>
     ensures exact { Reads (λ x. (x.0, x.1.now)) result (command_at (id_number id) ints.now) }
@@ -85,7 +87,7 @@ fn command_of(id: CommandId, ints: &[u32]) -> Result<(u32, &[u32]), GeometryFaul
     }
 }
 
-/// The point to which the next two integers lead.
+/// The point after the step of the first two integers, and the integers after them.
 #[tactic(auto, unfolding(crate::specs::Decoding::step_at))]
 fn step_of(from: Pt, ints: &[u32]) -> Result<(Pt, &[u32]), GeometryFault>
     ensures exact { Reads (λ x. (x.0, x.1.now)) result (step_at from ints.now) }
@@ -101,8 +103,8 @@ fn step_of(from: Pt, ints: &[u32]) -> Result<(Pt, &[u32]), GeometryFault>
     }
 }
 
-/// So many points more, where the cursor stands then, and what stands behind them. However many there are to be, memory
-/// is taken only for points that stand there.
+/// Appends `count` points, and returns them with the cursor and the integers that remain. Memory is bounded by the integers
+/// that are there, not by `count`.
 fn walk<'a>(
     before: Vec<Pt>,
     from: Pt,
@@ -111,7 +113,7 @@ fn walk<'a>(
 ) -> Result<(Vec<Pt>, Pt, &'a [u32]), GeometryFault>
     ensures exact { Gives GeometryFault.Memory (λ x. (x.0.items, x.1, x.2.now)) result (walk_at count before.items from ints.entry.now) }
     ensures behind { IfOk result (λ x. length x.2.now + 2 * count ≡ length ints.entry.now) }
-    // An allocation fails only where the vector has no room for the points that stand there.
+    // An allocation fails only if the vector has no room for the points that the integers hold.
     ensures full { IfErr result (λ fault. fault ≡ GeometryFault.Memory → vec_capacity before < vec_len before + length ints.entry.now / 2) }
 {
     let mut points = before;
@@ -127,7 +129,7 @@ fn walk<'a>(
     Ok((points, at, rest))
 }
 
-/// What stands behind the command that closes a ring.
+/// The integers after the command that closes a ring.
 #[tactic(auto, unfolding(crate::specs::Decoding::close_at))]
 fn close_of(closed: bool, ints: &[u32]) -> Result<&[u32], GeometryFault>
     ensures exact { Reads (λ x. x.now) result (close_at closed ints.now) }
@@ -145,7 +147,7 @@ fn close_of(closed: bool, ints: &[u32]) -> Result<&[u32], GeometryFault>
     }
 }
 
-/// What stands behind the command to move to the first point of a line, which is done once.
+/// The integers after the MoveTo to the first point of a line, whose count is 1.
 #[tactic(auto, unfolding(crate::specs::Decoding::line_at))]
 fn start_of(ints: &[u32]) -> Result<&[u32], GeometryFault>
     ensures found { IfOk result (λ rest. command_at move_to ints.now ≡ Ok (1, rest.now)) }
@@ -160,7 +162,7 @@ fn start_of(ints: &[u32]) -> Result<&[u32], GeometryFault>
     Ok(rest)
 }
 
-/// How many points a line has behind its first one, and what stands behind this command.
+/// The count of points of a line after its first one, and the integers after this command.
 #[tactic(auto, unfolding(crate::specs::Decoding::line_second, crate::specs::Decoding::line_others))]
 fn count_of(closed: bool, ints: &[u32]) -> Result<(u32, &[u32]), GeometryFault>
     ensures found { IfOk result (λ x. (command_at line_to ints.now ≡ Ok (x.0, x.1.now)) × (least closed ≤ x.0)) }
@@ -175,7 +177,7 @@ fn count_of(closed: bool, ints: &[u32]) -> Result<(u32, &[u32]), GeometryFault>
     Ok((count, rest))
 }
 
-/// A line, or a ring, which is closed.
+/// A line, or a ring if `closed`, with the cursor and the integers that remain.
 #[tactic(auto, unfolding(crate::specs::Decoding::line_at, crate::specs::Decoding::line_second, crate::specs::Decoding::line_others))]
 fn line_of(
     alloc: Global,
@@ -195,7 +197,7 @@ fn line_of(
     Ok((points, at, rest))
 }
 
-/// Lines, or rings, each from where the one before it ends.
+/// Lines, or rings if `closed`, each from the end of the one before it.
 fn lines_of(alloc: Global, closed: bool, ints: &[u32]) -> Result<Vec<Vec<Pt>>, GeometryFault>
     ensures exact { Gives GeometryFault.Memory (λ v. map (λ l. l.items) v.items) result (lines_at closed ints.now) }
     ensures memory { IfErr result (λ fault. fault ≡ GeometryFault.Memory → 3 ≤ length ints.now) }
@@ -212,7 +214,7 @@ fn lines_of(alloc: Global, closed: bool, ints: &[u32]) -> Result<Vec<Vec<Pt>>, G
     Ok(lines)
 }
 
-/// How many points there are, at least one, and what stands behind this command.
+/// The count of points, at least one, and the integers after this command.
 #[tactic(auto, unfolding(crate::specs::Decoding::points_at, crate::specs::Decoding::points_behind))]
 fn points_count(ints: &[u32]) -> Result<(u32, &[u32]), GeometryFault>
     requires { 0 < length ints.now }
@@ -228,7 +230,7 @@ fn points_count(ints: &[u32]) -> Result<(u32, &[u32]), GeometryFault>
     Ok((count, rest))
 }
 
-/// Nothing stands behind the points.
+/// No integers remain after the points.
 fn check_end(rest: &[u32]) -> Result<(), GeometryFault>
     ensures end { OnOk result (length rest.now ≡ 0) }
     ensures fault { IfErr result (λ fault. (fault ≡ GeometryFault.Command) × (0 < length rest.now)) }
@@ -254,22 +256,22 @@ fn points_of(alloc: Global, ints: &[u32]) -> Result<Vec<Pt>, GeometryFault>
     Ok(points)
 }
 
-/// The shape of this kind that the integers spell, by the commands that its kind allows (Mapbox Vector Tile 2.1,
-/// 4.3.4): points are one MoveTo, a line is a MoveTo and a LineTo, a ring has a ClosePath behind its LineTo of two
-/// points or more. No integers are an empty shape of their kind. Rings may turn either way and have no area, and a
-/// point may stand where the one before it stands.
+/// The shape of this kind that the integers encode, by the commands that its kind allows (Mapbox Vector Tile 2.1,
+/// 4.3.4): points are one MoveTo, a line is a MoveTo and a LineTo, a ring has a ClosePath after its LineTo of two
+/// points or more. No integers are an empty shape of their kind. Rings may turn either way and may have no area, and a
+/// point may equal the one before it.
 ///
-/// What is answered is the first fault from left to right. However many points a command claims, memory is taken only for
-/// those that stand behind it: a claim that isn't met is `Cut`.
+/// The first fault from left to right is returned. Memory is bounded by the integers that are there, not by the counts of
+/// commands: if points are missing, the fault is `Cut`.
 pub fn decode(alloc: Global, kind: ShapeKind, ints: &[u32]) -> Result<Shape, GeometryFault>
-    // What is found is spelled so.
+    // The integers encode what is returned.
     ensures found { IfOk result (λ s. IsShape kind ints.now (shape_view s)) }
-    // What is spelled so is found, unless an allocation fails.
+    // What the integers encode is returned, unless an allocation fails.
     ensures only { (s : ShapeView) → IsShape kind ints.now s → Gives GeometryFault.Memory shape_view result (Ok s) }
     // The fault is one that the integers have.
     ensures fault { IfErr result (λ d. d ≢ GeometryFault.Memory → ShapeHas kind ints.now d) }
     ensures exact { Gives GeometryFault.Memory shape_view result (shape_at kind ints.now) }
-    // An allocation fails only where a command and a point may stand, or all integers are to be kept.
+    // An allocation fails only if there are integers for a command and a point, or all of them are stored.
     ensures memory { IfErr result (λ d. d ≡ GeometryFault.Memory → (kind ≡ ShapeKind.Unknown) ⊎ (3 ≤ length ints.now)) }
 {
     shape_of(alloc, kind, ints)

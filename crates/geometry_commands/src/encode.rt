@@ -1,3 +1,5 @@
+//! Encodes shapes.
+
 ghost use Rattle.std.specs.Prelude.{◌≡◌, ◌+◌, ◌*◌, ◌<◌, ◌^◌, ◌++◌, ◌-ℤ◌, pos, length, map, false, true, IfOk, OnOk};
 ghost use Rattle.pb_wire.specs.Zigzag.{zigzagged};
 ghost use Rattle.geometry_commands.specs.Commands.{IsShort, IsNear, AreNear, step, steps, points_spelled, origin};
@@ -33,7 +35,7 @@ fn put_step(out: &mut Vec<u32>, from: Pt, to: Pt) -> Result<(), AllocError>
     Ok(())
 }
 
-/// Appends the way from a point along the others, and returns where it ends.
+/// Appends the way from a point along the others, and returns its end.
 fn put_steps(out: &mut Vec<u32>, from: Pt, points: &[Pt]) -> Result<Pt, AllocError>
     requires { AreNear from points.now }
     ensures steps { OnOk result (out.new.items ≡ out.old.items ++ steps from points.now) }
@@ -48,10 +50,10 @@ fn put_steps(out: &mut Vec<u32>, from: Pt, points: &[Pt]) -> Result<Pt, AllocErr
     Ok(at)
 }
 
-/// How many integers of a line are no coordinates: its commands.
+/// The number of command integers of a ring: MoveTo, LineTo and ClosePath.
 const LINE_INTEGERS: usize = 3;
 
-/// Appends a line, or a ring, which is closed, and returns where the cursor stands then.
+/// Appends a line, or a ring if `closed`, and returns the cursor after it.
 fn put_line(out: &mut Vec<u32>, closed: bool, from: Pt, line: &[Pt]) -> Result<Pt, AllocError>
     requires { CanSpellLine closed from line.now }
     ensures line { OnOk result (out.new.items ≡ out.old.items ++ line_spelled closed from line.now) }

@@ -1,3 +1,5 @@
+//! Points.
+
 /// A point of a tile, in units of the tile's extent: x to the right and y down from its left upper corner.
 #[derive(Clone, Copy, Debug, PartialEq, Eq)]
 pub struct Pt {
@@ -6,6 +8,6 @@ pub struct Pt {
 }
 
 impl Pt {
-    /// Where the cursor stands before the first command.
+    /// The cursor before the first command.
     pub const ORIGIN: Pt = Pt { x: 0, y: 0 };
 }

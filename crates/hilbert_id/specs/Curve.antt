@@ -19,7 +19,7 @@ unfoldable pub curve : ℕ → List (ℕ × ℕ)
 curve zero = (0, 0) ∷ []
 curve (suc k) = map turned (curve k) ++ (map (below (2 ^ k)) (curve k) ++ (map (across (2 ^ k)) (curve k) ++ map (flipped (2 ^ k)) (curve k)))
 
--- the column and the row stand at this position of the zoom's curve, from 0
+-- the column and the row are at this position of the zoom's curve, counted from 0
 abbrev pub StandsAt : ℕ → ℕ → ℕ → ℕ → Type 0
 StandsAt z x y n = slice_get (curve z) n ≡ Some (x, y)
 

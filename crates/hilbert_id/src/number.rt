@@ -1,12 +1,14 @@
+//! Ids along the Hilbert curve.
+
 ghost use Rattle.std.specs.Prelude.{◌≡◌, ◌↔◌, ℕ, ◌+◌, ◌-◌, ◌*◌, ◌<◌, ◌≤◌, ◌^◌, IfSome, IsSome};
 ghost use Rattle.hilbert_id.specs.Curve.{StandsAt, IsTileId, first_id};
 
 use crate::tile_at::TileAt;
 
-/// How many tiles zooms 0 to 31 have together. Their ids are the numbers below it.
+/// The number of tiles of zooms 0 to 31 together. Their ids are the numbers below it.
 pub const TILE_IDS: u64 = 6_148_914_691_236_517_205;
 
-// Half the columns of a zoom.
+/// Half the columns of a zoom.
 fn half_side(zoom: u8) -> u32
     requires { (0 < zoom) × (zoom ≤ 31) }
     ensures half { result ≡ 2 ^ (zoom - 1) }
@@ -16,7 +18,7 @@ fn half_side(zoom: u8) -> u32
     1 << (zoom - 1)
 }
 
-// How many tiles a quarter of a zoom has.
+/// The number of tiles in a quarter of a zoom.
 fn quarter(zoom: u8) -> u64
     requires { (0 < zoom) × (zoom ≤ 31) }
     ensures quarter { result ≡ 4 ^ (zoom - 1) }
@@ -26,7 +28,7 @@ fn quarter(zoom: u8) -> u64
     1 << (2 * (zoom - 1))
 }
 
-// Where a column and a row stand in the curve of a zoom.
+/// The position of a column and a row on the curve of a zoom.
 fn position(zoom: u8, x: u32, y: u32) -> u64
     requires zoom { zoom ≤ 31 }
     requires column { x < 2 ^ zoom }
@@ -47,7 +49,7 @@ fn position(zoom: u8, x: u32, y: u32) -> u64
     }
 }
 
-// The id of the first tile of a zoom.
+/// The id of the first tile of a zoom.
 fn first_of(z: u8) -> u64
     requires { z ≤ 31 }
     ensures first { result ≡ first_id z }
@@ -56,18 +58,18 @@ fn first_of(z: u8) -> u64
     ((1u64 << (2 * z)) - 1) / 3
 }
 
-// The zoom of an id.
+/// The zoom of an id.
 fn zoom_of(id: u64) -> u8
     requires { id < TILE_IDS }
     ensures zoom { result ≤ 31 }
     ensures first { first_id result ≤ id }
     ensures last { id < first_id result + 4 ^ result }
 {
-    // Three times the first id of a zoom, and one, is the power of four that the zoom has tiles.
+    // Three times the first id of a zoom, plus one, is the number of tiles of the zoom: a power of four.
     ((3 * id + 1).ilog2() / 2) as u8
 }
 
-// The column and the row at a position of the curve of a zoom.
+/// The column and the row at a position of the curve of a zoom.
 fn column_and_row(zoom: u8, position: u64) -> (u32, u32)
     requires zoom { zoom ≤ 31 }
     requires position { position < 4 ^ zoom }
@@ -98,7 +100,7 @@ pub fn id_of(at: TileAt) -> u64
     first_of(at.z) + position(at.z, at.x, at.y)
 }
 
-/// The tile of an id. `None` where the id is `TILE_IDS` or more.
+/// The tile of an id, or `None` if the id is `TILE_IDS` or more.
 pub fn tile_of(id: u64) -> Option<TileAt>
     ensures there { IsSome result ↔ (id < TILE_IDS) }
     ensures tile { IfSome result (λ at. IsTileId at.z at.x at.y id) }

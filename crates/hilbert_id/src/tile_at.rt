@@ -1,3 +1,5 @@
+//! Tile coordinates.
+
 ghost use Rattle.std.specs.Prelude.{◌<◌, ◌≤◌, ◌^◌};
 
 /// A tile of the pyramid, by its zoom, its column and its row.
@@ -20,8 +22,7 @@ impl TileAt {
     ghost use Rattle.hilbert_id.specs.Place.{IsPlace};
     ghost use Rattle.std.specs.Prelude.{◌≡◌, IfSome, IsSome, ◌↔◌};
 
-    /// The tile at zoom `z`, column `x` and row `y`. `None` where the zoom is above 31, or has no such
-    /// column or row.
+    /// The tile at zoom `z`, column `x` and row `y`, or `None` if the zoom is above 31 or has no such column or row.
     pub fn new(z: u8, x: u32, y: u32) -> Option<TileAt>
         ensures there { IsSome result ↔ IsPlace z x y }
         ensures same { IfSome result (λ at. (at.z ≡ z) × (at.x ≡ x) × (at.y ≡ y)) }

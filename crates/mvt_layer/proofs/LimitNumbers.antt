@@ -1,8 +1,10 @@
 -- The number of each limit, field number and enumerated value.
 use Rattle.std.proofs.Common.{◌≡◌, refl}
 use Rattle.mvt_layer.specs.declared.layers.TheConstants.{DEFAULT_EXTENT, DEFAULT_VERSION, CURRENT_VERSION}
-use Rattle.mvt_layer.specs.declared.field_numbers.TheConstants.{TILE_LAYERS, LAYER_NAME, LAYER_FEATURES, LAYER_KEYS, LAYER_VALUES, LAYER_EXTENT, LAYER_VERSION, FEATURE_ID, FEATURE_TAGS, FEATURE_TYPE, FEATURE_GEOMETRY}
-use Rattle.mvt_layer.specs.declared.field_numbers.TheConstants.{STRING_VALUE, FLOAT_VALUE, DOUBLE_VALUE, INT_VALUE, UINT_VALUE, SINT_VALUE, BOOL_VALUE, UNKNOWN_TYPE, POINT_TYPE, LINESTRING_TYPE, POLYGON_TYPE}
+use Rattle.mvt_layer.specs.declared.field_numbers.TheConstants.{TILE_LAYERS, LAYER_NAME, LAYER_FEATURES, LAYER_KEYS, LAYER_VALUES, LAYER_EXTENT, LAYER_VERSION}
+use Rattle.mvt_layer.specs.declared.field_numbers.TheConstants.{FEATURE_ID, FEATURE_TAGS, FEATURE_TYPE, FEATURE_GEOMETRY}
+use Rattle.mvt_layer.specs.declared.field_numbers.TheConstants.{STRING_VALUE, FLOAT_VALUE, DOUBLE_VALUE, INT_VALUE, UINT_VALUE, SINT_VALUE, BOOL_VALUE}
+use Rattle.mvt_layer.specs.declared.field_numbers.TheConstants.{UNKNOWN_TYPE, POINT_TYPE, LINESTRING_TYPE, POLYGON_TYPE}
 
 pub default_extent_is : DEFAULT_EXTENT ≡ 4096
 default_extent_is = refl

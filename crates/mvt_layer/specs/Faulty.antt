@@ -6,7 +6,8 @@ use Rattle.std.specs.Str.{IsUtf8}
 use Rattle.pb_wire.specs.Varint.{IsVarint}
 use Rattle.pb_wire.specs.Message.{Value, varint_value, eight_bytes, some_bytes, four_bytes, FieldData, IsMessage}
 use Rattle.geometry_commands.specs.Shapes.{ShapeView, IsShape}
-use Rattle.mvt_layer.specs.declared.field_numbers.TheConstants.{TILE_LAYERS, LAYER_NAME, LAYER_FEATURES, LAYER_KEYS, LAYER_VALUES, LAYER_EXTENT, LAYER_VERSION, FEATURE_ID, FEATURE_TAGS, FEATURE_TYPE, FEATURE_GEOMETRY}
+use Rattle.mvt_layer.specs.declared.field_numbers.TheConstants.{TILE_LAYERS, LAYER_NAME, LAYER_FEATURES, LAYER_KEYS, LAYER_VALUES, LAYER_EXTENT, LAYER_VERSION}
+use Rattle.mvt_layer.specs.declared.field_numbers.TheConstants.{FEATURE_ID, FEATURE_TAGS, FEATURE_TYPE, FEATURE_GEOMETRY}
 use Rattle.mvt_layer.specs.declared.fault.TileFault.{TileFault}
 use Rattle.mvt_layer.specs.declared.fault.TileFault.TheVariants as faults
 use Rattle.mvt_layer.specs.declared.layers.TheConstants.{DEFAULT_VERSION, CURRENT_VERSION}
@@ -75,7 +76,8 @@ pub data FeatureHas (keys : List (List ℕ)) (values : List TagView) (bytes : Li
       → ((ts : List Tagged) → AreTags keys values [] indices ts → ⊥) → FeatureHas keys values bytes d
   -- the integers are not a shape of the kind
   at_shape : d ≡ faults.Geometry → (fields : List FieldData) → IsMessage bytes fields → (kind : Option ℕ) → LastNumber None (values_of FEATURE_TYPE fields) kind
-      → (ints : List ℕ) → AreNumbers (values_of FEATURE_GEOMETRY fields) ints → ((s : ShapeView) → IsShape (kind_of kind) ints s → ⊥) → FeatureHas keys values bytes d
+      → (ints : List ℕ) → AreNumbers (values_of FEATURE_GEOMETRY fields) ints → ((s : ShapeView) → IsShape (kind_of kind) ints s → ⊥)
+      → FeatureHas keys values bytes d
 
 -- a fault of the value of a tag
 pub data ValueHas (bytes : List ℕ) (d : TileFault) : Type 0 where
@@ -103,25 +105,26 @@ pub data LayerHas (bytes : List ℕ) (d : TileFault) : Type 0 where
   no_name : d ≡ faults.Name → (fields : List FieldData) → IsMessage bytes fields → LastBytes None (values_of LAYER_NAME fields) None → LayerHas bytes d
   name_text : d ≡ faults.Utf8 → (fields : List FieldData) → IsMessage bytes fields → (part : List ℕ) → LastBytes None (values_of LAYER_NAME fields) (Some part)
       → (IsUtf8 part → ⊥) → LayerHas bytes d
-  large_number : d ≡ faults.Range → (fields : List FieldData) → IsMessage bytes fields → (number : ℕ) → (number ≡ LAYER_VERSION) ⊎ (number ≡ LAYER_EXTENT) → (n : ℕ)
-      → LastNumber None (values_of number fields) (Some n) → 4294967295 < n → LayerHas bytes d
+  large_number : d ≡ faults.Range → (fields : List FieldData) → IsMessage bytes fields → (number : ℕ) → (number ≡ LAYER_VERSION) ⊎ (number ≡ LAYER_EXTENT)
+      → (n : ℕ) → LastNumber None (values_of number fields) (Some n) → 4294967295 < n → LayerHas bytes d
   other_version : d ≡ faults.Version → (fields : List FieldData) → IsMessage bytes fields → (n : ℕ) → LastNumber None (values_of LAYER_VERSION fields) (Some n)
       → (n ≡ DEFAULT_VERSION → ⊥) → (n ≡ CURRENT_VERSION → ⊥) → LayerHas bytes d
-  no_extent : d ≡ faults.Extent → (fields : List FieldData) → IsMessage bytes fields → LastNumber None (values_of LAYER_EXTENT fields) (Some 0) → LayerHas bytes d
-  key_text : d ≡ faults.Utf8 → (fields : List FieldData) → IsMessage bytes fields → (raw : List (List ℕ)) → AreParts (values_of LAYER_KEYS fields) raw → (p : List ℕ)
-      → IsAmong p raw → (IsUtf8 p → ⊥) → LayerHas bytes d
-  in_value : (fields : List FieldData) → IsMessage bytes fields → (raw : List (List ℕ)) → AreParts (values_of LAYER_VALUES fields) raw → (p : List ℕ) → IsAmong p raw
-      → ValueHas p d → LayerHas bytes d
-  in_feature : (fields : List FieldData) → IsMessage bytes fields → (raw_keys : List (List ℕ)) → AreParts (values_of LAYER_KEYS fields) raw_keys → (keys : List (List ℕ))
-      → Each IsText raw_keys keys → (raw_values : List (List ℕ)) → AreParts (values_of LAYER_VALUES fields) raw_values → (values : List TagView)
-      → Each SaysValue raw_values values → (raw : List (List ℕ)) → AreParts (values_of LAYER_FEATURES fields) raw → (p : List ℕ) → IsAmong p raw → FeatureHas keys values p d
+  no_extent : d ≡ faults.Extent → (fields : List FieldData) → IsMessage bytes fields → LastNumber None (values_of LAYER_EXTENT fields) (Some 0)
       → LayerHas bytes d
+  key_text : d ≡ faults.Utf8 → (fields : List FieldData) → IsMessage bytes fields → (raw : List (List ℕ)) → AreParts (values_of LAYER_KEYS fields) raw
+      → (p : List ℕ) → IsAmong p raw → (IsUtf8 p → ⊥) → LayerHas bytes d
+  in_value : (fields : List FieldData) → IsMessage bytes fields → (raw : List (List ℕ)) → AreParts (values_of LAYER_VALUES fields) raw
+      → (p : List ℕ) → IsAmong p raw → ValueHas p d → LayerHas bytes d
+  in_feature : (fields : List FieldData) → IsMessage bytes fields → (raw_keys : List (List ℕ)) → AreParts (values_of LAYER_KEYS fields) raw_keys
+      → (keys : List (List ℕ)) → Each IsText raw_keys keys → (raw_values : List (List ℕ)) → AreParts (values_of LAYER_VALUES fields) raw_values
+      → (values : List TagView) → Each SaysValue raw_values values → (raw : List (List ℕ)) → AreParts (values_of LAYER_FEATURES fields) raw
+      → (p : List ℕ) → IsAmong p raw → FeatureHas keys values p d → LayerHas bytes d
 
 -- a fault of a tile
 pub data TileHas (bytes : List ℕ) (d : TileFault) : Type 0 where
   at_layers : PassHas BadBytes TILE_LAYERS bytes d → TileHas bytes d
-  in_layer : (fields : List FieldData) → IsMessage bytes fields → (raw : List (List ℕ)) → AreParts (values_of TILE_LAYERS fields) raw → (p : List ℕ) → IsAmong p raw
-      → LayerHas p d → TileHas bytes d
+  in_layer : (fields : List FieldData) → IsMessage bytes fields → (raw : List (List ℕ)) → AreParts (values_of TILE_LAYERS fields) raw
+      → (p : List ℕ) → IsAmong p raw → LayerHas p d → TileHas bytes d
   -- two of the layers have one name
   layer_twice : d ≡ faults.LayerTwice → (fields : List FieldData) → IsMessage bytes fields → (front : List (List ℕ)) → (p : List ℕ) → (rest : List (List ℕ))
       → AreParts (values_of TILE_LAYERS fields) (front ++ p ∷ rest) → (ls : List LayerView) → Each SaysLayer front ls → (l : LayerView) → SaysLayer p l

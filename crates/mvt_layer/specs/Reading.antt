@@ -12,7 +12,10 @@ use Rattle.geometry_commands.specs.declared.kinds.ShapeKind.{ShapeKind}
 use Rattle.geometry_commands.specs.declared.kinds.ShapeKind.TheVariants as kinds
 use Rattle.geometry_commands.specs.Shapes.{ShapeView}
 use Rattle.geometry_commands.specs.Decoding.{shape_at}
-use Rattle.mvt_layer.specs.declared.field_numbers.TheConstants.{TILE_LAYERS, LAYER_NAME, LAYER_FEATURES, LAYER_KEYS, LAYER_VALUES, LAYER_EXTENT, LAYER_VERSION, FEATURE_ID, FEATURE_TAGS, FEATURE_TYPE, FEATURE_GEOMETRY, STRING_VALUE, FLOAT_VALUE, DOUBLE_VALUE, INT_VALUE, UINT_VALUE, SINT_VALUE, BOOL_VALUE, POINT_TYPE, LINESTRING_TYPE, POLYGON_TYPE}
+use Rattle.mvt_layer.specs.declared.field_numbers.TheConstants.{TILE_LAYERS, LAYER_NAME, LAYER_FEATURES, LAYER_KEYS, LAYER_VALUES, LAYER_EXTENT, LAYER_VERSION}
+use Rattle.mvt_layer.specs.declared.field_numbers.TheConstants.{FEATURE_ID, FEATURE_TAGS, FEATURE_TYPE, FEATURE_GEOMETRY, STRING_VALUE, FLOAT_VALUE}
+use Rattle.mvt_layer.specs.declared.field_numbers.TheConstants.{DOUBLE_VALUE, INT_VALUE, UINT_VALUE, SINT_VALUE, BOOL_VALUE, POINT_TYPE, LINESTRING_TYPE}
+use Rattle.mvt_layer.specs.declared.field_numbers.TheConstants.{POLYGON_TYPE}
 use Rattle.mvt_layer.specs.declared.fault.TileFault.{TileFault}
 use Rattle.mvt_layer.specs.declared.fault.TileFault.TheVariants as faults
 use Rattle.mvt_layer.specs.declared.layers.TheConstants.{DEFAULT_EXTENT, DEFAULT_VERSION, CURRENT_VERSION}
@@ -177,7 +180,11 @@ each_in read parts = folded (part_more read) [] parts
 
 abbrev pub kind_of : Option ℕ → ShapeKind
 kind_of None = kinds.Unknown
-kind_of (Some n) = if n == POINT_TYPE then kinds.Points else (if n == LINESTRING_TYPE then kinds.Lines else (if n == POLYGON_TYPE then kinds.Polygons else kinds.Unknown))
+kind_of (Some n) =
+    if n == POINT_TYPE then kinds.Points
+    else (if n == LINESTRING_TYPE then kinds.Lines
+    else (if n == POLYGON_TYPE then kinds.Polygons
+    else kinds.Unknown))
 
 abbrev pub shape_read : Result ShapeView GeometryFault → Read TileFault ShapeView
 shape_read (Ok s) = Ok s

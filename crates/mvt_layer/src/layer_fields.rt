@@ -35,7 +35,8 @@ fn with_item<'a>(before: LayerFields<'a>, item: FieldItem<'a>) -> LayerFields<'a
         (onward (λ v. bytes_of v.items) before.entry.keys (λ parts. after LAYER_KEYS parts_after parts (item_view item.entry))) }
     ensures values { Gives TileFault.Memory (λ v. bytes_of v.items) result.values
         (onward (λ v. bytes_of v.items) before.entry.values (λ parts. after LAYER_VALUES parts_after parts (item_view item.entry))) }
-    ensures extent { Gives TileFault.Memory (λ n. n) result.extent (onward (λ n. n) before.entry.extent (λ n. after LAYER_EXTENT number_after n (item_view item.entry))) }
+    ensures extent { Gives TileFault.Memory (λ n. n) result.extent
+        (onward (λ n. n) before.entry.extent (λ n. after LAYER_EXTENT number_after n (item_view item.entry))) }
     ensures version { Gives TileFault.Memory (λ n. n) result.version
         (onward (λ n. n) before.entry.version (λ n. after LAYER_VERSION number_after n (item_view item.entry))) }
 {

@@ -64,7 +64,7 @@ length_varints [] = omega arith
 length_varints (n ∷ ns) = omega (arith, length-append (varint n) (flat_map varint ns), length_varint n, length_varints ns)
 
 length_number : (number n : ℕ) → length (number_field number n) ≤ 20
-length_number number n = omega (arith, length-append (varint (8 * number)) (varint n), length_varint (8 * number), length_varint n)
+length_number number n = omega (arith, length-append (varint (8 * number + 0)) (varint n), length_varint (8 * number + 0), length_varint n)
 
 length_bytes : (number : ℕ) (bytes : List ℕ) → length (bytes_field number bytes) ≤ 20 + length bytes
 length_bytes number bytes =

@@ -5,6 +5,7 @@ pub mod Laws
 mod LayerSteps
 mod LayersRead
 pub mod Lengths
+pub mod LimitNumbers
 mod Lists
 mod Messages
 pub mod Names

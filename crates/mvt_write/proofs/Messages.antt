@@ -1,9 +1,9 @@
 -- What is written as fields is a message of these fields.
 use Rattle.std.proofs.Common.{◌≡◌, ℕ, false, eqb, ◌+◌, ◌*◌, ◌^◌, ◌<◌, ◌≤◌, List, [], ◌∷◌, ◌++◌, length, map, refl, sym, ap, subst, append_assoc, append-nil}
-use Rattle.std.proofs.Common.{add-zero, arith, eq-eqb}
+use Rattle.std.proofs.Common.{arith, eq-eqb}
 use Rattle.std.specs.List.{flat_map, AllByRecursion}
 use Rattle.std.proofs.lemmas.List.{length-append}
-use Rattle.pb_wire.specs.Varint.{IsVarint, varint}
+use Rattle.pb_wire.specs.Varint.{varint}
 use Rattle.pb_wire.specs.Faulty.{IsFieldNumber}
 use Rattle.pb_wire.specs.Message.{Value, varint_value, some_bytes, FieldData, IsMessage}
 use Rattle.pb_wire.proofs.Varints.{varint_spells}
@@ -24,10 +24,10 @@ message_number number n rest fs fits below others = (
   rest,
   refl,
   record {
-    key = varint (8 * number);
+    key = varint (8 * number + 0);
     value = varint n;
     parts = refl;
-    key_is = subst (λ (m : ℕ). IsVarint (varint (8 * number)) m) (sym (add-zero (8 * number))) (varint_spells (8 * number) (omega arith));
+    key_is = varint_spells (8 * number + 0) (omega arith);
     value_is = varint_spells n below;
     number = fits;
   },

@@ -1,4 +1,4 @@
-//! What pools hold.
+//! The entries of pools.
 
 ghost use Rattle.std.specs.Prelude.{◌≡◌, ℕ, ◌<◌, ◌^◌, ◌++◌, List, OnOk};
 ghost use Rattle.std.specs.Ordering.{is_eq};
@@ -25,14 +25,14 @@ fn text_code(text: &str) -> u64 {
     code
 }
 
-/// A key or a value of tags, as a layer holds it.
+/// A key or a value of a layer's tags.
 pub(crate) trait FieldData: Ord + Copy {
     ghost spelled: { Self → List ℕ };
 
-    /// A number that mostly differs where entries differ. Only the speed of a pool rests on it.
+    /// A number that mostly differs where entries differ. Only the speed of a pool depends on it.
     fn code(self) -> u64;
 
-    /// Appends the entry as a field. What `message` holds is lost.
+    /// Appends the entry as a field. `message` is overwritten.
     fn put(self, message: &mut Vec<u8>, out: &mut Vec<u8>, number: u32) -> Result<(), AllocError>
         requires { number < 2 ^ 29 }
         ensures { OnOk result (out.new.items ≡ out.old.items ++ bytes_field number (spelled self)) };

@@ -15,15 +15,19 @@ use crate::tag_pools::TagPools;
 use crate::tags::put_tags;
 use geometry_commands::{Shape, encode_lines, encode_points, encode_rings};
 use mvt_layer::TileFeature;
+use mvt_layer::field_numbers::{
+    FEATURE_GEOMETRY, FEATURE_ID, FEATURE_TYPE, LAYER_FEATURES, LINESTRING_TYPE, POINT_TYPE,
+    POLYGON_TYPE, UNKNOWN_TYPE,
+};
 use std::alloc::{AllocError, Global};
 
-/// Appends the field of a feature's id, where it has one.
+/// Appends the field of a feature's id, if it has one.
 fn put_id(out: &mut Vec<u8>, id: Option<u64>) -> Result<(), AllocError>
     ensures written { OnOk result (out.new.items ≡ out.old.items ++ id_written id) }
     ensures fits { IfSome id (λ id. id < 2 ^ 64) }
 {
     match id {
-        Some(id) => put_number(out, 1, id),
+        Some(id) => put_number(out, FEATURE_ID, id),
         None => Ok(()),
     }
 }
@@ -33,10 +37,10 @@ fn geometry_type(shape: &Shape) -> u64
     ensures { result ≡ kind_number (shape_view shape.now) }
 {
     match shape {
-        Shape::Raw(_) => 0,
-        Shape::Points(_) => 1,
-        Shape::Lines(_) => 2,
-        Shape::Rings(_) => 3,
+        Shape::Raw(_) => UNKNOWN_TYPE,
+        Shape::Points(_) => POINT_TYPE,
+        Shape::Lines(_) => LINESTRING_TYPE,
+        Shape::Rings(_) => POLYGON_TYPE,
     }
 }
 
@@ -54,8 +58,8 @@ fn geometry_integers(alloc: Global, shape: &Shape) -> Result<Vec<u32>, AllocErro
     }
 }
 
-/// Leaves in `message` the message of a feature alone (Mapbox Vector Tile 2.1, 4.2), by the pools of its layer, to which its
-/// tags are added. What `packed` holds is lost.
+/// Replaces `message` with the message of a feature (Mapbox Vector Tile 2.1, 4.2). Its tags are added to the pools of its
+/// layer. `packed` is overwritten.
 #[tactic(auto, unfolding(crate::specs::Written::feature_written))]
 fn write_message<'a>(
     alloc: Global,
@@ -75,9 +79,9 @@ fn write_message<'a>(
     message.clear();
     put_id(message, feature.id)?;
     put_tags(packed, message, pools, &feature.tags)?;
-    put_number(message, 3, geometry_type(&feature.shape))?;
+    put_number(message, FEATURE_TYPE, geometry_type(&feature.shape))?;
     let integers = geometry_integers(alloc, &feature.shape)?;
-    put_packed(packed, message, 4, &integers)?;
+    put_packed(packed, message, FEATURE_GEOMETRY, &integers)?;
     Ok(())
 }
 
@@ -93,7 +97,7 @@ pub(crate) fn put_features<'a>(
     ensures written { OnOk result
         ((later_keys later_values : List (List ℕ))
         → out.new.items ≡ out.old.items
-        ++ flat_map (λ f. bytes_field 2 (feature_written (held_keys pools.new ++ later_keys) (held_values pools.new ++ later_values) f))
+        ++ flat_map (λ f. bytes_field LAYER_FEATURES (feature_written (held_keys pools.new ++ later_keys) (held_values pools.new ++ later_values) f))
         (map feature_view features.now)) }
     ensures fits { OnOk result (All FitsFeature (map feature_view features.now)) }
 {
@@ -101,7 +105,7 @@ pub(crate) fn put_features<'a>(
     let mut packed = Vec::new(alloc);
     for feature in features {
         write_message(alloc, &mut message, &mut packed, pools, feature)?;
-        put_bytes(out, 2, &message)?;
+        put_bytes(out, LAYER_FEATURES, &message)?;
     }
     Ok(())
 }

@@ -5,7 +5,7 @@ ghost use Rattle.std.specs.List.{flat_map};
 ghost use Rattle.pb_wire.specs.Varint.{varint};
 ghost use Rattle.mvt_write.specs.Written.{number_field, bytes_field, packed_field};
 
-use pb_wire::put_varint;
+use pb_wire::{WIRE_LEN, WIRE_VARINT, put_varint};
 use std::alloc::AllocError;
 
 /// Appends a field that is a number.
@@ -13,7 +13,7 @@ pub(crate) fn put_number(out: &mut Vec<u8>, number: u32, n: u64) -> Result<(), A
     requires { number < 2 ^ 29 }
     ensures { OnOk result (out.new.items ≡ out.old.items ++ number_field number n) }
 {
-    put_varint(out, 8 * u64::from(number))?;
+    put_varint(out, 8 * u64::from(number) + WIRE_VARINT)?;
     put_varint(out, n)
 }
 
@@ -22,7 +22,7 @@ pub(crate) fn put_bytes(out: &mut Vec<u8>, number: u32, bytes: &[u8]) -> Result<
     requires { number < 2 ^ 29 }
     ensures { OnOk result (out.new.items ≡ out.old.items ++ bytes_field number bytes.now) }
 {
-    put_varint(out, 8 * u64::from(number) + 2)?;
+    put_varint(out, 8 * u64::from(number) + WIRE_LEN)?;
     put_varint(out, bytes.len() as u64)?;
     out.extend_from_slice(bytes)
 }
@@ -37,7 +37,7 @@ fn put_numbers(out: &mut Vec<u8>, numbers: &[u32]) -> Result<(), AllocError>
     Ok(())
 }
 
-/// Appends a field that is many numbers. What `packed` holds is lost.
+/// Appends a field of packed numbers. `packed` is overwritten.
 pub(crate) fn put_packed(
     packed: &mut Vec<u8>,
     out: &mut Vec<u8>,

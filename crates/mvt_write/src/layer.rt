@@ -10,14 +10,16 @@ use crate::feature::put_features;
 use crate::field::{put_bytes, put_number};
 use crate::tag_pools::TagPools;
 use mvt_layer::Layer;
+use mvt_layer::field_numbers::{LAYER_EXTENT, LAYER_NAME, LAYER_VERSION};
 use std::alloc::{AllocError, Global};
 
-/// Appends the fields behind the pools.
+/// Appends the fields after the pools.
 fn put_end(out: &mut Vec<u8>, layer: &Layer<'_>) -> Result<(), AllocError>
-    ensures { OnOk result (out.new.items ≡ out.old.items ++ (number_field 5 layer.now.extent ++ number_field 15 layer.now.version)) }
+    ensures { OnOk result
+        (out.new.items ≡ out.old.items ++ (number_field LAYER_EXTENT layer.now.extent ++ number_field LAYER_VERSION layer.now.version)) }
 {
-    put_number(out, 5, u64::from(layer.extent))?;
-    put_number(out, 15, u64::from(layer.version))
+    put_number(out, LAYER_EXTENT, u64::from(layer.extent))?;
+    put_number(out, LAYER_VERSION, u64::from(layer.version))
 }
 
 /// The message of a layer (Mapbox Vector Tile 2.1, 4.1).
@@ -29,7 +31,7 @@ pub(crate) fn layer_bytes(alloc: Global, layer: &Layer<'_>) -> Result<Vec<u8>, A
 {
     let mut pools = TagPools::new(alloc);
     let mut out = Vec::new(alloc);
-    put_bytes(&mut out, 1, layer.name.as_bytes())?;
+    put_bytes(&mut out, LAYER_NAME, layer.name.as_bytes())?;
     put_features(alloc, &mut out, &mut pools, &layer.features)?;
     pools.put(alloc, &mut out)?;
     put_end(&mut out, layer)?;

@@ -1,4 +1,4 @@
-//! Vector tiles as bytes.
+//! Encodes vector tiles.
 #![tactic(auto)]
 
 mod entry;

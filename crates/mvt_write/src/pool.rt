@@ -1,4 +1,4 @@
-//! Pools: what a layer holds once, and names by its index.
+//! Pools: keys and values that a layer holds once and refers to by index.
 
 ghost use Rattle.std.specs.Prelude.{◌≡◌, ◌<◌, ◌^◌, ◌++◌, ℕ, true, length, slice_index_or, map, IfOk, IfSome, OnOk, OnErr, OnSome, Some, []};
 ghost use Rattle.std.specs.Option.{unwrap_or};
@@ -12,17 +12,17 @@ use std::alloc::{AllocError, Global};
 use std::cmp::Ordering;
 use std::collections::BTreeMap;
 
-/// How many entries a pool recalls.
+/// The number of slots for recent entries.
 const RECENT: usize = 512;
 
-/// The place among the recent entries for one of this code, by its product with an odd number that spreads it.
+/// The slot of the recent entries for an entry of this code: the code is multiplied by an odd number that spreads it.
 fn place_of(code: u64) -> usize
     ensures { result < RECENT }
 {
     (code.wrapping_mul(0x9e37_79b9_7f4a_7c15) >> 55) as usize % RECENT
 }
 
-/// The number of a key, which is `next` where it had none. An `Err` changes nothing.
+/// The number of a key, which becomes `next` if it had none. An `Err` changes nothing.
 fn number_of<K: Ord + Copy>(
     numbers: &mut BTreeMap<K, usize>,
     key: K,
@@ -40,7 +40,7 @@ fn number_of<K: Ord + Copy>(
 pub(crate) struct Pool<T: FieldData> {
     pub entries: Vec<T>,
     indices: BTreeMap<T, usize>,
-    /// For each place the index of the entry that was used there last, or any number.
+    /// For each slot the index of the entry that was used there last, or any number.
     recent: [usize; RECENT],
     ghost indexed: { (entry : T) → get T.cmp indices entry ≡ index_in (map T.spelled entries.items) (T.spelled entry) },
     ghost placed: { (index : ℕ) → index < length entries.items
@@ -48,6 +48,7 @@ pub(crate) struct Pool<T: FieldData> {
 }
 
 impl<T: FieldData> Pool<T> {
+    /// No entries.
     #[tactic(auto, unfolding(crate::specs::Pools::has_entry))]
     pub fn new(alloc: Global) -> Self
         ensures { result.entries.items ≡ [] }
@@ -75,7 +76,7 @@ impl<T: FieldData> Pool<T> {
         }
     }
 
-    /// The index of an entry, which is added at the end where it isn't there.
+    /// The index of an entry, which is added at the end if it is missing.
     fn found(&mut self, entry: T) -> Result<usize, AllocError>
         ensures index { IfOk result (λ i. index_of (map T.spelled self.new.entries.items) (T.spelled entry) ≡ i) }
         ensures entries { OnOk result (map T.spelled self.new.entries.items ≡ with_entry (map T.spelled self.old.entries.items) (T.spelled entry)) }
@@ -89,7 +90,7 @@ impl<T: FieldData> Pool<T> {
         Ok(index)
     }
 
-    /// The index of an entry, which is added at the end where it isn't there. A recent one is found without a search.
+    /// The index of an entry, which is added at the end if it is missing. A recent one is found without a search.
     pub fn index_of(&mut self, entry: T) -> Result<usize, AllocError>
         ensures index { IfOk result (λ i. index_of (map T.spelled self.new.entries.items) (T.spelled entry) ≡ i) }
         ensures entries { OnOk result (map T.spelled self.new.entries.items ≡ with_entry (map T.spelled self.old.entries.items) (T.spelled entry)) }

@@ -2,6 +2,7 @@
 
 use crate::pool::Pool;
 use crate::value::PoolValue;
+use mvt_layer::field_numbers::{LAYER_KEYS, LAYER_VALUES};
 use std::alloc::{AllocError, Global};
 
 /// The keys and the values of a layer's tags.
@@ -17,6 +18,7 @@ impl<'a> TagPools<'a> {
     ghost use Rattle.mvt_write.specs.Held.{held_keys, held_values};
     ghost use Rattle.mvt_write.specs.Written.{bytes_field};
 
+    /// No keys and no values.
     pub fn new(alloc: Global) -> Self
         ensures keys { held_keys result ≡ [] }
         ensures values { held_values result ≡ [] }
@@ -30,9 +32,10 @@ impl<'a> TagPools<'a> {
     /// Appends the fields of the keys, and then those of the values.
     pub fn put(&self, alloc: Global, out: &mut Vec<u8>) -> Result<(), AllocError>
         ensures { OnOk result
-            (out.new.items ≡ out.old.items ++ (flat_map (bytes_field 3) (held_keys self.now) ++ flat_map (bytes_field 4) (held_values self.now))) }
+            (out.new.items ≡ out.old.items
+            ++ (flat_map (bytes_field LAYER_KEYS) (held_keys self.now) ++ flat_map (bytes_field LAYER_VALUES) (held_values self.now))) }
     {
-        self.keys.put(alloc, out, 3)?;
-        self.values.put(alloc, out, 4)
+        self.keys.put(alloc, out, LAYER_KEYS)?;
+        self.values.put(alloc, out, LAYER_VALUES)
     }
 }

@@ -14,6 +14,7 @@ use crate::field::put_bytes;
 use crate::tag_pools::TagPools;
 use crate::value::PoolValue;
 use mvt_layer::TagValue;
+use mvt_layer::field_numbers::FEATURE_TAGS;
 use pb_wire::put_varint;
 use std::alloc::AllocError;
 
@@ -36,7 +37,7 @@ fn put_indices<'a>(
     put_varint(out, pools.values.index_of(PoolValue::new(value))? as u64)
 }
 
-/// Leaves in `packed` the indices of tags alone, a key's and a value's in turn.
+/// Replaces `packed` with the indices of tags, a key's and a value's in turn.
 fn pack_tags<'a>(
     packed: &mut Vec<u8>,
     pools: &mut TagPools<'a>,
@@ -57,7 +58,7 @@ fn pack_tags<'a>(
     Ok(())
 }
 
-/// Appends the field of a feature's tags, where there are any. What `packed` holds is lost.
+/// Appends the field of a feature's tags, if it has any. `packed` is overwritten.
 pub(crate) fn put_tags<'a>(
     packed: &mut Vec<u8>,
     out: &mut Vec<u8>,
@@ -75,6 +76,6 @@ pub(crate) fn put_tags<'a>(
     if tags.is_empty() {
         return Ok(());
     }
-    put_bytes(out, 2, packed)?;
+    put_bytes(out, FEATURE_TAGS, packed)?;
     Ok(())
 }

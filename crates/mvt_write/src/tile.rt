@@ -1,3 +1,5 @@
+//! Tiles.
+
 ghost use Rattle.std.specs.Prelude.{◌≡◌, IfOk};
 ghost use Rattle.mvt_layer.specs.Tile.{layer_views};
 ghost use Rattle.mvt_layer.specs.Reads.{ReadsAs};
@@ -7,13 +9,14 @@ ghost use Rattle.mvt_write.specs.CanWrite.{CanWriteAll};
 use crate::field::put_bytes;
 use crate::layer::layer_bytes;
 use mvt_layer::Layer;
+use mvt_layer::field_numbers::TILE_LAYERS;
 use std::alloc::{AllocError, Global};
 
-/// The one spelling of the layers (Mapbox Vector Tile 2.1, 4): fields in ascending number, numbers in their shortest
-/// spelling, the keys and values of tags in the order of their first use.
+/// The one encoding of the layers (Mapbox Vector Tile 2.1, 4): fields in ascending number, numbers in their shortest
+/// encoding, the keys and values of tags in the order of their first use.
 ///
 /// The names of the layers differ, each has version `CURRENT_VERSION` and extent `DEFAULT_EXTENT`, and fewer than 2^32 tags.
-/// Each feature has an id and a shape that can be spelled; its tags stand in ascending order of their keys, without floating
+/// Each feature has an id and a shape that can be encoded; its tags are in ascending order of their keys, without floating
 /// point numbers, and a `Negative` is below 0. There may be no layers. The only error is out of memory.
 #[tactic(auto, unfolding(crate::specs::Written::written))]
 pub fn write_tile(alloc: Global, layers: &[Layer<'_>]) -> Result<Vec<u8>, AllocError>
@@ -24,7 +27,7 @@ pub fn write_tile(alloc: Global, layers: &[Layer<'_>]) -> Result<Vec<u8>, AllocE
     let mut out = Vec::new(alloc);
     for layer in layers {
         let bytes = layer_bytes(alloc, layer)?;
-        put_bytes(&mut out, 3, &bytes)?;
+        put_bytes(&mut out, TILE_LAYERS, &bytes)?;
     }
     Ok(out)
 }

@@ -7,6 +7,7 @@ ghost use Rattle.mvt_write.specs.Written.{value_written};
 
 use crate::field::{put_bytes, put_number};
 use mvt_layer::TagValue;
+use mvt_layer::field_numbers::{BOOL_VALUE, SINT_VALUE, STRING_VALUE, UINT_VALUE};
 use pb_wire::zigzag;
 use std::alloc::AllocError;
 
@@ -36,17 +37,17 @@ impl<'a> PoolValue<'a> {
         }
     }
 
-    /// Leaves in `message` alone what says the value (Mapbox Vector Tile 2.1, 4.4).
+    /// Replaces `message` with the message of the value (Mapbox Vector Tile 2.1, 4.4).
     #[tactic(auto, unfolding(crate::specs::Written::value_written))]
     pub fn write_message(self, message: &mut Vec<u8>) -> Result<(), AllocError>
         ensures { OnOk result (message.new.items ≡ value_written (value_view self.entry)) }
     {
         message.clear();
         match self {
-            PoolValue::Text(text) => put_bytes(message, 1, text.as_bytes()),
-            PoolValue::Natural(n) => put_number(message, 5, n),
-            PoolValue::Negative(n) => put_number(message, 6, zigzag(n)),
-            PoolValue::Truth(truth) => put_number(message, 7, u64::from(truth)),
+            PoolValue::Text(text) => put_bytes(message, STRING_VALUE, text.as_bytes()),
+            PoolValue::Natural(n) => put_number(message, UINT_VALUE, n),
+            PoolValue::Negative(n) => put_number(message, SINT_VALUE, zigzag(n)),
+            PoolValue::Truth(truth) => put_number(message, BOOL_VALUE, u64::from(truth)),
         }
     }
 }
