@@ -1,4 +1,4 @@
--- Text to a writer, piece by piece.
+-- Text that is written piece by piece.
 use Rattle.std.proofs.Common.{◌≡◌, ℕ, ◌+◌, ◌/◌, ◌%◌, ◌^◌, ◌<◌, ◌≤◌, decimal, List, [], ◌∷◌, ◌++◌, length, get_or, add-one, take, drop, Option, Some, None}
 use Rattle.std.proofs.Common.{Result, Ok, Err, refl, sym, ap, subst, ◌∙◌, append_assoc, append-nil, arith}
 use Rattle.std.proofs.Math.Seq.{drop-cons}
@@ -19,14 +19,14 @@ kept_behind (Some o) None new xs h k = absurd h
 kept_behind (Some o) (Some m) None xs h k = absurd k
 kept_behind (Some o) (Some m) (Some n) xs h k = k ∙ h
 
--- a first part is written
+-- a prefix is written
 pub first_put : (old new : Option (List ℕ)) (bytes : List ℕ) (n : ℕ) → Appends old new (take n bytes) → SoFar old new bytes (drop n bytes)
 first_put old new bytes n more = (take n bytes, sym (take-append-drop n bytes), more)
 
 pub none_put : (old new : Option (List ℕ)) (bytes : List ℕ) → Keeps old new → SoFar old new bytes bytes
 none_put old new bytes kept = ([], refl, kept_behind old old new [] (nothing_put old) kept)
 
--- a part of what is left is written
+-- a prefix of the rest is written
 pub put_on : (old mid new : Option (List ℕ)) (bytes rest left : List ℕ) → SoFar old mid bytes rest → SoFar mid new rest left → SoFar old new bytes left
 put_on old mid new bytes rest left so_far more = (
   so_far.0 ++ more.0,
@@ -52,7 +52,7 @@ pub put_done : (old now : Option (List ℕ)) (bytes rest : List ℕ) → SoFar o
 put_done old now bytes [] so_far none = subst (Appends old now) (sym (so_far.1 ∙ append-nil so_far.0)) so_far.2
 put_done old now bytes (b ∷ rest) so_far none = absurd (omega arith)
 
--- ---- one text behind another
+-- ---- one text after another
 
 pub part_behind : (old mid new : Option (List ℕ)) (xs ys : List ℕ) → Appends old mid xs → AppendsPart mid new ys → AppendsPart old new (xs ++ ys)
 part_behind old mid new xs ys front back = (
@@ -93,7 +93,7 @@ module _ (old mid new : Option (List ℕ)) (n : ℕ) (many : 10 ≤ n) (fits : n
 
 -- ---- pieces
 
--- the text of the pieces from a place on
+-- the text of the pieces from an index on
 pieces_from : (ps : List Piece) (i : ℕ) (d : Piece) → i < length ps → pieces_text (drop i ps) ≡ piece_text (get_or ps i d) ++ pieces_text (drop (i + 1) ps)
 pieces_from ps i d below =
     let e : drop i ps ≡ get_or ps i d ∷ drop (i + 1) ps = rw add-one (drop-cons ps i d below) in ap pieces_text e

@@ -4,12 +4,13 @@ use Rattle.std.specs.Io.KnownBytes.{Appends}
 use Rattle.pm_header.specs.declared.header.Header.{Header}
 use Rattle.pm_header.specs.declared.fault.HeaderFault.{HeaderFault}
 use Rattle.pm_header.specs.declared.fault.HeaderFault.TheVariants.{Short, Magic, Version}
+use Rattle.pm_header.specs.declared.header.TheConstants.{HEADER_BYTES}
 use Rattle.pm_header.specs.Layout.{magic}
 use Rattle.archive_commands.specs.declared.showing.ShowFault.{ShowFault}
 use Rattle.archive_commands.specs.declared.showing.ShowFault.TheVariants as faults
 use Rattle.archive_commands.specs.Shown.{HeaderHas}
 
--- one write behind another
+-- one write after another
 pub Appends-both : (old mid new : Option (List ℕ)) (xs ys : List ℕ) → Appends old mid xs → Appends mid new ys → Appends old new (xs ++ ys)
 Appends-both None mid new xs ys h k = tt
 Appends-both (Some o) None new xs ys h k = absurd h
@@ -24,9 +25,9 @@ abbrev reported : HeaderFault → Result (Unit {0}) ShowFault
 reported d = Err (faults.Header d)
 
 pub reported_of_header : (bytes : List ℕ) (d : HeaderFault)
-    → ((read d ≡ read Short) ↔ (length bytes < 127))
-    → ((read d ≡ read Magic) ↔ ((127 ≤ length bytes) × (take 7 bytes ≢ magic)))
-    → ((n : ℕ) → (read d ≡ read (Version n)) ↔ ((127 ≤ length bytes) × (take 7 bytes ≡ magic) × (slice_index bytes 7 ≡ n) × (n ≢ 3)))
+    → ((read d ≡ read Short) ↔ (length bytes < HEADER_BYTES))
+    → ((read d ≡ read Magic) ↔ ((HEADER_BYTES ≤ length bytes) × (take 7 bytes ≢ magic)))
+    → ((n : ℕ) → (read d ≡ read (Version n)) ↔ ((HEADER_BYTES ≤ length bytes) × (take 7 bytes ≡ magic) × (slice_index bytes 7 ≡ n) × (n ≢ 3)))
     → (fault : HeaderFault) → (reported d ≡ reported fault) ↔ HeaderHas bytes fault
 reported_of_header bytes d short other version Short = (λ e. short.0 (let f : read d ≡ read Short = cc in f), λ h. let e = short.1 h in cc)
 reported_of_header bytes d short other version Magic = (λ e. other.0 (let f : read d ≡ read Magic = cc in f), λ h. let e = other.1 h in cc)

@@ -1,18 +1,18 @@
--- Text to a writer, as far as the bytes that it holds are known.
+-- Text that is written, for writers whose contents are known.
 use Rattle.std.specs.Prelude.{◌≡◌, ℕ, ◌<◌, List, [], ◌∷◌, ◌++◌, length, decimal, Option, Result, MatchResult}
 use Rattle.std.specs.Io.KnownBytes.{Appends}
 use Rattle.archive_commands.specs.declared.putting.Piece.{Piece}
 use Rattle.archive_commands.specs.declared.putting.Piece.TheVariants.{Text, Number}
 
--- a first part of the bytes was appended, and not all
+-- a proper prefix of the bytes was appended
 abbrev pub AppendsPart : Option (List ℕ) → Option (List ℕ) → List ℕ → Type 0
 AppendsPart old new bytes = (front : List ℕ) × (rest : List ℕ) × (bytes ≡ front ++ rest) × (0 < length rest) × Appends old new front
 
--- some of the bytes were appended, and these are left
+-- a prefix of the bytes was appended, and these are still to be written
 abbrev pub SoFar : Option (List ℕ) → Option (List ℕ) → List ℕ → List ℕ → Type 0
 SoFar old new bytes rest = (front : List ℕ) × (bytes ≡ front ++ rest) × Appends old new front
 
--- the bytes were appended, or at a fault a first part of them
+-- the bytes were appended, or after an error a proper prefix of them
 abbrev pub Puts : {X E : Type 0} → Option (List ℕ) → Option (List ℕ) → Result X E → List ℕ → Type 0
 Puts old new r bytes = MatchResult r (λ _. Appends old new bytes) (λ _. AppendsPart old new bytes)
 
@@ -20,7 +20,7 @@ abbrev pub piece_text : Piece → List ℕ
 piece_text (Text text) = text.now
 piece_text (Number n) = decimal n
 
--- the pieces one behind the other
+-- the pieces one after the other
 abbrev pub pieces_text : List Piece → List ℕ
 pieces_text [] = []
 pieces_text (p ∷ ps) = piece_text p ++ pieces_text ps

@@ -1,4 +1,4 @@
--- What is shown of an archive's header and metadata.
+-- The text that `show` prints for an archive.
 use Rattle.std.specs.Prelude.{◌≡◌, ◌≢◌, ℕ, ◌<◌, ◌≤◌, List, ◌++◌, length, take, slice_index, codes, decimal, IsUtf8}
 use Rattle.pm_header.specs.declared.header.Header.{Header}
 use Rattle.pm_header.specs.declared.fault.HeaderFault.{HeaderFault}
@@ -7,16 +7,18 @@ use Rattle.archive_commands.specs.declared.showing.ShowFault.{ShowFault}
 use Rattle.archive_commands.specs.declared.showing.Metadata.{Metadata}
 use Rattle.archive_commands.specs.declared.showing.Metadata.TheVariants.{Compressed, Text, Unreadable}
 use Rattle.archive_commands.specs.declared.showing.ShowFault.TheVariants as show_faults
+use Rattle.pm_header.specs.declared.header.TheConstants.{HEADER_BYTES}
+use Rattle.pm_header.specs.Compression.{IsPlain}
 use Rattle.pm_header.specs.Layout.{IsHeader, magic}
 use Rattle.pm_archive.specs.Sections.{end_of, section_bytes}
 
--- the first fault of bytes that begin with no header
+-- the first fault of bytes that don't begin with a header
 abbrev pub HeaderHas : List ℕ → HeaderFault → Type 0
-HeaderHas bytes Short = length bytes < 127
-HeaderHas bytes Magic = (127 ≤ length bytes) × (take 7 bytes ≢ magic)
-HeaderHas bytes (Version n) = (127 ≤ length bytes) × (take 7 bytes ≡ magic) × (slice_index bytes 7 ≡ n) × (n ≢ 3)
+HeaderHas bytes Short = length bytes < HEADER_BYTES
+HeaderHas bytes Magic = (HEADER_BYTES ≤ length bytes) × (take 7 bytes ≢ magic)
+HeaderHas bytes (Version n) = (HEADER_BYTES ≤ length bytes) × (take 7 bytes ≡ magic) × (slice_index bytes 7 ≡ n) × (n ≢ 3)
 
--- holds where what is shown couldn't be written
+-- this holds if the text couldn't be written
 abbrev pub IfWrite : Type 0 → ShowFault → Type 0
 IfWrite P (show_faults.Header _) = Unit {0}
 IfWrite P (show_faults.Write _) = P
@@ -46,23 +48,23 @@ text_line text = codes "metadata: " ++ (text ++ codes "\n")
 unfoldable pub unreadable_line : List ℕ
 unreadable_line = codes "metadata: unreadable\n"
 
--- the line for what is to be shown of them
+-- the line for each case of the metadata
 abbrev pub metadata_line : Metadata → List ℕ
 metadata_line (Compressed n) = compressed_line n
 metadata_line (Text text) = text_line text.now
 metadata_line Unreadable = unreadable_line
 
--- the metadata lie inside the file, and are a text
+-- the metadata is inside the file, and is UTF-8
 abbrev pub HasText : List ℕ → Header → Type 0
 HasText bytes h = (end_of h.metadata ≤ length bytes) × IsUtf8 (section_bytes h.metadata bytes)
 
--- this is the line
+-- this is the line of the metadata
 pub data IsMetadataLine (bytes : List ℕ) (h : Header) (line : List ℕ) : Type 0 where
-  is_compressed : 2 ≤ h.internal → line ≡ compressed_line h.internal → IsMetadataLine bytes h line
-  is_text : h.internal < 2 → HasText bytes h → line ≡ text_line (section_bytes h.metadata bytes) → IsMetadataLine bytes h line
-  is_unreadable : h.internal < 2 → ¬ HasText bytes h → line ≡ unreadable_line → IsMetadataLine bytes h line
+  is_compressed : ¬ IsPlain h.internal → line ≡ compressed_line h.internal → IsMetadataLine bytes h line
+  is_text : IsPlain h.internal → HasText bytes h → line ≡ text_line (section_bytes h.metadata bytes) → IsMetadataLine bytes h line
+  is_unreadable : IsPlain h.internal → ¬ HasText bytes h → line ≡ unreadable_line → IsMetadataLine bytes h line
 
--- the text shows the header with which the bytes begin, and the metadata that it names
+-- the text is the lines of the header with which the bytes begin, and the line of its metadata
 pub record IsShown (bytes text : List ℕ) : Type 0 where
   pub header : Header
   pub begins : IsHeader bytes header

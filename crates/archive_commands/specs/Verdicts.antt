@@ -6,7 +6,7 @@ use Rattle.pm_archive.specs.declared.fault.ArchiveFault.TheVariants.{Read, Memor
 use Rattle.archive_commands.specs.declared.verdict.Verdict.{Verdict}
 use Rattle.archive_commands.specs.declared.verdict.Verdict.TheVariants.{Sound, Faulty, Unjudged}
 
--- a fault is the archive's, unless it couldn't be read or judging it was out of memory
+-- a fault is the archive's, unless a read failed or memory ran out
 abbrev pub verdict_of : Result Report ArchiveFault → Verdict
 verdict_of (Ok report) = Sound report
 verdict_of (Err Read) = Unjudged Read

@@ -1,4 +1,4 @@
-//! Commands over whole tile archives (PMTiles 3) of any maker: what an archive says of itself, and whether it is sound.
+//! The commands `show` and `verify` over tile archives (PMTiles 3) written by any program.
 #![tactic(auto)]
 
 mod putting;

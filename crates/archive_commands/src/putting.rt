@@ -1,4 +1,4 @@
-//! Text to a writer, of which a first part was written where the writer fails.
+//! Writes text piece by piece. If the writer fails, a proper prefix was written.
 
 ghost use Rattle.std.specs.Prelude.{◌≡◌, ◌<◌, length, decimal, MatchResult};
 ghost use Rattle.std.specs.Io.KnownBytes.{Keeps};
@@ -9,13 +9,13 @@ use std::io::{self, ErrorKind, Write};
 /// A piece of a text.
 #[derive(Clone, Copy)]
 pub(crate) enum Piece<'a> {
+    /// Text as it is.
     Text(&'a str),
     /// A number in decimal digits.
     Number(u64),
 }
 
-/// Writes a first part of the bytes, of which there are some, and returns what is left of them: all where the write was
-/// interrupted.
+/// Calls the writer once and returns the bytes that are still to be written, all of them if the write was interrupted.
 fn put_some<'a, W: Write>(out: &mut W, bytes: &'a [u8]) -> io::Result<&'a [u8]>
     requires { 0 < length bytes.now }
     ensures { MatchResult result (λ rest. SoFar (W.contents out.old) (W.contents out.new) bytes.now rest.now)
@@ -34,7 +34,7 @@ fn put_some<'a, W: Write>(out: &mut W, bytes: &'a [u8]) -> io::Result<&'a [u8]>
     }
 }
 
-/// Writes all of the bytes. After a fault a first part of them was written, and not all.
+/// Writes all of the bytes; short writes are continued and interrupted ones retried. After an error a proper prefix was written.
 fn put<W: Write>(out: &mut W, bytes: &[u8]) -> io::Result<()>
     ensures { Puts (W.contents out.old) (W.contents out.new) result bytes.now }
 {
@@ -64,6 +64,7 @@ fn put_number<W: Write>(out: &mut W, number: u64) -> io::Result<()>
     put(out, &[b'0' + (number % 10) as u8])
 }
 
+/// Writes a piece.
 fn put_piece<W: Write>(out: &mut W, piece: Piece<'_>) -> io::Result<()>
     ensures { Puts (W.contents out.old) (W.contents out.new) result (piece_text piece.entry) }
 {
@@ -73,7 +74,7 @@ fn put_piece<W: Write>(out: &mut W, piece: Piece<'_>) -> io::Result<()>
     }
 }
 
-/// Writes the pieces one behind the other.
+/// Writes the pieces one after the other.
 pub(crate) fn put_pieces<W: Write>(out: &mut W, pieces: &[Piece<'_>]) -> io::Result<()>
     ensures { Puts (W.contents out.old) (W.contents out.new) result (pieces_text pieces.now) }
 {

@@ -1,4 +1,4 @@
-//! What an archive says of itself.
+//! Prints the header and the metadata of an archive.
 
 ghost use Rattle.std.specs.Prelude.{◌≡◌, ◌≢◌, ℕ, ◌≤◌, ◌<◌, ◌↔◌, List, ◌++◌, length, take, OnOk, IfOk, IfErr, MatchOption, Option, slice_index};
 ghost use Rattle.std.specs.Io.KnownBytes.{Appends};
@@ -12,12 +12,12 @@ use pm_header::{Header, HeaderFault, SectionSpan};
 use std::io::Write;
 use std::{fmt, io, str};
 
-/// Why an archive isn't shown.
+/// Why an archive can't be shown.
 #[derive(Debug, Drop)]
 pub enum ShowFault {
-    /// The bytes begin with no header.
+    /// The bytes don't begin with a header.
     Header(HeaderFault),
-    /// What is shown couldn't be written.
+    /// The text couldn't be written.
     Write(io::Error),
 }
 
@@ -34,7 +34,7 @@ impl fmt::Display for ShowFault {
 
 impl std::error::Error for ShowFault {}
 
-/// The bytes of a section, if it lies inside the file.
+/// The bytes of a section, or `None` if it isn't inside the file.
 fn section(archive: &[u8], part: SectionSpan) -> Option<&[u8]>
     ensures { MatchOption result (length archive.now < end_of part)
         (λ bytes. (end_of part ≤ length archive.now) × (bytes.now ≡ section_bytes part archive.now)) }
@@ -46,7 +46,7 @@ fn section(archive: &[u8], part: SectionSpan) -> Option<&[u8]>
     Some(&archive[part.offset as usize..end as usize])
 }
 
-/// The metadata, if they are a text inside the file.
+/// The metadata as text, or `None` if it isn't inside the file or isn't UTF-8.
 fn metadata_text<'a>(archive: &'a [u8], header: &Header) -> Option<&'a str>
     ensures { MatchOption result (¬ HasText archive.now header.now)
         (λ text. HasText archive.now header.now × (text.now ≡ section_bytes header.now.metadata archive.now)) }
@@ -55,7 +55,7 @@ fn metadata_text<'a>(archive: &'a [u8], header: &Header) -> Option<&'a str>
     str::from_utf8(bytes).ok()
 }
 
-/// Writes what a header says.
+/// Writes the lines of a header.
 #[tactic(auto, unfolding(crate::specs::Shown::header_lines))]
 fn write_header<W: Write>(header: &Header, out: &mut W) -> io::Result<()>
     ensures { Puts (W.contents out.old) (W.contents out.new) result (header_lines header.now) }
@@ -84,21 +84,22 @@ fn write_header<W: Write>(header: &Header, out: &mut W) -> io::Result<()>
     put_pieces(out, &pieces)
 }
 
-/// What is shown of the metadata.
+/// The metadata, as `show` prints it.
 #[derive(Clone, Copy)]
 enum Metadata<'a> {
-    /// They are compressed, by this number of the header.
+    /// Compressed, with this number of the header.
     Compressed(u8),
+    /// Text inside the file.
     Text(&'a str),
-    /// They lie outside of the file, or are no text.
+    /// Outside of the file, or not UTF-8.
     Unreadable,
 }
 
-/// What is to be shown of the metadata.
+/// How the metadata is printed.
 fn metadata_of<'a>(archive: &'a [u8], header: &Header) -> Metadata<'a>
     ensures { IsMetadataLine archive.now header.now (metadata_line result) }
 {
-    if header.internal >= 2 {
+    if !header.has_plain_directories() {
         return Metadata::Compressed(header.internal);
     }
     match metadata_text(archive, header) {
@@ -133,7 +134,7 @@ fn write_metadata<W: Write>(metadata: Metadata<'_>, out: &mut W) -> io::Result<(
     }
 }
 
-/// Writes what a header says, and the line of the metadata.
+/// Writes the lines of a header and the line of the metadata.
 fn write_shown<W: Write>(header: &Header, metadata: Metadata<'_>, out: &mut W) -> io::Result<()>
     ensures { Puts (W.contents out.old) (W.contents out.new) result (header_lines header.now ++ metadata_line metadata.entry) }
 {
@@ -141,12 +142,12 @@ fn write_shown<W: Write>(header: &Header, metadata: Metadata<'_>, out: &mut W) -
     write_metadata(metadata, out)
 }
 
-/// Writes what the header of an archive says, and the metadata that it names.
+/// Writes the header and the metadata of an archive as text.
 ///
 /// # Errors
 ///
-/// `Header` where the bytes begin with no header; nothing is written then. `Write` where the writer fails: then what was
-/// written is a first part of what is shown, and not all of it.
+/// `Header` if the bytes don't begin with a header; nothing is written then. `Write` if the writer fails: a proper prefix of the
+/// text was written then.
 pub fn show<W: Write>(archive: &[u8], out: &mut W) -> Result<(), ShowFault>
     ensures shown { OnOk result ((text : List ℕ) × IsShown archive.now text × Appends (W.contents out.old) (W.contents out.new) text) }
     ensures header { (fault : HeaderFault) → (result ≡ Err (ShowFault.Header fault)) ↔ HeaderHas archive.now fault }

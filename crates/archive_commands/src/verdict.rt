@@ -6,19 +6,19 @@ ghost use Rattle.archive_commands.specs.Verdicts.{status_of, verdict_of};
 use pm_archive::{ArchiveFault, Report};
 use std::fmt;
 
-/// What is printed of an archive that was judged.
+/// The result of a verification, as it is printed.
 #[derive(Clone, Copy, Debug, PartialEq, Eq)]
 pub enum Verdict {
-    /// It is sound.
+    /// The archive is sound.
     Sound(Report),
-    /// It has a fault.
+    /// The archive has a fault.
     Faulty(ArchiveFault),
-    /// It couldn't be judged: out of memory, or it couldn't be read.
+    /// The archive couldn't be verified: a read failed, or memory ran out.
     Unjudged(ArchiveFault),
 }
 
 impl Verdict {
-    /// The verdict for what judging an archive gave.
+    /// The verdict for the result of a verification.
     pub fn of(judged: Result<Report, ArchiveFault>) -> Verdict
         ensures { result ≡ verdict_of judged }
     {
@@ -29,7 +29,7 @@ impl Verdict {
         }
     }
 
-    /// The exit status of a program that prints it: 0 where the archive is sound, else 1.
+    /// The exit status of the program that prints it: 0 if the archive is sound, otherwise 1.
     pub fn status(self) -> u8
         ensures { result ≡ status_of self }
     {

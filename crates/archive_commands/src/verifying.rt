@@ -1,4 +1,4 @@
-//! Whether an archive is sound.
+//! Verifies an archive in memory.
 
 ghost use Rattle.std.specs.Prelude.{◌≡◌, ◌≢◌, IfOk, IfErr, MatchResult};
 ghost use Rattle.pm_header.specs.declared.header.Header.{Header};
@@ -11,11 +11,11 @@ ghost use Rattle.archive_commands.specs.Faults.{FirstFault};
 use pm_archive::{Archive, ArchiveFault, Report};
 use std::alloc::Global;
 
-/// Judges an archive: what it has where it is sound, else its first fault.
+/// Verifies an archive: its counts if it is sound, otherwise its first fault.
 ///
 /// # Errors
 ///
-/// The first fault of the bytes. `Memory` where an allocation fails, and only of bytes that have sections.
+/// The first fault of the bytes. `Memory` if an allocation fails, which happens only if the header and the section bounds are valid.
 pub fn verify(alloc: Global, archive: &[u8]) -> Result<Report, ArchiveFault>
     ensures found { IfOk result (IsSound archive.now) }
     ensures only { (report : Report) → IsSound archive.now report → MatchResult result (λ found. found ≡ report) (λ fault. fault ≡ ArchiveFault.Memory) }
