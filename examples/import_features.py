@@ -203,7 +203,7 @@ def tell_place(words, client, plan):
         return
     url = words.url.rstrip("/")
     status, _ = client.ask("GET", "/pages/")
-    page = f"{url}/pages/#" if status == 200 else f"map.html?url={url}#"
+    page = f"{url}/pages/#" if status == 200 else "/pages/# of the nginx in front of the server, with #"
     print(f"look at it: {page}{plan.place()}")
 
 

@@ -16,12 +16,12 @@ class Broken(Exception):
 class Browser:
     """A Chromium with a profile of its own in a folder."""
 
-    def __init__(self, folder, wide=1000, high=640):
+    def __init__(self, folder, wide=1000, high=640, more=()):
         to_browser, self.send = os.pipe()
         self.read, from_browser = os.pipe()
         # The browser reads its descriptor 3 and writes its descriptor 4.
         place = f'exec 3<&{to_browser} 4>&{from_browser}; exec "$@"'
-        words = ["chromium", "--headless=new", "--no-sandbox", "--remote-debugging-pipe", "--hide-scrollbars", "--disable-gpu", "--no-first-run"]
+        words = ["chromium", "--headless=new", "--no-sandbox", "--remote-debugging-pipe", "--hide-scrollbars", "--no-first-run", *more]
         words += [f"--user-data-dir={folder}", f"--window-size={wide},{high}", "about:blank"]
         self.size = wide, high
         self.child = subprocess.Popen(

@@ -1,11 +1,12 @@
 // The page: what is selected, and how the parts of this folder work together.
 import { Editor } from "./editor.js";
 import { button, byId, close, element, open, table, tell } from "./panel.js";
+import { publishedBox } from "./place.js";
 import { Server } from "./server.js";
 import { listsOf, pointsOf } from "./shape.js";
 import { Style, isOutline, plain } from "./style.js";
 import { View } from "./view.js";
-import { bounds, distance, isInside } from "./world.js";
+import { WORLD, bounds, distance, isInside } from "./world.js";
 
 const SECONDS_BETWEEN_LOOKS = 4;
 const server = new Server(new URL("../", location.href));
@@ -91,12 +92,10 @@ function listen() {
     addEventListener("beforeunload", event => editor.hasChanges && event.preventDefault());
 }
 
-/** The box of sixteen of the map's features, or of the world. */
-async function boxOfMap({ last }) {
-    const ids = [...Array(16).keys()].map(part => Math.floor(Number(last ?? 0) * part / 15));
-    const rows = await Promise.all(ids.map(id => server.from(id)));
-    const points = rows.filter(Boolean).flatMap(({ feature }) => pointsOf(feature.geometry));
-    return points.length ? bounds(points) : [0, 0, 2 ** 32, 2 ** 32];
+/** The box of the published map, or of the first feature if nothing is published, or else of the world. */
+async function boxOfMap() {
+    const first = isEditor && await server.from(0);
+    return await publishedBox(server.base) ?? (first ? bounds(pointsOf(first.feature.geometry)) : [0, 0, WORLD, WORLD]);
 }
 
 async function start() {
@@ -111,7 +110,7 @@ async function start() {
     editor = new Editor(view, server, () => layers, showEdit);
     await showEdit(status?.edits ?? 0);
     listen();
-    view.goTo(location.hash.slice(1)) || view.goTo(style.centre ?? "") || isEditor && view.show(await boxOfMap(status));
+    view.goTo(location.hash.slice(1)) || view.goTo(style.centre ?? "") || view.show(await boxOfMap());
     tell(isEditor ? `${status.features} features, edit ${status.edits}` : "view only: this machine may not edit the map");
     isEditor && setInterval(() => look().catch(fault => tell(fault.message, true)), SECONDS_BETWEEN_LOOKS * 1000);
 }

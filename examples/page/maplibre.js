@@ -1,0 +1,42 @@
+// The style of the page as MapLibre GL JS (and Mapbox GL JS) know it. Names aren't written: MapLibre would need fonts for them.
+import { isOutline } from "./style.js";
+
+const is = kind => ["==", ["geometry-type"], kind];
+const has = (tags = {}) => ["all", ...Object.entries(tags).map(([key, value]) => ["==", ["get", key], value])];
+
+/** The layers that draw a layer of the tiles by one of its rules: features that an earlier rule is of are left out. */
+function drawn(id, layer, rule, earlier) {
+    const of = [has(rule.when), ...earlier.map(({ when }) => ["!", has(when)])];
+    const made = (part, type, filter, paint) => ({
+        id: `${id} ${layer} ${part}`, type, source: "map", "source-layer": layer, filter: ["all", ...filter, ...of], paint,
+    });
+    const edge = { "line-color": rule.edge ?? "", "line-width": 1 };
+    const wide = more => ["interpolate", ["exponential", 1.5], ["zoom"], ...[10, 20].flatMap(zoom => [zoom, (rule.width ?? 2) * 1.5 ** (zoom - 15) + more])];
+    const line = (part, colour, more) => ({
+        ...made(part, "line", [is("LineString")], { "line-color": colour, "line-width": wide(more) }), layout: { "line-cap": "round", "line-join": "round" },
+    });
+    const point = { "circle-color": rule.point ?? "", "circle-radius": 5, "circle-stroke-color": "#ffffff", "circle-stroke-width": 1.5 };
+    if (isOutline(layer)) {
+        return rule.edge ? [made("edge", "line", [is("LineString")], edge)] : [];
+    }
+    return [
+        rule.area && made("area", "fill", [is("Polygon")], { "fill-color": rule.area, "fill-antialias": false }),
+        rule.edge && made("edge", "line", [is("Polygon"), ["!", ["has", "whole"]]], edge),
+        rule.casing && line("casing", rule.casing, 1.5),
+        rule.line && line("line", rule.line, 0),
+        rule.point && made("point", "circle", [is("Point")], point),
+    ].filter(Boolean);
+}
+
+/** The style for MapLibre of a style of the page, for the layers that the map has, with its tiles at an address. */
+export function maplibreStyle(style, layers, tiles) {
+    // MapLibre enlarges the tiles of the greatest zoom that features have for greater ones.
+    const maxzoom = Math.max(0, ...layers.map(layer => layer.maxzoom));
+    const made = style.rules.flatMap((rule, at) => layers.filter(({ id }) => style.rulesOf(id).includes(rule)).flatMap(({ id }) =>
+        drawn(at, id, rule, style.rulesOf(id).slice(0, style.rulesOf(id).indexOf(rule)))));
+    return {
+        version: 8,
+        sources: { map: { type: "vector", tiles: [tiles], minzoom: 0, maxzoom } },
+        layers: [{ id: "background", type: "background", paint: { "background-color": style.background } }, ...made],
+    };
+}
