@@ -11,7 +11,7 @@ use crate::paced::{Paced, PacedWriter, ROUND_MILLISECONDS};
 use crate::rooms::{Found, Room, time_of};
 use crate::stretches::StretchReader;
 use crate::waits::Waits;
-use http_serve::{Buffers, Handler, ServeFault, Served, serve_with};
+use http_serve::{Buffers, Handler, MAX_READS, ServeFault, Served, serve_with};
 use std::alloc::Global;
 use std::io::{Read, Write};
 use std::net::OpenStream;
@@ -63,7 +63,13 @@ where
 {
     let stream = Paced::new(clock, stream);
     let mut reader = StretchReader::new(&stream, asks);
-    let outcome = serve_with(buffers, &mut reader, &mut PacedWriter(&stream), handler);
+    let outcome = serve_with(
+        buffers,
+        &mut reader,
+        &mut PacedWriter(&stream),
+        handler,
+        MAX_READS,
+    );
     let waits = reader.waits();
     Past {
         outcome,

@@ -5,6 +5,7 @@ pub mod HeadLemmas
 pub mod InputLemmas
 pub mod KnownLemmas
 pub mod Laws
+mod LimitNumbers
 pub mod LineLemmas
 pub mod PartLemmas
 pub mod ReplyLemmas

@@ -11,10 +11,11 @@ use Rattle.http_serve.specs.declared.replies.Reply.{Reply}
 use Rattle.http_serve.specs.Parts.{front_content, rest_content, front_bytes, rest_bytes, IsLater, IsReadable, IsCutIn, cut_after}
 use Rattle.http_serve.specs.Reply.{ReplyView, HeadView, head_of, head_view, reply_view, content_bytes, content_size, FitsParts, IsReply, InParts, with_part}
 use Rattle.http_serve.specs.Reply.{has_no_content, reply_head, reply_bytes}
+use Rattle.status_phrase.specs.Codes.{code_of}
 use Rattle.http_serve.specs.Requests.{RequestView}
 use Rattle.http_serve.specs.declared.contents.SendFault.{SendFault}
 use Rattle.http_serve.specs.declared.contents.SendFault.TheVariants as cuts
-use Rattle.http_serve.specs.Told.{HasContent}
+use Rattle.http_serve.specs.Told.{HasContent, IsNotMemory}
 use Rattle.http_serve.proofs.KnownLemmas.{Appends-then, Appends_none}
 
 -- one more part after those so far
@@ -178,7 +179,7 @@ sent_both false a b c is = is
 
 same_head : (parts : List ℕ) (reply : Reply) → FitsParts parts reply.content → head_view reply ≡ head_of (reply_view parts reply)
 same_head parts reply fits = λ i. record {
-  status = reply.status;
+  status = code_of reply.status;
   kind = (head_view reply).kind;
   range = reply.range;
   allow = (head_view reply).allow;
@@ -189,7 +190,7 @@ same_head parts reply fits = λ i. record {
 pub front_rest : (close bare : Bool) (parts : List ℕ) (reply : Reply) → FitsParts parts reply.content
     → front_bytes close bare reply ++ rest_bytes bare parts reply ≡ reply_bytes close bare (reply_view parts reply)
 front_rest close bare parts reply fits =
-    let none = bare || has_no_content reply.status in
+    let none = bare || has_no_content (code_of reply.status) in
     append_assoc (reply_head close (head_view reply)) (cond none [] (front_content reply.content)) (cond none [] (rest_content parts reply.content))
     ∙ ap (λ (t : List ℕ). reply_head close (head_view reply) ++ t)
     (sent_both none (front_content reply.content) (rest_content parts reply.content) (content_bytes parts reply.content) (joined parts reply.content fits))
@@ -224,3 +225,8 @@ readable size (Parts first total) parts fits is = (is ∙ fits.0, omega (arith, 
 pub cut_content : (size requests : ℕ) (fault : SendFault) → IsCutIn size fault → HasContent size (cut_after requests fault)
 cut_content size requests cuts.Write is = tt
 cut_content size requests cuts.Content is = is
+
+-- and never Memory
+pub cut_no_memory : (requests : ℕ) (fault : SendFault) → IsNotMemory (cut_after requests fault)
+cut_no_memory requests cuts.Write = tt
+cut_no_memory requests cuts.Content = tt

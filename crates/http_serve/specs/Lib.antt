@@ -1,3 +1,4 @@
+pub mod Buffers
 pub mod Fields
 pub mod Frame
 pub mod Input

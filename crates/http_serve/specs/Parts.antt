@@ -1,5 +1,6 @@
 -- A reply in two pieces: its front, which the reply holds, and its rest, which is read in parts.
 use Rattle.std.specs.Prelude.{ℕ, ◌≡◌, ◌<◌, ◌≤◌, List, [], ◌++◌, ◌||◌, Bool, cond, take, drop, length, Result, Ok, Err, ⊤}
+use Rattle.status_phrase.specs.Codes.{code_of}
 use Rattle.http_serve.specs.declared.connection.ServeFault.{ServeFault}
 use Rattle.http_serve.specs.declared.connection.ServeFault.TheVariants as ends
 use Rattle.http_serve.specs.declared.contents.SendFault.{SendFault}
@@ -28,11 +29,11 @@ rest_content parts (Parts first size) = drop (length first.items) parts
 -- the head of a reply, and the content that it holds
 abbrev pub front_bytes : Bool → Bool → Reply → List ℕ
 front_bytes close bare reply =
-    reply_head close (head_view reply) ++ cond (bare || has_no_content reply.status) [] (front_content reply.content)
+    reply_head close (head_view reply) ++ cond (bare || has_no_content (code_of reply.status)) [] (front_content reply.content)
 
 -- the rest of the content that is sent
 abbrev pub rest_bytes : Bool → List ℕ → Reply → List ℕ
-rest_bytes bare parts reply = cond (bare || has_no_content reply.status) [] (rest_content parts reply.content)
+rest_bytes bare parts reply = cond (bare || has_no_content (code_of reply.status)) [] (rest_content parts reply.content)
 
 -- if the content is read in parts, its declared length is size, and its first bytes are no longer than that
 abbrev pub IsReadable : ℕ → Content → Type 0

@@ -1,6 +1,7 @@
 -- Replies, and their bytes.
 use Rattle.std.specs.Prelude.{ℕ, List, [], ◌∷◌, ◌++◌, ◌==◌, ◌||◌, Bool, true, false, nat_eq, cond, length, codes, decimal, Option, Some, None, option_map}
 use Rattle.std.specs.Prelude.{IfSome, ◌≤◌, ◌≡◌, ◌+◌, take, drop, ⊤}
+use Rattle.status_phrase.specs.Codes.{code_of}
 use Rattle.status_phrase.specs.Phrases.{phrase_of}
 use Rattle.std.specs.Cmp.Lexicographic.{pointwise}
 use Rattle.httparse.specs.Grammar.{RequestHead}
@@ -68,7 +69,7 @@ FitsParts parts (Parts first size) = (length parts ≡ size) × (take (length fi
 -- what a reply says; if its content is read in parts, it is these bytes
 abbrev pub reply_view : List ℕ → Reply → ReplyView
 reply_view parts reply = record {
-  status = reply.status;
+  status = code_of reply.status;
   kind = option_map (λ kind. kind.now) reply.kind;
   range = reply.range;
   allow = option_map (λ allow. allow.now) reply.allow;
@@ -78,7 +79,7 @@ reply_view parts reply = record {
 -- what its head says
 abbrev pub head_view : Reply → HeadView
 head_view reply = record {
-  status = reply.status;
+  status = code_of reply.status;
   kind = option_map (λ kind. kind.now) reply.kind;
   range = reply.range;
   allow = option_map (λ allow. allow.now) reply.allow;

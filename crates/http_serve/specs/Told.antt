@@ -54,6 +54,11 @@ abbrev pub HasContent : ℕ → ServeFault → Type 0
 HasContent size (Content requests) = 0 < size
 HasContent size fault = ⊤
 
+-- the fault isn't Memory
+abbrev pub IsNotMemory : ServeFault → Type 0
+IsNotMemory Memory = ⊥
+IsNotMemory fault = ⊤
+
 module _ {S : Type 0} (replies : S → RequestView → ReplyView → S → Type 0) where
   -- The bytes read are requests up to this ending, whatever may follow. The replies were
   -- written and counted. Nothing may follow if the end of the input was read.

@@ -1,5 +1,5 @@
 //! A connection: each request gets a reply.
-ghost use Rattle.std.specs.Prelude.{◌≡◌, ◌≤◌, ◌<◌, length, Option, IfSome, IfOk, IfErr, OnOk, vec_capacity};
+ghost use Rattle.std.specs.Prelude.{◌≡◌, ◌⊎◌, ◌≤◌, ◌<◌, length, Option, IsTrue, Err, IfSome, IfOk, IfErr, OnOk, vec_capacity};
 ghost use Rattle.httparse.specs.Grammar.{RequestHead};
 ghost use Rattle.httparse.specs.Spans.{IsWithin, span_bytes};
 ghost use Rattle.std.specs.Option.{option_map};
@@ -8,9 +8,10 @@ ghost use Rattle.http_serve.specs.Reply.{ReplyView, reply_at, refusal_bytes, has
 ghost use Rattle.http_serve.specs.Search.{IsKnown};
 ghost use Rattle.http_serve.specs.Sent.{Sends};
 ghost use Rattle.http_serve.specs.Steps.{IsPaused, IsBroken, IsFinished, IsUnfinished};
-ghost use Rattle.http_serve.specs.declared.connection.TheConstants.{MAX_READS};
 ghost use Rattle.http_serve.specs.declared.handlers.TheConstants.{PART_SIZE};
-ghost use Rattle.http_serve.specs.Told.{IsServed, IsServedUpTo, HasContent, MeetsTurns, KeepsTurns, Serves};
+ghost use Rattle.http_serve.specs.declared.replies.TheConstants.{REPLY_SPACE};
+ghost use Rattle.http_serve.specs.declared.connection.ServeFault.TheVariants.{Memory};
+ghost use Rattle.http_serve.specs.Told.{IsServed, IsServedUpTo, HasContent, IsNotMemory, MeetsTurns, KeepsTurns, Serves};
 ghost use Rattle.http_serve.specs.Parts.{GivesOrFails, IsCutIn};
 
 use crate::contents::{SendFault, send_reply};
@@ -23,7 +24,6 @@ use crate::sessions::{Buffers, Session};
 use crate::writes::WriteFault;
 use crate::{Handler, Request};
 use httparse::spans::Span;
-use std::alloc::Global;
 use std::io::{Read, Write};
 use thiserror::Error;
 
@@ -52,7 +52,7 @@ pub struct Served {
 /// Why serving a connection failed. `requests` counts the replies written in full.
 #[derive(Clone, Copy, Debug, PartialEq, Eq, Error)]
 pub enum ServeFault {
-    /// Memory ran out before the first read.
+    /// Memory for the buffers ran out, before the first read.
     #[error("out of memory before the first read")]
     Memory,
     /// A read failed.
@@ -106,9 +106,9 @@ fn answer_one<H: Handler, W: Write>(
     requires target { IsWithin (length bytes.now) frame.now.target }
     requires body { IsWithin (length bytes.now) frame.now.body }
     requires range { IfSome frame.now.range (IsWithin (length bytes.now)) }
-    requires room { 65536 ≤ vec_capacity out.old }
+    requires room { REPLY_SPACE ≤ vec_capacity out.old }
     requires space { PART_SIZE ≤ vec_capacity part.old }
-    ensures room { 65536 ≤ vec_capacity out.new }
+    ensures room { REPLY_SPACE ≤ vec_capacity out.new }
     ensures space { PART_SIZE ≤ vec_capacity part.new }
     ensures reply { (reply : ReplyView) × GivesOrFails result (H.replies handler.old (request_view_at bytes.now frame.now) reply handler.new)
         (H.fails handler.old (request_view_at bytes.now frame.now) reply handler.new)
@@ -141,8 +141,8 @@ fn refuse<W: Write>(
     out: &mut Vec<u8>,
     rejection: Rejection,
 ) -> Result<(), WriteFault>
-    requires room { 65536 ≤ vec_capacity out.old }
-    ensures room { 65536 ≤ vec_capacity out.new }
+    requires room { REPLY_SPACE ≤ vec_capacity out.old }
+    ensures room { REPLY_SPACE ≤ vec_capacity out.new }
     ensures sent { (head : Option RequestHead) → rejection.bare ≡ has_head_method head
         → Sends result (W.contents writer.old) (W.contents writer.new) (refusal_bytes head rejection.refusal) }
 {
@@ -164,6 +164,7 @@ fn answer_whole<H: Handler, W: Write>(
     ensures err { IfErr result (λ fault. IsBroken H.replies H.fails handler.old session.old.input.waiting (W.contents writer.old) requests fault
         handler.new (W.contents writer.new)) }
     ensures content { IfErr result (HasContent (H.size handler.new)) }
+    ensures no_memory { IfErr result IsNotMemory }
 {
     'requests: loop {
         let frame = match find_next(session.input.waiting(), &mut session.search) {
@@ -218,6 +219,7 @@ fn finish<W: Write>(
     ensures fault { (head : Option RequestHead) → reason.bare ≡ has_head_method head
         → IfErr result (λ fault. IsUnfinished session.old.input.waiting head reason.refusal (W.contents writer.old) requests
         fault (W.contents writer.new)) }
+    ensures no_memory { IfErr result IsNotMemory }
 {
     if session.input.waiting().is_empty() {
         return Ok(Served {
@@ -234,7 +236,7 @@ fn finish<W: Write>(
     }
 }
 
-/// Serves a connection with at most `turns` reads. An earlier one may have used the memory.
+/// Serves a connection with at most `turns` reads. An earlier one may have used the buffers.
 fn serve_session<R: Read, W: Write, H: Handler>(
     session: &mut Session,
     reader: &mut R,
@@ -247,6 +249,7 @@ fn serve_session<R: Read, W: Write, H: Handler>(
     ensures fault { IfErr result (λ fault. IsServedUpTo H.replies H.fails handler.old (R.remaining reader.old) (W.contents writer.old) fault
         handler.new (R.remaining reader.new) (W.contents writer.new)) }
     ensures content { IfErr result (HasContent (H.size handler.new)) }
+    ensures no_memory { IfErr result IsNotMemory }
     ensures turns { IfOk result (λ served. MeetsTurns R.remaining turns reader.old reader.new served.end) }
     ensures reads { KeepsTurns turns result (R.remaining reader.old) (R.remaining reader.new) }
 {
@@ -275,67 +278,32 @@ fn serve_session<R: Read, W: Write, H: Handler>(
     Ok(Served { requests, end })
 }
 
-/// The same, with all that it promises of a connection.
-fn serve_in<R: Read, W: Write, H: Handler>(
-    session: &mut Session,
-    reader: &mut R,
-    writer: &mut W,
-    handler: &mut H,
-    turns: u64,
-) -> Result<Served, ServeFault>
-    ensures { Serves H.replies H.fails H.size R.remaining W.contents turns handler.old reader.old writer.old result
-        handler.new reader.new writer.new }
-{
-    serve_session(session, reader, writer, handler, turns)
-}
-
-/// Serves a connection with at most `turns` reads. After them, the whole requests in the bytes read are answered.
-pub fn serve_turns<R: Read, W: Write, H: Handler>(
-    alloc: Global,
-    reader: &mut R,
-    writer: &mut W,
-    handler: &mut H,
-    turns: u64,
-) -> Result<Served, ServeFault>
-    ensures { Serves H.replies H.fails H.size R.remaining W.contents turns handler.old reader.old writer.old result
-        handler.new reader.new writer.new }
-{
-    match Session::new(alloc) {
-        Ok(mut session) => serve_in(&mut session, reader, writer, handler, turns),
-        Err(_) => Err(ServeFault::Memory),
-    }
-}
-
 /// The maximum number of reads per connection.
 pub const MAX_READS: u64 = 4_294_967_296;
 
-/// Serves a connection with at most `MAX_READS` reads: one reply per request, in order, and one to invalid input.
-pub fn serve<R: Read, W: Write, H: Handler>(
-    alloc: Global,
-    reader: &mut R,
-    writer: &mut W,
-    handler: &mut H,
-) -> Result<Served, ServeFault>
-    ensures { Serves H.replies H.fails H.size R.remaining W.contents MAX_READS handler.old reader.old writer.old result
-        handler.new reader.new writer.new }
-{
-    serve_turns(alloc, reader, writer, handler, MAX_READS)
-}
-
-/// The same, with memory that is kept for the next connection.
+/// Serves a connection with at most `turns` reads: one reply per request, in order, and one to invalid input. After `turns` reads,
+/// the whole requests in the bytes read are answered. The first connection allocates the buffers, and those after it use them.
+///
+/// # Errors
+///
+/// `Memory` only if the buffers aren't allocated yet; `Read`, `Write` and `Content` otherwise.
 pub fn serve_with<R: Read, W: Write, H: Handler>(
     buffers: &mut Buffers,
     reader: &mut R,
     writer: &mut W,
     handler: &mut H,
+    turns: u64,
 ) -> Result<Served, ServeFault>
-    ensures { Serves H.replies H.fails H.size R.remaining W.contents MAX_READS handler.old reader.old writer.old result
+    ensures serves { Serves H.replies H.fails H.size R.remaining W.contents turns handler.old reader.old writer.old result
         handler.new reader.new writer.new }
+    // Buffers that are allocated stay so, and then memory can't run out.
+    ensures kept { IsTrue buffers.old.allocated → IfErr result IsNotMemory }
+    ensures keeps { (result ≡ Err Memory) ⊎ IsTrue buffers.new.allocated }
 {
     let Ok(mut session) = buffers.take() else {
         return Err(ServeFault::Memory);
     };
-    let outcome = serve_in(&mut session, reader, writer, handler, MAX_READS);
+    let outcome = serve_session(&mut session, reader, writer, handler, turns);
     buffers.keep(session);
     outcome
 }

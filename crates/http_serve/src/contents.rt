@@ -2,6 +2,7 @@
 ghost use Rattle.std.specs.Prelude.{◌≡◌, ◌≤◌, ◌<◌, ◌+◌, length, take, drop, vec_len, vec_capacity, IfErr, OnOk};
 ghost use Rattle.http_serve.specs.Parts.{GivesOrFails, IsCutIn, IsLater, IsReadable, cut_after, rest_bytes};
 ghost use Rattle.http_serve.specs.declared.handlers.TheConstants.{PART_SIZE};
+ghost use Rattle.http_serve.specs.declared.replies.TheConstants.{REPLY_SPACE};
 ghost use Rattle.http_serve.specs.Requests.{RequestView};
 ghost use Rattle.http_serve.specs.Reply.{ReplyView, IsReply, InParts, HasShortWords, head_view, reply_bytes};
 ghost use Rattle.http_serve.specs.Sent.{Sends};
@@ -166,9 +167,9 @@ pub(crate) fn send_reply<H: Handler, W: Write>(
 ) -> Result<(), SendFault>
     requires words { HasShortWords (head_view reply.now) }
     requires readable { IsReadable (H.size handler.old) reply.now.content }
-    requires room { 65536 ≤ vec_capacity out.old }
+    requires room { REPLY_SPACE ≤ vec_capacity out.old }
     requires space { PART_SIZE ≤ vec_capacity part.old }
-    ensures room { 65536 ≤ vec_capacity out.new }
+    ensures room { REPLY_SPACE ≤ vec_capacity out.new }
     ensures space { PART_SIZE ≤ vec_capacity part.new }
     ensures sent { (old : H) (request : RequestView) (view : ReplyView) → IsReply reply.now view → H.replies old request view handler.old
         → InParts reply.now.content (H.sends old request view handler.old)

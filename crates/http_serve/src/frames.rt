@@ -75,7 +75,7 @@ pub(crate) fn find_request(bytes: &[u8]) -> Next
     }
 }
 
-// Whether a request is HTTP/1.0 or its fields ask to close the connection.
+/// Whether a request is HTTP/1.0 or its fields ask to close the connection.
 fn asks_to_close(bytes: &[u8], version: u8, fields: &[HeaderSpan]) -> bool
     requires { All (IsHeaderWithin (length bytes.now)) fields.now }
     ensures { result ≡ (version == 0 || says_close (map (header_bytes bytes.now) fields.now)) }
@@ -90,7 +90,7 @@ pub(crate) fn is_head(method: &[u8]) -> bool
     method == b"HEAD".as_slice()
 }
 
-// What bytes begin with, given their head.
+/// What bytes begin with, given their head.
 fn framed(bytes: &[u8], head: &RequestSpans, fields: &[HeaderSpan]) -> Next
     requires within { IsRequestWithin bytes.now fields.now head.now }
     requires is { IsRequestOf bytes.now fields.now head.now }

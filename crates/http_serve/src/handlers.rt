@@ -33,16 +33,16 @@ pub struct Request<'a> {
 
 /// Answers the requests of a connection.
 pub trait Handler {
-    // In the first state the request may get the reply, and the second state follows.
+    /// In the first state the request may get the reply, and the second state follows.
     ghost replies: { Self → RequestView → ReplyView → Self → Type 0 };
 
-    // The same for a reply whose content is being read in parts: it contains what was read so far.
+    /// The same for a reply whose content is being read in parts: it contains what was read so far.
     ghost sends: { Self → RequestView → ReplyView → Self → Type 0 };
 
-    // The same for a reply whose content the handler couldn't read to its end.
+    /// The same for a reply whose content the handler couldn't read to its end.
     ghost fails: { Self → RequestView → ReplyView → Self → Type 0 };
 
-    // The length in bytes of the content of the last reply, if it is read in parts.
+    /// The length in bytes of the content of the last reply, if it is read in parts.
     ghost size: { Self → ℕ };
 
     /// Answers a request. The type of the content and the list of methods have at most `MAX_WORD` bytes.

@@ -13,11 +13,11 @@ mod refusals;
 mod replies;
 mod searches;
 mod sessions;
-pub mod status;
 mod writes;
 
-pub use connection::{End, MAX_READS, ServeFault, Served, serve, serve_turns, serve_with};
+pub use connection::{End, MAX_READS, ServeFault, Served, serve_with};
 pub use handlers::{ContentFault, Handler, PART_SIZE, Request};
 pub use inputs::READ_SPACE;
 pub use replies::{Content, ContentRange, MAX_WORD, Reply};
 pub use sessions::Buffers;
+pub use status_phrase::Status;

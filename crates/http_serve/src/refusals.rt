@@ -2,8 +2,10 @@
 ghost use Rattle.std.specs.Prelude.{◌≡◌, codes, Some};
 ghost use Rattle.http_serve.specs.Parts.{front_content};
 ghost use Rattle.http_serve.specs.Reply.{HasShortWords, head_of, head_view, refusal_view, refused_by};
+ghost use Rattle.status_phrase.specs.Codes.{code_of};
 
-use crate::{Content, Reply, status};
+use crate::{Content, Reply};
+use status_phrase::Status;
 
 /// Why bytes begin with no request: the first reason that applies.
 #[derive(Clone, Copy, Debug, PartialEq, Eq)]
@@ -38,8 +40,8 @@ pub(crate) const NO_HEAD: Rejection = Rejection {
 };
 
 /// A reply of a status and a text.
-fn refused_by(status: u16, text: &'static [u8]) -> Reply
-    ensures head { head_view result ≡ head_of (refused_by status text.now) }
+fn refused_by(status: Status, text: &'static [u8]) -> Reply
+    ensures head { head_view result ≡ head_of (refused_by (code_of status) text.now) }
     ensures content { front_content result.content ≡ text.now }
     ensures words { HasShortWords (head_view result) }
 {
@@ -55,13 +57,13 @@ impl Refusal {
         ensures words { HasShortWords (head_view result) }
     {
         match self {
-            Refusal::Head => refused_by(status::BAD_REQUEST, b"Head\n"),
-            Refusal::Host => refused_by(status::BAD_REQUEST, b"Host\n"),
-            Refusal::Coding => refused_by(status::NOT_IMPLEMENTED, b"Coding\n"),
-            Refusal::Expect => refused_by(status::EXPECTATION_FAILED, b"Expect\n"),
-            Refusal::Length => refused_by(status::BAD_REQUEST, b"Length\n"),
-            Refusal::Body => refused_by(status::PAYLOAD_TOO_LARGE, b"Body\n"),
-            Refusal::Short => refused_by(status::BAD_REQUEST, b"Short\n"),
+            Refusal::Head => refused_by(Status::BadRequest, b"Head\n"),
+            Refusal::Host => refused_by(Status::BadRequest, b"Host\n"),
+            Refusal::Coding => refused_by(Status::NotImplemented, b"Coding\n"),
+            Refusal::Expect => refused_by(Status::ExpectationFailed, b"Expect\n"),
+            Refusal::Length => refused_by(Status::BadRequest, b"Length\n"),
+            Refusal::Body => refused_by(Status::PayloadTooLarge, b"Body\n"),
+            Refusal::Short => refused_by(Status::BadRequest, b"Short\n"),
         }
     }
 }

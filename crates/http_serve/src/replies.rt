@@ -1,22 +1,25 @@
 //! Replies and their bytes.
 ghost use Rattle.std.specs.Prelude.{◌≡◌, ◌≤◌, ◌<◌, ◌+◌, ◌*◌, ◌++◌, length, vec_len, vec_capacity, IfSome, None, not, ◌||◌};
 ghost use Rattle.std.specs.Option.{option_map};
+ghost use Rattle.status_phrase.specs.Codes.{code_of};
 ghost use Rattle.decimal_number.specs.declared.TheConstants.{MAX_DIGITS};
 ghost use Rattle.http_serve.specs.Parts.{front_content, front_bytes};
 ghost use Rattle.http_serve.specs.Reply.{HasShortWords, head_view, content_size, part_line, unsatisfied_line};
 ghost use Rattle.http_serve.specs.Reply.{range_line, word_line, length_line, closing_line, field_lines, reply_head, has_no_content};
 ghost use Rattle.http_serve.specs.Sent.{Sends};
-ghost use Rattle.http_serve.specs.declared.replies.TheConstants.{MAX_WORD};
+ghost use Rattle.http_serve.specs.declared.replies.TheConstants.{MAX_REPLY_HEAD, MAX_WORD, REPLY_SPACE};
 
-use crate::status;
 use crate::writes::{WriteFault, send_all, send_both};
 use bytes::Bytes;
 use decimal_number::{push_number, push_text};
-use status_phrase::phrase_of;
+use status_phrase::Status;
 use std::io::Write;
 
 /// Maximum length in bytes of a content type and of a list of methods.
 pub const MAX_WORD: usize = 64;
+
+/// The most bytes that the head of a reply has.
+const MAX_REPLY_HEAD: usize = 512;
 
 /// The content of a reply.
 #[derive(Drop)]
@@ -70,8 +73,7 @@ pub enum ContentRange {
 /// A reply to a request. A 204 reply is sent without its content, its type and its range.
 #[derive(Drop)]
 pub struct Reply {
-    /// The status code, such as `status::OK`.
-    pub status: u16,
+    pub status: Status,
     /// The content type, such as `text/plain`: at most `MAX_WORD` bytes.
     pub kind: Option<&'static str>,
     /// Which part of a whole the content is.
@@ -83,7 +85,7 @@ pub struct Reply {
 
 impl Reply {
     /// A reply with only a status, a type and a content.
-    pub fn plain(status: u16, kind: Option<&'static str>, content: Content) -> Reply
+    pub fn plain(status: Status, kind: Option<&'static str>, content: Content) -> Reply
         ensures { result ≡ record { status = status; kind = kind.entry; range = None; allow = None; content = content } }
     {
         Reply {
@@ -97,14 +99,14 @@ impl Reply {
 
     /// Whether it is 204 No Content.
     fn has_no_content(&self) -> bool
-        ensures { result ≡ has_no_content self.now.status }
+        ensures { result ≡ has_no_content (code_of self.now.status) }
     {
-        self.status == status::NO_CONTENT
+        self.status.code() == Status::NoContent.code()
     }
 
     /// Whether its content is sent. It isn't in a reply that is only a head.
     pub(crate) fn sends_content(&self, bare: bool) -> bool
-        ensures { result ≡ not (bare || has_no_content self.now.status) }
+        ensures { result ≡ not (bare || has_no_content (code_of self.now.status)) }
     {
         !(bare || self.has_no_content())
     }
@@ -211,20 +213,20 @@ fn put_field_lines(out: &mut Vec<u8>, reply: &Reply)
     put_length_line(out, reply.content.size());
 }
 
-/// Makes the head of a reply, which has at most 512 bytes.
+/// Makes the head of a reply, which has at most `MAX_REPLY_HEAD` bytes.
 #[tactic(auto, unfolding(crate::specs::Reply::reply_head))]
 fn put_reply_head(out: &mut Vec<u8>, reply: &Reply, close: bool)
     requires words { HasShortWords (head_view reply.now) }
-    requires room { 512 ≤ vec_capacity out.old }
+    requires room { MAX_REPLY_HEAD ≤ vec_capacity out.old }
     ensures items { out.new.items ≡ reply_head close (head_view reply.now) }
-    ensures short { vec_len out.new ≤ 512 }
+    ensures short { vec_len out.new ≤ MAX_REPLY_HEAD }
     ensures capacity { vec_capacity out.old ≤ vec_capacity out.new }
 {
     out.clear();
     push_text(out, b"HTTP/1.1 ");
-    push_number(out, u64::from(reply.status));
+    push_number(out, u64::from(reply.status.code()));
     push_text(out, b" ");
-    push_text(out, phrase_of(reply.status).as_bytes());
+    push_text(out, reply.status.phrase().as_bytes());
     push_text(out, b"\r\n");
     put_field_lines(out, reply);
     push_text(out, closing_line(close));
@@ -244,8 +246,8 @@ pub(crate) fn send_front<W: Write>(
     bare: bool,
 ) -> Result<(), WriteFault>
     requires words { HasShortWords (head_view reply.now) }
-    requires room { 65536 ≤ vec_capacity out.old }
-    ensures room { 65536 ≤ vec_capacity out.new }
+    requires room { REPLY_SPACE ≤ vec_capacity out.old }
+    ensures room { REPLY_SPACE ≤ vec_capacity out.new }
     ensures sent { Sends result (W.contents writer.old) (W.contents writer.new) (front_bytes close bare reply.now) }
 {
     put_reply_head(out, reply, close);

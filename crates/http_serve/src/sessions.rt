@@ -1,6 +1,7 @@
 //! The memory of a connection.
-ghost use Rattle.std.specs.Prelude.{◌≡◌, ◌≤◌, [], vec_capacity};
+ghost use Rattle.std.specs.Prelude.{◌≡◌, ◌≤◌, [], IsTrue, IsOk, false, vec_capacity};
 ghost use Rattle.http_serve.specs.declared.handlers.TheConstants.{PART_SIZE};
+ghost use Rattle.http_serve.specs.declared.replies.TheConstants.{REPLY_SPACE};
 ghost use Rattle.http_serve.specs.Search.{IsKnown};
 
 use crate::handlers::PART_SIZE;
@@ -8,6 +9,7 @@ use crate::inputs::Input;
 use crate::replies::REPLY_SPACE;
 use crate::searches::{START, Search};
 use std::alloc::{AllocError, Global};
+use std::marker::Model;
 
 /// The waiting bytes, what is known about them, and the buffers of a reply and of a part of its content.
 #[derive(Drop)]
@@ -17,7 +19,7 @@ pub(crate) struct Session {
     pub(crate) out: Vec<u8>,
     /// As long as the longest part so far.
     pub(crate) part: Vec<u8>,
-    ghost room: { 65536 ≤ vec_capacity out },
+    ghost room: { REPLY_SPACE ≤ vec_capacity out },
     ghost space: { PART_SIZE ≤ vec_capacity part },
 }
 
@@ -52,17 +54,30 @@ pub struct Buffers {
     session: Option<Session>,
 }
 
+impl Model for Buffers {
+    ghost use Rattle.std.specs.Prelude.{is_some};
+    ghost use Rattle.http_serve.specs.Buffers.{BuffersView};
+
+    ghost Value = { BuffersView };
+
+    ghost view = { λ b. record { allocated = is_some b.session } };
+}
+
 impl Buffers {
-    /// No memory so far.
-    pub fn new(alloc: Global) -> Self {
+    /// Nothing is allocated yet.
+    pub fn new(alloc: Global) -> Self
+        ensures { result.allocated ≡ false }
+    {
         Buffers {
             alloc,
             session: None,
         }
     }
 
-    /// The memory of a connection: what was kept, or new memory.
-    pub(crate) fn take(&mut self) -> Result<Session, AllocError> {
+    /// The memory of a connection: what is kept, or new memory if there is none.
+    pub(crate) fn take(&mut self) -> Result<Session, AllocError>
+        ensures { IsTrue self.old.allocated → IsOk result }
+    {
         match self.session.take() {
             Some(session) => Ok(session),
             None => Session::new(self.alloc),
@@ -70,7 +85,9 @@ impl Buffers {
     }
 
     /// Keeps the memory of a connection.
-    pub(crate) fn keep(&mut self, session: Session) {
+    pub(crate) fn keep(&mut self, session: Session)
+        ensures { IsTrue self.new.allocated }
+    {
         self.session = Some(session);
     }
 }

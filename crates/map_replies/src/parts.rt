@@ -7,7 +7,7 @@ ghost use Rattle.map_replies.specs.Parts.{range_for, IsPart, octets_type, range_
 ghost use Rattle.map_replies.specs.Words.{text_type, service_refusal};
 
 use byte_range::byte_range;
-use http_serve::{Content, ContentRange, Reply, status};
+use http_serve::{Content, ContentRange, Reply, Status};
 use sector_disk::SECTOR_BYTES;
 use tile_routes::Method;
 
@@ -85,7 +85,7 @@ pub(crate) fn whole(content: Content) -> Reply
     ensures content { result.content ≡ content }
     ensures words { HasShortWords (head_view result) }
 {
-    Reply::plain(status::OK, Some("application/octet-stream"), content)
+    Reply::plain(Status::Ok, Some("application/octet-stream"), content)
 }
 
 /// The reply with a part of the archive.
@@ -96,7 +96,7 @@ pub(crate) fn between(first: u64, last: u64, total: u64, content: Content) -> Re
     ensures words { HasShortWords (head_view result) }
 {
     Reply {
-        status: status::PARTIAL_CONTENT,
+        status: Status::PartialContent,
         kind: Some("application/octet-stream"),
         range: Some(ContentRange::Part { first, last, total }),
         allow: None,
@@ -111,7 +111,7 @@ pub(crate) fn beyond(total: u64) -> Reply
     ensures writable { IsWhole result }
 {
     Reply {
-        status: status::RANGE_NOT_SATISFIABLE,
+        status: Status::RangeNotSatisfiable,
         kind: Some("text/plain"),
         range: Some(ContentRange::Unsatisfied { total }),
         allow: None,
@@ -126,7 +126,7 @@ pub(crate) fn unread() -> Reply
     ensures writable { IsWhole result }
 {
     Reply::plain(
-        status::INTERNAL_SERVER_ERROR,
+        Status::InternalServerError,
         Some("text/plain"),
         Content::Fixed(b"Device\n"),
     )

@@ -1,6 +1,7 @@
 //! The replies of the service.
 ghost use Rattle.std.specs.Prelude.{◌≡◌, ◌≤◌, [], length, vec_capacity, IfOk, option_map};
 ghost use Rattle.http_serve.specs.Reply.{content_bytes, reply_view, InParts, IsWhole};
+ghost use Rattle.status_phrase.specs.Codes.{code_of};
 ghost use Rattle.map_replies.specs.Words.{fault_word, service_word, edit_word, full_word, fault_status, service_status, edit_status};
 ghost use Rattle.map_replies.specs.Words.{service_refusal, not_allowed_reply, json_reply, empty_reply, number_body, number_reply};
 ghost use Rattle.map_replies.specs.Words.{outcome_reply, changed_word, changed_reply, left_reply};
@@ -14,7 +15,7 @@ use crate::fault::RequestFault;
 use bytes::Bytes;
 use decimal_number::{MAX_DIGITS, push_number, push_text};
 use feature_model::EditFault;
-use http_serve::{Content, Reply, status};
+use http_serve::{Content, Reply, Status};
 use std::alloc::{AllocError, Global};
 use tile_routes::{Target, TileFormat};
 use tile_service::{Published, ServiceFault};
@@ -109,41 +110,41 @@ fn fault_word(fault: RequestFault) -> &'static [u8]
 }
 
 /// The status of a fault of an edit.
-fn edit_status(fault: EditFault) -> u16
-    ensures { result ≡ edit_status fault }
+fn edit_status(fault: EditFault) -> Status
+    ensures { code_of result ≡ edit_status fault }
 {
     match fault {
-        EditFault::Memory => status::SERVICE_UNAVAILABLE,
-        _ => status::BAD_REQUEST,
+        EditFault::Memory => Status::ServiceUnavailable,
+        _ => Status::BadRequest,
     }
 }
 
 /// The status of a refusal by the service.
-fn service_status(fault: ServiceFault) -> u16
-    ensures { result ≡ service_status fault }
+fn service_status(fault: ServiceFault) -> Status
+    ensures { code_of result ≡ service_status fault }
 {
     match fault {
         ServiceFault::Limit(fault) => edit_status(fault),
-        ServiceFault::NotFound => status::NOT_FOUND,
-        ServiceFault::Memory => status::SERVICE_UNAVAILABLE,
-        ServiceFault::Busy | ServiceFault::Idle | ServiceFault::NeedsUpgrade => status::CONFLICT,
+        ServiceFault::NotFound => Status::NotFound,
+        ServiceFault::Memory => Status::ServiceUnavailable,
+        ServiceFault::Busy | ServiceFault::Idle | ServiceFault::NeedsUpgrade => Status::Conflict,
         ServiceFault::TooManyTiles
         | ServiceFault::AreaFull { .. }
-        | ServiceFault::JournalFull { .. } => status::INSUFFICIENT_STORAGE,
+        | ServiceFault::JournalFull { .. } => Status::InsufficientStorage,
         ServiceFault::Broken | ServiceFault::NumbersSpent | ServiceFault::Device =>
-            status::INTERNAL_SERVER_ERROR,
+            Status::InternalServerError,
     }
 }
 
 /// The status of a fault.
-fn fault_status(fault: RequestFault) -> u16
-    ensures { result ≡ fault_status fault }
+fn fault_status(fault: RequestFault) -> Status
+    ensures { code_of result ≡ fault_status fault }
 {
     match fault {
-        RequestFault::NotFound => status::NOT_FOUND,
-        RequestFault::Json => status::BAD_REQUEST,
+        RequestFault::NotFound => Status::NotFound,
+        RequestFault::Json => Status::BadRequest,
         RequestFault::Edit(fault) => edit_status(fault),
-        RequestFault::Memory => status::SERVICE_UNAVAILABLE,
+        RequestFault::Memory => Status::ServiceUnavailable,
     }
 }
 
@@ -182,7 +183,7 @@ pub(crate) fn not_allowed(target: Target) -> Reply
     ensures writable { IsWhole result }
 {
     Reply {
-        status: status::METHOD_NOT_ALLOWED,
+        status: Status::MethodNotAllowed,
         kind: Some("text/plain"),
         range: None,
         allow: Some(target.allow()),
@@ -196,7 +197,7 @@ pub(crate) fn json(text: Vec<u8>) -> Reply
     ensures reply { reply_view [] result ≡ json_reply text.items }
     ensures writable { IsWhole result }
 {
-    Reply::plain(status::OK, Some("application/json"), Content::Whole(text))
+    Reply::plain(Status::Ok, Some("application/json"), Content::Whole(text))
 }
 
 /// The reply without content.
@@ -204,7 +205,7 @@ pub(crate) fn empty() -> Reply
     ensures reply { reply_view [] result ≡ empty_reply }
     ensures writable { IsWhole result }
 {
-    Reply::plain(status::NO_CONTENT, None, Content::Empty)
+    Reply::plain(Status::NoContent, None, Content::Empty)
 }
 
 /// Empty text with capacity for each outcome.
@@ -278,7 +279,7 @@ pub(crate) fn changed(text: Vec<u8>, id: u64) -> Reply
     ensures writable { IsWhole result }
 {
     Reply::plain(
-        status::CONFLICT,
+        Status::Conflict,
         Some("text/plain"),
         Content::Whole(changed_word(text, id)),
     )
@@ -369,7 +370,7 @@ fn some_tile(alloc: Global, format: TileFormat, bytes: Bytes) -> Result<Reply, A
 {
     let kind = format_type(format);
     let content = format_content(alloc, format, bytes)?;
-    Ok(Reply::plain(status::OK, Some(kind), content))
+    Ok(Reply::plain(Status::Ok, Some(kind), content))
 }
 
 /// The reply with a tile, or 204 if the tile is empty.

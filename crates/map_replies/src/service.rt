@@ -7,7 +7,7 @@ use crate::calls::Calls;
 use crate::parts::Sending;
 use crate::replies;
 use http_serve::{
-    ContentFault, Handler, MAX_READS, Reply, Request, ServeFault, Served, serve_turns,
+    Buffers, ContentFault, Handler, MAX_READS, Reply, Request, ServeFault, Served, serve_with,
 };
 use sector_disk::Sectors;
 use std::alloc::Global;
@@ -93,7 +93,8 @@ pub fn serve_map_turns<D: Sectors + Drop, R: Read, W: Write>(
     ensures { ServesMap D.sectors D.honest D.history D.faults R.remaining W.contents turns
         service.old reader.old writer.old result service.new reader.new writer.new }
 {
-    serve_turns(alloc, reader, writer, service, turns)
+    let mut buffers = Buffers::new(alloc);
+    serve_with(&mut buffers, reader, writer, service, turns)
 }
 
 /// Serves a connection in at most `http_serve::MAX_READS` reads: one reply to each request, in order, and one to an

@@ -7,10 +7,24 @@ mod costs;
 mod faults;
 mod fields;
 
-use http_serve::{Content, ContentFault, ContentRange, Handler, Reply, Request, status};
+use http_serve::{
+    Buffers, Content, ContentFault, ContentRange, Handler, Reply, Request, ServeFault, Served,
+    Status, serve_with,
+};
 use std::alloc::{AllocError, Global};
 use std::cell::Cell;
 use std::io::{self, ErrorKind, Read, Write};
+
+/// Serves a connection by `Echo`, in at most `turns` reads, with buffers of its own.
+fn serve<R: Read, W: Write>(
+    alloc: Global,
+    reader: &mut R,
+    writer: &mut W,
+    turns: u64,
+) -> Result<Served, ServeFault> {
+    let mut buffers = Buffers::new(alloc);
+    serve_with(&mut buffers, reader, writer, &mut Echo { alloc }, turns)
+}
 
 /// Answers with the method and the path on a line, and the body.
 #[derive(Drop)]
@@ -55,11 +69,11 @@ fn echo_reply(alloc: Global, request: &Request<'_>) -> Reply
     }
     let kind = Some("text/plain");
     if request.path == b"/none".as_slice() {
-        return Reply::plain(status::NO_CONTENT, kind, Content::Fixed(b"never sent"));
+        return Reply::plain(Status::NoContent, kind, Content::Fixed(b"never sent"));
     }
     match echo_of(alloc, request) {
-        Ok(text) => Reply::plain(status::OK, kind, Content::Whole(text)),
-        Err(_) => Reply::plain(status::SERVICE_UNAVAILABLE, None, Content::Empty),
+        Ok(text) => Reply::plain(Status::Ok, kind, Content::Whole(text)),
+        Err(_) => Reply::plain(Status::ServiceUnavailable, None, Content::Empty),
     }
 }
 
@@ -68,7 +82,7 @@ fn part_of_all() -> Reply
     ensures { IsWhole result }
 {
     Reply {
-        status: status::PARTIAL_CONTENT,
+        status: Status::PartialContent,
         kind: None,
         range: Some(ContentRange::Part {
             first: 42,
@@ -85,7 +99,7 @@ fn outside_all() -> Reply
     ensures { IsWhole result }
 {
     Reply {
-        status: status::RANGE_NOT_SATISFIABLE,
+        status: Status::RangeNotSatisfiable,
         kind: Some("text/plain"),
         range: Some(ContentRange::Unsatisfied { total: 1_234 }),
         allow: Some("GET, HEAD"),

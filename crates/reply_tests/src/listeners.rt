@@ -8,7 +8,7 @@ mod maps;
 mod peers;
 mod slow;
 
-use http_serve::{Content, ContentFault, Handler, Reply, Request, status};
+use http_serve::{Content, ContentFault, Handler, Reply, Request, Status};
 
 /// Answers each request with how many there were before it: `0`, `1`, `2`, and then `many`.
 #[derive(Clone, Copy)]
@@ -25,7 +25,7 @@ fn reply_after(before: usize) -> Reply
         2 => b"2",
         _ => b"many",
     };
-    Reply::plain(status::OK, None, Content::Fixed(text))
+    Reply::plain(Status::Ok, None, Content::Fixed(text))
 }
 
 impl Handler for Counter {

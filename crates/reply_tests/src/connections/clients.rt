@@ -1,6 +1,6 @@
 //! A client that waits for its replies, and the bound on reads.
-use super::{A, B, Counter, Echo, OneByOne, TWO, take_from};
-use http_serve::{End, ServeFault, Served, serve, serve_turns};
+use super::{A, B, Counter, OneByOne, TWO, serve, take_from};
+use http_serve::{End, MAX_READS, ServeFault, Served};
 use std::alloc::Global;
 use std::cell::Cell;
 use std::io;
@@ -58,7 +58,7 @@ fn waited(alloc: Global, steps: &[(&str, usize)]) -> Result<(Served, usize), Ser
     let got = Cell::new(0);
     let mut client = Client { steps, got: &got };
     let mut writer = Counter { got: &got };
-    let served = serve(alloc, &mut client, &mut writer, &mut Echo { alloc })?;
+    let served = serve(alloc, &mut client, &mut writer, MAX_READS)?;
     Ok((served, client.steps.len()))
 }
 
@@ -83,7 +83,7 @@ fn turned(alloc: Global, turns: u64) -> Result<(Served, u64, usize), ServeFault>
         rest: TWO.as_bytes(),
         failed: 0,
     };
-    let served = serve_turns(alloc, &mut reader, &mut out, &mut Echo { alloc }, turns)?;
+    let served = serve(alloc, &mut reader, &mut out, turns)?;
     Ok((served, reader.rest.len() as u64, reader.failed))
 }
 

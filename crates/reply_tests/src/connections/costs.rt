@@ -1,6 +1,6 @@
 //! What bytes cost that come in small pieces.
-use super::{Echo, OneByOne, take_from};
-use http_serve::{READ_SPACE, serve};
+use super::{OneByOne, serve, take_from};
+use http_serve::{MAX_READS, READ_SPACE};
 use std::alloc::{AllocError, Global};
 use std::io::{self, Read};
 use std::test::Fail;
@@ -66,7 +66,7 @@ fn moved_of(alloc: Global, count: usize, size: usize) -> Result<usize, Fail> {
         moved: 0,
     };
     let mut out = Vec::new(alloc);
-    serve(alloc, &mut reader, &mut out, &mut Echo { alloc })?;
+    serve(alloc, &mut reader, &mut out, MAX_READS)?;
     Ok(reader.moved)
 }
 
@@ -105,7 +105,7 @@ fn time_of(rt: &HostRuntime, form: Form, size: usize, count: u64) -> Result<u64,
             failed: 0,
         };
         let mut out = Vec::new(alloc);
-        let _ = serve(alloc, &mut reader, &mut out, &mut Echo { alloc });
+        let _ = serve(alloc, &mut reader, &mut out, MAX_READS);
     }
     let time = rt.thread_cpu_time()?.saturating_sub(start);
     Ok(u64::try_from(time.as_micros()).unwrap_or(u64::MAX))

@@ -1,6 +1,6 @@
 //! Writes and allocations that fail.
-use super::{A, Counter, Echo, HEAD, TWO};
-use http_serve::{End, ServeFault, Served, serve};
+use super::{A, Counter, HEAD, TWO, serve};
+use http_serve::{End, MAX_READS, ServeFault, Served};
 use std::alloc::Global;
 use std::cell::Cell;
 use std::io::{self, ErrorKind, Write};
@@ -43,7 +43,7 @@ fn leaves_prefix(alloc: Global, whole: &[u8], room: usize, fails: bool) -> bool 
         taken: Vec::new(alloc),
     };
     let mut reader = "GET /a HTTP/1.1\r\nhost: a\r\n\r\n\r\n".as_bytes();
-    let fault = serve(alloc, &mut reader, &mut writer, &mut Echo { alloc });
+    let fault = serve(alloc, &mut reader, &mut writer, MAX_READS);
     let requests = u64::from(room >= A.len());
     fault == Err(ServeFault::Write { requests })
         && whole.get(..room) == Some(writer.taken.as_slice())
@@ -74,7 +74,7 @@ fn answered(alloc: Global) -> (Result<Served, ServeFault>, usize, usize) {
     let got = Cell::new(0);
     let mut reader = TWO.as_bytes();
     let mut writer = Counter { got: &got };
-    let told = serve(alloc, &mut reader, &mut writer, &mut Echo { alloc });
+    let told = serve(alloc, &mut reader, &mut writer, MAX_READS);
     (told, reader.len(), got.get())
 }
 

@@ -1,6 +1,6 @@
 //! Replies with every field that one may have, and one that has no content.
-use super::Echo;
-use http_serve::{End, ServeFault, Served, serve};
+use super::serve;
+use http_serve::{End, MAX_READS, ServeFault, Served};
 use std::alloc::Global;
 use std::test::Fail;
 
@@ -22,7 +22,7 @@ const THREE: Served = Served {
 fn answered(alloc: Global) -> Result<(Vec<u8>, Served), ServeFault> {
     let mut out = Vec::new(alloc);
     let mut reader = ASKED.as_bytes();
-    let served = serve(alloc, &mut reader, &mut out, &mut Echo { alloc })?;
+    let served = serve(alloc, &mut reader, &mut out, MAX_READS)?;
     Ok((out, served))
 }
 

@@ -5,14 +5,14 @@ use Rattle.http_serve.specs.declared.connection.ServeFault.{ServeFault}
 use Rattle.http_serve.specs.Frame.{IsNext}
 use Rattle.http_serve.specs.Parts.{GivesOrFails}
 use Rattle.http_serve.specs.Steps.{IsBroken}
-use Rattle.http_serve.specs.Told.{HasContent}
+use Rattle.http_serve.specs.Told.{HasContent, IsNotMemory}
 use Rattle.http_serve.specs.Requests.{asked, refused}
 use Rattle.http_serve.specs.Requests.{request_view_at}
 use Rattle.http_serve.specs.Reply.{ReplyView, refusal_bytes, reply_at}
 use Rattle.http_serve.specs.Served.{Anything, Carries}
 use Rattle.http_serve.proofs.HeadLemmas.{missing_now}
 use Rattle.http_serve.proofs.CarryLemmas.{Ends_push, Breaks_refused, Frame_push, Frame_ends}
-use Rattle.http_serve.proofs.PartLemmas.{cut_content}
+use Rattle.http_serve.proofs.PartLemmas.{cut_content, cut_no_memory}
 use Rattle.http_serve.proofs.ServeLemmas.{cut_breaks}
 use Rattle.http_serve.proofs.connection.answer_whole.Goals as goal
 
@@ -71,6 +71,10 @@ pub returns-in-Err-answer_one-clause-content : goal.returns-in-Err-answer_one-cl
 returns-in-Err-answer_one-clause-content g c =
     subst (λ (fault : ServeFault). HasContent (g.H.Handler.size c.answer_one.new.handler) fault) (sym c.after.ensures)
     (cut_content (g.H.Handler.size c.answer_one.new.handler) c.requests.requests c.in-Err-answer_one.fault c.in-Err-answer_one.ensures.cut)
+
+pub returns-in-Err-answer_one-clause-no_memory : goal.returns-in-Err-answer_one-clause-no_memory
+returns-in-Err-answer_one-clause-no_memory g c =
+    subst IsNotMemory (sym c.after.ensures) (cut_no_memory c.requests.requests c.in-Err-answer_one.fault)
 
 pub returns-then-frame-clause-ok : goal.returns-then-frame-clause-ok
 returns-then-frame-clause-ok g c =

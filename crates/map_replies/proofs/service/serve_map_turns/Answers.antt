@@ -5,8 +5,8 @@ use Rattle.map_replies.proofs.service.serve_map_turns.Goals as goal
 pub returns : goal.returns
 returns g c =
     let d = g.D.Sectors in
-    let call = c.serve_turns.ensures in
-    let result = c.serve_turns.result in
+    let call = c.serve_with.ensures.serves in
+    let result = c.serve_with.result in
     record {
       input = call.input;
       served = if_ok result _ _ (λ end. connection_runs d.sectors d.honest d.history d.faults _ _ _ end _ _ _) call.served;

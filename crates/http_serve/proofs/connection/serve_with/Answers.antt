@@ -1,10 +1,10 @@
 use Rattle.http_serve.proofs.ServeLemmas.{served_input, if_ok}
-use Rattle.http_serve.proofs.connection.serve_in.Goals as goal
+use Rattle.http_serve.proofs.connection.serve_with.Goals as goal
 
-pub returns : goal.returns
-returns g c =
-    let call = c.serve_session.ensures in
-    let result = c.serve_session.result in
+pub returns-clause-serves : goal.returns-clause-serves
+returns-clause-serves g c =
+    let call = c.serve_session-outcome.ensures in
+    let result = c.serve_session-outcome.result in
     record {
       input = if_ok result _ _ (λ served. served_input g.H.Handler.replies _ _ _ served _ _ _) call.served;
       served = call.served;
