@@ -1,28 +1,29 @@
--- The sections one behind the other are an archive.
-use Rattle.std.proofs.Common.{◌≡◌, ℕ, ◌+◌, ◌≤◌, List, [], ◌++◌, length, Vec, Global, Result, inr, refl, sym, ap, subst, ◌∙◌, append_assoc, arith}
+-- The sections one after the other are an archive.
+use Rattle.std.proofs.Common.{◌≡◌, ℕ, suc, ◌+◌, ◌≤◌, List, [], ◌∷◌, ◌++◌, length, Vec, Global, Result, inr, refl, sym, ap, subst, ◌∙◌, append_assoc, arith}
 use Rattle.std.specs.List.{concat}
 use Rattle.std.specs.Result.{IfOk}
 use Rattle.std.proofs.lemmas.List.{length-append, append-nil}
 use Rattle.std.proofs.lemmas.Result.{IfOk-weaker}
 use Rattle.pm_header.specs.declared.section_span.SectionSpan.{SectionSpan}
 use Rattle.pm_header.specs.declared.header.Header.{Header}
+use Rattle.pm_header.specs.declared.compression.TheConstants.{NOT_COMPRESSED}
 use Rattle.pm_header.specs.Layout.{IsHeader}
 use Rattle.pm_directory.specs.declared.entry.DirectoryEntry.{DirectoryEntry}
 use Rattle.pm_archive.specs.Sections.{section_bytes, HasSections}
 use Rattle.pm_archive.specs.Archive.{IsMetadata, HasCounts, IsArchive, IsArchiveOf}
 use Rattle.pm_build.specs.Tiles.{Tile}
-use Rattle.pm_build.specs.Placed.{ArePlaced}
+use Rattle.pm_build.specs.Runs.{TileRun}
+use Rattle.pm_build.specs.Placed.{ArePlaced, EachNames}
 use Rattle.pm_build.specs.declared.header.Counts.{Counts}
-use Rattle.pm_build.specs.declared.header.Lengths.{Lengths}
 use Rattle.pm_build.specs.Built.{tile_content}
 use Rattle.pm_build.specs.Leaves.{AreDirectories}
-use Rattle.pm_build.specs.Laid.{AreJoined, AreZooms, BeginFor, SaysTiles, header_for, lengths_of}
+use Rattle.pm_build.specs.Laid.{AreJoined, AreLaidOut, AreZooms, counts_of, header_for, lengths_of}
 use Rattle.pm_build.proofs.Tiles.{have_tiles, lie_in, addressed_all, content_named}
 use Rattle.pm_build.proofs.Headers.{header_there}
 use Rattle.pm_build.proofs.Listed.{has_entries}
 use Rattle.pm_build.proofs.Pieces.{part_middle}
 
--- the header has these lengths and counts, and places the sections one behind the other
+-- the header has these lengths and counts, and places the sections one after the other
 record IsLaid (h : Header) (root : List ℕ) (metadata : List ℕ) (leaves : List ℕ) (contents : List ℕ) (n : Counts) : Type 0 where
   root_at : h.root.offset ≡ 127
   root_is : h.root.length ≡ length root
@@ -32,7 +33,7 @@ record IsLaid (h : Header) (root : List ℕ) (metadata : List ℕ) (leaves : Lis
   leaves_is : h.leaves.length ≡ length leaves
   tiles_at : h.tiles.offset ≡ 127 + length root + length metadata + length leaves
   tiles_is : h.tiles.length ≡ length contents
-  plain : h.internal ≡ 1
+  plain : h.internal ≡ NOT_COMPRESSED
   addressed_is : h.addressed ≡ n.addressed
   entries_is : h.entries ≡ n.entries
   contents_is : h.contents ≡ n.contents
@@ -106,7 +107,6 @@ sections_there bytes root metadata leaves contents h n is has low =
     let metadata_at = is.metadata_at in let metadata_is = is.metadata_is in
     let leaves_at = is.leaves_at in let leaves_is = is.leaves_is in
     let tiles_at = is.tiles_at in let tiles_is = is.tiles_is in
-    let plain = is.plain in
     record {
       header = has.header_there;
       root_inside = omega arith;
@@ -114,15 +114,15 @@ sections_there bytes root metadata leaves contents h n is has low =
       metadata_inside = omega arith;
       leaves_inside = omega arith;
       tiles_inside = omega arith;
-      plain = omega arith;
+      plain = inr is.plain;
     }
 
--- what is counted
-abbrev pub counts_of : List Tile → List DirectoryEntry → List (List ℕ) → Counts
-counts_of tiles es cs = record { addressed = length tiles; entries = length es; contents = length cs }
+-- the counts of these tiles, entries and contents
+abbrev counted : List Tile → List DirectoryEntry → List (List ℕ) → Counts
+counted tiles es cs = record { addressed = length tiles; entries = length es; contents = length cs }
 
 counts_there : (h : Header) (tiles : List Tile) (es : List DirectoryEntry) (cs : List (List ℕ)) (root metadata leaves : List ℕ)
-    → IsLaid h root metadata leaves (concat cs) (counts_of tiles es cs) → ArePlaced tiles es cs → HasCounts h es
+    → IsLaid h root metadata leaves (concat cs) (counted tiles es cs) → ArePlaced tiles es cs → HasCounts h es
 counts_there h tiles es cs root metadata leaves is placed =
     let all = addressed_all (concat cs) placed.runs es placed.named in
     let together = ap (λ (ts : List Tile). length ts) placed.longest.together in
@@ -133,13 +133,13 @@ counts_there h tiles es cs root metadata leaves is placed =
     }
 
 is_laid_archive : (bytes root metadata leaves : List ℕ) (tiles : List Tile) (es : List DirectoryEntry) (cs : List (List ℕ)) (h : Header)
-    → IsLaid h root metadata leaves (concat cs) (counts_of tiles es cs) → AreJoined bytes h root metadata leaves (concat cs)
+    → IsLaid h root metadata leaves (concat cs) (counted tiles es cs) → AreJoined bytes h root metadata leaves (concat cs)
     → ArePlaced tiles es cs → AreDirectories root leaves es → length root ≤ 14850 → IsMetadata metadata → IsArchiveOf bytes (tile_content tiles)
 is_laid_archive bytes root metadata leaves tiles es cs h is joined placed directories low meta =
-    let has = parts_there bytes root metadata leaves (concat cs) h (counts_of tiles es cs) is joined in
+    let has = parts_there bytes root metadata leaves (concat cs) h (counted tiles es cs) is joined in
     let some = have_tiles (concat cs) placed.runs es placed.named placed.longest.each in
     let archive : IsArchive bytes h es = record {
-      sections = sections_there bytes root metadata leaves (concat cs) h (counts_of tiles es cs) is has low;
+      sections = sections_there bytes root metadata leaves (concat cs) h (counted tiles es cs) is has low;
       entries = has_entries bytes root leaves h es has.root_there has.leaves_there is.leaves_is directories placed.ascending placed.each some
           (lie_in (concat cs) h placed.runs es is.tiles_is placed.named);
       counts = counts_there h tiles es cs root metadata leaves is placed;
@@ -153,16 +153,16 @@ is_laid_archive bytes root metadata leaves tiles es cs h is joined placed direct
     )
 
 is_archive : (bytes root metadata leaves : List ℕ) (tiles : List Tile) (es : List DirectoryEntry) (cs : List (List ℕ)) (h : Header) (low high : ℕ)
-    → h ≡ header_for (lengths_of root metadata leaves (concat cs)) (counts_of tiles es cs) low high → AreJoined bytes h root metadata leaves (concat cs)
+    → h ≡ header_for (lengths_of root metadata leaves (concat cs)) (counted tiles es cs) low high → AreJoined bytes h root metadata leaves (concat cs)
     → ArePlaced tiles es cs → AreDirectories root leaves es → length root ≤ 14850 → IsMetadata metadata → IsArchiveOf bytes (tile_content tiles)
 is_archive bytes root metadata leaves tiles es cs h low high e joined placed directories early meta =
-    let is : IsLaid h root metadata leaves (concat cs) (counts_of tiles es cs) =
-    subst (λ (g : Header). IsLaid g root metadata leaves (concat cs) (counts_of tiles es cs)) (sym e)
-    (laid root metadata leaves (concat cs) (counts_of tiles es cs) low high) in
+    let is : IsLaid h root metadata leaves (concat cs) (counted tiles es cs) =
+    subst (λ (g : Header). IsLaid g root metadata leaves (concat cs) (counted tiles es cs)) (sym e)
+    (laid root metadata leaves (concat cs) (counted tiles es cs) low high) in
     is_laid_archive bytes root metadata leaves tiles es cs h is joined placed directories early meta
 
 pub archive_joined : {E : Type 0} (r : Result (Vec ℕ Global) E) (root metadata leaves : List ℕ) (tiles : List Tile) (es : List DirectoryEntry)
-    (cs : List (List ℕ)) (h : Header) (low high : ℕ) → h ≡ header_for (lengths_of root metadata leaves (concat cs)) (counts_of tiles es cs) low high
+    (cs : List (List ℕ)) (h : Header) (low high : ℕ) → h ≡ header_for (lengths_of root metadata leaves (concat cs)) (counted tiles es cs) low high
     → ArePlaced tiles es cs → AreDirectories root leaves es → length root ≤ 14850 → IsMetadata metadata
     → IfOk r (λ v. AreJoined v.items h root metadata leaves (concat cs)) → IfOk r (λ v. IsArchiveOf v.items (tile_content tiles))
 archive_joined r root metadata leaves tiles es cs h low high e placed directories early meta =
@@ -187,20 +187,39 @@ size_joined r root metadata leaves contents h n size =
     IfOk-weaker r (λ v. AreJoined v.items h root metadata leaves contents) (λ v. length v.items ≤ 127 + length metadata + n + length contents)
     (λ v joined. joined_size v.items root metadata leaves contents h n size joined)
 
-says_tiles : (l : Lengths) (n : Counts) (low high : ℕ) (tiles : List Tile) → AreZooms tiles low high → SaysTiles tiles (header_for l n low high)
-unfolding header_for
-says_tiles l n low high tiles zooms = record { clustered = refl; plain_directories = refl; plain_tiles = refl; vector_tiles = refl; zooms = zooms }
+-- as many entries as runs
+named_count : (bytes : List ℕ) (rs : List TileRun) (es : List DirectoryEntry) → EachNames bytes rs es → length es ≡ length rs
+named_count bytes [] [] h = refl
+named_count bytes [] (e ∷ es) h = absurd h
+named_count bytes (r ∷ rs) [] h = absurd h
+named_count bytes (r ∷ rs) (e ∷ es) h = ap suc (named_count bytes rs es h.1)
 
-begin_for : (bytes root metadata leaves contents : List ℕ) (h : Header) (tiles : List Tile) → SaysTiles tiles h
-    → AreJoined bytes h root metadata leaves contents → BeginFor bytes tiles
-begin_for bytes root metadata leaves contents h tiles says (front, header, whole, parts) =
-    (h, subst (λ (bs : List ℕ). IsHeader bs h) (sym parts) (header_there front (root ++ (metadata ++ (leaves ++ contents))) whole h header), says)
+are_laid_out : (bytes root metadata leaves : List ℕ) (tiles : List Tile) (es : List DirectoryEntry) (cs : List (List ℕ)) (h : Header) (low high : ℕ)
+    → h ≡ header_for (lengths_of root metadata leaves (concat cs)) (counted tiles es cs) low high → AreZooms tiles low high → ArePlaced tiles es cs
+    → AreJoined bytes h root metadata leaves (concat cs) → AreLaidOut bytes tiles metadata
+are_laid_out bytes root metadata leaves tiles es cs h low high e zooms placed joined =
+    let by_runs : h ≡ header_for (lengths_of root metadata leaves (concat cs)) (counts_of tiles placed.runs cs) low high =
+    e ∙ ap (λ (n : ℕ). header_for (lengths_of root metadata leaves (concat cs)) record { addressed = length tiles; entries = n; contents = length cs } low high)
+    (named_count (concat cs) placed.runs es placed.named) in
+    record {
+      runs = placed.runs;
+      longest = placed.longest;
+      contents = cs;
+      different = placed.different;
+      used = placed.used;
+      stored = placed.stored;
+      min_zoom = low;
+      max_zoom = high;
+      zooms = zooms;
+      root = root;
+      leaves = leaves;
+      joined = subst (λ (g : Header). AreJoined bytes g root metadata leaves (concat cs)) by_runs joined;
+    }
 
-pub header_joined : {E : Type 0} (r : Result (Vec ℕ Global) E) (root metadata leaves contents : List ℕ) (tiles : List Tile) (n : Counts) (h : Header)
-    (low high : ℕ) → h ≡ header_for (lengths_of root metadata leaves contents) n low high → AreZooms tiles low high
-    → IfOk r (λ v. AreJoined v.items h root metadata leaves contents) → IfOk r (λ v. BeginFor v.items tiles)
-header_joined r root metadata leaves contents tiles n h low high e zooms =
-    let says : SaysTiles tiles h = subst (λ (g : Header). SaysTiles tiles g) (sym e)
-    (says_tiles (lengths_of root metadata leaves contents) n low high tiles zooms) in
-    IfOk-weaker r (λ v. AreJoined v.items h root metadata leaves contents) (λ v. BeginFor v.items tiles)
-    (λ v joined. begin_for v.items root metadata leaves contents h tiles says joined)
+pub laid_out_joined : {E : Type 0} (r : Result (Vec ℕ Global) E) (root metadata leaves : List ℕ) (tiles : List Tile) (es : List DirectoryEntry)
+    (cs : List (List ℕ)) (h : Header) (low high : ℕ) → h ≡ header_for (lengths_of root metadata leaves (concat cs)) (counted tiles es cs) low high
+    → AreZooms tiles low high → ArePlaced tiles es cs
+    → IfOk r (λ v. AreJoined v.items h root metadata leaves (concat cs)) → IfOk r (λ v. AreLaidOut v.items tiles metadata)
+laid_out_joined r root metadata leaves tiles es cs h low high e zooms placed =
+    IfOk-weaker r (λ v. AreJoined v.items h root metadata leaves (concat cs)) (λ v. AreLaidOut v.items tiles metadata)
+    (λ v joined. are_laid_out v.items root metadata leaves tiles es cs h low high e zooms placed joined)

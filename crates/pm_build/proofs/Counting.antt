@@ -1,4 +1,4 @@
--- Spans of contents, that is where each begins and how long it is: as many as there are contents.
+-- Spans of contents, that is the offset and the length of each: as many as there are contents.
 use Rattle.std.proofs.Common.{◌≡◌, ℕ, suc, ◌+◌, ◌<◌, Bool, true, false, cond, eqb, List, [], ◌∷◌, ◌++◌, length, map, Some, Decides, refl, sym, ap, subst, ◌∙◌}
 use Rattle.std.proofs.Common.{arith}
 use Rattle.std.specs.Cmp.{IsEquivalence, decided}
@@ -18,13 +18,14 @@ use Rattle.pm_build.specs.Offsets.{offset_from, spans_from, EachPlaced, ArePlace
 
 -- ---- a content where it begins
 
--- the bytes before a content and those behind it
+-- the bytes before a content and after it
 pub record Stands (from : ℕ) (cs : List (List ℕ)) (q : List ℕ) (k : ℕ) : Type 0 where
   pub front : List ℕ
   pub rest : List ℕ
   pub bytes : concat cs ≡ front ++ (q ++ rest)
   pub begins : from + length front ≡ k
   pub listed : Contains (spans_from from cs) (k, length q)
+  pub among : Contains cs q
 
 behind : (from : ℕ) (c : List ℕ) (cs : List (List ℕ)) (q : List ℕ) (k : ℕ) → Stands (from + length c) cs q k → Stands from (c ∷ cs) q k
 behind from c cs q k s = record {
@@ -33,6 +34,7 @@ behind from c cs q k s = record {
   bytes = ap (λ x. c ++ x) s.bytes ∙ sym (append_assoc c s.front (q ++ s.rest));
   begins = (let b = s.begins in omega (arith, length-append c s.front));
   listed = (suc s.listed.0, (let l = s.listed.1 in omega arith), s.listed.2);
+  among = (suc s.among.0, (let l = s.among.1 in omega arith), s.among.2);
 }
 
 here : (from : ℕ) (c : List ℕ) (cs : List (List ℕ)) (q : List ℕ) (k : ℕ) → q ≡ c → from ≡ k → Stands from (c ∷ cs) q k
@@ -42,6 +44,7 @@ here from c cs q k same is = record {
   bytes = ap (λ x. x ++ concat cs) (sym same);
   begins = omega arith;
   listed = (0, omega arith, (let p : (from, length c) ≡ (k, length q) = cc in p));
+  among = (0, omega arith, sym same);
 }
 
 pub stands : (from : ℕ) (cs : List (List ℕ)) (q : List ℕ) (k : ℕ) → offset_from from cs q ≡ Some k → Stands from cs q k

@@ -45,6 +45,13 @@ each_names cs [] (e ∷ es) h = h
 each_names cs (r ∷ rs) [] h = h
 each_names cs (r ∷ rs) (e ∷ es) h = (names cs r e h.0, each_names cs rs es h.1)
 
+-- the content of each run is among the contents
+each_stored : (cs : List (List ℕ)) (rs : List TileRun) (es : List DirectoryEntry) → EachPlaced cs rs es → AllByRecursion (λ r. Contains cs r.content) rs
+each_stored cs [] [] h = tt
+each_stored cs [] (e ∷ es) h = tt
+each_stored cs (r ∷ rs) [] h = absurd h
+each_stored cs (r ∷ rs) (e ∷ es) h = ((stands 0 cs r.content e.offset h.0.offset_is).among, each_stored cs rs es h.1)
+
 -- ---- the runs ascend
 
 past_run : (from first count : ℕ) (content : List ℕ) (ts : List Tile) → IdsAscend from (repeated first (suc count) content ++ ts)
@@ -143,6 +150,7 @@ are_placed tiles rs es cs t l h =
       each = are_entries cs rs es l.each runs h.each;
       different = h.different;
       used = h.used;
+      stored = each_stored cs rs es h.each;
       counted = as_many_spans rs es cs h some;
     }
 

@@ -8,6 +8,7 @@ mod Headers
 pub mod Joining
 mod Keeping
 mod Leaves
+mod LimitNumbers
 mod Listed
 mod Offsets
 mod Pieces

@@ -1,10 +1,14 @@
--- The header of an archive whose sections stand without gaps.
-use Rattle.std.specs.Prelude.{◌≡◌, ℕ, ◌+◌, ◌-◌, pos, negsuc, List, ◌++◌, length, map, Some, slice_get}
+-- The header of an archive whose sections are stored without gaps.
+use Rattle.std.specs.Prelude.{◌≡◌, ℕ, ◌+◌, ◌-◌, pos, negsuc, List, ◌++◌, length, map, Some, slice_get, Contains}
 use Rattle.std.specs.Borrow.{Bor}
-use Rattle.std.specs.List.{concat}
+use Rattle.std.specs.List.{AllByRecursion, concat}
 use Rattle.hilbert_id.specs.Curve.{IsTileId}
 use Rattle.pm_header.specs.declared.header.Header.{Header}
+use Rattle.pm_header.specs.declared.header.TheConstants.{CLUSTERED, VECTOR_TILES}
+use Rattle.pm_header.specs.declared.compression.TheConstants.{NOT_COMPRESSED}
 use Rattle.pm_header.specs.Layout.{IsHeader}
+use Rattle.pm_build.specs.Runs.{TileRun, AreLongestRuns}
+use Rattle.pm_build.specs.Placed.{AreDifferent}
 use Rattle.pm_build.specs.Tiles.{Tile}
 use Rattle.pm_build.specs.declared.header.Lengths.{Lengths}
 use Rattle.pm_build.specs.declared.header.Counts.{Counts}
@@ -19,21 +23,8 @@ AreZooms tiles low high =
     (first : Tile) × (last : Tile) × (slice_get tiles 0 ≡ Some first) × (slice_get tiles (length tiles - 1) ≡ Some last) × IsZoomOf first.0 low
     × IsZoomOf last.0 high
 
--- the header says that contents lie in the order of their ids, that nothing is compressed, and that the tiles are Mapbox
--- vector tiles of these zooms
-pub record SaysTiles (tiles : List Tile) (h : Header) : Type 0 where
-  pub clustered : h.clustered ≡ 1
-  pub plain_directories : h.internal ≡ 1
-  pub plain_tiles : h.compression ≡ 1
-  pub vector_tiles : h.kind ≡ 1
-  pub zooms : AreZooms tiles h.min_zoom h.max_zoom
-
--- the bytes begin with a header that says so
-abbrev pub BeginFor : List ℕ → List Tile → Type 0
-BeginFor bytes tiles = (h : Header) × IsHeader bytes h × SaysTiles tiles h
-
--- The header of sections of these lengths, in the order root directory, metadata, leaf directories, contents. The tiles
--- are Mapbox vector tiles that aren't compressed, of the whole map between these zooms.
+-- The header of sections of these lengths, in the order root directory, metadata, leaf directories, contents. The contents are in
+-- ascending order of their tile ids. Nothing is compressed. The tiles are Mapbox vector tiles of the whole map between these zooms.
 unfoldable pub header_for : Lengths → Counts → ℕ → ℕ → Header
 header_for l n min_zoom max_zoom = record {
   root = record { offset = 127; length = l.root };
@@ -43,10 +34,10 @@ header_for l n min_zoom max_zoom = record {
   addressed = n.addressed;
   entries = n.entries;
   contents = n.contents;
-  clustered = 1;
-  internal = 1;
-  compression = 1;
-  kind = 1;
+  clustered = CLUSTERED;
+  internal = NOT_COMPRESSED;
+  compression = NOT_COMPRESSED;
+  kind = VECTOR_TILES;
   min_zoom = min_zoom;
   max_zoom = max_zoom;
   min_lon = negsuc 1799999999;
@@ -58,7 +49,7 @@ header_for l n min_zoom max_zoom = record {
   centre_lat = pos 0;
 }
 
--- contents in memory one behind the other
+-- contents in memory, one after the other
 abbrev pub joined_contents : List (Bor (List ℕ)) → List ℕ
 joined_contents contents = concat (map (λ c. c.now) contents)
 
@@ -66,7 +57,28 @@ joined_contents contents = concat (map (λ c. c.now) contents)
 abbrev pub lengths_of : List ℕ → List ℕ → List ℕ → List ℕ → Lengths
 lengths_of root metadata leaves contents = record { root = length root; metadata = length metadata; leaves = length leaves; tiles = length contents }
 
--- the header and these sections stand one behind the other
+-- the bytes are the header and these sections, one after the other
 abbrev pub AreJoined : List ℕ → Header → List ℕ → List ℕ → List ℕ → List ℕ → Type 0
 AreJoined bytes h root metadata leaves contents =
     (front : List ℕ) × IsHeader front h × (length front ≡ 127) × (bytes ≡ front ++ (root ++ (metadata ++ (leaves ++ contents))))
+
+-- what a header counts: the tiles, their longest runs, and their different contents
+abbrev pub counts_of : List Tile → List TileRun → List (List ℕ) → Counts
+counts_of tiles runs contents = record { addressed = length tiles; entries = length runs; contents = length contents }
+
+-- The bytes are a header, a root directory, the metadata, leaf directories and the different contents of the tiles, one after the
+-- other. The header says where each section is, how many tiles, runs and contents there are, and the zooms of the tiles.
+pub record AreLaidOut (bytes : List ℕ) (tiles : List Tile) (metadata : List ℕ) : Type 0 where
+  pub runs : List TileRun
+  pub longest : AreLongestRuns tiles runs
+  pub contents : List (List ℕ)
+  pub different : AreDifferent contents
+  pub used : AllByRecursion (Contains (map (λ r. r.content) runs)) contents
+  pub stored : AllByRecursion (λ r. Contains contents r.content) runs
+  pub min_zoom : ℕ
+  pub max_zoom : ℕ
+  pub zooms : AreZooms tiles min_zoom max_zoom
+  pub root : List ℕ
+  pub leaves : List ℕ
+  pub joined : AreJoined bytes (header_for (lengths_of root metadata leaves (concat contents)) (counts_of tiles runs contents) min_zoom max_zoom)
+      root metadata leaves (concat contents)

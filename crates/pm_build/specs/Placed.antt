@@ -8,7 +8,7 @@ use Rattle.pm_directory.specs.Directory.{IsAscending, IsEntry}
 use Rattle.pm_build.specs.Tiles.{Tile}
 use Rattle.pm_build.specs.Runs.{TileRun, AreLongestRuns}
 
--- the entry names this run, whose content lies where it says
+-- the entry names this run and where its content is stored
 pub record Names (bytes : List ℕ) (r : TileRun) (e : DirectoryEntry) : Type 0 where
   pub id_is : e.id ≡ r.first
   pub run_is : e.run ≡ r.count
@@ -27,7 +27,7 @@ abbrev pub AreDifferent : List (List ℕ) → Type 0
 AreDifferent [] = ⊤
 AreDifferent (c ∷ cs) = AllByRecursion (λ d. d ≢ c) cs × AreDifferent cs
 
--- The entries name the longest runs of the tiles, whose contents stand one behind the other, each once.
+-- The entries name the longest runs of the tiles, whose contents are stored one after the other, each once.
 pub record ArePlaced (tiles : List Tile) (entries : List DirectoryEntry) (contents : List (List ℕ)) : Type 0 where
   pub runs : List TileRun
   pub longest : AreLongestRuns tiles runs
@@ -36,4 +36,5 @@ pub record ArePlaced (tiles : List Tile) (entries : List DirectoryEntry) (conten
   pub each : AllByRecursion IsEntry entries
   pub different : AreDifferent contents
   pub used : AllByRecursion (λ c. Contains (map (λ r. r.content) runs) c) contents
+  pub stored : AllByRecursion (λ r. Contains contents r.content) runs
   pub counted : contents_of entries ≡ length contents

@@ -5,7 +5,7 @@ ghost use Rattle.pm_build.specs.Runs.{TileRun, AreLongestRuns};
 ghost use Rattle.pm_build.specs.Placed.{AreDifferent};
 ghost use Rattle.pm_archive.specs.Archive.{IsArchiveOf, IsMetadata};
 ghost use Rattle.pm_build.specs.Built.{tile_content};
-ghost use Rattle.pm_build.specs.Laid.{BeginFor};
+ghost use Rattle.pm_build.specs.Laid.{AreLaidOut};
 
 use crate::building::archive_of_runs;
 use crate::checks::is_tile;
@@ -95,7 +95,7 @@ impl ArchiveBuilder {
         requires some { self.now ≢ [] }
         requires metadata { IsMetadata metadata.now }
         ensures archive { IfOk result (λ bytes. IsArchiveOf bytes.items (tile_content self.now)) }
-        ensures header { IfOk result (λ bytes. BeginFor bytes.items self.now) }
+        ensures header { IfOk result (λ bytes. AreLaidOut bytes.items self.now metadata.now) }
         ensures size { IfOk result (λ bytes. (runs : List TileRun) × (contents : List (List ℕ)) × AreLongestRuns self.now runs × (length runs ≤ MAX_ENTRIES)
             × AreDifferent contents × AllByRecursion (λ c. Contains (map (λ r. r.content) runs) c) contents
             × (length bytes.items ≤ 127 + length metadata.now + 64 * length runs + length (concat contents))) }

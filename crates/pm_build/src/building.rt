@@ -6,7 +6,7 @@ ghost use Rattle.pm_build.specs.Joined.{run_views};
 ghost use Rattle.pm_build.specs.Placed.{AreDifferent, ArePlaced};
 ghost use Rattle.pm_archive.specs.Archive.{IsArchiveOf, IsMetadata};
 ghost use Rattle.pm_build.specs.Built.{tile_content};
-ghost use Rattle.pm_build.specs.Laid.{AreJoined, AreZooms, BeginFor, header_for, joined_contents, lengths_of};
+ghost use Rattle.pm_build.specs.Laid.{AreJoined, AreLaidOut, AreZooms, header_for, joined_contents, lengths_of};
 
 use crate::directories::{Directories, write_directories};
 use crate::header::{Counts, Lengths, header_of, zoom_of};
@@ -121,7 +121,7 @@ fn archive_of(
     requires few { length placed.now.entries.items ≤ MAX_ENTRIES }
     requires metadata { IsMetadata metadata.now }
     ensures archive { IfOk result (λ bytes. IsArchiveOf bytes.items (tile_content (tiles_in (run_views runs.now)))) }
-    ensures header { IfOk result (λ bytes. BeginFor bytes.items (tiles_in (run_views runs.now))) }
+    ensures header { IfOk result (λ bytes. AreLaidOut bytes.items (tiles_in (run_views runs.now)) metadata.now) }
     ensures size { IfOk result
         (λ bytes. length bytes.items ≤ 127 + length metadata.now + 64 * length placed.now.entries.items + length (joined_contents placed.now.contents.items)) }
 {
@@ -144,7 +144,7 @@ pub(crate) fn archive_of_runs(
     requires few { length runs.now ≤ MAX_ENTRIES }
     requires metadata { IsMetadata metadata.now }
     ensures archive { IfOk result (λ bytes. IsArchiveOf bytes.items (tile_content (tiles_in (run_views runs.now)))) }
-    ensures header { IfOk result (λ bytes. BeginFor bytes.items (tiles_in (run_views runs.now))) }
+    ensures header { IfOk result (λ bytes. AreLaidOut bytes.items (tiles_in (run_views runs.now)) metadata.now) }
     ensures size { IfOk result (λ bytes. (contents : List (List ℕ)) × AreDifferent contents
         × AllByRecursion (λ c. Contains (map (λ r. r.content) (run_views runs.now)) c) contents
         × (length bytes.items ≤ 127 + length metadata.now + 64 * length runs.now + length (concat contents))) }

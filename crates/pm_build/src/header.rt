@@ -4,7 +4,7 @@ ghost use Rattle.std.specs.Prelude.{◌≡◌, ◌+◌, ◌<◌, ◌^◌};
 ghost use Rattle.pm_build.specs.Laid.{IsZoomOf, header_for};
 
 use hilbert_id::{TILE_IDS, tile_of};
-use pm_header::{HEADER_BYTES, Header, NOT_COMPRESSED, SectionSpan, VECTOR_TILES};
+use pm_header::{CLUSTERED, HEADER_BYTES, Header, NOT_COMPRESSED, SectionSpan, VECTOR_TILES};
 
 /// How many bytes the sections have.
 #[derive(Clone, Copy, Debug, PartialEq, Eq)]
@@ -68,7 +68,7 @@ pub(crate) fn header_of(lengths: Lengths, counts: Counts, min_zoom: u8, max_zoom
         addressed: counts.addressed,
         entries: counts.entries,
         contents: counts.contents,
-        clustered: 1,
+        clustered: CLUSTERED,
         internal: NOT_COMPRESSED,
         compression: NOT_COMPRESSED,
         kind: VECTOR_TILES,

@@ -4,7 +4,7 @@ use Rattle.std.proofs.lemmas.List.{length-map}
 use Rattle.pm_build.specs.Joined.{run_views}
 use Rattle.pm_build.specs.Runs.{tiles_in}
 use Rattle.pm_build.proofs.Adding.{some_in}
-use Rattle.pm_build.proofs.Archive.{archive_joined, header_joined, size_joined}
+use Rattle.pm_build.proofs.Archive.{archive_joined, laid_out_joined, size_joined}
 use Rattle.pm_build.proofs.Tiles.{some_entries, have_ends, contents_fit}
 use Rattle.pm_build.proofs.building.archive_of.Goals as goal
 
@@ -63,11 +63,6 @@ returns-clause-header c =
     let placed = c.args.placed.now in
     let contents = map (λ c. c.now) placed.contents.items in
     let (low, high, zooms, header) = c.header_for_runs-header.ensures in
-    header_joined c.joined.result d.root.items c.args.metadata.now d.leaves.items (concat contents)
-    (tiles_in (run_views c.args.runs.now)) record {
-      addressed = length
-          (tiles_in (run_views c.args.runs.now));
-      entries = length placed.entries.items;
-      contents = length contents;
-    }
-    c.header_for_runs-header.result low high (simp length-map header) zooms (rw c.deref-2.ensures.value at c.joined.ensures)
+    laid_out_joined c.joined.result d.root.items c.args.metadata.now d.leaves.items
+    (tiles_in (run_views c.args.runs.now)) placed.entries.items contents c.header_for_runs-header.result low high (simp length-map header) zooms
+    c.requires.placed (rw c.deref-2.ensures.value at c.joined.ensures)
