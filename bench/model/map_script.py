@@ -483,12 +483,6 @@ def reach_lines():
     yield f"covers 19 {said(drawn('lines', [[[0, 2147483519], [LAST, 2147483520]]], 0, 19))}", "0 to 524287, 262143 to 262144"
     yield f"covers 20 {said(drawn('points', [[LAST, LAST]], 0, 19))}", "E4 Zoom"
     yield f"covers 4 {said(drawn('lines', [[[2**30, 2**28], [2**29, 2**31]]]))}"
-    yield "# Pairs of the ids of a feature's tiles and its number, behind what the list had: tiles 0/0/0, 1/0/0, 2/0/0 have the ids 0, 1, 5."
-    yield f"pairs 7 {said(drawn('points', [[0, 0]], 0, 2))}", "[(9, 9), (0, 7), (1, 7), (5, 7)]"
-    yield f"pairs 8 {said(drawn('points', [[2181038080, 0]], 1, 1))}", "[(9, 9), (1, 8), (4, 8)]"
-    yield "# At zoom 19 the curve begins at the upper left tile, passes the lower right one after two thirds, and ends at the upper right one."
-    for point, number in [([0, 0], (4**19 - 1) // 3), ([LAST, LAST], 4**19 - 1), ([LAST, 0], (4**20 - 1) // 3 - 1)]:
-        yield f"pairs 7 {said(drawn('points', [point], 19, 19))}", f"[(9, 9), ({number}, 7)]"
 
 
 # ---- a map
@@ -516,11 +510,11 @@ def map_lines():
     yield from ["map 0", *(put(number, corner(layer)) for number, layer in [(9, "b"), (7, "b"), (5, "a"), (8, "B")]), put(6, corner("c", 1))]
     yield "layers 0 0 0", '[("B", 2, 4096, [8]), ("a", 2, 4096, [5]), ("b", 2, 4096, [7, 9])]'
     yield from ["tile 0 0 0", "anew 0 0 0", ("layers 1 1 1", "[]"), ("anew 1 1 1", ""), "layers 1 0 0"]
-    yield "# All pairs and all tiles of a point: the worked tile, three times."
+    yield "# All tiles of a point: the worked tile, three times."
     tile = "1a130a017012090807180122030900002880207802"
-    yield from ["map 0", put(7, POINT), ("allpairs", "[(0, 7), (1, 7), (5, 7)]")]
+    yield from ["map 0", put(7, POINT)]
     yield "tiles", f'[(0, "{tile}"), (1, "{tile}"), (5, "{tile}")]'
-    yield from ["map 0", ("allpairs", "[]"), ("tiles", "[]"), "tile 0 0 0"]
+    yield from ["map 0", ("tiles", "[]"), "tile 0 0 0"]
     yield "# A line from corner to corner is in each tile of the zooms that show it."
     yield from ["map 0", put(7, drawn("lines", [[[0, 0], [LAST, LAST]]], 1, 3)), "tiles"]
     yield "# A feature moves from tile to tile."
@@ -574,7 +568,7 @@ def any_map_lines():
         for turn in range(12):
             yield put(chance.below(4), any_feature(chance))
             if turn % 4 == 3:
-                yield from ["allpairs", "tiles"]
+                yield "tiles"
 
 
 def batch_lines():

@@ -70,10 +70,6 @@ def covers(rest):
     return f"{x0} to {x1}, {y0} to {y1}"
 
 
-def pairs(rest):
-    return debug([(9, 9), *tiles.pairs(*numbered(rest))])
-
-
 # ---- limits
 
 
@@ -138,7 +134,7 @@ def record(rest):
 
 
 ALONE = {
-    "json": json, "text": text, "reach": reach, "covers": covers, "pairs": pairs, "sizes": sizes, "lines": lines, "polygons": polygons,
+    "json": json, "text": text, "reach": reach, "covers": covers, "sizes": sizes, "lines": lines, "polygons": polygons,
     "keys": keys, "negative": negative, "deleted": deleted, "batch": batch, "changes": changes,
     "record": record}
 
@@ -277,9 +273,6 @@ class Map:
     def tiles(self, _):
         return debug([(tile_id, content.hex()) for tile_id, content in tiles.all_tiles(self.held)])
 
-    def allpairs(self, _):
-        return debug(tiles.all_pairs(self.held))
-
     def snapshot(self, _):
         return snapshot_text(self.held).hex()
 
@@ -299,7 +292,7 @@ class Map:
 
     PLACES = {"tile": tile, "anew": anew, "layers": layers, "newest": newest}
     LINES = {
-        "put": put, "delete": delete, "make": make, "restore": restore, "look": look, "tiles": tiles, "allpairs": allpairs,
+        "put": put, "delete": delete, "make": make, "restore": restore, "look": look, "tiles": tiles,
         "snapshot": snapshot, "metadata": metadata, "area": area}
 
 
@@ -366,7 +359,7 @@ def nth(index, across, down):
 
 class Boxes:
     def __init__(self):
-        self.held, self.kept = [], []
+        self.held = []
 
     def add(self, *numbers):
         self.held.append(numbers[:7])
@@ -396,16 +389,8 @@ class Boxes:
     def blocks(self, most, *_):
         return f"at most {most} blocks"
 
-    def keep(self, *_):
-        self.kept = [*self.held]
-        return "kept"
-
-    def swap(self, *_):
-        self.held, self.kept = self.kept, self.held
-        return "swapped"
-
     LINES = {
-        "add": add, "take": take, "query": query, "scatter": scatter, "gather": gather, "boxblocks": blocks, "keep": keep, "swap": swap}
+        "add": add, "take": take, "query": query, "scatter": scatter, "gather": gather, "boxblocks": blocks}
 
 
 # ---- a grid and a cache by themselves

@@ -1,5 +1,5 @@
 -- A map with tiles that were made of it, and which of them are still its tiles.
-use Rattle.std.specs.Prelude.{◌≡◌, ◌⊎◌, ℕ, ◌≤◌, List, [], ◌∷◌, All, Option, Some, None}
+use Rattle.std.specs.Prelude.{◌≡◌, ◌⊎◌, ℕ, ◌≤◌, List, [], ◌∷◌, All, Option, Some, None, option_map}
 use Rattle.feature_model.specs.declared.feature.WorldBox.{WorldBox}
 use Rattle.feature_model.specs.Data.{FeatureData, ChangeData, put, delete}
 use Rattle.feature_store.specs.Content.{IsTileContent}
@@ -26,10 +26,14 @@ pub record CachedView : Type 0 where
 abbrev pub box_of : FeatureData → WorldBox
 box_of f = bounding_box f.geometry
 
--- these marks, and that of an edit with this number that touches a feature, if there is one
+-- these marks, and that of an edit with this number that touches a box, if there is one
+abbrev pub with_box : Option WorldBox → ℕ → List Mark → List Mark
+with_box None number marks = marks
+with_box (Some bounds) number marks = (bounds, number) ∷ marks
+
+-- the same of a feature
 abbrev pub with_mark : Option FeatureData → ℕ → List Mark → List Mark
-with_mark None number marks = marks
-with_mark (Some f) number marks = (box_of f, number) ∷ marks
+with_mark o number marks = with_box (option_map box_of o) number marks
 
 -- these marks, and those of a change by an edit with this number
 abbrev pub marks_of : FeatureMap → ChangeData → ℕ → List Mark → List Mark

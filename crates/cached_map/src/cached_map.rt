@@ -1,6 +1,6 @@
 ghost use Rattle.std.specs.Prelude.{◌≡◌, ◌↔◌, ◌≢◌, ◌<◌, ◌≤◌, ◌+◌, ℕ, List, [], ◌∷◌, length, map, All, true, Some, None};
-ghost use Rattle.std.specs.Prelude.{IsSome, IsTrue, IfOk, IfSome, OnOk, OnErr, option_map};
-ghost use Rattle.feature_model.specs.Data.{feature_data, put, change_data};
+ghost use Rattle.std.specs.Prelude.{IsSome, IsTrue, IfOk, IfSome, OnOk, OnErr};
+ghost use Rattle.feature_model.specs.Data.{put, change_data};
 ghost use Rattle.feature_model.specs.Spelled.{spelled_changes};
 ghost use Rattle.feature_model.specs.Types.{IsChange};
 ghost use Rattle.feature_store.specs.Content.{IsTileContent};
@@ -10,17 +10,16 @@ ghost use Rattle.feature_store.specs.declared.limit.TheConstants.{TEXTS_END};
 ghost use Rattle.tile_cache.specs.Kept.{kept_at, fresh, KeepsSame};
 ghost use Rattle.tile_cache.specs.Touched.{Mark, Remembers, IsNewest, IsNewestOf};
 ghost use Rattle.tile_cache.specs.declared.cached_tiles.Origin.TheVariants.{Cut, Read};
-ghost use Rattle.cached_map.specs.Cached.{with_mark, marks_of, marks_after, WasMap, AreReadRight, KeepsOrNot, MayKeep};
+ghost use Rattle.cached_map.specs.Cached.{with_box, marks_of, marks_after, WasMap, AreReadRight, KeepsOrNot, MayKeep};
 
 use bytes::Bytes;
-use feature_model::{Change, Feature};
+use feature_model::{Change, WorldBox};
 use feature_store::Store;
 use hilbert_id::TileAt;
 use mvt_write::write_tile;
 use std::alloc::{AllocError, Global};
 use std::marker::Model;
 use tile_cache::{CachedTile, Origin, TileCache, TouchGrid};
-use tile_cutter::bounding_box;
 
 /// A map, the newest edit of each part of the world, and tiles that were made of it.
 #[derive(Drop)]
@@ -45,13 +44,12 @@ impl Model for CachedMap {
     ghost invariant = { λ m. AreKept Cut m.store.features m.touched m.last m.kept };
 }
 
-/// Notes that an edit of this number touches a feature, where there is one.
-fn mark_some(touched: &mut TouchGrid, feature: Option<&Feature>, number: u64)
-    ensures { (marks : List Mark) → Remembers touched.old marks
-        → Remembers touched.new (with_mark (option_map (λ f. feature_data f.now) feature.entry) number marks) }
+/// Notes that an edit of this number touches a box, if there is one.
+fn mark_some(touched: &mut TouchGrid, bounds: Option<WorldBox>, number: u64)
+    ensures { (marks : List Mark) → Remembers touched.old marks → Remembers touched.new (with_box bounds number marks) }
 {
-    if let Some(feature) = feature {
-        touched.mark(&bounding_box(feature), number);
+    if let Some(bounds) = bounds {
+        touched.mark(&bounds, number);
     }
 }
 
@@ -67,13 +65,13 @@ fn make_one(store: &mut Store, touched: &mut TouchGrid, change: Change, number: 
 {
     match change {
         Change::Put { id, feature } => {
-            mark_some(touched, store.get(id), number);
-            let bounds = store.place(id, feature);
-            touched.mark(&bounds, number);
+            let boxes = store.place(id, feature);
+            mark_some(touched, boxes.before, number);
+            touched.mark(&boxes.after, number);
         }
         Change::Delete { id } => {
-            mark_some(touched, store.get(id), number);
-            store.remove(id);
+            let bounds = store.remove(id);
+            mark_some(touched, bounds, number);
         }
     }
 }
@@ -199,10 +197,10 @@ impl CachedMap {
             → AreReadRight self.new.features self.new.touched self.new.last self.new.kept }
     {
         let _count = self.store.len();
-        mark_some(&mut self.touched, self.store.get(id), number);
-        let found = self.store.remove(id);
+        let bounds = self.store.remove(id);
+        mark_some(&mut self.touched, bounds, number);
         self.last = number;
-        found
+        bounds.is_some()
     }
 
     /// Keeps the bytes of a tile, if memory is there for it.

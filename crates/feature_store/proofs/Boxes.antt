@@ -1,5 +1,5 @@
 -- The boxes that the features of a map have at a zoom: one feature after the other, and what a tile shows by them.
-use Rattle.std.proofs.Common.{◌≡◌, ◌≢◌, ℕ, zero, suc, ◌^◌, ◌<◌, Bool, true, false, cond, List, [], ◌∷◌, ◌++◌, length, get_or, map}
+use Rattle.std.proofs.Common.{◌≡◌, ◌≢◌, ℕ, zero, suc, ◌+◌, ◌^◌, ◌<◌, Bool, true, false, cond, List, [], ◌∷◌, ◌++◌, length, get_or, take, map}
 use Rattle.std.proofs.Common.{IsSome, is_some, inl, inr, ◌⊎◌, refl, sym, ap, subst, ◌∙◌, append_assoc, arith, Option, None}
 use mathlib.Core.Bool.{false≢true}
 use Rattle.std.specs.List.{filter, AllByRecursion, Contains}
@@ -7,43 +7,69 @@ use Rattle.std.specs.List.Sorted.{IsStrictlySortedBy}
 use Rattle.std.specs.Ordering.{nat_cmp}
 use Rattle.std.specs.declared.cmp.Ordering.TheVariants.{Less}
 use Rattle.std.proofs.lemmas.Bool.{cases_eq, cases_Bool}
-use Rattle.std.proofs.lemmas.List.{map-append, append-nil}
+use Rattle.std.proofs.lemmas.List.{map-append, append-nil, take_more}
 use Rattle.std.proofs.lemmas.List.Elements.{All-weaker, All-contains_itself, Contains-append_right, filter-append}
 use Rattle.number_map.specs.Blocks.{Ascends, AreAbove}
 use Rattle.number_map.proofs.Numbers.{less}
 use Rattle.number_map.proofs.Entries.{ascends_head, ascends_tail}
+use Rattle.box_index.specs.declared.entry.IndexEntry.{IndexEntry}
 use Rattle.feature_model.specs.Data.{FeatureData}
 use Rattle.mvt_layer.specs.Tile.{FeatureView}
 use Rattle.tile_cutter.specs.Covered.{covered}
 use Rattle.tile_cutter.specs.Cut.{has_zoom, feature_cut}
 use Rattle.tile_cutter.proofs.Outside.{outside}
+use Rattle.tile_cutter.proofs.WorldBox.{box_covered}
 use Rattle.tile_walk.specs.declared.numbered.Numbered.{Numbered}
 use Rattle.tile_walk.specs.Boxes.{numbers_at}
 use Rattle.tile_walk.proofs.Laws.{numbers_ascend, number_stands}
-use Rattle.feature_store.specs.Boxes.{box_of, boxes_at}
-use Rattle.feature_store.specs.Indexed.{ShowsAll}
+use Rattle.feature_store.specs.Boxes.{box_of, boxes_at, is_at_zoom, tiles_of_box, boxes_in}
+use Rattle.feature_store.specs.Indexed.{index_entry, ShowsAll}
 use Rattle.feature_store.specs.Store.{FeatureMap, IsMap}
 use Rattle.feature_store.proofs.Listed.{contains_here, contains_on}
 use Rattle.feature_store.proofs.Near.{no_zoom}
 
 -- ---- one feature after the other
 
-pub no_boxes : (zoom : ℕ) (front : List Numbered) → front ≡ front ++ boxes_at zoom []
-unfolding boxes_at
-no_boxes zoom front = sym (append-nil front)
-
-boxes_both : (zoom : ℕ) (a b : FeatureMap) → boxes_at zoom (a ++ b) ≡ boxes_at zoom a ++ boxes_at zoom b
-unfolding boxes_at
-boxes_both zoom a b =
-    ap (map (box_of zoom)) (filter-append (λ e. has_zoom e.1 zoom) a b)
-    ∙ map-append (box_of zoom) (filter (λ e. has_zoom e.1 zoom) a) (filter (λ e. has_zoom e.1 zoom) b)
+pub no_boxes : (front : List IndexEntry) → front ≡ front ++ map index_entry []
+no_boxes front = sym (append-nil front)
 
 -- the boxes of a map so far, and of more of it
-pub boxes_more : (zoom : ℕ) (a b both : FeatureMap) (front out next : List Numbered) → a ++ b ≡ both → out ≡ front ++ boxes_at zoom a
-    → next ≡ out ++ boxes_at zoom b → next ≡ front ++ boxes_at zoom both
-boxes_more zoom a b both front out next is before after =
-    after ∙ ap (λ r. r ++ boxes_at zoom b) before ∙ append_assoc front (boxes_at zoom a) (boxes_at zoom b)
-    ∙ ap (λ r. front ++ r) (sym (boxes_both zoom a b) ∙ ap (boxes_at zoom) is)
+pub boxes_more : (a b both : FeatureMap) (front out next : List IndexEntry) → a ++ b ≡ both → out ≡ front ++ map index_entry a
+    → next ≡ out ++ map index_entry b → next ≡ front ++ map index_entry both
+boxes_more a b both front out next is before after =
+    after ∙ ap (λ r. r ++ map index_entry b) before ∙ append_assoc front (map index_entry a) (map index_entry b)
+    ∙ ap (λ r. front ++ r) (sym (map-append index_entry a b) ∙ ap (map index_entry) is)
+
+-- ---- the tiles that they meet at a zoom
+
+pub no_tiles : (zoom : ℕ) → [] ≡ boxes_in zoom []
+unfolding boxes_in
+no_tiles zoom = refl
+
+tiles_both : (zoom : ℕ) (a b : List IndexEntry) → boxes_in zoom (a ++ b) ≡ boxes_in zoom a ++ boxes_in zoom b
+unfolding boxes_in
+tiles_both zoom a b =
+    ap (map (tiles_of_box zoom)) (filter-append (is_at_zoom zoom) a b)
+    ∙ map-append (tiles_of_box zoom) (filter (is_at_zoom zoom) a) (filter (is_at_zoom zoom) b)
+
+-- those of the first boxes, and of one more
+pub tiles_more : (zoom : ℕ) (es : List IndexEntry) (k : ℕ) (d : IndexEntry) (out next : List Numbered) → k < length es
+    → out ≡ boxes_in zoom (take k es) → next ≡ out ++ boxes_in zoom (get_or es k d ∷ []) → next ≡ boxes_in zoom (take (k + 1) es)
+tiles_more zoom es k d out next lt before after =
+    rw (take_more es k d lt)
+    (after ∙ ap (λ r. r ++ boxes_in zoom (get_or es k d ∷ [])) before ∙ sym (tiles_both zoom (take k es) (get_or es k d ∷ [])))
+
+-- the tiles that the boxes of features meet are those that the features cover
+pub same_boxes : (zoom : ℕ) (m : FeatureMap) → boxes_in zoom (map index_entry m) ≡ boxes_at zoom m
+unfolding boxes_in boxes_at
+same_boxes zoom [] = refl
+same_boxes zoom (e ∷ m) = by (has_zoom e.1 zoom) (same_boxes zoom m)
+  where
+    by : (b : Bool) → map (tiles_of_box zoom) (filter (is_at_zoom zoom) (map index_entry m)) ≡ map (box_of zoom) (filter (λ d. has_zoom d.1 zoom) m)
+        → map (tiles_of_box zoom) (cond b (index_entry e ∷ filter (is_at_zoom zoom) (map index_entry m)) (filter (is_at_zoom zoom) (map index_entry m)))
+        ≡ map (box_of zoom) (cond b (e ∷ filter (λ d. has_zoom d.1 zoom) m) (filter (λ d. has_zoom d.1 zoom) m))
+    by true rest = λ i. record { range = box_covered e.1.geometry zoom i; number = e.0 } ∷ rest i
+    by false rest = rest
 
 -- ---- what a tile shows by them
 
@@ -89,7 +115,7 @@ module _ (z : ℕ) where
       by false away more zero lt same = absurd (false≢true (sym away ∙ ap shown same ∙ is))
       by false away more (suc i) lt same = more (i, omega arith, same)
 
--- a number stands in a list, or it doesn't
+-- a number is in a list, or it isn't
 stands_or_not : (n : ℕ) (ns : List ℕ) → Contains ns n ⊎ (Contains ns n → ⊥)
 stands_or_not n [] = inr (λ c. omega (arith, c.1))
 stands_or_not n (k ∷ ns) = elim (cases_eq k n) [

@@ -7,7 +7,8 @@ use Rattle.std.specs.Ordering.{nat_cmp, match_ordering}
 use Rattle.std.specs.declared.cmp.Ordering.{Ordering}
 use Rattle.std.specs.declared.cmp.Ordering.TheVariants.{Less, Equal, Greater}
 use Rattle.std.specs.BTreeMap.{insert_entry, is_at}
-use Rattle.std.specs.Map.{lookup, remove_entry}
+use Rattle.std.specs.List.{last_or}
+use Rattle.std.specs.Map.{keys_of, lookup, remove_entry}
 use Rattle.std.proofs.lemmas.List.{length-map, map-append, append-nil, take_more, drop_more, take-append-drop, get_or-map}
 use Rattle.std.proofs.lemmas.Bool.{cases_eq}
 use Rattle.std.proofs.lemmas.List.Elements.{All-head, All-tail}
@@ -15,18 +16,46 @@ use Rattle.number_map.proofs.Entries.{lookup_here, lookup_on}
 use Rattle.std.proofs.lemmas.List.Concat.{flat_map-append}
 use Rattle.std.proofs.lemmas.Map.Made.{lookup-map_values}
 use Rattle.std.specs.Prelude.{nat_le}
-use Rattle.number_map.specs.Blocks.{joined, first_from}
+use Rattle.number_map.specs.Blocks.{joined, first_from, last_number}
 use Rattle.feature_model.specs.declared.feature.Feature.{Feature}
-use Rattle.feature_model.specs.Data.{FeatureData, feature_data}
+use Rattle.feature_model.specs.Data.{FeatureData, feature_data, geometry_data}
+use Rattle.tile_cutter.specs.WorldBox.{bounding_box}
 use Rattle.feature_store.specs.Inside.{entry_data, entries_data}
 use Rattle.feature_store.specs.Snapshots.{IsEditOf}
-use Rattle.feature_store.specs.Store.{FeatureMap, feature_at, feature_from, with_feature, without_feature, entry_text, snapshot}
+use Rattle.feature_store.specs.Store.{FeatureMap, feature_at, box_at, feature_from, greatest_id, with_feature, without_feature, entry_text, snapshot}
 use Rattle.feature_store.proofs.Snapshots.{snapshot_more, snapshot_both, All-front, All-behind}
 
 -- the feature of a number
 pub feature_found : (es : List (ℕ × Feature)) (n : ℕ) → feature_at (entries_data es) n ≡ option_map feature_data (lookup (is_at (nat_cmp n)) es)
 unfolding feature_at
 feature_found es n = lookup-map_values feature_data (is_at (nat_cmp n)) es
+
+-- its bounding box
+pub box_found : (es : List (ℕ × Feature)) (n : ℕ) (o : Option Feature) → o ≡ lookup (is_at (nat_cmp n)) es
+    → option_map (λ f. bounding_box (geometry_data f.geometry)) o ≡ box_at (entries_data es) n
+box_found es n o is = by o ∙ ap (option_map (λ f. bounding_box f.geometry)) (ap (option_map feature_data) is ∙ sym (feature_found es n))
+  where
+    by : (p : Option Feature) → option_map (λ f. bounding_box (geometry_data f.geometry)) p
+        ≡ option_map (λ f. bounding_box f.geometry) (option_map feature_data p)
+    by None = refl
+    by (Some f) = refl
+
+-- a number with a box has a feature
+pub is_some_box : (m : FeatureMap) (n : ℕ) → is_some (box_at m n) ≡ is_some (feature_at m n)
+is_some_box m n = by (feature_at m n)
+  where
+    by : (o : Option FeatureData) → is_some (option_map (λ f. bounding_box f.geometry) o) ≡ is_some o
+    by None = refl
+    by (Some f) = refl
+
+-- the greatest number
+same_keys : (es : List (ℕ × Feature)) → keys_of es ≡ keys_of (entries_data es)
+same_keys [] = refl
+same_keys (e ∷ es) = ap (λ ks. e.0 ∷ ks) (same_keys es)
+
+pub greatest_found : (es : List (ℕ × Feature)) → last_number es ≡ greatest_id (entries_data es)
+unfolding greatest_id
+greatest_found es = ap (last_or None) (same_keys es)
 
 -- the first one from a number on
 first_data : (es : List (ℕ × Feature)) (n : ℕ) → first_from n (entries_data es) ≡ option_map entry_data (first_from n es)

@@ -2,9 +2,9 @@ pub mod Below
 mod Allowed
 mod Boxes
 mod Chosen
-mod Covered
 mod Entries
 mod Kept
+pub mod LimitNumbers
 mod Listed
 mod Names
 mod Near

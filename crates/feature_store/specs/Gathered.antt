@@ -23,7 +23,7 @@ features_of v = map feature_view v.items
 abbrev pub gathered_for : Gathered → List ℕ → List FeatureView
 gathered_for g name = option_map_or features_of (get_by (λ k. slice_cmp nat_cmp name k.now) g) []
 
--- a name that stands there has a feature
+-- a name that is there has a feature
 abbrev pub HasNoEmpty : Gathered → Type 0
 HasNoEmpty g = (name : List ℕ) → IfSome (get_by (λ k. slice_cmp nat_cmp name k.now) g) (λ v. 0 < length v.items)
 

@@ -1,11 +1,11 @@
 pub mod Boxes
+pub mod BoxesInside
 pub mod Content
 pub mod Gathered
 pub mod Indexed
 pub mod Inside
 pub mod Layers
 pub mod Left
-pub mod Pairs
 pub mod Snapshots
 pub mod Store
 pub mod Tiles

@@ -1,5 +1,5 @@
 -- The map: features by number, edits of it, and its snapshot.
-use Rattle.std.specs.Prelude.{ℕ, suc, ◌<◌, List, [], ◌∷◌, length, All, fold, Option}
+use Rattle.std.specs.Prelude.{ℕ, suc, ◌<◌, List, [], ◌∷◌, length, All, fold, Option, option_map}
 use Rattle.std.specs.Option.{option_map_or}
 use Rattle.std.specs.Ordering.{nat_cmp}
 use Rattle.std.specs.List.{flat_map}
@@ -9,7 +9,9 @@ use Rattle.std.specs.Map.{keys_of, lookup, remove_entry}
 use Rattle.feature_model.specs.Data.{FeatureData, ChangeData, put, delete, EditData}
 use Rattle.feature_model.specs.Spelled.{spelled_change}
 use Rattle.feature_model.specs.Types.{IsChange}
-use Rattle.number_map.specs.Blocks.{first_from}
+use Rattle.number_map.specs.Blocks.{first_from, last_number}
+use Rattle.feature_model.specs.declared.feature.WorldBox.{WorldBox}
+use Rattle.tile_cutter.specs.WorldBox.{bounding_box}
 use Rattle.feature_store.specs.declared.limit.TheConstants.{TEXTS_END}
 
 -- numbers, each with its feature
@@ -19,6 +21,14 @@ FeatureMap = List (ℕ × FeatureData)
 -- the feature with this number
 unfoldable pub feature_at : FeatureMap → ℕ → Option FeatureData
 feature_at m id = lookup (is_at (nat_cmp id)) m
+
+-- the bounding box of the feature with this number
+abbrev pub box_at : FeatureMap → ℕ → Option WorldBox
+box_at m id = option_map (λ f. bounding_box f.geometry) (feature_at m id)
+
+-- the greatest number, which is the last one since numbers ascend
+unfoldable pub greatest_id : FeatureMap → Option ℕ
+greatest_id m = last_number m
 
 -- the first feature with this number or a greater one, and its number
 unfoldable pub feature_from : FeatureMap → ℕ → Option (ℕ × FeatureData)

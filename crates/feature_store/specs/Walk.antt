@@ -2,17 +2,16 @@
 use Rattle.std.specs.Prelude.{◌+◌, ◌≤◌}
 use Rattle.feature_model.specs.declared.limits.TheConstants.{MAX_ZOOM}
 use Rattle.feature_store.specs.declared.all_tiles.Tiles.TheInside.{Inside}
-use Rattle.feature_store.specs.Inside.{entries_data}
 use Rattle.feature_store.specs.Left.{AreLeft, left_of, with_next}
 use Rattle.feature_store.specs.Store.{IsMap}
 use Rattle.feature_store.specs.Tiles.{TilesView}
 
 -- the map, and the least id that the next tile may have
 abbrev pub tiles_view : Inside → TilesView
-tiles_view w = record { features = entries_data w.features.now.entries; from = w.from }
+tiles_view w = record { features = w.map; from = w.from }
 
 -- the tile that was taken and those of the walk are all that are left of the zooms that were begun
 pub record IsWalk (w : Inside) : Type 0 where
-  pub is_map : IsMap (entries_data w.features.now.entries)
+  pub is_map : IsMap w.map
   pub zoom : w.left.zoom ≤ MAX_ZOOM + 1
-  pub left : AreLeft (entries_data w.features.now.entries) w.left.zoom w.from (with_next w.left.next (left_of w.left.walk))
+  pub left : AreLeft w.map w.left.zoom w.from (with_next w.left.next (left_of w.left.walk))

@@ -4,12 +4,14 @@ ghost use Rattle.feature_model.specs.declared.limits.TheConstants.{MAX_ZOOM};
 ghost use Rattle.hilbert_id.specs.Curve.{IsTileId};
 ghost use Rattle.mvt_layer.specs.Tile.{layer_views};
 ghost use Rattle.mvt_write.specs.CanWrite.{CanWriteAll};
+ghost use Rattle.feature_store.specs.Content.{IsTileContent};
 ghost use Rattle.feature_store.specs.Indexed.{ShowsAll};
 ghost use Rattle.feature_store.specs.Inside.{entries_data};
 ghost use Rattle.feature_store.specs.Layers.{layers};
 ghost use Rattle.feature_store.specs.Store.{IsMap};
-ghost use Rattle.feature_store.specs.Tiles.{HasPlace, IsBytesAt, IsNextTile, IsStep, ShowsNothing, ShowsNothingFrom};
+ghost use Rattle.feature_store.specs.Tiles.{HasPlace, IsBytesAt, IsNextTile, IsStep, ShowsNothing, ShowsNothingFrom, tile_bytes};
 
+use crate::feature_boxes::FeatureBoxes;
 use crate::gathered::gather;
 use crate::layers::listed;
 use crate::tiles_left::TilesLeft;
@@ -27,7 +29,7 @@ pub type Tile = (u64, Vec<u8>);
 /// The tiles that show something of a map, in ascending order of their ids, each made when it is asked for.
 #[derive(Debug, Drop)]
 pub struct Tiles<'a> {
-    features: &'a NumberMap<Feature>,
+    map: FeatureBoxes<'a>,
     /// The tiles that aren't made yet.
     left: TilesLeft,
     /// No such tile has this id or a greater one.
@@ -64,6 +66,19 @@ pub(crate) fn tile_layers<'a>(
     listed(alloc, gathered)
 }
 
+/// The bytes of a tile with these layers, or `None` if there are no layers.
+pub(crate) fn written(alloc: Global, layers: &[Layer<'_>]) -> Result<Option<Vec<u8>>, AllocError>
+    requires { CanWriteAll (layer_views layers.now) }
+    ensures bytes { IfOk result (λ o. option_map (λ v. v.items) o ≡ tile_bytes (layer_views layers.now)) }
+    ensures content { IfOk result (λ o. IsTileContent (layer_views layers.now) (option_map (λ v. v.items) o)) }
+{
+    if layers.is_empty() {
+        return Ok(None);
+    }
+    let bytes = write_tile(alloc, layers)?;
+    Ok(Some(bytes))
+}
+
 /// The bytes of the tile of an id, if it shows something, by the numbers as for its layers.
 fn bytes_at(
     alloc: Global,
@@ -78,11 +93,7 @@ fn bytes_at(
 {
     let at = tile_of(id).unwrap();
     let layers = tile_layers(alloc, features, numbers, at)?;
-    if layers.is_empty() {
-        return Ok(None);
-    }
-    let bytes = write_tile(alloc, &layers)?;
-    Ok(Some(bytes))
+    written(alloc, &layers)
 }
 
 impl<'a> Tiles<'a> {
@@ -95,9 +106,10 @@ impl<'a> Tiles<'a> {
         ensures map { IfOk result (λ tiles. tiles.features ≡ entries_data features.entry.now.entries) }
         ensures start { IfOk result (λ tiles. tiles.from ≡ 0) }
     {
-        let left = TilesLeft::of(alloc, features)?;
+        let map = FeatureBoxes::of(alloc, features)?;
+        let left = TilesLeft::of(alloc, &map)?;
         Ok(Tiles {
-            features,
+            map,
             left,
             from: 0,
             alloc,
@@ -112,12 +124,12 @@ impl<'a> Tiles<'a> {
         ensures none { IfOk result (λ o. IfNone o (ShowsNothingFrom self.old.features self.old.from)) }
         ensures failed { OnErr result (self.new ≡ self.old) }
     {
-        self.left.look_ahead(self.alloc, self.features)?;
+        self.left.look_ahead(self.alloc, &self.map)?;
         let Some((id, numbers)) = &self.left.next else {
             return Ok(None);
         };
         let id = *id;
-        let bytes = bytes_at(self.alloc, self.features, numbers, id)?;
+        let bytes = bytes_at(self.alloc, self.map.features(), numbers, id)?;
         self.left.next = None;
         self.from = id + 1;
         Ok(Some((id, bytes)))

@@ -1,3 +1,5 @@
+//! Why a text is no snapshot.
+
 ghost use Rattle.std.specs.Prelude.{◌≡◌};
 ghost use Rattle.feature_store.specs.declared.fault.SnapshotFault.TheVariants.{Memory};
 

@@ -1,3 +1,5 @@
+//! What a tile shows of the features of a map, by layer.
+
 ghost use Rattle.std.specs.Prelude.{◌≡◌, ℕ, ◌≤◌, List, ◌∷◌, ◌++◌, [], All, OnOk, IfOk, option_map};
 ghost use Rattle.feature_model.specs.Data.{feature_data};
 ghost use Rattle.feature_model.specs.Limits.{IsAllowed};
@@ -39,7 +41,7 @@ fn shown<'a>(
     }
 }
 
-/// Puts a feature behind those of its layer.
+/// Appends a feature to those of its layer.
 fn add<'a>(
     gathered: &mut Gathered<'a>,
     layer: &'a str,
@@ -53,7 +55,7 @@ fn add<'a>(
     Ok(())
 }
 
-/// Puts what the tile shows of a feature behind what it shows of those before.
+/// Appends what the tile shows of a feature to what it shows of those before.
 fn add_shown<'a>(
     alloc: Global,
     gathered: &mut Gathered<'a>,

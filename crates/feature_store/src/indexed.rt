@@ -1,11 +1,12 @@
 //! What the index by boxes has of a feature.
 ghost use Rattle.std.specs.Prelude.{◌≡◌, ◌≤◌, IfOk, option_map};
-ghost use Rattle.feature_model.specs.Data.{feature_data};
+ghost use Rattle.feature_model.specs.Data.{feature_data, geometry_data};
+ghost use Rattle.tile_cutter.specs.WorldBox.{bounding_box};
 ghost use Rattle.feature_store.specs.Indexed.{index_entry, IsIndexed, ShowsAll};
 ghost use Rattle.feature_store.specs.Store.{FeatureMap, IsMap, feature_at, without_feature};
 
 use box_index::{BoxIndex, IndexEntry, Span};
-use feature_model::{Feature, MAX_ZOOM};
+use feature_model::{Feature, MAX_ZOOM, WorldBox};
 use hilbert_id::TileAt;
 use std::alloc::{AllocError, Global};
 use tile_cutter::{bounding_box, tile_box};
@@ -24,14 +25,24 @@ pub(crate) fn index_entry(id: u64, feature: &Feature) -> IndexEntry
     }
 }
 
-/// Takes out of the index what it has of the number's feature, where there is one.
-pub(crate) fn take_entry(index: &mut BoxIndex, id: u64, feature: Option<Feature>)
+/// Takes out of the index what it has of the number's feature, if there is one, and returns the feature's bounding box.
+pub(crate) fn take_entry(
+    index: &mut BoxIndex,
+    id: u64,
+    feature: Option<Feature>,
+) -> Option<WorldBox>
+    ensures bounds { result ≡ option_map (λ f. bounding_box (geometry_data f.geometry)) feature }
     ensures indexed { (m : FeatureMap) → option_map feature_data feature ≡ feature_at m id
         → IsIndexed m index.old.entries → IsIndexed (without_feature m id) index.new.entries }
     ensures spare { index.old.spare ≤ index.new.spare }
 {
-    if let Some(feature) = feature {
-        index.remove(&index_entry(id, &feature));
+    match feature {
+        Some(feature) => {
+            let entry = index_entry(id, &feature);
+            index.remove(&entry);
+            Some(entry.span.bounds)
+        }
+        None => None,
     }
 }
 

@@ -1,20 +1,21 @@
 //! The map in memory: its features by number, and the layers of a tile.
 #![tactic(auto)]
 
-mod all_pairs;
 mod all_tiles;
 mod appended;
 mod fault;
+mod feature_boxes;
 mod gathered;
 mod indexed;
 mod layers;
 mod limit;
+mod placed;
 mod snapshot_texts;
 mod store;
 mod tiles_left;
-mod zoom_walk;
 
 pub use all_tiles::{Tile, Tiles};
 pub use fault::SnapshotFault;
 pub use limit::TEXTS_END;
+pub use placed::PlacedBoxes;
 pub use store::Store;

@@ -43,7 +43,7 @@ pub(crate) fn append_block_texts(
     Ok(())
 }
 
-/// What is told of a text that isn't decoded.
+/// The fault of a text that isn't decoded.
 fn to_snapshot_fault(fault: TextFault) -> SnapshotFault
     ensures either { (result ≡ Memory) ⊎ (result ≡ Bad) }
     ensures memory { (result ≡ Memory) ↔ (fault ≡ TextFault.Memory) }
@@ -54,7 +54,7 @@ fn to_snapshot_fault(fault: TextFault) -> SnapshotFault
     }
 }
 
-/// The feature whose text stands in front, with its number, and the bytes behind it.
+/// The feature whose text is in front, with its number, and the bytes after it.
 #[tactic(auto, using(crate::proofs::Snapshots::text_behind, crate::proofs::Snapshots::text_within))]
 fn read_entry(alloc: Global, text: &[u8]) -> Result<(Entry<Feature>, &[u8]), SnapshotFault>
     ensures edit { IfOk result (λ r. IsEditOf (entry_data r.0)) }

@@ -1,3 +1,5 @@
+//! The map: features by number, and an index of their boxes.
+
 ghost use Rattle.std.specs.Prelude.{◌≡◌, ◌⊎◌, ℕ, [], ◌∷◌, ◌+◌, ◌*◌, ◌<◌, ◌≤◌, ◌≢◌, ◌↔◌, length, map, Some, IsSome, IfSome, None, IfOk, IfErr};
 ghost use Rattle.std.specs.Prelude.{OnOk, OnErr, IsTrue, option_map};
 ghost use Rattle.feature_model.specs.Data.{feature_data, geometry_data, put, change_data};
@@ -7,19 +9,19 @@ ghost use Rattle.mvt_layer.specs.Tile.{layer_views};
 ghost use Rattle.mvt_write.specs.CanWrite.{CanWriteAll};
 ghost use Rattle.number_map.specs.Blocks.{joined};
 ghost use Rattle.tile_cutter.specs.WorldBox.{bounding_box};
+ghost use Rattle.feature_store.specs.Content.{IsTileContent};
 ghost use Rattle.feature_store.specs.Inside.{entries_data, numbered_data};
 ghost use Rattle.feature_store.specs.Layers.{layers};
-ghost use Rattle.feature_store.specs.Pairs.{ArePairsOfMap};
 ghost use Rattle.feature_store.specs.Snapshots.{IsNoSnapshot};
+ghost use Rattle.feature_store.specs.Tiles.{tile_bytes};
 ghost use Rattle.feature_store.specs.declared.fault.SnapshotFault.TheVariants.{Bad, Memory};
-ghost use Rattle.feature_store.specs.Store.{IsMap, HasRoom, feature_at, feature_from, with_feature, without_feature, snapshot, puts_in};
+ghost use Rattle.feature_store.specs.Store.{IsMap, HasRoom, feature_at, box_at, feature_from, greatest_id, with_feature, without_feature, snapshot, puts_in};
 
-use crate::all_pairs::all_pairs;
-use crate::all_tiles::{Tiles, tile_layers};
-use crate::appended::append_blocks;
+use crate::all_tiles::{Tiles, tile_layers, written};
 use crate::fault::SnapshotFault;
 use crate::indexed::{index_entry, numbers_near, take_entry};
 use crate::limit::TEXTS_END;
+use crate::placed::PlacedBoxes;
 use crate::snapshot_texts::{append_block_texts, read_map};
 use box_index::BoxIndex;
 use feature_model::{Change, Feature, MAX_ZOOM, WorldBox};
@@ -119,6 +121,13 @@ impl Store {
         }
     }
 
+    /// The greatest number of a feature, or `None` if the map is empty.
+    pub fn greatest(&self) -> Option<u64>
+        ensures { result ≡ greatest_id self.now.features }
+    {
+        self.features.last_number()
+    }
+
     /// The features by ascending number, in blocks.
     pub fn blocks(&self) -> &[Block<Feature>]
         ensures { entries_data (joined result.now) ≡ self.now.features }
@@ -139,7 +148,7 @@ impl Store {
         self.index.room()
     }
 
-    /// Makes room for so many features more, of whatever numbers. It fails only where there is room for fewer.
+    /// Makes room for `count` features more, of any numbers. It fails only if there is room for fewer.
     fn room_for(&mut self, count: usize) -> Result<(), AllocError>
         ensures map { self.new.features ≡ self.old.features }
         ensures room { OnOk result (count ≤ self.new.spare) }
@@ -160,37 +169,38 @@ impl Store {
         self.room_for(count_puts(changes))
     }
 
-    /// Gives the number this feature, whatever feature it had, and tells the feature's bounding box. It allocates nothing.
-    pub fn place(&mut self, id: u64, feature: Feature) -> WorldBox
+    /// Gives the number this feature, whatever feature it had, and returns the bounding boxes of both. It allocates nothing.
+    pub fn place(&mut self, id: u64, feature: Feature) -> PlacedBoxes
         requires edit { IsChange (put id (feature_data feature)) }
         requires room { HasRoom self.old }
         requires texts { length (snapshot (with_feature self.old.features id (feature_data feature))) < TEXTS_END }
-        ensures bounds { result ≡ bounding_box (geometry_data feature.geometry) }
+        ensures before { result.before ≡ box_at self.old.features id }
+        ensures after { result.after ≡ bounding_box (geometry_data feature.geometry) }
         ensures map { self.new.features ≡ with_feature self.old.features id (feature_data feature) }
         ensures spare { self.old.spare ≤ self.new.spare + 1 }
         ensures here { feature_at self.new.features id ≡ Some (feature_data feature) }
         ensures others { (n : ℕ) → n ≢ id → feature_at self.new.features n ≡ feature_at self.old.features n }
     {
         let entry = index_entry(id, &feature);
-        let bounds = entry.span.bounds;
-        let before = self.features.insert(id, feature);
-        take_entry(&mut self.index, id, before);
+        let after = entry.span.bounds;
+        let replaced = self.features.insert(id, feature);
+        let before = take_entry(&mut self.index, id, replaced);
         self.index.insert(entry);
-        bounds
+        PlacedBoxes { before, after }
     }
 
-    /// Takes the number's feature away, and says whether it had one. It allocates nothing, and room stays.
-    pub fn remove(&mut self, id: u64) -> bool
-        ensures found { IsTrue result ↔ IsSome (feature_at self.old.features id) }
+    /// Takes the number's feature away, and returns the feature's bounding box, or `None` if it had none. It allocates nothing, and
+    /// room stays.
+    pub fn remove(&mut self, id: u64) -> Option<WorldBox>
+        ensures found { IsSome result ↔ IsSome (feature_at self.old.features id) }
+        ensures bounds { result ≡ box_at self.old.features id }
         ensures map { self.new.features ≡ without_feature self.old.features id }
         ensures spare { self.old.spare ≤ self.new.spare }
         ensures gone { feature_at self.new.features id ≡ None }
         ensures others { (n : ℕ) → n ≢ id → feature_at self.new.features n ≡ feature_at self.old.features n }
     {
-        let before = self.features.remove(id);
-        let found = before.is_some();
-        take_entry(&mut self.index, id, before);
-        found
+        let removed = self.features.remove(id);
+        take_entry(&mut self.index, id, removed)
     }
 
     /// The layers of a tile: names ascend byte by byte, and the features of a layer by number, each with its number as id
@@ -211,12 +221,13 @@ impl Store {
         tile_layers(self.alloc, &self.features, &numbers, at)
     }
 
-    /// The pairs of a tile's id and a feature's number, ascending, for each tile that the feature covers: no other tile shows
-    /// anything of it. The only error is out of memory.
-    pub fn pairs(&self) -> Result<Vec<(u64, u64)>, AllocError>
-        ensures { IfOk result (λ pairs. ArePairsOfMap self.now.features pairs.items) }
+    /// The bytes of a tile (Mapbox Vector Tile 2.1), or `None` if it shows nothing: those of its layers. The only error is out of memory.
+    pub fn tile(&self, at: TileAt) -> Result<Option<Vec<u8>>, AllocError>
+        ensures bytes { IfOk result (λ o. option_map (λ v. v.items) o ≡ tile_bytes (layers self.now.features at.z at.x at.y)) }
+        ensures content { IfOk result (λ o. IsTileContent (layers self.now.features at.z at.x at.y) (option_map (λ v. v.items) o)) }
     {
-        all_pairs(self.alloc, &self.features)
+        let layers = self.layers(at)?;
+        written(self.alloc, &layers)
     }
 
     /// The tiles that show something of the map, in ascending order of their ids, each with its bytes (Mapbox Vector Tile 2.1) and
@@ -250,14 +261,5 @@ impl Store {
         ensures fault { IfErr result (λ fault. (fault ≡ Memory) ⊎ ((fault ≡ Bad) × IsNoSnapshot text.now)) }
     {
         read_map(alloc, text)
-    }
-
-    /// The same map once more. The only error is out of memory.
-    pub fn copy(&self) -> Result<Store, AllocError>
-        ensures { IfOk result (λ s. s.features ≡ self.now.features) }
-    {
-        let mut same = Store::new(self.alloc);
-        append_blocks(self.alloc, &mut same, self.features.blocks())?;
-        Ok(same)
     }
 }

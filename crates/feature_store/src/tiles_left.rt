@@ -1,12 +1,10 @@
 //! The tiles of a map that are left to make, zoom by zoom.
 ghost use Rattle.std.specs.Prelude.{◌≡◌, ◌≤◌, ◌+◌, ◌∷◌, [], IfOk, IfSome, IfNone, OnOk, OnErr};
 ghost use Rattle.feature_model.specs.declared.limits.TheConstants.{MAX_ZOOM};
-ghost use Rattle.feature_store.specs.Inside.{entries_data};
 ghost use Rattle.feature_store.specs.Left.{AreLeft, AllStay, left_of, with_next};
 
-use crate::zoom_walk::walk_of_zoom;
-use feature_model::{Feature, MAX_ZOOM};
-use number_map::NumberMap;
+use crate::feature_boxes::FeatureBoxes;
+use feature_model::MAX_ZOOM;
 use std::alloc::{AllocError, Global};
 use tile_walk::Walk;
 
@@ -42,11 +40,11 @@ fn take_tile(walk: &mut Option<Walk>) -> Result<Option<Covered>, AllocError>
 
 impl TilesLeft {
     /// All tiles of a map. The only error is out of memory.
-    pub(crate) fn of(alloc: Global, features: &NumberMap<Feature>) -> Result<TilesLeft, AllocError>
+    pub(crate) fn of(alloc: Global, map: &FeatureBoxes<'_>) -> Result<TilesLeft, AllocError>
         ensures zoom { IfOk result (λ left. left.zoom ≤ MAX_ZOOM + 1) }
-        ensures left { IfOk result (λ left. AreLeft (entries_data features.now.entries) left.zoom 0 (with_next left.next (left_of left.walk))) }
+        ensures left { IfOk result (λ left. AreLeft map.now left.zoom 0 (with_next left.next (left_of left.walk))) }
     {
-        let walk = walk_of_zoom(alloc, features, 0)?;
+        let walk = map.walk(alloc, 0)?;
         Ok(TilesLeft {
             zoom: 1,
             walk: Some(walk),
@@ -59,24 +57,24 @@ impl TilesLeft {
     fn take_next(
         &mut self,
         alloc: Global,
-        features: &NumberMap<Feature>,
+        map: &FeatureBoxes<'_>,
     ) -> Result<Option<Covered>, AllocError>
         requires { self.old.zoom ≤ MAX_ZOOM + 1 }
         ensures zoom { self.new.zoom ≤ MAX_ZOOM + 1 }
         ensures next { self.new.next ≡ self.old.next }
-        ensures tile { IfOk result (λ o. IfSome o (λ t. AllStay (entries_data features.now.entries) self.old.zoom (left_of self.old.walk)
+        ensures tile { IfOk result (λ o. IfSome o (λ t. AllStay map.now self.old.zoom (left_of self.old.walk)
             self.new.zoom ((t.0, t.1.items) ∷ left_of self.new.walk))) }
-        ensures none { IfOk result (λ o. IfNone o (AllStay (entries_data features.now.entries) self.old.zoom (left_of self.old.walk)
+        ensures none { IfOk result (λ o. IfNone o (AllStay map.now self.old.zoom (left_of self.old.walk)
             self.new.zoom (left_of self.new.walk))) }
         ensures end { IfOk result (λ o. IfNone o ((self.new.zoom ≡ MAX_ZOOM + 1) × (left_of self.new.walk ≡ []))) }
-        ensures failed { OnErr result (AllStay (entries_data features.now.entries) self.old.zoom (left_of self.old.walk)
+        ensures failed { OnErr result (AllStay map.now self.old.zoom (left_of self.old.walk)
             self.new.zoom (left_of self.new.walk)) }
     {
         while self.zoom <= MAX_ZOOM {
             if let Some(tile) = take_tile(&mut self.walk)? {
                 return Ok(Some(tile));
             }
-            let walk = walk_of_zoom(alloc, features, self.zoom)?;
+            let walk = map.walk(alloc, self.zoom)?;
             self.walk = Some(walk);
             self.zoom += 1;
         }
@@ -88,16 +86,16 @@ impl TilesLeft {
     pub(crate) fn look_ahead(
         &mut self,
         alloc: Global,
-        features: &NumberMap<Feature>,
+        map: &FeatureBoxes<'_>,
     ) -> Result<(), AllocError>
         requires { self.old.zoom ≤ MAX_ZOOM + 1 }
         ensures zoom { self.new.zoom ≤ MAX_ZOOM + 1 }
-        ensures stay { AllStay (entries_data features.now.entries) self.old.zoom (with_next self.old.next (left_of self.old.walk))
+        ensures stay { AllStay map.now self.old.zoom (with_next self.old.next (left_of self.old.walk))
             self.new.zoom (with_next self.new.next (left_of self.new.walk)) }
         ensures none { OnOk result (IfNone self.new.next ((self.new.zoom ≡ MAX_ZOOM + 1) × (left_of self.new.walk ≡ []))) }
     {
         if self.next.is_none() {
-            self.next = self.take_next(alloc, features)?;
+            self.next = self.take_next(alloc, map)?;
         }
         Ok(())
     }

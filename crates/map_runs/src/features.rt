@@ -8,7 +8,7 @@ use script_bytes::{expanded, number_in, parted};
 use serde_json::Value;
 use std::alloc::{AllocError, Global};
 use std::fmt;
-use tile_cutter::{check_reach, cover_count, covers, pairs};
+use tile_cutter::{bounding_box, check_reach, cover_count, tiles_met};
 
 /// Why a text is no feature.
 #[derive(Clone, Copy)]
@@ -124,7 +124,7 @@ fn covered(alloc: Global, zoom: u64, feature: &Feature) -> Result<String, AllocE
     if zoom > u64::from(MAX_ZOOM) {
         return EditFault::Zoom.to_string(alloc);
     }
-    let range = covers(feature, zoom as u8);
+    let range = tiles_met(bounding_box(feature), zoom as u8);
     format!(in alloc;
         "{} to {}, {} to {}",
         range.x0, range.x1, range.y0, range.y1
@@ -139,24 +139,6 @@ fn cover(alloc: Global, rest: &str) -> Result<String, AllocError> {
     }
 }
 
-/// The pairs of a feature's tiles and a number, behind one that was there.
-fn paired(alloc: Global, id: u64, feature: &Feature) -> Result<String, AllocError> {
-    if feature.maxzoom > MAX_ZOOM {
-        return EditFault::Zoom.to_string(alloc);
-    }
-    let mut list = vec![in alloc; (9, 9)]?;
-    pairs(feature, id, &mut list)?;
-    format!(in alloc; "{list:?}")
-}
-
-fn pair(alloc: Global, rest: &str) -> Result<String, AllocError> {
-    let (id, json) = parted(rest);
-    match feature_in(alloc, json) {
-        Ok(feature) => paired(alloc, number_in(id), &feature),
-        Err(refusal) => refusal.to_string(alloc),
-    }
-}
-
 /// What a line about a feature comes to.
 pub(crate) fn answer(alloc: Global, line: Line<'_>) -> Option<Result<String, AllocError>> {
     match line.word {
@@ -165,7 +147,6 @@ pub(crate) fn answer(alloc: Global, line: Line<'_>) -> Option<Result<String, All
         "text" => Some(text(alloc, line.rest)),
         "reach" => Some(reach(alloc, line.rest)),
         "covers" => Some(cover(alloc, line.rest)),
-        "pairs" => Some(pair(alloc, line.rest)),
         _ => None,
     }
 }

@@ -14,7 +14,6 @@
 //! | `text ID FEATURE` | the text of the change that gives the number this feature |
 //! | `reach FEATURE` | how many tiles it covers, and the fault where these are too many |
 //! | `covers ZOOM FEATURE` | the columns and the rows of a zoom that it covers |
-//! | `pairs ID FEATURE` | the pairs of its tiles' ids and the number, behind a pair that was there |
 //! | `sizes ID LAYER MINZOOM MAXZOOM POINTS TAGS KEY TEXT` | the limits of a feature by its lengths, names and texts in bytes |
 //! | `lines COUNT POINTS`, `polygons COUNT RINGS POINTS` | the limits of a feature of so many of these |
 //! | `keys KEY ..`, `negative N` | the limits of a feature with these keys in this order, or with this number as a negative one |
@@ -33,8 +32,8 @@
 //! | `anew Z X Y` | its bytes, cut anew, none where it shows nothing |
 //! | `layers Z X Y` | its layers: name, version, extent, numbers of features |
 //! | `newest Z X Y` | the number of the newest edit that can have touched it |
-//! | `tiles`, `allpairs` | all tiles with their ids; all pairs of a tile's id and a feature's number |
-//! | `snapshot`, `restore TEXT` | the map's snapshot; the map of a snapshot takes the place of this one |
+//! | `tiles` | all tiles with their ids |
+//! | `snapshot`, `restore TEXT` | the snapshot of the map that is read back from the map's snapshot; the map of a snapshot replaces this one |
 //! | `metadata` | its metadata |
 //! | `area FREE` | what a publication writes into an area of so many sectors: lengths of snapshot and archive, sectors, and these |
 //!
@@ -58,7 +57,6 @@
 //! | `query BOX ZOOM` | the numbers of the entries that show there |
 //! | `scatter COUNT ACROSS DOWN`, `gather COUNT ACROSS DOWN ONE_IN` | so many boxes, each so far from the one before; all but one of each so many |
 //! | `boxblocks MOST` | whether there are at most so many blocks |
-//! | `keep`, `swap` | a copy is kept; the index and the copy that was kept change places |
 //! | `mark BOX NUMBER`, `touched Z X Y` | an edit touched a box; the newest edit that can have touched a tile |
 //! | `hold Z X Y NUMBER BYTE`, `held Z X Y NUMBER` | a tile is held with an edit's number; its bytes, if they are held with this number or a later one |
 #![tactic(auto)]

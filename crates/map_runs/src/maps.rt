@@ -155,15 +155,16 @@ fn tiles(alloc: Global, store: &Store) -> Result<String, AllocError> {
     format!(in alloc; "{all:?}")
 }
 
-fn all_pairs(alloc: Global, store: &Store) -> Result<String, AllocError> {
-    let pairs = store.pairs()?;
-    format!(in alloc; "{pairs:?}")
-}
-
-/// The snapshot of a map's copy.
+/// The snapshot of the map that is read back from a map's snapshot.
 fn snapshot(alloc: Global, store: &Store) -> Result<String, AllocError> {
-    let text = store.copy()?.snapshot_text()?;
-    hex::encode(alloc, text.as_slice())
+    let text = store.snapshot_text()?;
+    if text.len() > MOST {
+        return String::from_str(alloc, "too many bytes");
+    }
+    match Store::from_snapshot(alloc, &text) {
+        Ok(same) => hex::encode(alloc, same.snapshot_text()?.as_slice()),
+        Err(fault) => fault.to_string(alloc),
+    }
 }
 
 /// Takes the map of a snapshot in the map's place. Its last edit keeps the number.
@@ -222,7 +223,6 @@ fn held_answer(alloc: Global, store: &Store, line: Line<'_>) -> Option<Result<St
     match line.word {
         "look" => Some(look(alloc, store, line.numbers[0])),
         "tiles" => Some(tiles(alloc, store)),
-        "allpairs" => Some(all_pairs(alloc, store)),
         "snapshot" => Some(snapshot(alloc, store)),
         "metadata" => Some(described(alloc, store)),
         _ => None,

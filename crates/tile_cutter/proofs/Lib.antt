@@ -1,10 +1,10 @@
 pub mod Chains
 pub mod Areas
 pub mod Boxes
-pub mod CoveredTiles
 pub mod Drawn
 pub mod Each
 pub mod Kept
+pub mod LimitNumbers
 pub mod Outside
 pub mod Passes
 pub mod RingBoxes

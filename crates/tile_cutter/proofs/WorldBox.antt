@@ -1,5 +1,5 @@
 -- What a tile shows of a feature stands in its box of the world.
-use Rattle.std.proofs.Common.{◌≡◌, ℕ, ◌+◌, ◌-◌, ◌*◌, ◌^◌, ◌<◌, ◌≤◌, List, [], ◌∷◌, None, map, min, refl, sym, ap, subst, ◌∙◌, arith}
+use Rattle.std.proofs.Common.{◌≡◌, ℕ, ◌+◌, ◌-◌, ◌*◌, ◌^◌, ◌<◌, ◌≤◌, List, [], ◌∷◌, None, Some, map, min, refl, sym, ap, subst, ◌∙◌, arith}
 use Rattle.std.specs.Prelude.{All}
 use Rattle.std.proofs.Math.Nat.{one-le-pow, div-one, div-mul-le_self, lt-div-mul-add, mul-le-mul_right}
 use Rattle.std.proofs.lemmas.Grind.{div_ceil_times}
@@ -11,9 +11,9 @@ use Rattle.feature_model.specs.declared.feature.WorldBox.{WorldBox}
 use Rattle.tile_cutter.specs.declared.coordinates.TheConstants.{EXTENT, MARGIN, WORLD_ZOOM}
 use Rattle.tile_cutter.specs.Cut.{quantised_axis, feature_cut}
 use Rattle.tile_cutter.specs.Covered.{all_of, all_points, least_of, greatest_of, first_met, last_met, covered, IsInRange}
-use Rattle.tile_cutter.specs.Widened.{bounds_after, box_or_origin}
+use Rattle.tile_cutter.specs.Widened.{bounds_after, box_or_origin, range_of}
 use Rattle.tile_cutter.specs.WorldBox.{bounding_box, first_shown, last_shown, tile_box, Meets}
-use Rattle.tile_cutter.proofs.Boxes.{least_x_is, least_y_is, greatest_x_is, greatest_y_is}
+use Rattle.tile_cutter.proofs.Boxes.{least_x_is, least_y_is, greatest_x_is, greatest_y_is, covered_is}
 use Rattle.tile_cutter.proofs.Each.{each_all}
 use Rattle.tile_cutter.proofs.Outside.{outside}
 
@@ -133,3 +133,7 @@ pub tile_box_is : (zoom column row left top right bottom : ℕ) → left ≡ fir
 unfolding tile_box
 tile_box_is zoom column row left top right bottom left_is top_is right_is bottom_is =
     λ i. record { x0 = left_is i; x1 = right_is i; y0 = top_is i; y1 = bottom_is i }
+
+-- the tiles that the bounding box of a geometry meets are those that it covers
+pub box_covered : (g : GeometryData) (zoom : ℕ) → range_of (Some (bounding_box g)) zoom ≡ covered g zoom
+box_covered g zoom = ap (λ b. range_of (Some b) zoom) (sym (bounding_box_is g)) ∙ covered_is g zoom

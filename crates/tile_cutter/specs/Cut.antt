@@ -41,7 +41,7 @@ is_closed (p ∷ ps) = is_same p (last_from p ps)
 abbrev pub open_ring : List World → List World
 open_ring ps = if is_closed ps then take (length ps - 1) ps else ps
 
--- where a quantised point stands in the tile of a column and a row
+-- the coordinates of a quantised point in the tile of a column and a row
 abbrev pub position_in : ℕ → ℕ → World → Pt
 position_in column row p = record { x = pos p.x -ℤ pos (EXTENT * column); y = pos p.y -ℤ pos (EXTENT * row) }
 

@@ -1,6 +1,5 @@
 pub mod Covered
 pub mod Cut
-pub mod Pairs
 pub mod Passes
 pub mod Range
 pub mod Widened

@@ -29,7 +29,7 @@ abbrev pub longer : List Pt → Segment → List Pt
 longer [] s = s.0 ∷ s.1 ∷ []
 longer (p ∷ ps) s = (p ∷ ps) ++ s.1 ∷ []
 
--- the open chain behind a segment
+-- the open chain after a segment
 abbrev pub chain_after : List Pt → Segment → List Pt
 chain_after chain s = if is_kept s then longer chain s else []
 

@@ -1,10 +1,10 @@
--- How far points stand from the origin.
+-- The distance of points from the origin.
 use Rattle.std.specs.Prelude.{ℕ, ℤ, pos, neg_ℤ, ◌*◌, ◌^◌, ◌<◌, ◌+ℤ◌, ◌≤ℤ◌, ◌<ℤ◌, Bool, List, length, All}
 use Rattle.geometry_commands.specs.declared.point.Pt.{Pt}
 use Rattle.geometry_commands.specs.Shapes.{least}
 use Rattle.tile_cutter.specs.declared.coordinates.TheConstants.{EXTENT}
 
--- a number of so many bits and a sign
+-- a number of `bits` bits and a sign
 pub record IsWithin (bits : ℕ) (u : ℤ) : Type 0 where
   pub low : neg_ℤ (pos (2 ^ bits)) ≤ℤ u
   pub high : u ≤ℤ pos (2 ^ bits)

@@ -1,3 +1,5 @@
+//! The box of a tile, with its margin.
+
 ghost use Rattle.std.specs.Prelude.{◌≡◌, ◌⊎◌, ◌≤◌, false, [], ◌∷◌};
 ghost use Rattle.std.specs.Bool.{Decides};
 ghost use Rattle.tile_cutter.specs.Covered.{IsInRange};
@@ -15,7 +17,7 @@ const BOX_START: i64 = -(MARGIN as i64);
 /// How far the box of a tile reaches to the right and downwards.
 const BOX_END: i64 = (EXTENT + MARGIN) as i64;
 
-/// Whether a point stands in the box of its tile.
+/// Whether a point is in the box of its tile.
 pub(crate) fn is_in_box(point: Pt) -> bool
     ensures { result ≡ in_box point }
 {

@@ -1,3 +1,5 @@
+//! Coordinates of the world, of a zoom and of a tile.
+
 ghost use Rattle.std.specs.Prelude.{◌≡◌, ◌<◌, ◌≤◌, ◌^◌};
 ghost use Rattle.tile_cutter.specs.Cut.{quantised_axis, quantised, position_in};
 ghost use Rattle.tile_cutter.specs.Passes.{repeats};
@@ -29,7 +31,7 @@ pub(crate) fn quantise(coordinate: u32, zoom: u8) -> u32
     coordinate >> (WORLD_ZOOM - zoom)
 }
 
-/// Where a point of the world stands in a tile, as the tile's zoom sees it.
+/// The coordinates of a point of the world in a tile, at the tile's zoom.
 pub(crate) fn position(point: World, at: TileAt) -> Pt
     requires { at.z ≤ MAX_ZOOM }
     ensures position { result ≡ position_in at.x at.y (quantised at.z point) }

@@ -1,3 +1,5 @@
+//! What a tile shows of a feature.
+
 ghost use Rattle.std.specs.Prelude.{◌≡◌, ◌≤◌, map, option_map, IfOk, IfSome};
 ghost use Rattle.feature_model.specs.Data.{feature_data, geometry_data, value_data, tag_data};
 ghost use Rattle.feature_model.specs.Limits.{GeometryFits};
@@ -66,7 +68,7 @@ fn cut_geometry(alloc: Global, geometry: &Geometry, at: TileAt) -> Result<Option
 /// What of a feature a tile shows, without a number; nothing where nothing is left of it, or where it isn't shown at
 /// the tile's zoom.
 ///
-/// Points are shown where they stand in the tile's box, which reaches `MARGIN` beyond each edge; lines as the longest chains
+/// Points are shown if they are in the tile's box, which reaches `MARGIN` beyond each edge; lines as the longest chains
 /// of segments that meet the box, not clipped; polygons whole where their outer ring meets it, outer rings with
 /// positive and inner rings with negative area (Mapbox Vector Tile 2.1, 4.3.4.4). The only error is out of memory.
 #[tactic(auto, unfolding(crate::specs::Cut::feature_cut))]

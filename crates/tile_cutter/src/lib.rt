@@ -1,11 +1,10 @@
-//! What of a feature a tile shows, and which tiles show something of it.
+//! Cuts features for tiles: what a tile shows of a feature, and which tiles a feature covers.
 #![tactic(auto)]
 
 mod bounds;
 mod coordinates;
 mod cutting;
 mod lines;
-mod pairing;
 mod points;
 mod reach;
 mod rings;
@@ -13,6 +12,5 @@ mod world_box;
 
 pub use coordinates::{EXTENT, MARGIN, WORLD_ZOOM};
 pub use cutting::cut;
-pub use pairing::pairs;
-pub use reach::{MAX_TILES, TileRange, check_reach, cover_count, covers};
+pub use reach::{MAX_TILES, TileRange, check_reach, cover_count, tiles_met};
 pub use world_box::{bounding_box, tile_box};

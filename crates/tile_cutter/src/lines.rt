@@ -1,3 +1,5 @@
+//! What a tile shows of lines.
+
 ghost use Rattle.std.specs.Prelude.{◌≡◌, ◌≤◌, ◌++◌, false, option_map, All, IfOk, IfSome, OnOk};
 ghost use Rattle.feature_model.specs.Limits.{CountFits};
 ghost use Rattle.geometry_commands.specs.Encodable.{CanSpell};

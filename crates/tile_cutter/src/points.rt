@@ -1,3 +1,5 @@
+//! What a tile shows of points.
+
 ghost use Rattle.std.specs.Prelude.{◌≡◌, ◌≤◌, option_map, All, IfOk, IfSome};
 ghost use Rattle.feature_model.specs.Limits.{CountFits};
 ghost use Rattle.geometry_commands.specs.Encodable.{CanSpell};
@@ -14,7 +16,7 @@ use geometry_commands::{Pt, Shape};
 use hilbert_id::TileAt;
 use std::alloc::{AllocError, Global};
 
-/// Whether a tile shows a point: it isn't the one before it again, and stands in the box.
+/// Whether a tile shows a point: it differs from the one before it, and is in the box.
 fn is_shown(before: Option<Pt>, here: Pt) -> bool
     ensures { result ≡ is_shown before here }
 {

@@ -1,9 +1,12 @@
-ghost use Rattle.std.specs.Prelude.{ℕ, ◌≡◌, ◌+◌, ◌-◌, ◌*◌, ◌<◌, ◌≤◌, ◌^◌, ◌↔◌, None, map, flat_map, IfErr, IsOk};
-ghost use Rattle.feature_model.specs.Data.{feature_data, geometry_data};
+//! The tiles that a feature covers, and their number.
+
+ghost use Rattle.std.specs.Prelude.{ℕ, ◌≡◌, ◌+◌, ◌-◌, ◌*◌, ◌<◌, ◌≤◌, ◌^◌, ◌↔◌, None, Some, map, flat_map, IfErr, IsOk};
+ghost use Rattle.feature_model.specs.Data.{FeatureData, GeometryData, feature_data, geometry_data};
 ghost use Rattle.tile_cutter.specs.Cut.{quantised_axis, feature_cut};
 ghost use Rattle.tile_cutter.specs.Covered.{all_of, all_points, first_met, last_met, covered, tiles_of, reach_of, IsInRange};
 ghost use Rattle.tile_cutter.specs.Widened.{widened, bounds_after, box_or_origin, range_of};
 ghost use Rattle.tile_cutter.specs.Passes.{lists_of};
+ghost use Rattle.tile_cutter.specs.WorldBox.{bounding_box};
 
 use crate::coordinates::{EXTENT, MARGIN, quantise};
 use feature_model::{EditFault, Feature, Geometry, MAX_ZOOM, World, WorldBox};
@@ -148,14 +151,16 @@ fn tiles_of(range: TileRange) -> u64
     columns * rows
 }
 
-/// The tiles of a zoom whose boxes the bounding box of a feature meets: no other tile of the zoom shows anything of it.
-pub fn covers(feature: &Feature, zoom: u8) -> TileRange
+/// The tiles of a zoom whose boxes a box of the world meets. If it is the bounding box of a feature, the feature covers these tiles, and
+/// no other tile of the zoom shows anything of it.
+pub fn tiles_met(bounds: WorldBox, zoom: u8) -> TileRange
     requires { zoom ≤ MAX_ZOOM }
-    ensures range { result ≡ covered (geometry_data feature.now.geometry) zoom }
-    ensures nothing_outside { (column row : ℕ) → column < 2 ^ zoom → row < 2 ^ zoom → ¬ IsInRange result column row
-        → feature_cut (feature_data feature.now) zoom column row ≡ None }
+    ensures range { result ≡ range_of (Some bounds) zoom }
+    ensures covered { (g : GeometryData) → bounds ≡ bounding_box g → result ≡ covered g zoom }
+    ensures nothing_outside { (f : FeatureData) (column row : ℕ) → bounds ≡ bounding_box f.geometry → column < 2 ^ zoom → row < 2 ^ zoom
+        → ¬ IsInRange result column row → feature_cut f zoom column row ≡ None }
 {
-    range_of(bounds_of(&feature.geometry), zoom)
+    range_of(Some(bounds), zoom)
 }
 
 /// The reach of a feature: how many tiles it covers at all its zooms together.

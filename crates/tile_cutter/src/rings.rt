@@ -1,3 +1,5 @@
+//! What a tile shows of polygons.
+
 ghost use Rattle.std.specs.Prelude.{◌≡◌, ◌≤◌, ◌<◌, ◌^◌, ◌*ℤ◌, ◌++◌, length, map, true, Some, option_map, option_to_list, All, IfOk, IfSome, OnOk};
 ghost use Rattle.feature_model.specs.Limits.{CountFits, RingsFit};
 ghost use Rattle.geometry_commands.specs.Encodable.{CanSpell};

@@ -1,3 +1,5 @@
+//! Boxes of the world: of a feature, and of what a tile shows.
+
 ghost use Rattle.std.specs.Prelude.{◌≡◌, ◌-◌, ◌*◌, ◌≤◌, ◌^◌, min};
 ghost use Rattle.feature_model.specs.Data.{FeatureData, geometry_data};
 ghost use Rattle.feature_model.specs.Types.{LiesInWorld};
@@ -9,7 +11,7 @@ use crate::reach::{bounds_of, or_origin};
 use feature_model::{Feature, MAX_ZOOM, WorldBox};
 use hilbert_id::TileAt;
 
-/// How many coordinates of the world make one of a zoom.
+/// The number of coordinates of the world in one of a zoom.
 fn unit(zoom: u8) -> u64
     requires { zoom ≤ MAX_ZOOM }
     ensures { result ≡ 2 ^ (WORLD_ZOOM - zoom) }
@@ -17,7 +19,7 @@ fn unit(zoom: u8) -> u64
     1 << (WORLD_ZOOM - zoom)
 }
 
-/// So many coordinates of a zoom in those of the world, at most 2^64 - 1.
+/// The length of `count` coordinates of a zoom in those of the world, at most 2^64 - 1.
 fn scaled(count: u64, zoom: u8) -> u64
     requires { zoom ≤ MAX_ZOOM }
     ensures { result ≡ min (count * 2 ^ (WORLD_ZOOM - zoom)) (2 ^ 64 - 1) }
@@ -48,8 +50,8 @@ fn last_shown(at: u32, zoom: u8) -> u32
     ensures { result ≡ last_shown zoom at }
 {
     let end = EXTENT as u64 * at as u64 + (EXTENT + MARGIN + 1) as u64;
-    let behind = scaled(end, zoom);
-    let last = behind.saturating_sub(1);
+    let after = scaled(end, zoom);
+    let last = after.saturating_sub(1);
     in_world(last)
 }
 
@@ -61,7 +63,7 @@ pub fn bounding_box(feature: &Feature) -> WorldBox
     or_origin(bounds)
 }
 
-/// The box of the world that a tile shows: what of the world stands in the tile's box, which reaches `MARGIN` beyond each edge.
+/// The box of the world that a tile shows: the part of the world in the tile's box, which reaches `MARGIN` beyond each edge.
 pub fn tile_box(at: TileAt) -> WorldBox
     requires { at.z ≤ MAX_ZOOM }
     ensures tile_box { result ≡ tile_box at.z at.x at.y }

@@ -1,3 +1,5 @@
+//! Boxes of tiles with a number.
+
 use tile_cutter::TileRange;
 
 /// A box of tiles of a zoom, and a number.

@@ -1,3 +1,5 @@
+//! The four quarters of a square, in the order of the curve.
+
 ghost use Rattle.std.specs.Prelude.{◌≡◌, ℕ, ◌<◌, ◌≤◌, ◌^◌, false, IfOk, MatchOption};
 ghost use Rattle.tile_walk.specs.Boxes.{has};
 ghost use Rattle.tile_walk.specs.Quarters.{order_of, placed, ArePlaced, IsPlaced, IsApart};

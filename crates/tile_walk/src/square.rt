@@ -1,3 +1,5 @@
+//! Squares of tiles that the curve goes through without leaving them.
+
 ghost use Rattle.std.specs.Prelude.{◌+◌, ◌≤◌, ◌^◌};
 ghost use Rattle.hilbert_id.specs.declared.number.TheConstants.{TILE_IDS};
 

@@ -1,3 +1,5 @@
+//! The squares that are left of a walk.
+
 ghost use Rattle.std.specs.Prelude.{◌≡◌, ◌+◌, ◌-◌, ◌*◌, ◌<◌, ◌≤◌, ◌^◌, ◌++◌, [], ◌∷◌, take, IfOk, IfSome, IfNone, OnOk, OnErr, vec_len};
 ghost use Rattle.tile_walk.specs.Boxes.{has, numbers_at};
 ghost use Rattle.tile_walk.specs.Squares.{tiles_of, tiles_in, left_of, weight, weights};

@@ -1,3 +1,5 @@
+//! A walk along the curve over the tiles of numbered boxes.
+
 ghost use Rattle.std.specs.Prelude.{◌≡◌, ◌≤◌, [], ◌∷◌, IfOk, IfSome, IfNone, OnErr};
 ghost use Rattle.tile_walk.specs.Boxes.{AreTilesOf};
 ghost use Rattle.tile_walk.specs.Quarters.{has_tiles};

@@ -6,4 +6,4 @@ use Rattle.tile_cutter.proofs.world_box.last_shown.Goals as goal
 pub returns : goal.returns
 returns c =
     capped_before ((EXTENT * c.args.at + (EXTENT + MARGIN + 1)) * 2 ^ (WORLD_ZOOM - c.args.zoom))
-    c.scaled-behind.result c.saturating_sub-last.result c.in_world.result c.scaled-behind.ensures c.saturating_sub-last.ensures c.in_world.ensures
+    c.scaled-after.result c.saturating_sub-last.result c.in_world.result c.scaled-after.ensures c.saturating_sub-last.ensures c.in_world.ensures

@@ -1,9 +1,9 @@
 use Rattle.std.proofs.Common.{◌≡◌, ℕ, List, Option, Vec, Global, refl, sym, subst, arith}
 use Rattle.std.specs.Option.{option_map}
 use Rattle.feature_store.specs.Indexed.{ShowsAll}
-use Rattle.feature_store.specs.Inside.{entries_data}
 use Rattle.feature_store.specs.Left.{left_of}
-use Rattle.feature_store.specs.Tiles.{TilesView, IsStep, ShowsNothingFrom}
+use Rattle.feature_store.specs.Store.{FeatureMap, IsMap}
+use Rattle.feature_store.specs.Tiles.{TilesView, IsBytesAt, IsStep, ShowsNothingFrom}
 use Rattle.feature_store.proofs.Zooms.{from_below, place_here, nothing_between, shows_step, one_less, left_some, none_from}
 use Rattle.feature_store.proofs.Walk.{place_within}
 use Rattle.feature_store.proofs.all_tiles.Tiles.step.Goals as goal
@@ -31,15 +31,18 @@ invariant_of-self-in_err-bytes c = record {
 
 pub returns-in_default-clause-none : goal.returns-in_default-clause-none
 returns-in_default-clause-none c =
-    let m = entries_data c.self.inside.features.now.entries in
+    let m = c.self.inside.map in
     let new = c.look_ahead.new.self in
     subst (λ (v : TilesView). ShowsNothingFrom v.features v.from) c.self.view_is
     (none_from m c.self.invariant.is_map new.zoom c.self.inside.from (left_of new.walk) new.next c.in_default.is c.in_ok-look_ahead.ensures.none
     (c.look_ahead.ensures.stay c.self.inside.from c.self.invariant.left))
 
+pub bytes_at-requires-clause-map : goal.bytes_at-requires-clause-map
+bytes_at-requires-clause-map c = subst IsMap (sym c.features.ensures) c.self.invariant.is_map
+
 pub bytes_at-requires-clause-place : goal.bytes_at-requires-clause-place
 bytes_at-requires-clause-place c =
-    let m = entries_data c.self.inside.features.now.entries in
+    let m = c.self.inside.map in
     let new = c.look_ahead.new.self in
     let left = left_some m new.zoom c.self.inside.from (left_of new.walk) new.next c.in-Some.id c.in-Some.numbers c.in-Some.is
     (c.look_ahead.ensures.stay c.self.inside.from c.self.invariant.left) in
@@ -47,17 +50,18 @@ bytes_at-requires-clause-place c =
 
 pub bytes_at-requires-clause-shown : goal.bytes_at-requires-clause-shown
 bytes_at-requires-clause-shown c z x y zoom is =
-    let m = entries_data c.self.inside.features.now.entries in
+    let m = c.self.inside.map in
     let new = c.look_ahead.new.self in
     let left = left_some m new.zoom c.self.inside.from (left_of new.walk) new.next c.in-Some.id c.in-Some.numbers c.in-Some.is
     (c.look_ahead.ensures.stay c.self.inside.from c.self.invariant.left) in
     let same : c.deref.result.now ≡ c.in-Some.numbers.items = c.deref.ensures.value in
-    subst (ShowsAll m z x y) (sym same)
-    (shows_step m c.self.invariant.is_map new.zoom c.self.inside.from (c.in-Some.id, c.in-Some.numbers.items) (left_of new.walk) left z x y zoom is)
+    subst (λ (k : FeatureMap). ShowsAll k z x y c.deref.result.now) (sym c.features.ensures)
+    (subst (ShowsAll m z x y) (sym same)
+    (shows_step m c.self.invariant.is_map new.zoom c.self.inside.from (c.in-Some.id, c.in-Some.numbers.items) (left_of new.walk) left z x y zoom is))
 
 pub overflow_add-self : goal.overflow_add-self
 overflow_add-self c =
-    let m = entries_data c.self.inside.features.now.entries in
+    let m = c.self.inside.map in
     let new = c.look_ahead.new.self in
     let left = left_some m new.zoom c.self.inside.from (left_of new.walk) new.next c.in-Some.id c.in-Some.numbers c.in-Some.is
     (c.look_ahead.ensures.stay c.self.inside.from c.self.invariant.left) in
@@ -70,7 +74,7 @@ overflow_add-self c =
 
 pub invariant_of-self-2 : goal.invariant_of-self-2
 invariant_of-self-2 c =
-    let m = entries_data c.self.inside.features.now.entries in
+    let m = c.self.inside.map in
     let new = c.look_ahead.new.self in
     let left = left_some m new.zoom c.self.inside.from (left_of new.walk) new.next c.in-Some.id c.in-Some.numbers c.in-Some.is
     (c.look_ahead.ensures.stay c.self.inside.from c.self.invariant.left) in
@@ -82,7 +86,7 @@ invariant_of-self-2 c =
 
 pub returns-clause-tile : goal.returns-clause-tile
 returns-clause-tile c =
-    let m = entries_data c.self.inside.features.now.entries in
+    let m = c.self.inside.map in
     let new = c.look_ahead.new.self in
     let is_map = c.self.invariant.is_map in
     let t : ℕ × List ℕ = (c.in-Some.id, c.in-Some.numbers.items) in
@@ -93,6 +97,6 @@ returns-clause-tile c =
       here = from_below m is_map new.zoom c.self.inside.from t (left_of new.walk) left;
       place = place_here m is_map new.zoom c.self.inside.from t (left_of new.walk) left c.look_ahead.ensures.zoom;
       between = nothing_between m is_map new.zoom c.self.inside.from t (left_of new.walk) left;
-      bytes_are = c.in_ok-bytes.ensures;
+      bytes_are = subst (λ (k : FeatureMap). IsBytesAt k c.in-Some.id bytes) c.features.ensures c.in_ok-bytes.ensures;
     } in
     (subst (λ (v : TilesView). IsStep v.features v.from c.in-Some.id bytes) c.self.view_is step, refl)

@@ -1,12 +1,11 @@
 use Rattle.std.proofs.Common.{◌≡◌, sym, ap, ◌∙◌}
-use Rattle.feature_store.specs.Inside.{entries_data}
 use Rattle.feature_store.specs.Left.{left_of, with_next}
 use Rattle.feature_store.proofs.Zooms.{stay_same, stay_with, stay_ahead, is_nothing}
 use Rattle.feature_store.proofs.tiles_left.TilesLeft.look_ahead.Goals as goal
 
 pub returns-in_err-self-clause-stay : goal.returns-in_err-self-clause-stay
 returns-in_err-self-clause-stay c =
-    let m = entries_data c.args.features.now.entries in
+    let m = c.args.map.now in
     let start = c.args.self.now in
     let new = c.take_next.new.self in
     let none = is_nothing start.next c.is_none.result c.is_none.ensures c.if-is_none.true in
@@ -17,7 +16,7 @@ returns-in_err-self-clause-stay c =
 
 pub returns-in_ok-self-clause-stay : goal.returns-in_ok-self-clause-stay
 returns-in_ok-self-clause-stay c =
-    let m = entries_data c.args.features.now.entries in
+    let m = c.args.map.now in
     let start = c.args.self.now in
     let new = c.take_next.new.self in
     let none = is_nothing start.next c.is_none.result c.is_none.ensures c.if-is_none.true in

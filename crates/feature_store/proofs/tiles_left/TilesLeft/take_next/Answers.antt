@@ -1,5 +1,4 @@
 use Rattle.std.proofs.Common.{◌≡◌, ◌∷◌, [], ℕ, Vec, Global, sym, ◌∙◌, arith}
-use Rattle.feature_store.specs.Inside.{entries_data}
 use Rattle.feature_store.specs.Left.{left_of}
 use Rattle.feature_store.proofs.Zooms.{stay_same, stay_next, stay_taken, stay_ended, of_some, of_none}
 use Rattle.feature_store.proofs.Walk.{on_err}
@@ -7,7 +6,7 @@ use Rattle.feature_store.proofs.tiles_left.TilesLeft.take_next.Goals as goal
 
 pub returns-in_err-tile-clause-failed : goal.returns-in_err-tile-clause-failed
 returns-in_err-tile-clause-failed c =
-    let m = entries_data c.args.features.now.entries in
+    let m = c.args.map.now in
     let start = c.args.self.now in
     on_err c.from_residual.result
     (stay_same m start.zoom c.loop-self.self.zoom (left_of start.walk) (left_of c.loop-self.self.walk) c.loop-self.invariant.stay
@@ -15,7 +14,7 @@ returns-in_err-tile-clause-failed c =
 
 pub returns-in-Some-clause-tile : goal.returns-in-Some-clause-tile
 returns-in-Some-clause-tile c =
-    let m = entries_data c.args.features.now.entries in
+    let m = c.args.map.now in
     let start = c.args.self.now in
     stay_same m start.zoom c.loop-self.self.zoom (left_of start.walk) (left_of c.loop-self.self.walk) c.loop-self.invariant.stay
     ((c.in-Some.tile.0, c.in-Some.tile.1.items) ∷ left_of c.take_tile.new.walk)
@@ -24,7 +23,7 @@ returns-in-Some-clause-tile c =
 
 pub returns-in_err-walk-clause-failed : goal.returns-in_err-walk-clause-failed
 returns-in_err-walk-clause-failed c =
-    let m = entries_data c.args.features.now.entries in
+    let m = c.args.map.now in
     let start = c.args.self.now in
     let none = of_none ((left_of c.loop-self.self.walk ≡ []) × (left_of c.take_tile.new.walk ≡ [])) c.in_ok-tile.field-0 c.in_default.is
     c.in_ok-tile.ensures.none in
@@ -34,7 +33,7 @@ returns-in_err-walk-clause-failed c =
 
 pub loop-self-preserved : goal.loop-self-preserved
 loop-self-preserved c =
-    let m = entries_data c.args.features.now.entries in
+    let m = c.args.map.now in
     let start = c.args.self.now in
     let none = of_none ((left_of c.loop-self.self.walk ≡ []) × (left_of c.take_tile.new.walk ≡ [])) c.in_ok-tile.field-0 c.in_default.is
     c.in_ok-tile.ensures.none in
@@ -47,7 +46,7 @@ loop-self-preserved c =
 
 pub returns-in_err-tile-2-clause-failed : goal.returns-in_err-tile-2-clause-failed
 returns-in_err-tile-2-clause-failed c =
-    let m = entries_data c.args.features.now.entries in
+    let m = c.args.map.now in
     let start = c.args.self.now in
     on_err c.from_residual-in_err-tile-2.result
     (stay_same m start.zoom c.loop-self.self.zoom (left_of start.walk) (left_of c.loop-self.self.walk) c.loop-self.invariant.stay
@@ -55,14 +54,14 @@ returns-in_err-tile-2-clause-failed c =
 
 pub returns-clause-tile : goal.returns-clause-tile
 returns-clause-tile c =
-    let m = entries_data c.args.features.now.entries in
+    let m = c.args.map.now in
     let start = c.args.self.now in
     stay_taken m start.zoom c.loop-self.self.zoom (left_of start.walk) (left_of c.loop-self.self.walk) c.loop-self.invariant.stay
     (left_of c.take_tile-2.new.walk) c.in_ok-tile-2.tile c.in_ok-tile-2.ensures.tile
 
 pub returns-clause-none : goal.returns-clause-none
 returns-clause-none c =
-    let m = entries_data c.args.features.now.entries in
+    let m = c.args.map.now in
     let start = c.args.self.now in
     stay_ended m start.zoom c.loop-self.self.zoom (left_of start.walk) (left_of c.loop-self.self.walk) c.loop-self.invariant.stay
     (left_of c.take_tile-2.new.walk) c.in_ok-tile-2.tile c.in_ok-tile-2.ensures.none
