@@ -66,7 +66,6 @@ impl Boxes {
     pub(crate) fn new(alloc: Global) -> Boxes {
         Boxes {
             index: BoxIndex::new(alloc),
-            kept: BoxIndex::new(alloc),
         }
     }
 

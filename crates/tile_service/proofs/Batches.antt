@@ -11,7 +11,7 @@ use Rattle.feature_model.specs.declared.feature.Change.{Change}
 use Rattle.feature_store.specs.Store.{FeatureMap, feature_at}
 use Rattle.tile_cutter.specs.Covered.{reach_of}
 use Rattle.tile_cutter.specs.declared.reach.TheConstants.{MAX_TILES}
-use Rattle.tile_service.specs.Limits.{IsNear, HasFar}
+use Rattle.tile_service.specs.Limits.{CoversFewTiles, HasFar}
 use Rattle.tile_service.specs.Machine.{HasTarget}
 
 -- ---- a test of each change
@@ -43,23 +43,23 @@ later_contained c d cs is = Contains-append_right (c ∷ []) cs d is
 far_later : (c : ChangeData) (cs : EditData) → HasFar cs → HasFar (c ∷ cs)
 far_later c cs far = (far.0, far.1, later_contained c (put far.0 far.1) cs far.2, far.3)
 
-near_or_far : (cs : EditData) → All IsNear cs ⊎ HasFar cs
-near_or_far [] = inl (All-nil IsNear)
+near_or_far : (cs : EditData) → All CoversFewTiles cs ⊎ HasFar cs
+near_or_far [] = inl (All-nil CoversFewTiles)
 near_or_far (delete id ∷ cs) = ⊎_elim
-    (λ (near : All IsNear cs). inl (All-cons IsNear (delete id) cs tt near))
+    (λ (near : All CoversFewTiles cs). inl (All-cons CoversFewTiles (delete id) cs tt near))
     (λ (far : HasFar cs). inr (far_later (delete id) cs far))
     (near_or_far cs)
 near_or_far (put id f ∷ cs) = ⊎_elim
     (λ (far : MAX_TILES < reach_of f). inr (id, f, first_contained (put id f) cs, far))
     (λ (near : reach_of f ≤ MAX_TILES). ⊎_elim
-    (λ (all : All IsNear cs). inl (All-cons IsNear (put id f) cs near all))
+    (λ (all : All CoversFewTiles cs). inl (All-cons CoversFewTiles (put id f) cs near all))
     (λ (far : HasFar cs). inr (far_later (put id f) cs far))
     (near_or_far cs))
     (cases_lt MAX_TILES (reach_of f))
 
 -- where not all are near, one sets a feature that covers too many tiles
-pub far_from : (cs : EditData) → (All IsNear cs → ⊥) → HasFar cs
-far_from cs not = ⊎_elim (λ (near : All IsNear cs). absurd (not near)) (λ (far : HasFar cs). far) (near_or_far cs)
+pub far_from : (cs : EditData) → (All CoversFewTiles cs → ⊥) → HasFar cs
+far_from cs not = ⊎_elim (λ (near : All CoversFewTiles cs). absurd (not near)) (λ (far : HasFar cs). far) (near_or_far cs)
 
 -- ---- the features to delete
 

@@ -17,14 +17,14 @@ abbrev pub BreaksLimit : ℕ → FeatureData → EditFault → Type 0
 BreaksLimit id f fault = IsFirstFault id f fault ⊎ ((fault ≡ Reach) × IsAllowed id f × (MAX_TILES < reach_of f))
 
 -- the change sets no feature that covers too many tiles
-abbrev pub IsNear : ChangeData → Type 0
-IsNear (put id f) = reach_of f ≤ MAX_TILES
-IsNear (delete id) = Unit {0}
+abbrev pub CoversFewTiles : ChangeData → Type 0
+CoversFewTiles (put id f) = reach_of f ≤ MAX_TILES
+CoversFewTiles (delete id) = Unit {0}
 
 -- the changes are within the limits of a batch, the reach of each feature that they set too
 pub record KeepsBatchLimits (cs : EditData) : Type 0 where
   pub allowed : IsAllowedEdit cs
-  pub near : All IsNear cs
+  pub near : All CoversFewTiles cs
 
 -- one of the changes sets a feature that covers too many tiles
 abbrev pub HasFar : EditData → Type 0

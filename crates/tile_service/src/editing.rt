@@ -6,7 +6,7 @@ ghost use Rattle.feature_model.specs.Limits.{NumberFits, ChangeFits, IsAllowedEd
 ghost use Rattle.edit_text.specs.Recorded.{FitsVersion, text_in};
 ghost use Rattle.feature_model.specs.Spelled.{spelled};
 ghost use Rattle.feature_store.specs.Store.{feature_at};
-ghost use Rattle.tile_service.specs.Limits.{KeepsLimits, BreaksLimit, IsNear, KeepsBatchLimits, BreaksBatchLimit};
+ghost use Rattle.tile_service.specs.Limits.{KeepsLimits, BreaksLimit, CoversFewTiles, KeepsBatchLimits, BreaksBatchLimit};
 ghost use Rattle.tile_service.specs.Machine.{Call, single, batched, recorded_in, recorded_change, HasTarget, CanMake, Allocates, AnswersEdit};
 ghost use Rattle.tile_service.specs.Runs.{TakesEdit};
 ghost use Rattle.tile_service.specs.Service.{Known, state_of, told_as};
@@ -39,9 +39,9 @@ fn within_limits(id: u64, feature: &Feature) -> Result<(), ServiceFault>
 }
 
 /// Checks that a change sets no feature that covers too many tiles.
-fn is_near(change: &Change) -> bool
+fn covers_few_tiles(change: &Change) -> bool
     requires { ChangeFits (change_data change.now) }
-    ensures { IsTrue result ↔ IsNear (change_data change.now) }
+    ensures { IsTrue result ↔ CoversFewTiles (change_data change.now) }
 {
     match change {
         Change::Put { feature, .. } => check_reach(feature).is_ok(),
@@ -50,12 +50,12 @@ fn is_near(change: &Change) -> bool
 }
 
 /// Checks that none of the changes sets a feature that covers too many tiles.
-fn are_near(changes: &[Change]) -> bool
+fn all_cover_few_tiles(changes: &[Change]) -> bool
     requires { All ChangeFits (map change_data changes.now) }
-    ensures { IsTrue result ↔ All IsNear (map change_data changes.now) }
+    ensures { IsTrue result ↔ All CoversFewTiles (map change_data changes.now) }
 {
     for change in changes {
-        if !is_near(change) {
+        if !covers_few_tiles(change) {
             return false;
         }
     }
@@ -71,7 +71,7 @@ fn within_batch_limits(changes: &[Change]) -> Result<(), ServiceFault>
         Ok(()) => {}
         Err(fault) => return Err(ServiceFault::Limit(fault)),
     }
-    if !are_near(changes) {
+    if !all_cover_few_tiles(changes) {
         return Err(ServiceFault::Limit(EditFault::Reach));
     }
     Ok(())

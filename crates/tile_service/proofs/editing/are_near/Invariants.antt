@@ -1,7 +1,0 @@
-use Rattle.std.proofs.Common.{map, take, All}
-use Rattle.feature_model.specs.Data.{change_data}
-use Rattle.tile_service.specs.Limits.{IsNear}
-use Rattle.tile_service.proofs.editing.are_near.Given as goal
-
-abbrev pub invariant-loop-change : goal.invariant-loop-change
-invariant-loop-change l = All (IsNear) (map change_data (take l.change-index l.changes))
