@@ -54,7 +54,10 @@ NO_BATCHES = {
     409: "the disk of the server has version 1: features are sent one by one, which takes longer (upgrade it: docs/DEPLOYING.md)",
     404: "the server, or a proxy in front of it, has no /edits: features are sent one by one, which takes longer (upgrade them: docs/DEPLOYING.md)",
 }
-NO_CHECKS = "the server makes no checked edits: it is older than they are, or the proxy in front of it doesn't pass /admin/ (docs/nginx.conf)"
+NO_CHECKS = {
+    409: "the disk of the server has version 1, which takes no checked edits: upgrade it (docs/DEPLOYING.md)",
+    404: "the server makes no checked edits: it is older than they are, or the proxy in front of it doesn't pass /admin/ (docs/nginx.conf)",
+}
 
 
 class NoAnswer(Exception):
@@ -210,8 +213,8 @@ class Client:
                 group = [change for change, now in seen if encoded(now) == change.was]
                 yield from ((change, conflict(change, now)) for change, now in seen if encoded(now) != change.was)
                 continue
-            if status == 404:
-                raise Stopped(NO_CHECKS)
+            if status == 404 or content.startswith(b"NeedsUpgrade"):
+                raise Stopped(NO_CHECKS[status])
             if status not in OF_ITS_FEATURES or len(group) == 1:
                 self.stop_at(status, content)
                 yield from ((change, refusal(status, content, len(change.body or b""))) for change in group)

@@ -14,7 +14,7 @@ MANY = 200
 def status(**changes):
     """The status of a fresh disk of 4,096 sectors, by HTTP.md, with changes."""
     first = {"archive": 0, "area": {"sectors": 1534, "used": 0}, "broken": False, "edits": 0, "features": 0, "generation": 0,
-             "journal": {"places": 1024, "used": 0}, "left": None, "sectors": 4096, "version": 2}
+             "journal": {"places": 1024, "used": 0}, "last": None, "left": None, "published": 0, "sectors": 4096, "version": 2}
     return wanted(200, JSON, json.dumps({**first, **changes}, separators=(",", ":")))
 
 
@@ -35,29 +35,29 @@ def admin(cases: Cases, folder):
 
 
 def without(cases, folder):
-    with Server(folder, "public") as server:
+    with Server(folder, "public", more=()) as server:
         for path in (STATUS, FROM + "0"):
             for method in ("GET", "POST", "DELETE"):
                 same(cases, f"without --admin: {method} {path}", curl(server.url + path, "-X", method), refusal(404, "NotFound"))
         lines = script("map_backup.py", "save", os.path.join(folder, "none.geojson"), "--url", server.url)
         cases.show("without --admin: a back-up says what is missing", lines,
-                   (1, ["the server doesn't list its features: start it with --admin, or give --numbers or --archive"]))
-        cases.show("without --admin: watch.py", script("watch.py", server.url), (2, [f"{server.url}{STATUS}: 404: is the server started with --admin?"]))
+                   (1, ["the server doesn't list its features: start it with --admin, or give --disk, --numbers or --archive"]))
+        cases.show("without --admin: watch.py", script("watch.py", server.url), (3, [f"{server.url}{STATUS}: 404: is the server started with --admin?"]))
 
 
 def statuses(cases, server):
     url = server.url
     same(cases, "status: a fresh disk", curl(url + STATUS), status())
     curl(url + "/features/7", "-X", "PUT", body=feature())
-    one = {"edits": 1, "features": 1, "journal": {"places": 1024, "used": 1}}
+    one = {"edits": 1, "features": 1, "journal": {"places": 1024, "used": 1}, "last": 7}
     same(cases, "status: an edit", curl(url + STATUS), status(**one))
     curl(url + "/publish/begin", "-X", "POST")
     same(cases, "status: a publication under way", curl(url + STATUS), status(**one, left=3))
     curl(url + "/publish/step", "-X", "POST")
-    done = {**one, "archive": 223, "area": {"sectors": 1534, "used": 2}, "generation": 1, "journal": {"places": 1024, "used": 0}}
+    done = {**one, "archive": 223, "area": {"sectors": 1534, "used": 2}, "generation": 1, "journal": {"places": 1024, "used": 0}, "published": 1}
     same(cases, "status: it is installed", curl(url + STATUS), status(**done))
     curl(url + "/features/7", "-X", "DELETE")
-    same(cases, "status: nothing is left of the map", curl(url + STATUS), status(**{**done, "edits": 2, "features": 0, "journal": {"places": 1024, "used": 1}}))
+    same(cases, "status: nothing is left of the map", curl(url + STATUS), status(**{**done, "edits": 2, "features": 0, "journal": {"places": 1024, "used": 1}, "last": None}))
     same(cases, "status: another method", curl(url + STATUS, "-X", "PUT", body="{}"), refusal(405, "Method", more=[("allow", "GET, HEAD")]))
 
 

@@ -168,16 +168,20 @@ def full_journals(cases, folder):
         ends = [imported(path, server.url, *words) for _ in range(3)]
         cases.show("batches: three of 17 sectors", [(status, lines[-1]) for status, lines in ends], [(0, "64 taken, 0 refused")] * 3)
         status, lines = imported(path, server.url, *words)
-        full = "stopped at feature 14: JournalFull need 1 free 0 (publish, and run the same command again, or give it --publish)"
-        cases.show("batches: the fourth, without --publish", (status, lines[-2:]), (1, [full, "13 taken, 0 refused"]))
+        room = "the journal has 13 of its 64 sectors free: give --publish"
+        cases.show("batches: the fourth, without --publish", (status, lines[-2:]), (1, [room, "nothing was sent"]))
+        status, lines = imported(path, server.url, *words, "--anyway")
+        full = "stopped at feature 206: JournalFull need 1 free 0 (publish, and run the same command again, or give it --publish)"
+        cases.show("batches: with --anyway", (status, lines[-2:]), (1, [full, "13 taken, 0 refused: run the same command again with --first 193"]))
         status, lines = imported(path, server.url, *words, "--publish")
         cases.show("batches: the fourth, with --publish", (status, lines[-2:]), (0, ["        the journal is full: a publication", "64 taken, 0 refused"]))
         cases.show("batches: which is one edit", edit_count(server), 3 + 13 + 1)
     path = written(folder, "wide.geojson", points(31, text="x" * 960))
     with Server(folder, "narrow_batches", 128) as server:
-        status, lines = imported(path, server.url, *words)
+        status, lines = imported(path, server.url, *words, "--anyway")
         full = "stopped at feature 11: JournalFull need 3 free 2 (publish, and run the same command again, or give it --publish)"
-        cases.show("batches: one that no journal of 32 sectors takes", (status, lines[-2:]), (1, [full, "10 taken, 0 refused"]))
+        left = "10 taken, 0 refused: run the same command again with --first 1"
+        cases.show("batches: one that no journal of 32 sectors takes", (status, lines[-2:]), (1, [full, left]))
 
 
 class WithoutBatches(http.server.BaseHTTPRequestHandler):
@@ -193,16 +197,16 @@ class WithoutBatches(http.server.BaseHTTPRequestHandler):
         self.wfile.write(content)
         self.server.asked.append(f"{self.command} {self.path}")
 
-    do_PUT = do_POST = do_DELETE = answer
+    do_GET = do_PUT = do_POST = do_DELETE = answer
 
     def log_message(self, *_):
         pass
 
 
 def without_batches(cases, folder):
-    """A server that knows no batches, and a disk of version 1, which takes none: the import says so once, and puts one by one."""
+    """A server that knows no batches: the import says so once, and puts one by one. A disk of version 1 takes neither batches nor checked edits."""
     path = written(folder, "seventy.geojson", points(70))
-    words = ["--layer", "p", "--maxzoom", "0"]
+    words = ["--layer", "p", "--maxzoom", "0", "--first", "1"]
     with http.server.HTTPServer(("127.0.0.1", 0), WithoutBatches) as server:
         server.asked = []
         threading.Thread(target=server.serve_forever, daemon=True).start()
@@ -210,7 +214,8 @@ def without_batches(cases, folder):
         server.shutdown()
         notes = sum(line.startswith("note: the server, or a proxy in front of it, has no /edits") for line in lines)
         cases.show("batches: an older server", (status, notes, lines[-1]), (0, 1, "70 taken, 0 refused"))
-        asked = ["POST /edits", "POST /edits", *[f"PUT /features/{number}" for number in range(1, 71)]]
+        asked = ["GET /admin/status", "POST /edits", "POST /edits", *[f"PUT /features/{number}" for number in range(1, 71)]]
+        asked += ["GET /admin/status", "GET /pages/"]
         cases.show("batches: what it was asked", server.asked, asked)
     disk = os.path.join(folder, "version_1")
     subprocess.run([PROGRAM, "format", disk, "--sectors", "4096"], check=True, capture_output=True)
@@ -220,8 +225,12 @@ def without_batches(cases, folder):
     with Server(folder, "version_1") as server:
         same(cases, "batches: a disk of version 1", sent(server, batch(put(7), put(8))), refusal(409, "NeedsUpgrade"))
         status, lines = imported(path, server.url, *words)
+        stopped = lines[-2].startswith("stopped at feature 1: the disk of the server has version 1, which takes no checked edits: ")
+        cases.show("batches: an import into it", (status, stopped), (1, True))
+    with Server(folder, "version_1", more=()) as server:
+        status, lines = imported(path, server.url, *words)
         notes = sum(line.startswith("note: the disk of the server has version 1") for line in lines)
-        cases.show("batches: an import into it", (status, notes, lines[-1], edit_count(server)), (0, 1, "70 taken, 0 refused", 70))
+        cases.show("batches: an import into it without --admin", (status, notes, lines[-1], edit_count(server)), (0, 1, "70 taken, 0 refused", 70))
     upgraded = subprocess.run([PROGRAM, "upgrade", disk], capture_output=True, text=True)
     cases.show("batches: vtserve upgrade", (upgraded.returncode, upgraded.stdout), (0, "version 2\n"))
     with Server(folder, "version_1") as server:
@@ -234,7 +243,7 @@ class Forgets(http.server.BaseHTTPRequestHandler):
     def answer(self):
         body = self.rfile.read(int(self.headers.get("content-length", 0)))
         status, content = 404, b"NotFound\n"
-        if self.command == "GET":
+        if self.command == "GET" and self.path != "/admin/status":
             status, content = 200, feature(layer="a").encode()
         if self.path == "/edits" and body == b'{"changes":[]}':
             status, content = 400, b"E10 Batch\n"
@@ -258,22 +267,22 @@ def deleted_by_others(cases):
         there = tool([*DELETE_LAYER, "a", "--numbers", "1-3"], f"http://127.0.0.1:{server.server_port}")
         server.shutdown()
         cases.show("batches: features that others delete meanwhile", there, (0, ["3 features of a deleted"]))
-        cases.show("batches: what was asked for it", server.asked, ["GET"] * 3 + ["POST"] * 2 + ["DELETE"] * 3)
+        cases.show("batches: what was asked for it", server.asked, ["GET"] * 4 + ["POST"] * 2 + ["DELETE"] * 3)
 
 
 def deleted(cases, folder):
-    """Whole layers are deleted, by the published archive or by their numbers."""
+    """Whole layers are deleted, by the list of the server or by their ids: 55 by an edit."""
     with Server(folder, "deleted_layers", 4096) as server:
         for layer, first in (("a", 0), ("b", 64), ("a", 128)):
             sent(server, batch(*[put(number, layer=layer) for number in range(first, first + 64)]))
         said = (0, ["128 features of a deleted", "0 features of c deleted"])
         cases.show("batches: delete_layer.py", tool([*DELETE_LAYER, "a", "c"], server.url), said)
         left = [number for number in range(192) if shown(server, number)]
-        cases.show("batches: the other layer is left", (left, edit_count(server)), ([*range(64, 128)], 5))
+        cases.show("batches: the other layer is left", (left, edit_count(server)), ([*range(64, 128)], 6))
         there = tool([*DELETE_LAYER, "b", "--numbers", "60-69,127,5000"], server.url)
         cases.show("batches: delete_layer.py --numbers", there, (0, ["7 features of b deleted"]))
         gone = tool([*DELETE_LAYER, "b", "--no-batches"], server.url)
-        cases.show("batches: delete_layer.py --no-batches", (gone, edit_count(server)), ((0, ["57 features of b deleted"]), 5 + 1 + 57))
+        cases.show("batches: delete_layer.py --no-batches", (gone, edit_count(server)), ((0, ["57 features of b deleted"]), 6 + 1 + 57))
 
 
 def behind_nginx(cases, folder):

@@ -46,9 +46,10 @@ def written(folder, name, rows):
 
 
 def imported(path, url, *words):
-    """The status and the lines of an import."""
+    """The status and the lines of an import, without those that say where the data is and what of the disk is used."""
     child = subprocess.run([*TOOL, path, "--url", url, *words], capture_output=True, text=True)
-    return child.returncode, (child.stdout + child.stderr).splitlines()
+    lines = (child.stdout + child.stderr).splitlines()
+    return child.returncode, [line for line in lines if not line.startswith(("used: ", "look at it: "))]
 
 
 def shown(server, number):
@@ -169,7 +170,8 @@ def large(cases, folder):
         cases.show("large: --no-split tells what will be wrong", (status, right, lines[-1]), (0, True, "1 taken, 0 refused"))
         status, lines = imported(written(folder, "line.geojson", rows[2:3]), server.url, "--layer", "area", "--minzoom", "6", "--no-split", "--first", "2")
         estimated(cases, server, "a line that isn't cut", lines)
-        words = ["--layer", "area", "--minzoom", "6", "--maxzoom", "16", "--sectors", "4096", "--publish"]
+    with Server(folder, "narrow_area", 4096) as server:
+        words = ["--layer", "area", "--minzoom", "6", "--maxzoom", "16", "--publish"]
         status, lines = imported(path, server.url, *words)
         said = [lines[-1], "which has 1,534" in lines[-3], re.match(r"about [\d,]+ would be needed: ", lines[-2]) is not None]
         cases.show("large: what can't be published isn't begun", (status, said), (1, ["nothing was sent", True, True]))
@@ -177,19 +179,19 @@ def large(cases, folder):
 
 
 def a_second_time(cases, folder):
-    """A file that fits on its disk once: --sectors counts what the map has."""
+    """A file that fits on its disk once: what was published last is counted."""
     rows = [row("Point", [at / 10, at / 10], name=f"{at} " + "x" * 1000) for at in range(250)]
     path = written(folder, "second.geojson", rows)
-    words = ["--layer", "p", "--maxzoom", "0", "--sectors", "4096", "--publish"]
+    words = ["--layer", "p", "--maxzoom", "0", "--publish"]
     with Server(folder, "second", 4096) as server:
         status, lines = imported(path, server.url, *words)
-        said = ["the map takes 0 sectors of an area, which has 1,534", "250 taken, 0 refused"]
-        cases.show("large: --sectors, what fits", (status, lines[-2:]), (0, said))
+        said = ["what was published last takes 0 sectors of an area, which has 1,534", "250 taken, 0 refused"]
+        cases.show("large: what fits", (status, lines[-2:]), (0, said))
+        curl(server.url + "/publish", "-X", "POST")
         status, lines = imported(path, server.url, *words, "--first", "1001")
-        taken = re.fullmatch(r"the map takes ([\d,]+) sectors of an area, which has 1,534", lines[-3])
-        cases.show("large: --sectors, what doesn't fit beside it", (status, taken is not None, lines[-1]), (1, True, "nothing was sent"))
-        left = json.loads(curl(server.url + "/publish/begin", "-X", "POST")[2])["left"] - 1
-        cases.show("large: what the map takes", taken and int(taken[1].replace(",", "")), left)
+        taken = json.loads(curl(server.url + "/admin/status")[2])["area"]["used"]
+        said = f"what was published last takes {taken:,} sectors of an area, which has 1,534"
+        cases.show("large: what doesn't fit beside it", (status, lines[-3], lines[-1]), (1, said, "nothing was sent"))
 
 
 # ---- files
@@ -251,9 +253,10 @@ def encodings(cases, folder, server):
     with open(made[:-4] + ".dbf", "r+b") as file:
         file.seek(29)
         file.write(b"\0")
-    for words, wanted in [([], "Straße Süd"), (["--encoding", "latin-1"], "Straße Süd"), (["--encoding", "cp437"], "Stra▀e Sⁿd")]:
-        status, lines = imported(made, server.url, "--layer", "p", "--first", "1200", *words)
-        found = (shown(server, 1200) or {"tags": {}})["tags"].get("name")
+    given = [([], "Straße Süd"), (["--encoding", "latin-1"], "Straße Süd"), (["--encoding", "cp437"], "Stra▀e Sⁿd")]
+    for number, (words, wanted) in enumerate(given, 1200):
+        status, lines = imported(made, server.url, "--layer", "p", "--first", str(number), *words)
+        found = (shown(server, number) or {"tags": {}})["tags"].get("name")
         cases.show(f"import: a Shapefile in Latin-1 that doesn't say it, {words[-1] if words else 'no encoding given'}", (status, found), (0, wanted))
         told = any("aren't UTF-8 and are read as cp1252" in line for line in lines)
         cases.show("import: it says which encoding it took", told, not words)
@@ -279,9 +282,9 @@ def kinds(cases, folder, server):
     refused = [f"feature 1304 refused: {never}", f"feature 1305 refused: {never}", long]
     cases.show("import: what is never shown, and what is too long", (status, [line for line in lines if " refused: " in line]), (1, refused))
     notes = [
-        "note: heights (Z) are dropped: 1 feature",
         "note: the field list is dropped: a list is no value of a tag: 1 feature",
         "note: the field object is dropped: a list or an object is no value of a tag: 1 feature",
+        "note: heights (Z) are dropped: 1 feature",
         "note: cut at the 180th meridian, which they cross: 2 features",
         "note: no zoom shows them: they are smaller than a unit of a tile of zoom 4: 1 feature",
     ]
@@ -298,7 +301,7 @@ def kinds(cases, folder, server):
     cases.show("import: a polygon over it is two", is_near(sorted(boxes, reverse=True), wanted), True)
     status, lines = imported(path, server.url, "--layer", "k", "--maxzoom", "4", "--first", "1301", "--cut-texts")
     found = (shown(server, 1307) or {"tags": {}})["tags"].get("text")
-    cases.show("import: --cut-texts", (lines[-1], found), ("5 taken, 2 refused", "ä" * 512))
+    cases.show("import: --cut-texts", (lines[-1], found), ("1 taken, 2 refused, 4 unchanged", "ä" * 512))
 
 
 def numbers(cases, folder, server):
@@ -310,12 +313,12 @@ def numbers(cases, folder, server):
     rows = [row("Point", [5, 5], nr=13, name="moved"), row("Point", [6, 6], nr=11, name="11")]
     status, lines = imported(written(folder, "two.geojson", rows), server.url, "--layer", "n", "--id", "nr", "--replace", "n")
     found = [(shown(server, at) or {"tags": {}})["tags"].get("name") for at in (11, 12, 13)]
-    cases.show("import: --replace deletes what the file no longer has", (status, lines[-1], found), (0, "2 taken, 0 refused, 1 deleted", ["11", None, "moved"]))
+    cases.show("import: --replace deletes what the file no longer has", (status, lines[-1], found), (0, "0 new, 2 changed, 1 deleted, 0 unchanged", ["11", None, "moved"]))
     cases.show("import: and nothing else", (shown(server, 99) or {}).get("layer"), "other")
     rows = [row("Point", [5, 5], nr=99)]
     status, lines = imported(written(folder, "taken.geojson", rows), server.url, "--layer", "n", "--id", "nr", "--replace", "n")
-    said = "1 numbers are those of features of other layers, the first is 99 of other: give another --first. Nothing was sent"
-    cases.show("import: a number of another layer isn't taken", (status, lines[-1]), (1, said))
+    said = "1 of the ids are taken by other layers: 1 of other. Give another --first, or --overwrite to replace these features"
+    cases.show("import: a number of another layer isn't taken", (status, lines[-2:]), (1, [said, "nothing was sent"]))
     rows = [row("Point", [5, 5], nr=value) for value in (-1, "x", 7, 7, None, [1])]
     status, lines = imported(written(folder, "odd.geojson", rows), server.url, "--layer", "n", "--id", "nr")
     cases.show("import: numbers that are none, or taken twice", (status, lines[-1]), (1, "1 taken, 5 refused"))
@@ -338,13 +341,13 @@ def pieces(cases, folder, server):
     found = [shown(server, 21 + at * piece) or {"layer": None, "tags": {}} for at in (0, 1, last, last + 1)]
     wanted = [("s", 21), ("s", 21), ("s-outline", 21), (None, None)]
     cases.show("import: the numbers and layers of its pieces", [(one["layer"], one["tags"].get("whole")) for one in found], wanted)
-    finer = imported(path, server.url, *words[:-2], "--split-zoom", "15", "--first", "2000")
-    more = re.match(r"feature 21 is cut into (\d+) pieces", finer[1][0])
+    finer = imported(path, server.url, "--layer", "finer", *words[2:-2], "--split-zoom", "15", "--first", "2000")
+    more = re.match(r"feature 2021 is cut into (\d+) pieces", finer[1][0])
     cases.show("import: --split-zoom cuts finer", made is not None and more is not None and int(more[1]) > int(made[1]), True)
     other = written(folder, "unfit.geojson", [row("Polygon", [square(20, 50, 0.05)], nr=21, whole=1), row("Point", [20, 50], nr=22)])
     status, lines = imported(other, server.url, *words)
     there = shown(server, 21 + piece) is not None
-    cases.show("import: --replace leaves the pieces of what is refused", (status, lines[-1], there), (1, "1 taken, 1 refused", True))
+    cases.show("import: --replace leaves the pieces of what is refused", (status, lines[-1], there), (1, "0 new, 0 changed, 0 deleted, 1 unchanged, 1 refused", True))
     path = written(folder, "small.geojson", [row("Polygon", [square(20, 50, 0.005)], nr=21), row("Point", [20, 50], nr=22)])
     status, lines = imported(path, server.url, *words)
     left = [at for at in range(1, 40) if shown(server, 21 + at * piece)]
@@ -390,8 +393,10 @@ def stops(cases, folder):
     path = written(folder, "stops.geojson", rows)
     with Server(folder, "stops", 64) as server:
         status, lines = imported(path, server.url, "--layer", "p", "--maxzoom", "2", "--publish")
+        cases.show("import: what its disk can't publish isn't begun", (status, lines[-1]), (1, "nothing was sent"))
+        status, lines = imported(path, server.url, "--layer", "p", "--maxzoom", "2", "--publish", "--anyway")
         stopped = re.fullmatch(r"stopped at feature (\d+): AreaFull need \d+ free 22 \(.*\)", lines[-2])
-        taken = re.fullmatch(r"(\d+) taken, 0 refused", lines[-1])
+        taken = re.fullmatch(r"(\d+) taken, 0 refused: run the same command again with --first 1", lines[-1])
         cases.show("import: --publish stops at AreaFull", (status, stopped is not None, taken is not None), (1, True, True))
         if stopped and taken:
             cases.show("import: and told the feature behind the last one taken", int(stopped[1]), int(taken[1]) + 1)
@@ -424,7 +429,7 @@ def too_many(cases, folder):
     with http.server.HTTPServer(("127.0.0.1", 0), Refuses) as server:
         server.asked = []
         threading.Thread(target=server.serve_forever, daemon=True).start()
-        status, lines = imported(path, f"http://127.0.0.1:{server.server_port}", "--layer", "p", "--publish")
+        status, lines = imported(path, f"http://127.0.0.1:{server.server_port}", "--layer", "p", "--publish", "--first", "1")
         server.shutdown()
         stopped = lines[-2].startswith("stopped at feature 1: TooManyTiles (")
         cases.show("import: --publish stops at TooManyTiles", (status, stopped, server.asked), (1, True, ["POST /edits", "POST /publish/begin"]))
@@ -435,7 +440,7 @@ def interrupted(cases, folder):
     corners = [(0, 0), (0.02, 0), (0.02, 0.02), (0, 0.02), (0, 0)]
     rows = [row("Polygon", [[[at / 5 + x, 10 + y] for x, y in corners]], name=str(at)) for at in range(400)]
     path = written(folder, "interrupted.geojson", rows)
-    words = ["--layer", "p", "--minzoom", "12", "--publish"]
+    words = ["--layer", "p", "--minzoom", "12", "--publish", "--first", "1"]
     with Server(folder, "whole_import", 16384) as whole, Server(folder, "cut_import", 16384) as server:
         status, lines = imported(path, whole.url, *words)
         total = int(lines[-1].split()[0])

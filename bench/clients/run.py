@@ -345,7 +345,7 @@ def surveyed():
 
 def said(line):
     """Whether a line of the import is about a feature or the end, not about what is to be sent."""
-    return not line.startswith(("to send: ", "needed beside "))
+    return not line.startswith(("to send: ", "needed beside ", "what was published ", "used: ", "look at it: "))
 
 
 def gdal(cases, folder):
@@ -385,15 +385,15 @@ def gdal(cases, folder):
             json.dump(unlike, file)
         told = subprocess.run([*tool, path, "--layer", "more", "--first", "201", "--url", server.url], capture_output=True, text=True)
         lines = [line.split(":")[0] for line in told.stdout.splitlines() if said(line)]
-        refused = [f"feature {number} refused" for number in (201, 202, 203)]
-        cases.show("import of what can't be put", (told.returncode, lines), (1, [*refused, "1 taken, 3 refused"]))
-        for kind, name in [("ESRI Shapefile", "lines.shp"), ("GPKG", "lines.gpkg")]:
+        wanted_lines = ["feature 202 refused", "feature 203 refused", "note", "1 taken, 2 refused"]
+        cases.show("import of what can't be put", (told.returncode, lines), (1, wanted_lines))
+        for number, kind, name in [(301, "ESRI Shapefile", "lines.shp"), (302, "GPKG", "lines.gpkg")]:
             path = os.path.join(folder, name)
             made = ["ogr2ogr", "-f", kind, "-t_srs", "EPSG:25832", path, survey, "-where", "name = 'a path'", "-nln", "lines"]
             subprocess.run(made, check=True, capture_output=True)
-            told = subprocess.run([*tool, path, "--layer", "again", "--first", "301", "--url", server.url], capture_output=True, text=True)
+            told = subprocess.run([*tool, path, "--layer", "again", "--first", str(number), "--url", server.url], capture_output=True, text=True)
             cases.show(f"import of {name}, in UTM", (told.returncode, told.stdout.splitlines()[-1:]), (0, ["1 taken, 0 refused"]))
-            shown = json.loads(curl(server.url + "/features/301")[2] or b"{}")
+            shown = json.loads(curl(f"{server.url}/features/{number}")[2] or b"{}")
             cases.show("its points to ten units of the world, 9 cm", near(shown.get("geometry", {}).get("lines"), surveyed()[3][1], 10), True)
         read_by_gdal(cases, folder, server, "survey", 14, 101)
         read_by_gdal(cases, folder, server, "survey", 16, 101)
@@ -406,20 +406,24 @@ def import_to_a_full_journal(cases, folder, tool):
     points = [{"type": "Feature", "properties": {}, "geometry": {"type": "Point", "coordinates": [at, at]}} for at in range(40)]
     with open(path, "w", encoding="utf-8") as file:
         json.dump({"type": "FeatureCollection", "features": points}, file)
-    words = [*tool, path, "--layer", "p", "--maxzoom", "2", "--no-batches"]
+    words = [*tool, path, "--layer", "p", "--maxzoom", "2", "--no-batches", "--first", "1"]
     with Server(folder, "narrow", 64) as server:
         told = subprocess.run([*words, "--url", server.url], capture_output=True, text=True)
         lines = [line for line in told.stdout.splitlines() if said(line)]
+        room = ["the journal has 16 of its 16 sectors free: give --publish", "nothing was sent"]
+        cases.show("import of forty points for sixteen places", (told.returncode, lines), (1, room))
+        told = subprocess.run([*words, "--url", server.url, "--anyway"], capture_output=True, text=True)
+        lines = [line for line in told.stdout.splitlines() if said(line)][1:]
         full = "stopped at feature 17: JournalFull need 1 free 0 (publish, and run the same command again, or give it --publish)"
-        cases.show("import of forty points for sixteen places", (told.returncode, lines), (1, [full, "16 taken, 0 refused"]))
+        cases.show("the same with --anyway", (told.returncode, lines), (1, [full, "16 taken, 0 refused: run the same command again"]))
         told = subprocess.run([*words, "--url", server.url, "--publish"], capture_output=True, text=True)
         published = told.stdout.count("the journal is full: a publication")
-        cases.show("the same with --publish", (told.returncode, told.stdout.splitlines()[-1:], published), (0, ["40 taken, 0 refused"], 3))
+        cases.show("the same with --publish", (told.returncode, told.stdout.splitlines()[-1:], published), (0, ["24 taken, 0 refused, 16 unchanged"], 2))
         cases.show("the last of them", status_of(curl(server.url + "/features/40")), 200)
         gone = server.url
     told = subprocess.run([*words, "--url", gone], capture_output=True, text=True)
-    last = "0 taken, 0 refused, then the server didn't answer: run the same command again"
-    cases.show("import where no server is", (told.returncode, told.stdout.splitlines()[-1:]), (1, [last]))
+    ends = told.stdout.endswith(": nothing was sent\n")
+    cases.show("import where no server is", (told.returncode, ends), (3, True))
 
 
 def read_by_gdal(cases, folder, server, layer, zoom, first):
@@ -472,9 +476,20 @@ def steps(cases, folder):
         cases.show("publish.sh", (child.returncode, child.stderr, child.stdout.splitlines()[-1:]), (0, "", ["published"]))
         cases.show("each step is 64 sectors less", all(one - other == 64 for one, other in zip(left[:-1], left[1:-1])) and left[-1:] == [0], True)
         curl(server.url + "/publish/begin", "-X", "POST")
-        busy = subprocess.run([*tool, server.url], capture_output=True, text=True)
-        cases.show("publish.sh while another one publishes", (busy.returncode, busy.stderr), (1, "/publish/begin: Busy  409\n"))
-        same(cases, "which goes on", curl(server.url + "/publish/cancel", "-X", "POST"), wanted(204))
+        record = os.path.join(folder, "published")
+        rest = subprocess.run([*tool, server.url, "--record", record], capture_output=True, text=True)
+        said = [line for line in rest.stdout.splitlines() if not line.endswith(" left")]
+        cases.show("publish.sh finishes a publication that was left", (rest.returncode, rest.stderr, said[0], said[-1]),
+                   (0, "", "a publication is under way: it is finished first", "published"))
+        curl(server.url + "/publish/begin", "-X", "POST")
+        rest = subprocess.run([*tool, server.url, "--cancel"], capture_output=True, text=True)
+        cases.show("publish.sh --cancel drops it", (rest.returncode, rest.stderr), (0, "the publication is cancelled\n"))
+        with open(record, encoding="utf-8") as file:
+            cases.show("publish.sh --record", json.load(file)["result"], "published")
+        gone = server.url
+    rest = subprocess.run([*tool, gone, "--record", record], capture_output=True, text=True)
+    with open(record, encoding="utf-8") as file:
+        cases.show("publish.sh without a server", (rest.returncode, json.load(file)["result"]), (3, "no reply"))
 
 
 def in_front(cases, folder):

@@ -68,9 +68,9 @@ def free_port():
 
 
 class Server:
-    """A process of `serve`, on a disk that is made for it where it isn't there."""
+    """A process of `serve`, on a disk that is made for it if there is none."""
 
-    def __init__(self, folder, name, sectors=4096, connections=4294967295, port=None, more=(), log=None, under=()):
+    def __init__(self, folder, name, sectors=4096, connections=4294967295, port=None, more=("--admin",), log=None, under=()):
         self.disk = os.path.join(folder, name)
         if not os.path.exists(self.disk):
             subprocess.run([PROGRAM, "format", self.disk, "--sectors", str(sectors)], check=True, stdout=subprocess.DEVNULL)
