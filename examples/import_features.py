@@ -50,7 +50,7 @@ from id_file import IdFile
 from import_changes import Changes
 from import_plan import Plan
 from import_sizes import disk_for
-from map_client import NUMBER_END, Client, NoAnswer, Stopped
+from map_client import NO_CHECKS, NUMBER_END, Client, NoAnswer, Stopped
 from world_shapes import GREATEST_ZOOM
 
 UNKNOWN = "the server tells nothing of itself (start it with --admin): which ids are free isn't known"
@@ -210,6 +210,8 @@ def tell_place(words, client, plan):
 def work(words, client):
     """The import. Returns its exit status."""
     status = client.status()
+    if status is not None and "last" not in status:
+        raise Stopped(NO_CHECKS[404])
     plan = plan_of(words, client, status)
     changes = Changes(plan, words)
     found = obstacles(words, client, status, changes)

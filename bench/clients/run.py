@@ -25,6 +25,7 @@ import time
 from admin import admin
 from batches import batches
 from direct import direct
+from editors import editors
 from imports import disk_full, imports, kills, large
 from screens import screens
 from stand import BYTES, EXAMPLES, HALF, JSON, METADATA, MVT, PROGRAM, ROOT, SHOWN, SYSTEM_PYTHON, TEXT, TILE
@@ -607,6 +608,7 @@ def main():
         "import": imports,
         "admin": admin,
         "batches": batches,
+        "editors": editors,
         "steps": steps,
         "disk-full": disk_full,
         "kills": kills,
