@@ -1,5 +1,5 @@
 -- The features of a map are within the limits.
-use Rattle.std.proofs.Common.{◌≡◌, ⊎_elim, ℕ, Bool, false, true, cond, List, [], ◌∷◌, sym, subst, arith, Option, Some, None}
+use Rattle.std.proofs.Common.{◌≡◌, ⊎_elim, ℕ, Bool, false, true, cond, [], ◌∷◌, sym, subst, arith, Option, Some, None}
 use Rattle.std.specs.Prelude.{nat_le, IfSome, option_map}
 use Rattle.std.specs.List.{All}
 use Rattle.std.specs.Ordering.{nat_cmp}
@@ -9,7 +9,7 @@ use Rattle.std.proofs.lemmas.Bool.{cases_eq}
 use Rattle.std.proofs.lemmas.Bool.Decides.{nat_tests}
 use Rattle.std.proofs.lemmas.List.Elements.{All-head, All-tail}
 use Rattle.number_map.specs.Blocks.{first_from}
-use Rattle.feature_model.specs.Data.{FeatureData, put}
+use Rattle.feature_model.specs.Data.{put}
 use Rattle.feature_model.specs.Limits.{IsAllowed}
 use Rattle.feature_model.specs.Types.{IsChange}
 use Rattle.feature_store.specs.Store.{FeatureMap, IsMap, feature_at, feature_from}

@@ -109,10 +109,6 @@ pub found_data : (o : Option (Bor Feature)) (p : Option Feature) → option_map 
 found_data None p is = ap (option_map feature_data) is
 found_data (Some v) p is = ap (option_map feature_data) is
 
-pub is_some_data : (o : Option Feature) → is_some (option_map feature_data o) ≡ is_some o
-is_some_data None = refl
-is_some_data (Some f) = refl
-
 -- what holds of all entries holds of the one that is found
 pub All-found : (P : ℕ × Feature → Type 0) (es : List (ℕ × Feature)) (n : ℕ) (f : Feature) → All P es → lookup (is_at (nat_cmp n)) es ≡ Some f → P (n, f)
 All-found P [] n f all h = cc
@@ -141,13 +137,6 @@ module _ (es : List (ℕ × Feature)) (i : ℕ) (e : ℕ × Feature) where
   text_more front out next lt is before after =
       rw (take_more es i e lt, ← is, map-append)
       (after ∙ ap (λ r. r ++ entry_text (entry_data e)) before ∙ snapshot_more front (entries_data (take i es)) (entry_data e))
-
-  -- a list of entries, at an entry
-  pub entries_parted : i < length es → e ≡ get_or es i e
-      → entries_data es ≡ entries_data (take i es) ++ entry_data e ∷ entries_data (drop (i + 1) es)
-  entries_parted lt is =
-      ap entries_data (sym (take-append-drop i es) ∙ ap (λ r. take i es ++ r) (drop_more es i e lt ∙ ap (λ x. x ∷ drop (i + 1) es) (sym is)))
-      ∙ map-append entry_data (take i es) (e ∷ drop (i + 1) es)
 
   -- the map of the first entries, and of one more
   pub entries_more : (front m next : FeatureMap) → i < length es → e ≡ get_or es i e → m ≡ front ++ entries_data (take i es)
@@ -191,13 +180,3 @@ module _ (bs : List (List (ℕ × Feature))) (i : ℕ) (b : List (ℕ × Feature
   block_edits all =
       All-front (entries_data b) (entries_data (joined (drop (i + 1) bs)))
       (All-behind (entries_data (joined (take i bs))) (entries_data b ++ entries_data (joined (drop (i + 1) bs))) (subst (All IsEditOf) blocks_parted all))
-
--- a map in parts: what is there already, and the rest
-pub parts_in_front : (front done there more all : FeatureMap) → all ≡ done ++ more → there ≡ front ++ done → front ++ all ≡ there ++ more
-parts_in_front front done there more all is so_far =
-    ap (λ r. front ++ r) is ∙ sym (append_assoc front done more) ∙ ap (λ r. r ++ more) (sym so_far)
-
-pub parts_grouped : (front done there next rest all : FeatureMap) → all ≡ done ++ (next ++ rest) → there ≡ front ++ done
-    → front ++ all ≡ (there ++ next) ++ rest
-parts_grouped front done there next rest all is so_far =
-    parts_in_front front done there (next ++ rest) all is so_far ∙ sym (append_assoc there next rest)

@@ -98,7 +98,7 @@ ascends_behind (d ∷ m) e tail ascends =
     All-cons (λ x. x.0 < e.0) d m (above_at d.0 m e tail (ascends_head d (m ++ e ∷ tail) ascends))
     (ascends_behind m e tail (ascends_tail d (m ++ e ∷ tail) ascends))
 
--- a number above all others stands behind them
+-- a number above all others comes after them
 set_behind : (m : FeatureMap) (id : ℕ) (f : FeatureData) → IsBehind m id → insert_entry nat_cmp m id f ≡ m ++ (id, f) ∷ []
 set_behind [] id f behind = refl
 set_behind (e ∷ m) id f behind =
@@ -109,7 +109,7 @@ pub with_behind : (m : FeatureMap) (id : ℕ) (f : FeatureData) → IsBehind m i
 unfolding with_feature
 with_behind m id f behind = set_behind m id f behind
 
--- ---- maps one behind the other
+-- ---- maps one after the other
 
 pub All-front : (m n : FeatureMap) → All IsEditOf (m ++ n) → All IsEditOf m
 All-front [] n all = All-nil IsEditOf
@@ -122,40 +122,6 @@ All-behind (e ∷ m) n all = All-behind m n (All-tail IsEditOf e (m ++ n) all)
 pub snapshot_both : (m n : FeatureMap) → snapshot (m ++ n) ≡ snapshot m ++ snapshot n
 unfolding snapshot
 snapshot_both m n = flat_map-append entry_text m n
-
-above_front : (k : ℕ) (m n : FeatureMap) → AreAbove k (m ++ n) → AreAbove k m
-above_front k [] n above = tt
-above_front k (e ∷ m) n above = (above.0, above_front k m n above.1)
-
-ascends_front : (m n : FeatureMap) → Ascends (m ++ n) → Ascends m
-ascends_front [] n up = ascends_none
-ascends_front (e ∷ m) n up =
-    ascends_cons e m (above_front e.0 m n (ascends_head e (m ++ n) up)) (ascends_front m n (ascends_tail e (m ++ n) up))
-
-pub map_front : (m n : FeatureMap) → IsMap (m ++ n) → IsMap m
-map_front m n is_map = record {
-  ascending = ascends_front m n is_map.ascending;
-  edits = All-front m n is_map.edits;
-  short = omega (arith, is_map.short, ap length (snapshot_both m n), length-append (snapshot m) (snapshot n));
-}
-
--- an entry behind some of a map, and before others
-module _ (m : FeatureMap) (e : ℕ × FeatureData) (tail : FeatureMap) (is_map : IsMap (m ++ e ∷ tail)) where
-  pub edit_there : IsEditOf e
-  edit_there = All-head IsEditOf e tail (All-behind m (e ∷ tail) is_map.edits)
-
-  pub behind_there : IsBehind m e.0
-  behind_there = ascends_behind m e tail is_map.ascending
-
-  pub short_there : length (snapshot m) + length (entry_text e) < TEXTS_END
-  short_there =
-      omega (
-        arith,
-        is_map.short,
-        ap length (snapshot_both m (e ∷ tail)),
-        length-append (snapshot m) (snapshot (e ∷ tail)),
-        snapshot_on e tail,
-      )
 
 -- the least number above all, with one entry more
 pub end_behind : (m : FeatureMap) (e : ℕ × FeatureData) → IsBehind m e.0 → (id : ℕ) → (e.0 + 1 ≤ id) ↔ IsBehind (m ++ e ∷ []) id
@@ -172,7 +138,7 @@ end_behind m e behind id = (
 pub text_within : (e : ChangeData) (text : List ℕ) → BeginsWithChange e text → length (spelled_change e) ≤ length text
 text_within e text begins = omega (arith, ap length begins.1.1, length-append (spelled_change e) begins.1.0)
 
--- what stands behind the text of an edit
+-- what comes after the text of an edit
 pub text_behind : (e : ChangeData) (text : List ℕ) (len : ℕ) → BeginsWithChange e text → len ≡ length (spelled_change e)
     → text ≡ spelled_change e ++ take (length text - len) (drop len text)
 text_behind e text len begins long =

@@ -1,4 +1,4 @@
-use Rattle.std.proofs.Common.{subst, ◌≡◌, ◌∙◌, take, arith}
+use Rattle.std.proofs.Common.{subst, ◌≡◌, ◌∙◌, arith}
 use Rattle.std.proofs.lemmas.List.{take_all}
 use Rattle.feature_store.specs.Boxes.{boxes_in}
 use Rattle.feature_store.proofs.Boxes.{no_tiles, tiles_more}
