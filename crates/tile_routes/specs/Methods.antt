@@ -8,7 +8,7 @@ use Rattle.tile_routes.specs.declared.method.Method.{Method}
 use Rattle.tile_routes.specs.declared.method.Method.TheVariants.{Get, Head, Put, Delete, Post}
 use Rattle.tile_routes.specs.Paths.{Asked, asked_tile, asked_feature, asked_from, asked_view, asked_action, asked_nothing}
 
--- a method's name, which stands in a request's first line
+-- a method's name in a request's first line
 unfoldable pub name_of : Method → List ℕ
 name_of Get = codes "GET"
 name_of Head = codes "HEAD"

@@ -5,7 +5,7 @@ use Rattle.std.specs.Char.{is_ascii_digit}
 use Rattle.std.specs.Str.Parse.{digits_value}
 use Rattle.feature_model.specs.declared.limits.TheConstants.{NUMBER_END}
 
--- a first digit that says nothing: 0 (48) with another digit behind it
+-- the first digit is a 0 (48), and another digit follows
 abbrev pub has_leading_zero : List ℕ → Bool
 has_leading_zero text = nat_lt 1 (length text) && (slice_index text 0 == 48)
 

@@ -46,7 +46,7 @@ abbrev pub AllFit : List (List ℕ × Route) → RowsOf (RouteOf Route) → Type
 AllFit [] rows = ⊤
 AllFit (path ∷ more) rows = Fits (parse_route path.0) rows × AllFit more (with_route path.0 path.1 rows)
 
--- the paths that are served, those under /admin/ where they are wanted
+-- the paths that are served, those under /admin/ only if the server serves them
 unfoldable pub served_paths : List (List ℕ × Route)
 served_paths =
     (codes "/map/{z}/{x}/{y}", routes.Tile)
@@ -80,7 +80,7 @@ pub data Asked : Type 0 where
 abbrev pub ends_as : List ℕ → List ℕ → Bool
 ends_as ending text = pointwise nat_eq (drop (length text - length ending) text) ending
 
--- what stands before the ending
+-- the text before the ending
 abbrev pub stem : List ℕ → List ℕ → List ℕ
 stem ending text = take (length text - length ending) text
 
@@ -113,7 +113,7 @@ abbrev pub named_tile : Option ℕ → Option ℕ → Option (List ℕ × TileFo
 named_tile z x None = asked_nothing
 named_tile z x (Some row) = tile_asked z x (number_of row.0) row.1
 
--- the part of a path with this name, and nothing where there is none
+-- the part of a path with this name, or no bytes if there is none
 abbrev pub part_named : List ℕ → List (List ℕ × List ℕ) → List ℕ
 part_named name parts = text_or_nothing (named name parts)
   where

@@ -1,5 +1,6 @@
 //! Why a request is refused by its path and method.
-/// Why a request by its path and the name of its method is refused.
+
+/// Why a request is refused by its path and its method.
 #[derive(Clone, Copy, Debug, PartialEq, Eq)]
 pub enum RouteFault {
     /// The path isn't served, whatever the method.

@@ -40,7 +40,7 @@ impl Model for Routes {
     ghost invariant = { λ routes. routes.router ≡ served_rows };
 }
 
-/// Each path that is served, those under `/admin/` where they are wanted, with its route.
+/// Each path that is served, those under `/admin/` only if the server serves them, with its route.
 const SERVED: &[(&str, Route)] = &[
     ("/map/{z}/{x}/{y}", Route::Tile),
     ("/map/metadata", Route::View(View::Metadata)),
@@ -98,7 +98,7 @@ fn ascii_text(bytes: &[u8]) -> Option<&str>
     }
 }
 
-/// The part of a path with this name, and nothing where there is none.
+/// The part of a path with this name, or no bytes if there is none.
 fn part<'p>(params: &Params<'_, 'p>, name: &str) -> &'p [u8]
     requires { AllText (parts_of params.now) }
     ensures { result.now ≡ part_named name.now (parts_of params.now) }

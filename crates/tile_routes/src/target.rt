@@ -86,7 +86,7 @@ pub(crate) fn from_target(id: &[u8]) -> Target
     }
 }
 
-/// What stands before the ending of a tile's name, and the format that the ending names.
+/// The part of a tile's name before its ending, and the format that the ending names.
 fn format_of(name: &[u8]) -> Option<(&[u8], TileFormat)>
     ensures { option_map row_view result ≡ row_and_format name.now }
 {
