@@ -1,5 +1,5 @@
 #!/usr/bin/env python3
-"""Runs the commands of README.md and of docs/HTTP.md, COMMANDS.md and DEPLOYING.md, and compares what they print with what the page says.
+"""Runs the commands of README.md and of docs/HTTP.md, COMMANDS.md, DEPLOYING.md and OFFICE.md, and compares what they print with what the page says.
 
     python3 bench/documents.py [PROGRAM] [--page PAGE] [--show]    PROGRAM is crates/vtserve/out/vtserve
 
@@ -26,7 +26,7 @@ import time
 
 HERE = os.path.dirname(os.path.abspath(__file__))
 TOP = os.path.dirname(HERE)
-PAGES = ["README.md", "docs/HTTP.md", "docs/COMMANDS.md", "docs/DEPLOYING.md"]
+PAGES = ["README.md", "docs/HTTP.md", "docs/COMMANDS.md", "docs/DEPLOYING.md", "docs/OFFICE.md"]
 OWN = ["/etc", "/usr/local", "/var/lib"]
 SECONDS = 600
 MAX_LINES = 40

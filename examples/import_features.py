@@ -201,10 +201,9 @@ def tell_place(words, client, plan):
     """Prints where the data is."""
     if plan.box is None:
         return
-    url = words.url.rstrip("/")
     status, _ = client.ask("GET", "/pages/")
-    page = f"{url}/pages/#" if status == 200 else "/pages/# of the nginx in front of the server, with #"
-    print(f"look at it: {page}{plan.place()}")
+    place = f"/pages/#{plan.place()}"
+    print("look at it: " + (words.url.rstrip("/") + place if status == 200 else f"{place} at the address of the nginx in front of the server"))
 
 
 def work(words, client):
