@@ -125,7 +125,8 @@ class Page:
     def press(self, text):
         """Clicks at the button, or the word, that has a text."""
         script = f"""(() => {{
-            const found = [...document.querySelectorAll("button, summary")].find(each => each.textContent === {json.dumps(text)} && each.offsetParent && !each.disabled);
+            const all = [...document.querySelectorAll("button, summary")];
+            const found = all.find(each => each.textContent === {json.dumps(text)} && each.offsetParent && !each.disabled);
             found?.scrollIntoView({{block: "nearest"}});
             const box = found?.getBoundingClientRect();
             return box ? [box.x + box.width / 2, box.y + box.height / 2] : null;
@@ -156,6 +157,6 @@ class Page:
     def faults(self):
         """What the page and the browser complained of."""
         self.value("0")
-        mine = [event for event in self.browser.events if event.get("sessionId") == self.session]
-        thrown = [event["params"]["exceptionDetails"].get("exception", {}).get("description", "") for event in mine if event["method"] == "Runtime.exceptionThrown"]
-        return thrown + [event["params"]["entry"]["text"] for event in mine if event["method"] == "Log.entryAdded" and event["params"]["entry"]["level"] == "error"]
+        mine = [(event["method"], event["params"]) for event in self.browser.events if event.get("sessionId") == self.session]
+        thrown = [words["exceptionDetails"].get("exception", {}).get("description", "") for name, words in mine if name == "Runtime.exceptionThrown"]
+        return thrown + [words["entry"]["text"] for name, words in mine if name == "Log.entryAdded" and words["entry"]["level"] == "error"]

@@ -27,6 +27,8 @@ from batches import batches
 from direct import direct
 from editors import editors
 from imports import disk_full, imports, kills, large
+from desktop import desktop
+from pages import page
 from screens import screens
 from stand import BYTES, EXAMPLES, HALF, JSON, METADATA, MVT, PROGRAM, ROOT, SHOWN, SYSTEM_PYTHON, TEXT, TILE
 from stand import Cases, Nginx, Server, curl, feature, field, parsed, refusal, same, status_of, wanted
@@ -603,6 +605,8 @@ def main():
         "kept": kept_connections,
         "direct": direct,
         "screens": screens,
+        "page": page,
+        "desktop": desktop,
         "gdal": gdal,
         "large": large,
         "import": imports,

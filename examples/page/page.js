@@ -51,7 +51,7 @@ function show(feature) {
 /** Shows the map with an edit. */
 async function showEdit(edit) {
     view.showEdit(edit);
-    layers = await server.layers();
+    layers = await server.layers(view.edit);
     view.maxzoom = Math.max(0, ...layers.map(layer => layer.maxzoom));
     const toggle = (id, isShown) => {
         isShown ? style.hidden.delete(id) : style.hidden.add(id);

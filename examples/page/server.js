@@ -80,8 +80,9 @@ export class Server {
         return this.value("admin/status").catch(() => null);
     }
 
-    async layers() {
-        return (await this.value("map/metadata")).vector_layers;
+    /** The layers of the map with this edit. */
+    async layers(edit) {
+        return (await this.value(`map/metadata?edit=${edit}`)).vector_layers;
     }
 
     feature(id) {

@@ -1,0 +1,343 @@
+"""The part `page` of run.py: a real Chromium with the page of examples/page, by mouse and keyboard, behind nginx with docs/nginx.conf.
+
+Two people edit one feature, a new feature's id is taken by somebody else, the server is away when somebody saves, a large feature is one,
+and a machine that may not edit sees the map. Pictures are kept in the folder that PICTURES names, if it does. What MapLibre would draw is
+drawn by Mapbox GL JS 1.10.1, which Debian has within plotly.js (`python3-plotly`).
+"""
+import json
+import os
+import re
+import shutil
+import subprocess
+import sys
+import time
+
+from browser import Browser
+from screens import PLOTLY, Share, water_differs
+from stand import EXAMPLES, SYSTEM_PYTHON, Nginx, Server, curl, feature, status_of
+
+WIDE, HIGH = 1000, 640
+PAGE = os.path.join(EXAMPLES, "page")
+WORLD = 2 ** 32
+# Where a point of the world is on the screen of a page.
+PLACE = """(() => {
+    const [zoom, latitude, longitude] = location.hash.slice(1).split("/").map(Number), scale = 512 * 2 ** zoom / 2 ** 32;
+    const x = (longitude + 180) / 360 * 2 ** 32, y = (0.5 - Math.asinh(Math.tan(latitude * Math.PI / 180)) / (2 * Math.PI)) * 2 ** 32;
+    return [(%s - x) * scale + innerWidth / 2, (%s - y) * scale + innerHeight / 2];
+})()"""
+# The pixels of a square of the screen that have the colour of a point in the style.
+RED = """(() => {
+    const canvas = document.getElementById("map"), {data} = canvas.getContext("2d").getImageData(%d, %d, 8, 8);
+    return [...data.keys()].filter(at => at %% 4 === 0 && data[at] === 0xb0 && data[at + 1] === 0x3a && data[at + 2] === 0x2e).length;
+})()"""
+HIDE = "document.head.append(Object.assign(document.createElement('style'), {textContent: 'nav, details, aside, footer { visibility: hidden }'}))"
+# A stand-in for MapLibre: it keeps what it is given.
+STAND_IN = """
+globalThis.maplibregl = {setWorkerUrl: url => globalThis.worker = url, NavigationControl: class {}, Popup: class {},
+    Map: class { constructor(words) { globalThis.given = words; } addControl() {} on() {} }};
+"""
+DRAWN = """<!DOCTYPE html><meta charset="utf-8"><style>html, body { margin: 0; }</style><body><div id="map"></div><script src="file://%s"></script><script>
+Plotly.newPlot("map", [{type: "scattermapbox", lat: [], lon: []}], {
+    width: %d, height: %d, margin: {l: 0, r: 0, t: 0, b: 0}, mapbox: {center: {lon: 7.5, lat: 54.5}, zoom: 14, style: %s},
+}, {displayModeBar: false}).then(() => setTimeout(() => document.title = "drawn", 1000));
+</script></body>"""
+
+
+def page(cases, folder):
+    nginx = shutil.which("nginx") or "/usr/sbin/nginx"
+    if not shutil.which("chromium") or not os.path.exists(nginx):
+        cases.say("no chromium or no nginx: the page isn't tried")
+        return
+    if subprocess.run([SYSTEM_PYTHON, "-c", "import osgeo, PIL"], capture_output=True).returncode != 0:
+        cases.say("no GDAL or no Pillow in the system's Python: the page isn't tried")
+        return
+    folder = os.path.join(folder, "page")
+    os.mkdir(folder)
+    with Server(folder, "town", sectors=16384, more=["--admin"]) as server, Nginx(nginx, folder, server) as front:
+        shutil.copytree(PAGE, os.path.join(front.folder, "pages"))
+        told = town(folder, front.url)
+        cases.show("page: the import says where to look", re.findall(r"look at it: (\S+/pages/#)[0-9.]+/54.50\d+/7.50\d+", told), [f"{front.url}/pages/#"])
+        maplibre(cases, folder, front)
+        with Browser(os.path.join(folder, "profile"), WIDE, HIGH) as browser:
+            People(cases, browser, server, front, folder).all(nginx)
+        cases.show("page: nginx has nothing in its log of errors but the server that was away", unexpected(front), [])
+
+
+def town(folder, url):
+    """The town of the README, imported."""
+    path = os.path.join(folder, "town.geojson")
+    with open(path, "wb") as file:
+        subprocess.run([sys.executable, os.path.join(EXAMPLES, "town.py")], stdout=file, check=True)
+    words = ["--layer-field", "layer", "--minzoom", "10", "--maxzoom", "16", "--first", "101", "--url", url]
+    return subprocess.run([SYSTEM_PYTHON, os.path.join(EXAMPLES, "import_features.py"), path, *words], capture_output=True, text=True).stdout
+
+
+def unexpected(front):
+    """The lines of nginx's log of errors that aren't about a server that doesn't run, or an address that may not edit."""
+    return [line for line in front.errors() if "Connection refused" not in line and "access forbidden" not in line and "prematurely closed" not in line]
+
+
+class People:
+    """Two people with a page each."""
+
+    def __init__(self, cases, browser, server, front, folder):
+        self.cases, self.browser, self.server, self.front, self.folder = cases, browser, server, front, folder
+        self.one = self.two = None
+
+    def show(self, name, found, wanted):
+        self.cases.show(f"page: {name}", found, wanted)
+
+    def get(self, number):
+        """A feature of the map, or None."""
+        reply = curl(f"{self.front.url}/features/{number}")
+        return json.loads(reply[2]) if status_of(reply) == 200 else None
+
+    def opened(self, place):
+        """A page that has drawn its tiles."""
+        made = self.browser.open(f"{self.front.url}/pages/{place}")
+        made.wait("document.getElementById('told').textContent")
+        self.drawn(made)
+        return made
+
+    def drawn(self, made):
+        """Waits until a page has no tile left to ask for and has drawn."""
+        last = -1
+        for _ in range(100):
+            count = made.value("performance.getEntriesByType('resource').length")
+            if count == last:
+                return
+            last = count
+            time.sleep(0.4)
+
+    def place(self, made, number):
+        """Where the first point of a feature is on the screen."""
+        points = self.get(number)["geometry"]["points"]
+        return made.value(PLACE % tuple(points[0]))
+
+    def keep(self, made, name):
+        """Keeps a picture of the screen, if pictures are kept, in few colours."""
+        kept = os.environ.get("PICTURES")
+        if kept:
+            path = os.path.join(kept, name)
+            made.picture(path)
+            script = "import sys; from PIL import Image; Image.open(sys.argv[1]).convert('RGB').quantize(128, dither=0).save(sys.argv[1], optimize=True)"
+            subprocess.run([SYSTEM_PYTHON, "-c", script, path], check=True)
+
+    def edit(self, made, number):
+        """Opens the form of a point. A click at the same place as before selects what lies below, so it may take more than one."""
+        place = self.place(made, number)
+        for _ in range(5):
+            made.click(*place)
+            if (made.text("#panel h2") or "").endswith(f" {number}"):
+                break
+        made.press("Edit")
+        made.wait("document.querySelector('#panel form')")
+
+    def write(self, made, name, value):
+        """Writes the last tag of the form."""
+        made.type("#panel form tbody tr:last-child input[aria-label=tag]", name)
+        made.type("#panel form tbody tr:last-child input[aria-label=value]", value)
+
+    def saved(self, made):
+        """What the page tells once it has saved."""
+        made.wait("document.getElementById('panel').hidden")
+        return made.text("#told")
+
+    def all(self, nginx):
+        self.looks()
+        self.edits()
+        self.conflict()
+        self.new_feature()
+        self.deletion()
+        self.large_feature()
+        self.view_only(nginx)
+        self.away()
+        self.faults()
+
+    def looks(self):
+        self.one = self.opened("#14/54.5/7.5")
+        self.show("an editor may edit", self.one.value("document.getElementById('adding').hidden"), False)
+        self.one.value(HIDE)
+        time.sleep(0.3)
+        truth, drawn = os.path.join(self.folder, "truth.png"), os.path.join(self.folder, "drawn.png")
+        self.one.picture(drawn)
+        draw_truth(self.server.url, truth)
+        self.show("it draws land where the reader of examples does, but for 2 % of the pixels", water_differs(truth, drawn), Share(0.02))
+        self.one = self.opened("#14.2/54.5/7.504")
+        self.one.press("Layers")
+        (ring,), = self.get(119)["geometry"]["polygons"]
+        self.one.click(*self.one.value(PLACE % tuple(sum(part) / len(ring) for part in zip(*ring))))
+        self.show("a click in an area selects it", self.one.text("#panel").split("\n")[:2], ["park 119", "name\tMeadow"])
+        time.sleep(0.3)
+        self.keep(self.one, "town-page.png")
+        self.one.press("Layers")
+        self.one.value("location.hash = '#16/54.5/7.5'")
+        self.drawn(self.one)
+        self.one.click(*self.place(self.one, 451))
+        self.show("a click shows the tags", self.one.text("#panel").split("\n")[:2], ["place 451", "name\tTown Hall"])
+        self.one.press("Layers")
+        self.show("the legend has the layers of people", self.one.text("#legend").split(), ["Layers", "building", "land", "park", "place", "road"])
+        self.one.press("Layers")
+
+    def edits(self):
+        self.two = self.opened("#16/54.5/7.5")
+        for made in (self.one, self.two):
+            self.edit(made, 451)
+        x, y = self.place(self.one, 451)
+        self.write(self.one, "name", "Old Town Hall")
+        self.one.drag((x, y), (x - 60, y - 40))
+        before = self.get(451)
+        self.one.press("Save")
+        self.show("an edit is saved", re.sub(r"\d+$", "K", self.saved(self.one)), "feature 451 saved, edit K")
+        after = self.get(451)
+        self.show("with its tags", after["tags"], {"name": "Old Town Hall"})
+        moved = [round((b - a) * 512 * 2 ** 16 / WORLD) for a, b in zip(before["geometry"]["points"][0], after["geometry"]["points"][0])]
+        self.show("and its shape", moved, [-60, -40])
+        seen = self.one.wait(RED % (x - 64, y - 44) + " > 30", 3)
+        self.show("its author sees it within three seconds, past the cache of nginx", seen, True)
+
+    def conflict(self):
+        self.two.wait("document.getElementById('told').className === 'fault'", 10)
+        self.show("the other one is told at once", self.two.text("#told"), "somebody else has just changed what you edit: when you save, you see both")
+        self.write(self.two, "name", "Rathaus")
+        self.two.press("Add a tag")
+        self.write(self.two, "floors", "3")
+        self.two.press("Save")
+        self.two.wait("document.querySelector('#panel .differs')")
+        self.show("nothing is overwritten", self.get(451)["tags"], {"name": "Old Town Hall"})
+        rows = [row.split("\t") for row in self.two.text("#panel table").split("\n")]
+        wanted = [["shape", "1 point", "1 point", "1 point"], ["tag name", "Town Hall", "Old Town Hall", "Rathaus"], ["tag floors", "–", "–", "3"]]
+        self.show("both versions are side by side", [[cell.strip() for cell in row] for row in rows[-3:]], wanted)
+        self.keep(self.two, "page-conflict.png")
+        self.two.press("Save what is chosen")
+        self.two.wait("document.querySelector('#panel p.fault')")
+        self.show("what both changed has to be chosen", self.two.text("#panel p.fault"), "choose a value of tag name")
+        self.two.value("document.querySelectorAll('#panel input[name=\"tag name\"]')[1].click()")
+        self.two.press("Save what is chosen")
+        self.saved(self.two)
+        self.show("the rest has what either changed", self.get(451)["tags"], {"floors": "3", "name": "Rathaus"})
+        x, y = self.place(self.one, 451)
+        self.show("the shape is the other's", self.one.wait(RED % (x - 4, y - 4) + " > 30", 8), True)
+
+    def new_feature(self):
+        self.one.press("New area")
+        for place in [(300, 300), (400, 300), (400, 380)]:
+            self.one.click(*place)
+        self.one.click(300, 380, clicks=2)
+        self.one.wait("document.querySelector('#panel form')")
+        self.one.type("#panel form input[aria-label=layer]", "plan")
+        self.write(self.one, "name", "New Square")
+        free = 456
+        # Between the page's question for a free id and its edit somebody takes it: every POST waits until that is done.
+        self.one.value("""(() => { const asked = window.fetch; let first = true; window.fetch = async (url, words) => {
+            if (first && words?.method === "POST") { first = false; await asked("../features/%d", {method: "PUT", body: %s}); }
+            return asked(url, words); }; })()""" % (free, json.dumps(feature("place", tags={"name": "first"}))))
+        self.one.press("Save")
+        told = self.saved(self.one)
+        self.show("a new feature whose id is taken meanwhile gets another", re.sub(r"\d+$", "K", told), f"feature {free + 1} saved, edit K")
+        self.show("the other one has its id", self.get(free)["tags"], {"name": "first"})
+        made = self.get(free + 1)
+        self.show("and it is as it was drawn", (made["layer"], made["tags"], len(made["geometry"]["polygons"][0][0])), ("plan", {"name": "New Square"}, 4))
+
+    def deletion(self):
+        self.one.wait("performance.now() > 0")
+        self.drawn(self.one)
+        self.one.click(350, 360)
+        self.show("it is seen at once", self.one.text("#panel h2"), "plan 457")
+        self.one.press("Delete")
+        self.one.wait("document.querySelector('#panel h2').textContent.endsWith('?')")
+        curl(f"{self.front.url}/features/457", "-X", "PUT", body=json.dumps({**self.get(457), "tags": {"name": "Kept"}}))
+        self.one.press("Delete it")
+        self.one.wait("document.querySelector('#panel h2').textContent.startsWith('Changed')")
+        self.show("what somebody else has changed isn't deleted", self.get(457)["tags"], {"name": "Kept"})
+        self.one.press("Delete it all the same")
+        self.saved(self.one)
+        self.show("but by a second word", self.get(457), None)
+
+    def large_feature(self):
+        self.one.value("location.hash = '#15/54.5/7.5'")
+        self.drawn(self.one)
+        for _ in range(5):
+            self.one.click(300, 500)
+            if self.one.text("#panel h2") == "land 101":
+                break
+        self.one.press("Edit")
+        self.one.wait("document.querySelector('#panel form')")
+        self.write(self.one, "name", "Nordwerth Island")
+        self.one.press("Add a tag")
+        self.write(self.one, "area", "9007199254740993")
+        self.one.value("(() => { const kind = document.querySelector('#panel form tbody tr:last-child select'); kind.value = 'number'; kind.onchange(); })()")
+        self.one.press("Save")
+        self.saved(self.one)
+        tags = [self.get(number)["tags"] for number in range(101, 118)]
+        wanted = {"area": 9007199254740993, "name": "Nordwerth Island", "whole": 101}
+        self.show("all pieces of a large feature are changed, and no number is rounded", tags, [wanted] * 17)
+
+    def away(self):
+        self.one.value("location.hash = '#16/54.5/7.5'")
+        self.drawn(self.one)
+        self.edit(self.one, 452)
+        self.write(self.one, "name", "St Mary")
+        self.server.end()
+        self.one.press("Save")
+        self.one.wait("document.querySelector('#panel p.fault')", 70)
+        self.show("while the server is away, it says so", (self.one.text("#panel p.fault") or "").split(":")[0], "the server doesn't run, or starts just now")
+        with Server(self.folder, "town", port=self.server.port, more=["--admin"]):
+            self.one.press("Save")
+            self.saved(self.one)
+            self.show("and what was typed is saved when it is back", self.get(452)["tags"], {"name": "St Mary"})
+
+    def view_only(self, nginx):
+        """A machine that nginx doesn't let edit."""
+        folder = os.path.join(self.folder, "others")
+        os.mkdir(folder)
+        with Nginx(nginx, folder, self.server, [("allow 127.0.0.1;", "")]) as front:
+            shutil.copytree(PAGE, os.path.join(front.folder, "pages"))
+            made = self.browser.open(f"{front.url}/pages/#16/54.5/7.5")
+            made.wait("document.getElementById('told').textContent")
+            self.drawn(made)
+            self.show("a machine that may not edit is told", made.text("#told"), "view only: this machine may not edit the map")
+            made.click(*self.place(made, 453))
+            self.show("and sees tags, without buttons", made.text("#panel").split("\n"), ["place 453", "name\tSchool"])
+
+    def faults(self):
+        """What the browser complained of, but for refusals that it should get."""
+        told = [fault for made in (self.one, self.two) for fault in made.faults() if not fault.startswith("Failed to load resource")]
+        self.show("the browser complains of nothing", told, [])
+
+
+def maplibre(cases, folder, front):
+    """What map.html gives MapLibre, and how Mapbox GL draws it."""
+    # Until then nginx has the metadata of the map before the import.
+    time.sleep(11)
+    pages = os.path.join(front.folder, "pages")
+    for name, text in [("maplibre-gl-csp.js", STAND_IN), ("maplibre-gl.css", "")]:
+        with open(os.path.join(pages, name), "w", encoding="utf-8") as file:
+            file.write(text)
+    subprocess.run(["bash", os.path.join(EXAMPLES, "publish.sh"), front.url], check=True, capture_output=True)
+    drawing = ["--use-gl=angle", "--use-angle=swiftshader", "--enable-unsafe-swiftshader"]
+    with Browser(os.path.join(folder, "maplibre"), WIDE, HIGH, drawing) as browser:
+        made = browser.open(f"{front.url}/pages/map.html")
+        given = made.wait("globalThis.given", 10) or {"style": {"sources": {}, "layers": []}, "bounds": [[0, 0], [0, 0]]}
+        (west, south), (east, north) = given["bounds"]
+        cases.show("page: map.html opens where the published map is", 7.4 < west < 7.49 and 7.51 < east < 7.6 and 54.4 < south < 54.5 < north < 54.6, True)
+        tiles = {"type": "vector", "tiles": [f"{front.url}/map/{{z}}/{{x}}/{{y}}.mvt"], "minzoom": 0, "maxzoom": 16}
+        cases.show("page: with the map's tiles and its greatest zoom", given["style"]["sources"].get("map"), tiles)
+        cases.show("page: and the browser refuses nothing", made.faults(), [])
+        if not os.path.exists(PLOTLY):
+            cases.say("no plotly.js: the style of map.html isn't drawn")
+            return
+        with open(os.path.join(folder, "drawn.html"), "w", encoding="utf-8") as file:
+            file.write(DRAWN % (PLOTLY, WIDE, HIGH, json.dumps(given["style"])))
+        made = browser.open("file://" + os.path.join(folder, "drawn.html"))
+        made.wait("document.title === 'drawn'", 60)
+        truth, drawn = os.path.join(folder, "truth-map.png"), os.path.join(folder, "mapbox.png")
+        made.picture(drawn)
+        draw_truth(front.url, truth)
+        cases.show("page: Mapbox GL takes its style, and draws land where the reader of examples does", water_differs(truth, drawn), Share(0.02))
+
+
+def draw_truth(url, path):
+    """The picture of a reader of tiles that shares no code with the page."""
+    words = ["--url", url, "--zoom", "15", "--centre", "7.5,54.5", "--size", f"{WIDE}x{HIGH}"]
+    subprocess.run([SYSTEM_PYTHON, os.path.join(EXAMPLES, "draw_map.py"), path, *words], check=True, capture_output=True)
