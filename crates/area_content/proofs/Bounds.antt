@@ -16,7 +16,7 @@ use Rattle.pm_build.specs.Placed.{AreDifferent}
 use Rattle.pm_build.specs.Runs.{TileRun, AreLongestRuns}
 use Rattle.pm_build.specs.Tiles.{Tile}
 use Rattle.area_content.specs.Content.{ContentView, sectors_taken}
-use Rattle.area_content.specs.Faults.{IsShort, AreAdded, HasLongTile, HasManyTiles, IsBounded, IsBoundedFor, IsFull, IsContentFault, told_as}
+use Rattle.area_content.specs.Faults.{IsShort, AreAdded, HasLongTile, HasManyTiles, IsBounded, IsBoundedFor, IsBuiltFor, IsFull, IsContentFault, told_as}
 use Rattle.area_content.specs.Tiles.{IsArchiveOfMap}
 
 -- the size is within the bound of `pm_build`'s contract
@@ -77,12 +77,12 @@ module _ (m : FeatureMap) (metadata area : ℕ) where
   }
 
   -- an area of fewer sectors than these take
-  pub full_of_both : (c : ContentView) → c.snapshot ≡ snapshot m → IsArchiveOfMap m c.archive → IsBoundedFor m metadata c.archive
+  pub full_of_both : (c : ContentView) → c.snapshot ≡ snapshot m → IsBuiltFor m metadata c.archive
       → area < sectors_taken c → IsFull m metadata area (sectors_taken c) area
-  full_of_both c same archive bounded more =
+  full_of_both c same built more =
       let need : sectors_taken c ≡ sectors_of (length (snapshot m)) + sectors_of (length c.archive) =
       ap (λ (bytes : List ℕ). sectors_of (length bytes) + sectors_of (length c.archive)) same in
-      record { free_is = refl; above = more; needed = inr (c.archive, archive, bounded, need) }
+      record { free_is = refl; above = more; needed = inr (c.archive, built, need) }
 
   -- the fault of a builder, which has too many tiles only where the map has
   pub fault_told : (fault : BuildFault) → (fault ≡ building.TooManyEntries → HasManyTiles m) → IsContentFault m metadata area (told_as fault)

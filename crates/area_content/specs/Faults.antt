@@ -58,6 +58,11 @@ pub record IsBounded (tiles : List Tile) (metadata : ℕ) (archive : List ℕ) :
 abbrev pub IsBoundedFor : FeatureMap → (metadata : ℕ) → (archive : List ℕ) → Type 0
 IsBoundedFor m metadata archive = (tiles : List Tile) × AreTiles m tiles × All IsShort tiles × IsBounded tiles metadata archive
 
+-- an archive of exactly the tiles of the map, within its bound, with metadata of this many bytes
+pub record IsBuiltFor (m : FeatureMap) (metadata : ℕ) (archive : List ℕ) : Type 0 where
+  pub of_map : IsArchiveOfMap m archive
+  pub bounded : IsBoundedFor m metadata archive
+
 -- ---- faults
 
 -- The map needs this many sectors: those of its first tile that isn't short, or, if each is short, those of its snapshot and of the
@@ -65,8 +70,7 @@ IsBoundedFor m metadata archive = (tiles : List Tile) × AreTiles m tiles × All
 abbrev pub NeedsSectors : FeatureMap → (metadata need : ℕ) → Type 0
 NeedsSectors m metadata need =
     ((size : ℕ) × HasLongTile m size × (need ≡ sectors_of size))
-    ⊎ ((archive : List ℕ) × IsArchiveOfMap m archive × IsBoundedFor m metadata archive
-    × (need ≡ sectors_of (length (snapshot m)) + sectors_of (length archive)))
+    ⊎ ((archive : List ℕ) × IsBuiltFor m metadata archive × (need ≡ sectors_of (length (snapshot m)) + sectors_of (length archive)))
 
 -- the map needs more sectors than the area has, all of which are free
 pub record IsFull (m : FeatureMap) (metadata area need free : ℕ) : Type 0 where

@@ -3,8 +3,7 @@ ghost use Rattle.std.specs.Prelude.{◌≡◌, ◌<◌, ◌≤◌, ◌^◌, ℕ,
 ghost use Rattle.feature_store.specs.Store.{FeatureMap, snapshot};
 ghost use Rattle.pm_archive.specs.Archive.{IsMetadata};
 ghost use Rattle.area_content.specs.Content.{sectors_taken};
-ghost use Rattle.area_content.specs.Faults.{IsBoundedFor, IsContentFault};
-ghost use Rattle.area_content.specs.Tiles.{IsArchiveOfMap};
+ghost use Rattle.area_content.specs.Faults.{IsBuiltFor, IsContentFault};
 
 use crate::archive::{add_all, archive_of};
 use crate::content::AreaContent;
@@ -22,8 +21,7 @@ fn archive_for(
 ) -> Result<Vec<u8>, ContentFault>
     requires metadata { IsMetadata metadata.now }
     requires area { area < 2 ^ 23 }
-    ensures archive { IfOk result (λ bytes. IsArchiveOfMap store.now.features bytes.items) }
-    ensures bounded { IfOk result (λ bytes. IsBoundedFor store.now.features (length metadata.now) bytes.items) }
+    ensures built { IfOk result (λ bytes. IsBuiltFor store.now.features (length metadata.now) bytes.items) }
     ensures fault { IfErr result (IsContentFault store.now.features (length metadata.now) area) }
 {
     let mut tiles = match store.tiles() {
@@ -44,8 +42,8 @@ fn archive_for(
 /// The content, if it fits in an area of `area` sectors.
 fn within(content: AreaContent, area: u64) -> Result<AreaContent, ContentFault>
     ensures fits { IfOk result (λ c. (c ≡ content) × (sectors_taken c ≤ area)) }
-    ensures full { (m : FeatureMap) (metadata : ℕ) → content.snapshot ≡ snapshot m → IsArchiveOfMap m content.archive
-        → IsBoundedFor m metadata content.archive → IfErr result (IsContentFault m metadata area) }
+    ensures full { (m : FeatureMap) (metadata : ℕ) → content.snapshot ≡ snapshot m → IsBuiltFor m metadata content.archive
+        → IfErr result (IsContentFault m metadata area) }
 {
     let need = content.sectors();
     if need > area {
@@ -71,8 +69,7 @@ pub fn content_of(
     requires metadata { IsMetadata metadata.now }
     requires area { area < 2 ^ 23 }
     ensures snapshot { IfOk result (λ c. c.snapshot ≡ snapshot store.now.features) }
-    ensures archive { IfOk result (λ c. IsArchiveOfMap store.now.features c.archive) }
-    ensures bounded { IfOk result (λ c. IsBoundedFor store.now.features (length metadata.now) c.archive) }
+    ensures built { IfOk result (λ c. IsBuiltFor store.now.features (length metadata.now) c.archive) }
     ensures fits { IfOk result (λ c. sectors_taken c ≤ area) }
     ensures fault { IfErr result (IsContentFault store.now.features (length metadata.now) area) }
 {

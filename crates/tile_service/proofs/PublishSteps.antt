@@ -17,6 +17,7 @@ use Rattle.generations.specs.declared.root.Root.{Root}
 use Rattle.edit_journal.specs.Appends.{ring_of}
 use Rattle.edit_journal.specs.Ring.{Ring, places_of}
 use Rattle.area_content.specs.Content.{sectors_taken}
+use Rattle.area_content.specs.Faults.{IsBuiltFor}
 use Rattle.area_content.specs.Tiles.{IsArchiveOfMap}
 use Rattle.cached_map.specs.Cached.{AreReadRight}
 use Rattle.edit_text.specs.Recorded.{RecordedEdit}
@@ -29,7 +30,7 @@ use Rattle.serde_json.specs.Data.{Data}
 use Rattle.serde_json.specs.Read.{read}
 use Rattle.serde_json.specs.Written.{compact_text}
 use Rattle.tile_cache.specs.Kept.{CacheView}
-use Rattle.tile_service.specs.Machine.{step, Begins, AnswersStep, HasPublication, after_install}
+use Rattle.tile_service.specs.Machine.{step, Begins, IsPublishable, AnswersStep, HasPublication, after_install}
 use Rattle.tile_service.specs.Publishing.{map_at, published, CanPublish, HasFirst, HasArea, IsUnderWay}
 use Rattle.tile_service.specs.Service.{PublicationView, ServiceView, Known, Publishes, IsUp, EventLeaves, count_at, left_of, archive_of}
 use Rattle.tile_service.specs.Service.{going_of, state_of, known_after, known_installed, installed, stored_after, with_publication}
@@ -52,6 +53,14 @@ HasText m text = (d : Data) × IsMetadata m d × (text ≡ compact_text d) × (r
 -- It is one for an archive.
 pub metadata_is_text : (m : FeatureMap) (text : String Global) → HasText m (string_bytes text) → IsMetadataText (string_bytes text)
 metadata_is_text m text (d, (ls, are, is), same, reads) = (IsUtf8-string_bytes text, (_, reads ∙ ap Some is))
+
+-- An archive that is built with this text as its metadata is publishable.
+pub publishable : (m : FeatureMap) (text archive : List ℕ) → HasText m text → IsBuiltFor m (length text) archive → IsPublishable m archive
+publishable m text archive (d, is, same, reads) built = record {
+  metadata = d;
+  is_metadata = is;
+  built = subst (λ (bytes : List ℕ). IsBuiltFor m (length bytes) archive) same built;
+}
 
 -- ---- its beginning and its end
 
@@ -100,7 +109,7 @@ module _ {D : Type 0} (sectors : ℕ) (h : History) (stored : Stored) (service :
 
 -- What the machine says of its beginning.
 pub begins_told : {D : Type 0} (known : Known) (service : ServiceView D) (p : PublicationView) (told : ℕ) → service.broken ≡ false
-    → service.publication ≡ None → service.generation < 2 ^ 64 - 1 → IsArchiveOfMap service.features p.content.archive
+    → service.publication ≡ None → service.generation < 2 ^ 64 - 1 → IsPublishable service.features p.content.archive
     → p.content.snapshot ≡ snapshot service.features → sectors_taken p.content ≤ area_sectors service.size
     → ring_of service.journal ≡ journal_ring service.size → p.start.edits ≡ service.journal.last → p.places ≡ service.journal.used → p.written ≡ 0
     → told ≡ sectors_taken p.content + 1

@@ -1,13 +1,14 @@
 -- A publication from its beginning to its end, step by step.
 use Rattle.std.proofs.Common.{◌≡◌, ◌⊎◌, inl, inr, ⊎_elim, ℕ, zero, suc, ◌<◌, ◌-◌, Bool, true, false}
 use Rattle.std.proofs.Common.{List, [], ◌∷◌, ◌++◌, Option, Some, None, Result, Ok, Err, is_ok, refl, sym, ◌∙◌, ap, subst, arith}
-use Rattle.std.specs.Prelude.{option_map}
+use Rattle.std.specs.Prelude.{option_map, All}
 use Rattle.std.proofs.lemmas.Bool.{false≢true}
 use Rattle.std.proofs.lemmas.List.{map-append}
+use Rattle.std.proofs.lemmas.List.Elements.{All-nil, All-cons, All-append}
 use Rattle.generations.specs.Areas.{journal_sectors}
 use Rattle.feature_store.specs.Store.{FeatureMap}
 use Rattle.tile_service.specs.Machine.{Publication, ServiceState, Happening, begin, step, Begins, GoesOn, HasPublication, AnswersBegin, AnswersStep}
-use Rattle.tile_service.specs.Runs.{begin_and_steps}
+use Rattle.tile_service.specs.Runs.{begin_and_steps, IsUnfinished}
 use Rattle.tile_service.specs.Service.{PublicationView, ServiceView, Known, state_of, going_of, CountsDevice}
 use Rattle.tile_service.specs.declared.fault.ServiceFault.{ServiceFault}
 use Rattle.tile_service.specs.declared.fault.ServiceFault.TheVariants.{Broken, Busy, Idle, NumbersSpent, Memory}
@@ -128,6 +129,12 @@ steps_on (first ∷ before) last next = ap (λ (l : List Happening). begin first
 pub steps_more : (P : List Happening → Type 0) (before : List (Result ℕ ServiceFault)) (last next : Result ℕ ServiceFault)
     → P (begin_and_steps (before ++ last ∷ []) ++ step next ∷ []) → P (begin_and_steps ((before ++ last ∷ []) ++ next ∷ []))
 steps_more P before last next holds = subst P (sym (steps_on before last next)) holds
+
+-- one more that leaves something
+pub one_more_unfinished : (before : List (Result ℕ ServiceFault)) (left : ℕ) → All IsUnfinished before → 0 < left
+    → All IsUnfinished (before ++ Ok left ∷ [])
+one_more_unfinished before left all some =
+    All-append IsUnfinished before (Ok left ∷ []) all (All-cons IsUnfinished (Ok left) [] some (All-nil IsUnfinished))
 
 -- ---- the archive that is shown
 

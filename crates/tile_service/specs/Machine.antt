@@ -12,9 +12,8 @@ use Rattle.feature_store.specs.Store.{FeatureMap, feature_at, feature_from, snap
 use Rattle.map_metadata.specs.Metadata.{IsMetadata}
 use Rattle.serde_json.specs.Data.{Data}
 use Rattle.serde_json.specs.Written.{compact_text}
-use Rattle.area_content.specs.Faults.{HasManyTiles, IsFull}
+use Rattle.area_content.specs.Faults.{HasManyTiles, IsBuiltFor, IsFull}
 use Rattle.feature_store.specs.Content.{IsTileContent}
-use Rattle.area_content.specs.Tiles.{IsArchiveOfMap}
 use Rattle.tile_service.specs.After.{made}
 use Rattle.tile_service.specs.declared.fault.ServiceFault.{ServiceFault}
 use Rattle.tile_service.specs.declared.fault.ServiceFault.TheVariants.{Broken, Busy, Idle, NeedsUpgrade, Limit, NotFound, NumbersSpent, Memory}
@@ -193,12 +192,18 @@ pub record CanBegin (s : ServiceState) : Type 0 where
   pub none : s.publication ≡ None
   pub generation : s.generation < 2 ^ 64 - 1
 
+-- an archive that is built of a map with its metadata: it has exactly the tiles of the map, within its bound
+pub record IsPublishable (m : FeatureMap) (archive : List ℕ) : Type 0 where
+  pub metadata : Data
+  pub is_metadata : IsMetadata m metadata
+  pub built : IsBuiltFor m (length (compact_text metadata)) archive
+
 -- A publication of the map begins, and what is left is returned: its sectors, and one for the root.
 pub record Begins (old : ServiceState) (told : ℕ) (new : ServiceState) : Type 0 where
   pub unbroken : old.broken ≡ false
   pub can : CanBegin old
   pub archive : List ℕ
-  pub is_archive : IsArchiveOfMap old.features archive
+  pub is_archive : IsPublishable old.features archive
   pub room : sectors_for old.features archive ≤ area_sectors old.size
   pub told_is : told ≡ sectors_for old.features archive + 1
   pub begun : new ≡ record old {

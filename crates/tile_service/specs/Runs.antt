@@ -1,6 +1,6 @@
 -- What a disk may hold during a run of calls.
 use Rattle.std.specs.Prelude.{◌≡◌, ◌⊎◌, ◌<◌, ◌≤◌, ◌+◌, ◌-◌, ℕ, zero, suc, true, false, List, [], ◌∷◌, ◌++◌, length, take, drop, get_or}
-use Rattle.std.specs.Prelude.{◌≢◌, map, Contains, Option, Some, None, option_map, Result, Ok, Err, OnOk, IfErr}
+use Rattle.std.specs.Prelude.{◌≢◌, map, All, Contains, Option, Some, None, option_map, Result, Ok, Err, OnOk, IfErr}
 use Rattle.sector_disk.specs.Asked.{MayWrite}
 use Rattle.sector_disk.specs.Disk.{History, Image, MayLeave, moment, LeftSince}
 use Rattle.sector_disk.specs.Moments.{Follows, LeavesOnly}
@@ -184,6 +184,11 @@ abbrev pub begin_and_steps : List (Result ℕ ServiceFault) → List Happening
 begin_and_steps [] = []
 begin_and_steps (first ∷ outcomes) = begin first ∷ map step outcomes
 
+-- something is left of the publication after this call
+abbrev pub IsUnfinished : Result ℕ ServiceFault → Type 0
+IsUnfinished (Ok left) = 0 < left
+IsUnfinished (Err fault) = ⊥
+
 -- How a whole publication ends: with a step that installs it, and the result is the generation, the last edit before it began and the
 -- archive's length; or with a beginning or a step that is refused, and the result is its fault.
 abbrev pub EndsAs : {D : Type 0} → Result Published ServiceFault → (old new : ServiceView D) → (last : Result ℕ ServiceFault) → Type 0
@@ -274,9 +279,11 @@ module _ {D : Type 0} (sectors : D → ℕ) (honest : D → Type 0) (history : D
     -- the archive is unchanged, unless another one was installed
     pub keeps_archive : ¬ Contains happenings (step (Ok 0)) → KeepsArchive honest history old new
 
-  -- The service begins a publication and continues it until it is installed or a call is refused.
+  -- The service begins a publication and continues this one until it is installed or a call is refused: each call before the last is
+  -- made and leaves something.
   pub record TakesPublication (old : ServiceView D) (result : Result Published ServiceFault) (new : ServiceView D) : Type 0 where
     pub before : List (Result ℕ ServiceFault)
+    pub unfinished : All IsUnfinished before
     pub last : Result ℕ ServiceFault
     pub takes : TakesAll old (begin_and_steps (before ++ last ∷ [])) new
     pub run : TakesRun old (begin_and_steps (before ++ last ∷ [])) new

@@ -19,7 +19,7 @@ use Rattle.edit_journal.specs.declared.journal.JournalPosition.{JournalPosition}
 use Rattle.edit_journal.specs.declared.sizes.TheConstants.{PART_BYTES}
 use Rattle.cached_map.specs.Cached.{CachedView, AreReadRight}
 use Rattle.area_content.specs.Content.{ContentView, sectors_taken}
-use Rattle.feature_store.specs.Store.{FeatureMap, snapshot}
+use Rattle.feature_store.specs.Store.{FeatureMap, greatest_id, snapshot}
 use Rattle.pm_archive.specs.declared.fault.ArchiveFault.{ArchiveFault}
 use Rattle.pm_archive.specs.declared.fault.ArchiveFault.TheVariants as archives
 use Rattle.published_tiles.specs.Published.{PublishedView, ArePublished}
@@ -150,7 +150,9 @@ status_of service = record {
   sectors = service.size;
   version = service.version;
   features = length service.features;
+  last = greatest_id service.features;
   edits = service.journal.last;
+  published = service.journal.edits;
   generation = service.generation;
   archive_len = service.archive_len;
   journal_places = service.journal.places;

@@ -1,13 +1,14 @@
 //! Formats and upgrades a disk for a service.
 ghost use Rattle.std.specs.Prelude.{◌≡◌, ◌⊎◌, ◌<◌, ◌↔◌, ℕ, Err, IfErr, OnOk};
 ghost use Rattle.sector_disk.specs.Asked.{MayWrite};
-ghost use Rattle.sector_disk.specs.Disk.{MayLeave, seen};
+ghost use Rattle.sector_disk.specs.Disk.{Image, MayLeave, seen};
 ghost use Rattle.sector_disk.specs.Disk.History.{synced};
 ghost use Rattle.sector_disk.specs.Moments.{LeavesOnly};
 ghost use Rattle.generations.specs.Areas.{IsSize};
 ghost use Rattle.generations.specs.Disks.{HasNoMark, IsFaultOf};
 ghost use Rattle.generations.specs.Faults.{EndsFormat, TellsDevice};
 ghost use Rattle.generations.specs.Sectors.{version_from};
+ghost use Rattle.generations.specs.Upgrades.{IsUpgraded, Upgrades};
 ghost use Rattle.generations.specs.declared.fault.StoreFault.TheVariants.{NotFormatted, TooSmall, Device, Damaged};
 ghost use Rattle.generations.specs.declared.fault.What.TheVariants.{Size};
 ghost use Rattle.generations.specs.declared.sizes.TheConstants.{MIN_SECTORS, MAX_SECTORS, LAST_VERSION};
@@ -54,7 +55,15 @@ impl<D: Sectors + Drop> Service<D> {
         ensures already { D.honest disk.new → version_from (seen (D.history disk.old) 0) ≡ LAST_VERSION
             → (D.history disk.new ≡ D.history disk.old) ⊎ (D.history disk.new ≡ synced (D.history disk.old)) }
 
-        // A crash during the call leaves an image from before, or what the disk holds in the last version.
+        // A crash during the call leaves what it might have left before, or what reads gave with the format of the last version; after
+        // success the latter. Whatever it returns, a read gives of each other sector what it gave.
+        ensures leaves { D.honest disk.new
+            → LeavesOnly (D.history disk.old) (D.history disk.new) (Upgrades (D.sectors disk.old) (D.history disk.old)) }
+        ensures rewritten { D.honest disk.new → OnOk result ((image : Image)
+            → MayLeave (D.history disk.new) image → IsUpgraded (D.sectors disk.old) (seen (D.history disk.old)) image) }
+        ensures others { D.honest disk.new → (at : ℕ) → (at ≡ 0 → ⊥) → seen (D.history disk.new) at ≡ seen (D.history disk.old) at }
+
+        // Of a disk that holds a state: a crash leaves an image from before, or what the disk holds in the last version.
         ensures any_moment { (n : ℕ) (stored : Stored) → D.honest disk.new → Holds (D.sectors disk.old) n stored (seen (D.history disk.old))
             → LeavesOnly (D.history disk.old) (D.history disk.new)
             (λ image. MayLeave (D.history disk.old) image ⊎ Holds (D.sectors disk.old) n (upgraded stored) image) }

@@ -6,9 +6,8 @@ ghost use Rattle.sector_disk.specs.Disk.{moment, seen};
 ghost use Rattle.sector_disk.specs.Moments.{LeavesOnly};
 ghost use Rattle.feature_store.specs.Store.{IsMap, snapshot};
 ghost use Rattle.area_content.specs.Content.{sectors_taken};
-ghost use Rattle.area_content.specs.Tiles.{IsArchiveOfMap};
 ghost use Rattle.tile_service.specs.Publishing.{HasFirst, HasNoContent, IsBeside, told_content};
-ghost use Rattle.tile_service.specs.Machine.{begin, step, AnswersBegin, AnswersStep, AnswersCancel, after_install};
+ghost use Rattle.tile_service.specs.Machine.{begin, step, IsPublishable, AnswersBegin, AnswersStep, AnswersCancel, after_install};
 ghost use Rattle.tile_service.specs.Service.{IsGoing, with_publication, going_of, known_installed, installed, KeepsArchive};
 ghost use Rattle.tile_service.specs.Service.{Known, IsUp, state_of, known_after, EventLeaves, stored_after, TellsDevice};
 ghost use Rattle.tile_service.specs.Stored.{Stored, Holds, Keeps};
@@ -69,7 +68,7 @@ fn content_for(alloc: Global, store: &Store, area: u64) -> Result<AreaContent, S
     requires { area < 2 ^ 23 }
     ensures map { IsMap store.now.features }
     ensures snapshot { IfOk result (λ c. c.snapshot ≡ snapshot store.now.features) }
-    ensures archive { IfOk result (λ c. IsArchiveOfMap store.now.features c.archive) }
+    ensures archive { IfOk result (λ c. IsPublishable store.now.features c.archive) }
     ensures fits { IfOk result (λ c. sectors_taken c ≤ area) }
     ensures fault { IfErr result (HasNoContent store.now.features area) }
 {

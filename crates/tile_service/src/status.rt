@@ -15,8 +15,12 @@ pub struct Status {
     pub version: u32,
     /// How many features the map has.
     pub features: u64,
+    /// The greatest id of a feature, if there is one. The next free id is above it.
+    pub last: Option<u64>,
     /// The number of the last edit, or 0.
     pub edits: u64,
+    /// The number of the last edit in the archive that was installed last, or 0.
+    pub published: u64,
     /// How often an archive was installed.
     pub generation: u64,
     /// The length in bytes of the archive that was installed last, or 0.
@@ -54,7 +58,9 @@ impl<D: Sectors + Drop> Service<D> {
             sectors: self.layout.sectors,
             version: self.version,
             features: self.map.store().len() as u64,
+            last: self.map.store().greatest(),
             edits: self.journal.last,
+            published: self.journal.edits,
             generation: self.root.generation,
             archive_len: self.root.archive_len,
             journal_places: self.journal.places,

@@ -15,3 +15,6 @@ pub returns-in-Err-add_all-clause-fault : goal.returns-in-Err-add_all-clause-fau
 returns-in-Err-add_all-clause-fault c =
     let metadata = length c.args.metadata.now in
     subst (λ (m : FeatureMap). IsContentFault m metadata c.args.area c.in-Err-add_all.fault) c.in-Ok.ensures.map (c.in-Err-add_all.ensures.fault metadata)
+
+pub returns-in-Ok-archive_of-clause-built : goal.returns-in-Ok-archive_of-clause-built
+returns-in-Ok-archive_of-clause-built c = record { of_map = goal; bounded = goal }

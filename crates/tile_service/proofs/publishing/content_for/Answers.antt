@@ -1,8 +1,12 @@
 use Rattle.std.proofs.Common.{ℕ, List, sym, subst}
 use Rattle.pm_archive.specs.Archive.{IsMetadata}
-use Rattle.tile_service.proofs.PublishSteps.{metadata_is_text}
+use Rattle.tile_service.proofs.PublishSteps.{metadata_is_text, publishable}
 use Rattle.tile_service.proofs.publishing.content_for.Goals as goal
 
 pub content_of-requires-clause-metadata : goal.content_of-requires-clause-metadata
 content_of-requires-clause-metadata c = subst (λ (text : List ℕ). IsMetadata text) (sym c.as_bytes.ensures.value)
     (metadata_is_text c.args.store.now.features c.in-Ok.text c.in-Ok.ensures)
+
+pub returns-in-Ok-content_of-clause-archive : goal.returns-in-Ok-content_of-clause-archive
+returns-in-Ok-content_of-clause-archive c =
+    publishable c.args.store.now.features c.in-Ok.text c.in-Ok-content_of.content.archive c.in-Ok.ensures c.in-Ok-content_of.ensures.built

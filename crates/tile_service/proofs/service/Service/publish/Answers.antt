@@ -1,13 +1,14 @@
 use Rattle.std.proofs.Common.{◌≡◌, inr, ℕ, [], ◌∷◌, ◌++◌, Result, Ok, Err, refl, ◌∙◌, ap, subst, arith}
 use Rattle.tile_service.specs.Machine.{begin, step}
-use Rattle.tile_service.specs.Runs.{begin_and_steps, Takes}
+use Rattle.std.proofs.lemmas.List.Elements.{All-nil}
+use Rattle.tile_service.specs.Runs.{begin_and_steps, IsUnfinished, Takes}
 use Rattle.tile_service.specs.declared.fault.ServiceFault.{ServiceFault}
 use Rattle.tile_service.specs.Service.{state_of, known_after}
 use Rattle.tile_service.proofs.Callers.{begin_step, step_step, run_begins, run_on, one_step_more, takes_run}
 use Rattle.tile_service.proofs.Runs.{no_known}
 use Rattle.tile_service.proofs.Shown.{keeps_on}
 use Rattle.tile_service.proofs.Whole.{Stands, begun_stands, on_stands, falls, only_device, device_gives_up, begin_counts, none_seen, begin_given_up}
-use Rattle.tile_service.proofs.Whole.{begin_no_step, left_not_done, refused_not_done}
+use Rattle.tile_service.proofs.Whole.{begin_no_step, left_not_done, refused_not_done, one_more_unfinished}
 use Rattle.tile_service.proofs.service.Service.publish.Goals as goal
 
 pub loop-rest-init : goal.loop-rest-init
@@ -26,7 +27,7 @@ loop-rest-init g c =
       edits = ap (λ s. s.journal.last) c.self.view_is;
       faults = ap (λ s. g.D.Sectors.faults s.disk) call.same;
       archive = λ some. goes.keeps_archive (begin_no_step _ _);
-      run = ([], run, (new, goes, refl));
+      run = ([], run, (new, goes, refl), All-nil IsUnfinished);
     })
 
 pub loop-rest-preserved : goal.loop-rest-preserved
@@ -55,7 +56,7 @@ loop-rest-preserved g c =
       archive = λ some. keeps_on g.D.Sectors.honest g.D.Sectors.history c.args.self.now old new
           (inv.archive (λ none. omega (arith, c.loop-rest-test.true, none))) call.disk.was_honest
           (call.archive (left_not_done c.in-Ok-publish_step.told some));
-      run = (inv.run.0 ++ Ok rest ∷ [], more.0, more.1);
+      run = (inv.run.0 ++ Ok rest ∷ [], more.0, more.1, one_more_unfinished inv.run.0 rest inv.run.3 (omega (arith, c.loop-rest-test.true)));
     }
 
 pub loop-rest-smaller : goal.loop-rest-smaller
@@ -76,6 +77,7 @@ returns-in-Err-clause-run g c =
     (run_begins g.D.Sectors.sectors g.D.Sectors.honest g.D.Sectors.history old) goes in
     record {
       before = [];
+      unfinished = All-nil IsUnfinished;
       last = Err c.in-Err.fault;
       takes = (new, goes, refl);
       run = takes_run g.D.Sectors.sectors g.D.Sectors.honest g.D.Sectors.history old (begin (Err c.in-Err.fault) ∷ []) new run;
@@ -112,6 +114,7 @@ returns-in-Err-publish_step-clause-run g c =
     inv.run.1 inv.run.2 goes in
     record {
       before = inv.run.0 ++ Ok rest ∷ [];
+      unfinished = one_more_unfinished inv.run.0 rest inv.run.3 (omega (arith, c.loop-rest-test.true));
       last = outcome;
       takes = more.1;
       run = takes_run g.D.Sectors.sectors g.D.Sectors.honest g.D.Sectors.history c.args.self.now
@@ -150,6 +153,7 @@ returns-clause-run g c =
     let done : c.loop-rest.rest ≡ 0 = omega (arith, c.loop-rest-test.false) in
     record {
       before = inv.run.0;
+      unfinished = inv.run.3;
       last = Ok c.loop-rest.rest;
       takes = inv.run.2;
       run = takes_run g.D.Sectors.sectors g.D.Sectors.honest g.D.Sectors.history c.args.self.now

@@ -1,5 +1,6 @@
 use Rattle.std.proofs.Common.{◌≡◌, ℕ, List, [], ◌∷◌, ◌++◌, Result, Ok}
-use Rattle.tile_service.specs.Runs.{begin_and_steps, TakesAll}
+use Rattle.std.specs.Prelude.{All}
+use Rattle.tile_service.specs.Runs.{begin_and_steps, IsUnfinished, TakesAll}
 use Rattle.tile_service.specs.declared.fault.ServiceFault.{ServiceFault}
 use Rattle.tile_service.specs.Service.{Known, state_of, KeepsArchive}
 use Rattle.tile_service.proofs.Callers.{HasRun}
@@ -14,7 +15,8 @@ invariant-loop-rest g l = record {
   archive : (l.rest ≡ 0 → ⊥) → KeepsArchive g.D.Sectors.honest g.D.Sectors.history l.fn.self l.self;
   run : (before : List (Result ℕ ServiceFault)) × HasRun g.D.Sectors.sectors g.D.Sectors.honest g.D.Sectors.history l.fn.self
       (begin_and_steps (before ++ Ok l.rest ∷ [])) l.self
-      × TakesAll g.D.Sectors.sectors g.D.Sectors.honest g.D.Sectors.history l.fn.self (begin_and_steps (before ++ Ok l.rest ∷ [])) l.self;
+      × TakesAll g.D.Sectors.sectors g.D.Sectors.honest g.D.Sectors.history l.fn.self (begin_and_steps (before ++ Ok l.rest ∷ [])) l.self
+      × All IsUnfinished before;
 }
 
 abbrev pub decreases-loop-rest : goal.decreases-loop-rest
