@@ -1,3 +1,4 @@
+//! Why a map has no content for an area.
 use thiserror::Error;
 
 /// Why a map has no content for an area.

@@ -7,7 +7,7 @@ use Rattle.http_serve.specs.Reply.{ReplyView}
 use Rattle.http_serve.specs.Told.{IsServed, IsServedUpTo}
 
 -- A stretch of a connection, in which no other is served: whether it is the connection's first, what it came to, and what was left to read
--- and held of what was written, before it and behind it, where this is known.
+-- and held of what was written, before it and after it, where this is known.
 pub record Stretch : Type 0 where
   pub first : Bool
   pub result : Result Served ServeFault
@@ -20,7 +20,7 @@ pub record Stretch : Type 0 where
 abbrev pub unknown_stream : Bool → Result Served ServeFault → Stretch
 unknown_stream first result = record { first = first; result = result; left = None; held = None; leaves = None; holds = None }
 
--- how many connections these stretches are of: so many are the first of theirs
+-- how many connections these stretches are of: the number of those that are the first of theirs
 abbrev pub begun : List Stretch → ℕ
 begun stretches = length (filter (λ stretch. stretch.first) stretches)
 

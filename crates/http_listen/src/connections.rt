@@ -47,7 +47,7 @@ struct Past<S> {
     stream: S,
 }
 
-/// Serves a stretch of the connection of a stream, in which another request is asked for so many times.
+/// Serves a stretch of the connection of a stream, in which another request is asked for `asks` times at most.
 fn serve_stream<S, H, C>(
     clock: &C,
     buffers: &mut Buffers,

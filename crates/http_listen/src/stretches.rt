@@ -17,7 +17,7 @@ pub(crate) struct StretchReader<'a, S, C> {
 }
 
 impl<'a, S, C> StretchReader<'a, S, C> {
-    /// The reader of a stretch in which a request is asked for so many times.
+    /// The reader of a stretch in which a request is asked for `asks` times at most.
     pub(crate) fn new(stream: &'a Paced<'a, S, C>, asks: u64) -> Self {
         StretchReader {
             stream,

@@ -1,3 +1,4 @@
+//! The faults of making a disk file.
 use generations::StoreFault;
 use thiserror::Error;
 

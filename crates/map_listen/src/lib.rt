@@ -1,4 +1,4 @@
-//! A map on a disk behind a listener: the stretches of its connections, one after the other, are one run of events.
+//! A map on a disk behind a listener: the stretches of its connections, in their order, are one run of events.
 #![tactic(auto)]
 
 mod connections;

@@ -13,6 +13,7 @@ pub mod Fits
 mod Fresh
 mod Going
 pub mod Laws
+mod LimitNumbers
 pub mod Installed
 mod Kept
 mod Opens

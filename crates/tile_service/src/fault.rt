@@ -1,3 +1,4 @@
+//! The faults of a service.
 use feature_model::EditFault;
 use thiserror::Error;
 
