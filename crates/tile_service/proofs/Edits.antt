@@ -61,6 +61,8 @@ refuses_edit sectors honest history failures old new call e fault same other =
       failed = inr (other, refl);
       unwritten = λ not. refl;
       unchanged = λ not. refl;
+      touches = refl;
+      cached = refl;
       keeps_archive = record { generation = refl; snapshot_len = refl; archive_len = refl; shows = λ archive shown is_honest. shown };
       any_moment = λ stored is_honest up. started (history old.disk) _ (λ image may. inl (up.keeps image may));
       acknowledged = λ stored is_honest up. tt;

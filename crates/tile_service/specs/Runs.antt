@@ -1,11 +1,13 @@
 -- What a disk may hold during a run of calls.
 use Rattle.std.specs.Prelude.{◌≡◌, ◌⊎◌, ◌<◌, ◌≤◌, ◌+◌, ◌-◌, ℕ, zero, suc, true, false, List, [], ◌∷◌, ◌++◌, length, take, drop, get_or}
-use Rattle.std.specs.Prelude.{◌≢◌, map, All, Contains, Option, Some, None, option_map, Result, Ok, Err, OnOk, IfErr}
+use Rattle.std.specs.Prelude.{◌≢◌, map, All, Contains, Option, Some, None, option_map, Result, Ok, Err, OnOk, IfErr, MatchResult}
 use Rattle.sector_disk.specs.Asked.{MayWrite}
 use Rattle.sector_disk.specs.Disk.{History, Image, MayLeave, moment, LeftSince}
 use Rattle.sector_disk.specs.Moments.{Follows, LeavesOnly}
+use Rattle.cached_map.specs.Cached.{marks_after}
 use Rattle.edit_journal.specs.Appends.{TakesSteps}
 use Rattle.edit_text.specs.Recorded.{RecordedEdit}
+use Rattle.tile_cache.specs.Touched.{StaysElsewhere}
 use Rattle.tile_service.specs.After.{after}
 use Rattle.tile_service.specs.declared.fault.ServiceFault.{ServiceFault}
 use Rattle.tile_service.specs.declared.fault.ServiceFault.TheVariants.{Device}
@@ -249,6 +251,11 @@ module _ {D : Type 0} (sectors : D → ℕ) (honest : D → Type 0) (history : D
     -- any other fault writes nothing and changes nothing
     pub unwritten : IfErr outcome (λ fault. fault ≢ Device → new.disk ≡ old.disk)
     pub unchanged : IfErr outcome (λ fault. fault ≢ Device → new ≡ old)
+    -- only numbers of cells that the box of a changed feature touches are changed, the box that it had or the one that it gets
+    pub touches : MatchResult outcome (λ number. StaysElsewhere (marks_after old.features e.changes number []) old.touched new.touched)
+        (λ fault. new.touched ≡ old.touched)
+    -- cached tiles stay
+    pub cached : new.kept ≡ old.kept
     -- the archive is unchanged
     pub keeps_archive : KeepsArchive honest history old new
     -- a crash during the call leaves what was stored, or that with the edit

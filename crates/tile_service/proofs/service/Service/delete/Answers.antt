@@ -60,6 +60,8 @@ returns-in-Ok-clause-takes g c = rw (← c.self.view_is) (record {
   failed = c.in-Ok.ensures.faults;
   unwritten = tt;
   unchanged = tt;
+  touches = c.remove.ensures.stays;
+  cached = c.remove.ensures.kept;
   keeps_archive = append_keeps g.D.Sectors.honest g.D.Sectors.history _ _ refl refl refl refl c.self.invariant.area
       (ring_of c.self.inside.journal) c.self.invariant.ring c.self.inside.journal.place c.self.inside.journal.used c.append.new.disk refl
       c.append.ensures.reads;
@@ -97,6 +99,8 @@ returns-in-Err-clause-takes g c = rw (← c.self.view_is) (record {
   failed = search rules;
   unwritten = search rules;
   unchanged = search rules;
+  touches = ap (λ s. s.touched) c.fail.ensures.same;
+  cached = ap (λ s. s.kept) c.fail.ensures.same;
   keeps_archive = append_keeps g.D.Sectors.honest g.D.Sectors.history _ _ (ap (λ s. s.size) c.fail.ensures.same)
       (ap (λ s. s.generation) c.fail.ensures.same) (ap (λ s. s.snapshot_len) c.fail.ensures.same) (ap (λ s. s.archive_len) c.fail.ensures.same)
       c.self.invariant.area

@@ -1,10 +1,12 @@
-use Rattle.std.proofs.Common.{◌≡◌, Ok, ◌∙◌, ℕ, List, refl, sym, ap, subst, arith, rules, length}
+use Rattle.std.proofs.Common.{◌≡◌, Ok, ◌∙◌, ℕ, List, [], refl, sym, ap, subst, arith, rules, length}
+use Rattle.cached_map.specs.Cached.{CachedView, marks_after}
 use Rattle.edit_journal.specs.Appends.{ring_of}
 use Rattle.edit_journal.specs.Records.{IsRecordLength, parts_of, record_of}
 use Rattle.edit_journal.specs.Ring.{Ring}
 use Rattle.edit_text.specs.Recorded.{IsRecorded, text_in}
 use Rattle.feature_model.specs.Data.{edit_data}
 use Rattle.feature_store.specs.Store.{edited, snapshot}
+use Rattle.tile_cache.specs.Touched.{StaysElsewhere}
 use Rattle.tile_service.specs.Machine.{recorded_in}
 use Rattle.tile_service.specs.Stored.{stored_records}
 use Rattle.tile_service.specs.declared.fault.ServiceFault.TheVariants.{Memory}
@@ -62,6 +64,9 @@ returns-in-Ok-append-clause-takes g c = rw (← c.self.view_is) (λ call. record
   failed = c.in-Ok-append.ensures.faults;
   unwritten = tt;
   unchanged = tt;
+  touches = subst (λ (m : CachedView). StaysElsewhere (marks_after m.features (edit_data c.args.requested) c.in-Ok-append.number []) m.touched
+      c.make_edit.new.self.touched) c.room_all.ensures.same c.make_edit.ensures.stays;
+  cached = c.make_edit.ensures.kept ∙ ap (λ m. m.kept) c.room_all.ensures.same;
   keeps_archive = append_keeps g.D.Sectors.honest g.D.Sectors.history _ _ refl refl refl refl c.self.invariant.area
       (ring_of c.self.inside.journal) c.self.invariant.ring c.self.inside.journal.place c.self.inside.journal.used c.append.new.disk refl
       c.append.ensures.reads;
@@ -102,6 +107,8 @@ returns-in-Err-append-clause-takes g c = rw (← c.self.view_is) (λ call. recor
   failed = search rules;
   unwritten = search rules;
   unchanged = search rules;
+  touches = ap (λ s. s.touched) c.fail.ensures.same ∙ ap (λ m. m.touched) c.room_all.ensures.same;
+  cached = ap (λ s. s.kept) c.fail.ensures.same ∙ ap (λ m. m.kept) c.room_all.ensures.same;
   keeps_archive = append_keeps g.D.Sectors.honest g.D.Sectors.history _ _ (ap (λ s. s.size) c.fail.ensures.same)
       (ap (λ s. s.generation) c.fail.ensures.same) (ap (λ s. s.snapshot_len) c.fail.ensures.same) (ap (λ s. s.archive_len) c.fail.ensures.same)
       c.self.invariant.area
