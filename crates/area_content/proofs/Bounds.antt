@@ -16,8 +16,7 @@ use Rattle.pm_build.specs.Placed.{AreDifferent}
 use Rattle.pm_build.specs.Runs.{TileRun, AreLongestRuns}
 use Rattle.pm_build.specs.Tiles.{Tile}
 use Rattle.area_content.specs.Content.{ContentView, sectors_taken}
-use Rattle.area_content.specs.Faults.{IsShort, AreAdded, HasLongTile, HasManyTiles, IsBounded, IsBoundedFor, IsBuiltFor, IsFull, IsContentFault, told_as}
-use Rattle.area_content.specs.Tiles.{IsArchiveOfMap}
+use Rattle.area_content.specs.Faults.{IsShort, AreAdded, HasLongTile, HasManyTiles, IsBounded, IsBuiltFor, IsFull, IsContentFault, told_as}
 
 -- the size is within the bound of `pm_build`'s contract
 abbrev pub IsSize : List Tile → (metadata size : ℕ) → Type 0

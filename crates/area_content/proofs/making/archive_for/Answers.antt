@@ -1,4 +1,4 @@
-use Rattle.std.proofs.Common.{ℕ, List, [], length, sym, subst}
+use Rattle.std.proofs.Common.{ℕ, List, [], length, sym, subst, rules}
 use Rattle.feature_store.specs.Store.{FeatureMap}
 use Rattle.pm_build.specs.Tiles.{Tile}
 use Rattle.area_content.specs.Faults.{AreAdded, IsContentFault}
@@ -17,4 +17,4 @@ returns-in-Err-add_all-clause-fault c =
     subst (λ (m : FeatureMap). IsContentFault m metadata c.args.area c.in-Err-add_all.fault) c.in-Ok.ensures.map (c.in-Err-add_all.ensures.fault metadata)
 
 pub returns-in-Ok-archive_of-clause-built : goal.returns-in-Ok-archive_of-clause-built
-returns-in-Ok-archive_of-clause-built c = record { of_map = goal; bounded = goal }
+returns-in-Ok-archive_of-clause-built c = record { of_map = search rules; bounded = search rules }
