@@ -83,7 +83,7 @@ module _ (m : FeatureMap) (metadata area : ℕ) where
       ap (λ (bytes : List ℕ). sectors_of (length bytes) + sectors_of (length c.archive)) same in
       record { free_is = refl; above = more; needed = inr (c.archive, built, need) }
 
-  -- the fault of a builder, which has too many tiles only where the map has
+  -- the fault of a builder, which has too many tiles only if the map has
   pub fault_told : (fault : BuildFault) → (fault ≡ building.TooManyEntries → HasManyTiles m) → IsContentFault m metadata area (told_as fault)
   fault_told building.TooManyEntries many = many refl
   fault_told building.Memory many = tt

@@ -31,7 +31,7 @@ archive_sector c index =
     let index_is : n + index - n ≡ index = omega arith in
     rw (behind, index_is) (begins (sector_piece c.archive index))
 
--- Where the tiles below some id need more entries than an archive takes, all tiles of the map do.
+-- If the tiles below some id need more entries than an archive has, all tiles of the map do.
 pub all_are_many : (m : FeatureMap) → HasManyTiles m → (tiles : List Tile) (runs : List TileRun) → AreTiles m tiles → AreLongestRuns tiles runs
     → MAX_ENTRIES < length runs
 all_are_many m many tiles runs are longest =

@@ -1,4 +1,4 @@
--- Where the two positions of a range stand.
+-- The two positions of a range, before and after its dash.
 use Rattle.std.proofs.Common.{◌≡◌, ℕ, suc, ◌+◌, ◌-◌, ◌<◌, ◌≤◌, ◌^◌, List, [], ◌∷◌, ◌++◌, true, false, length, take, drop, get_or}
 use Rattle.std.proofs.Common.{drop-cons, length-append, length-drop, take_all, refl, sym, ◌∙◌, ap, subst, arith}
 use Rattle.std.specs.Prelude.{Bool, cond, nat_lt, nat_eq, Option, Some, None, MatchOption, ◌↔◌, codes}
@@ -60,7 +60,7 @@ dash_behind (d ∷ digits) rest is =
     let more = dash_behind digits rest first.2 in
     rw first.1 (omega (arith, more))
 
--- the index of the first dash, where there is one
+-- the index of the first dash, if there is one
 dash_is : (text : List ℕ) (dash : ℕ) → position is_dash text ≡ Some dash → (position_or_len is_dash text ≡ dash) × (dash < length text)
 dash_is text dash is = by_test (nat_lt (position_or_len is_dash text) (length text)) refl is
   where
@@ -78,7 +78,7 @@ dash_stands text dash is =
     drop-cons text dash 0 passes.0 ∙ (ap (λ (b : ℕ). b ∷ drop (suc dash) text) byte ∙ ap (λ (n : ℕ). 45 ∷ drop n text) next) in
     sym (take-append-drop dash text) ∙ ap (λ (t : List ℕ). take dash text ++ t) behind
 
--- where the texts around a dash stand
+-- the texts before and after a dash
 around_dash : (text before behind : List ℕ) → text ≡ before ++ 45 ∷ behind → list_all is_ascii_digit before ≡ true
     → (before ≡ take (position_or_len is_dash text) text) × (behind ≡ drop (position_or_len is_dash text + 1) text)
 around_dash text before behind is digits =
@@ -94,7 +94,7 @@ ends_around text first last is =
     subst (λ (t : List ℕ). AreAround t (drop (position_or_len is_dash text + 1) text) first last) same.0
     (subst (λ (t : List ℕ). AreAround is.0 t first last) same.1 is.3)
 
--- what stands around a dash, as the ends of a range
+-- the texts before and after a dash, as the ends of a range
 pub ends_at : (text : List ℕ) (dash : ℕ) (o : Option ByteRange) → position is_dash text ≡ Some dash
     → MatchOption o ((first last : ℕ) → ¬ (AreAround (take dash text) (drop (dash + 1) text) first last))
     (λ range. AreAround (take dash text) (drop (dash + 1) text) range.first range.last)

@@ -5,15 +5,15 @@ use Rattle.std.specs.Char.{is_ascii_digit}
 use Rattle.std.specs.Str.Parse.{digits_value}
 use Rattle.byte_range.specs.declared.positions.TheConstants.{MAX_POSITION_DIGITS}
 
--- one digit or more, and not too many
+-- 1 to `MAX_POSITION_DIGITS` digits
 abbrev pub is_numeral : List ℕ → Bool
 is_numeral text = nat_lt 0 (length text) && (nat_le (length text) MAX_POSITION_DIGITS && list_all is_ascii_digit text)
 
--- the text writes this position of a byte; zeros in front are digits
+-- the text is this position of a byte; leading zeros count as digits
 abbrev pub IsPosition : List ℕ → ℕ → Type 0
 IsPosition text position = (is_numeral text ≡ true) × (position ≡ digits_value 10 text)
 
--- these texts write the first position and the last one, which isn't before the first
+-- these texts are the first position and the last one, which isn't before the first
 abbrev pub AreAround : (before behind : List ℕ) → (first last : ℕ) → Type 0
 AreAround before behind first last = IsPosition before first × IsPosition behind last × (first ≤ last)
 

@@ -6,17 +6,17 @@ ghost use Rattle.byte_range.specs.Ranges.{IsPosition, is_numeral};
 
 use decimal_number::{are_digits, digits_number};
 
-/// The most digits of a position. A number of so many digits is below 2^64.
+/// The most digits of a position. A number of 18 digits is below 2^64.
 pub const MAX_POSITION_DIGITS: usize = 18;
 
-/// Whether the text is one digit or more, and not too many.
+/// Whether the text is 1 to `MAX_POSITION_DIGITS` digits.
 fn is_numeral(text: &[u8]) -> bool
     ensures { result ≡ is_numeral text.now }
 {
     !text.is_empty() && text.len() <= MAX_POSITION_DIGITS && are_digits(text)
 }
 
-/// The position that the text writes. Zeros in front are digits as others are.
+/// The position that the text is, or `None` if it isn't one. Leading zeros count as digits.
 pub(crate) fn position_in(text: &[u8]) -> Option<u64>
     ensures { MatchOption result ((position : ℕ) → ¬ (IsPosition text.now position)) (IsPosition text.now) }
 {

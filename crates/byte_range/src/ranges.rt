@@ -1,11 +1,12 @@
-//! Ranges of bytes.
+//! Parses ranges of bytes.
+
 ghost use Rattle.std.specs.Prelude.{◌≡◌, ◌↔◌, ℕ, List, Some, MatchOption};
 ghost use Rattle.std.specs.List.{position};
 ghost use Rattle.byte_range.specs.Ranges.{AreAround, AreEnds, IsRange, is_dash};
 
 use crate::positions::position_in;
 
-/// The bytes from one to another one, both counted from 0.
+/// The bytes from one position to another, both counted from 0 and both included.
 #[derive(Clone, Copy, Debug, PartialEq, Eq)]
 pub struct ByteRange {
     /// The first byte.
@@ -14,14 +15,14 @@ pub struct ByteRange {
     pub last: u64,
 }
 
-/// The index of the first dash.
+/// The index of the first dash, if there is one.
 fn dash_in(text: &[u8]) -> Option<usize>
     ensures { result ≡ position is_dash text.now }
 {
     text.iter().position(|byte| *byte == b'-')
 }
 
-/// The range from the position that one text writes to that of another one.
+/// The range between the positions in two texts, or `None` if there is none.
 fn between(before: &[u8], behind: &[u8]) -> Option<ByteRange>
     ensures { MatchOption result ((first last : ℕ) → ¬ (AreAround before.now behind.now first last))
         (λ range. AreAround before.now behind.now range.first range.last) }
@@ -32,7 +33,7 @@ fn between(before: &[u8], behind: &[u8]) -> Option<ByteRange>
     }
 }
 
-/// The range that stands behind the unit.
+/// The range after the unit, or `None` if there is none.
 fn range_in(text: &[u8]) -> Option<ByteRange>
     ensures { MatchOption result ((first last : ℕ) → ¬ (AreEnds text.now first last)) (λ range. AreEnds text.now range.first range.last) }
 {
@@ -42,8 +43,8 @@ fn range_in(text: &[u8]) -> Option<ByteRange>
     }
 }
 
-/// The range that the value of a field `range` asks for. None where the value has any other form than `bytes=`, one to
-/// `MAX_POSITION_DIGITS` digits, `-` and one to as many digits, or where the last byte is before the first one.
+/// The range that the value of a header field `range` asks for. `None` if the value isn't of the form `bytes=`, 1 to
+/// `MAX_POSITION_DIGITS` digits, `-`, 1 to `MAX_POSITION_DIGITS` digits, or if the last byte is before the first.
 pub fn byte_range(value: &[u8]) -> Option<ByteRange>
     ensures { (range : ByteRange) → (result ≡ Some range) ↔ IsRange value.now range.first range.last }
 {
@@ -53,7 +54,7 @@ pub fn byte_range(value: &[u8]) -> Option<ByteRange>
     }
 }
 
-/// A value asks for at most one range.
+/// Proves that a value asks for at most one range.
 pub fn at_most_one_range()
     ensures { (value : List ℕ) (a b c d : ℕ) → IsRange value a b → IsRange value c d → (a ≡ c) × (b ≡ d) }
 {}

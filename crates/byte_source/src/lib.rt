@@ -1,4 +1,4 @@
-//! Bytes that can be read at any offset, wherever they lie: in memory, in a file, in the sectors of a disk.
+//! Bytes that can be read at any offset: in memory, in a file, or in the sectors of a disk.
 #![tactic(auto)]
 
 mod source;

@@ -1,3 +1,5 @@
+//! Sources of bytes.
+
 ghost use Rattle.std.proofs.Common.{rules, refl, ◌∙◌};
 ghost use Rattle.std.specs.Prelude.{◌≡◌, ℕ, ◌+◌, ◌≤◌, List, length, OnOk, OnErr, slice_range};
 
@@ -8,26 +10,26 @@ use thiserror::Error;
 #[error("the bytes could not be read")]
 pub struct ReadFault;
 
-/// Bytes that can be read at any offset, as those of a file.
+/// Bytes that can be read at any offset, like those of a file.
 pub trait Bytes {
-    /// How many bytes there are.
+    /// The number of bytes.
     ghost count: { Self → ℕ };
 
-    /// It has these bytes, and has kept to them so far. This may fall at any read, for good, and no code can tell. A source that
-    /// may tell anything has none.
+    /// The source has these bytes, and each read so far returned what they are. Any read may end this for good, and no code can find
+    /// out. A source of which nothing is known has none.
     ghost holds: { Self → List ℕ → Type 0 };
 
-    /// A read of it may fail.
+    /// A read of the source may fail.
     ghost fails: { Self → Type 0 };
 
-    /// What lies behind it is the same in both, as the history of a disk that it reads. A read leaves it so.
+    /// What the source reads from is the same in both, for example the history of a disk. A read keeps this.
     ghost unchanged: { Self → Self → Type 0 };
 
-    /// How many bytes there are.
+    /// The number of bytes.
     fn len(&self) -> u64
         ensures { result ≡ count self.now };
 
-    /// Reads the bytes from an offset on, as many as `into` has room for. After a fault `into` has any bytes.
+    /// Reads the bytes from an offset on, as many as `into` has. After an error the bytes of `into` are unspecified.
     fn read_at(&mut self, at: u64, into: &mut [u8]) -> Result<(), ReadFault>
         requires { at + length into.old ≤ count self.old }
         ensures count { count self.new ≡ count self.old }

@@ -1,2 +1,3 @@
 -- Numbers in decimal.
 mod Digits
+mod LimitNumbers

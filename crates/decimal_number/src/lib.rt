@@ -19,7 +19,7 @@ pub fn are_digits(bytes: &[u8]) -> bool
     bytes.iter().all(|byte| byte.is_ascii_digit())
 }
 
-/// The number that one digit or more write, where it is below 2^64. Any count of zeros may stand in front.
+/// The number that one digit or more are, or `None` if it is 2^64 or more. Leading zeros are allowed.
 pub fn digits_number(digits: &[u8]) -> Option<u64>
     requires some { 0 < length digits.now }
     requires digits { list_all is_ascii_digit digits.now ≡ true }
@@ -31,7 +31,7 @@ pub fn digits_number(digits: &[u8]) -> Option<u64>
     }
 }
 
-/// Adds text where there is room. It takes no memory.
+/// Appends text within the capacity. It allocates nothing.
 pub fn push_text(out: &mut Vec<u8>, text: &[u8])
     requires room { vec_len out.old + length text.now ≤ vec_capacity out.old }
     ensures items { out.new.items ≡ out.old.items ++ text.now }
@@ -41,7 +41,7 @@ pub fn push_text(out: &mut Vec<u8>, text: &[u8])
     out.extend_from_slice(text).unwrap();
 }
 
-/// Adds a number in decimal digits, without zeros in front, where there is room. It takes no memory.
+/// Appends a number in decimal digits, without leading zeros, within the capacity. It allocates nothing.
 pub fn push_number(out: &mut Vec<u8>, number: u64)
     requires room { vec_len out.old + MAX_DIGITS ≤ vec_capacity out.old }
     ensures items { out.new.items ≡ out.old.items ++ decimal number }

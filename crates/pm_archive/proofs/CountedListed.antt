@@ -1,4 +1,4 @@
--- Tile entries that were listed lie inside the section of the tiles, and have no more ids than there are.
+-- Listed tile entries are inside the section of the tiles, and have no more ids than there are.
 use Rattle.std.proofs.Common.{◌≡◌, ℕ, zero, suc, ◌+◌, ◌^◌, ◌<◌, ◌≤◌, List, [], ◌∷◌, ◌++◌, inl, inr, sym, subst, Ok, arith}
 use Rattle.std.specs.List.{AllByRecursion}
 use Rattle.hilbert_id.specs.declared.number.TheConstants.{TILE_IDS}
@@ -7,14 +7,14 @@ use Rattle.pm_directory.specs.declared.entry.DirectoryEntry.{DirectoryEntry}
 use Rattle.pm_directory.specs.Counts.{addressed_by}
 use Rattle.pm_directory.specs.Directory.{IsAscending, AscendFrom, IsEntry, ids_behind}
 use Rattle.pm_archive.specs.Entries.{LiesIn, AreBetween, bound_of, EachLists, ListsTile, Lists}
-use Rattle.pm_archive.specs.declared.limits.TheConstants.{MAX_LEAVES}
+use Rattle.pm_archive.specs.declared.limits.TheConstants.{MAX_LEAF_LEVELS}
 use Rattle.pm_archive.specs.Reading.{list_at}
 use Rattle.pm_archive.proofs.ListedEntries.{list_ok}
 use Rattle.pm_archive.proofs.LookedLaws.{each_lie, lists_lie}
 
 pub listed_inside : (bytes : List ℕ) (h : Header) (root tiles : List DirectoryEntry) → list_at bytes h root ≡ Ok tiles → AllByRecursion (LiesIn h.tiles) tiles
 listed_inside bytes h root tiles r =
-    each_lie h (Lists bytes h MAX_LEAVES) (lists_lie bytes h MAX_LEAVES) TILE_IDS root tiles (list_ok bytes h root tiles r)
+    each_lie h (Lists bytes h MAX_LEAF_LEVELS) (lists_lie bytes h MAX_LEAF_LEVELS) TILE_IDS root tiles (list_ok bytes h root tiles r)
 
 -- ---- how many ids they have
 
@@ -36,7 +36,7 @@ between_end : (from bound : ℕ) (es : List DirectoryEntry) → AreBetween from 
 between_end from bound [] all = tt
 between_end from bound (e ∷ es) all = (omega (arith, all.0.1), between_end from bound es all.1)
 
--- an entry's ids end where the next one's begin, or at the bound
+-- an entry's ids end before the next one's, or before the bound
 entry_end : (bound : ℕ) (e : DirectoryEntry) (es : List DirectoryEntry) → AscendFrom (ids_behind e) es → e.id + e.run ≤ bound → e.id + e.run ≤ bound_of bound es
 entry_end bound e [] a h = h
 entry_end bound e (n ∷ es) a h = omega (arith, a.0)
@@ -90,6 +90,6 @@ module _ (bytes : List ℕ) (h : Header) where
       → addressed_by tiles < 2 ^ 64
   listed_fit root tiles ascending each r =
       let all : AreFew 0 TILE_IDS tiles =
-      each_counted (Lists bytes h MAX_LEAVES) (lists_counted MAX_LEAVES) 0 TILE_IDS root tiles (omega arith) ascending (fitting root each)
+      each_counted (Lists bytes h MAX_LEAF_LEVELS) (lists_counted MAX_LEAF_LEVELS) 0 TILE_IDS root tiles (omega arith) ascending (fitting root each)
       (list_ok bytes h root tiles r) in
       omega arith

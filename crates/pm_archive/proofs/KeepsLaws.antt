@@ -1,8 +1,8 @@
--- Sources that keep what they are.
+-- Sources that are unchanged.
 use Rattle.std.proofs.Common.{ℕ, List, ◌∙◌}
 use Rattle.byte_source.specs.Source.{Keeps}
 
--- what is kept twice is kept
+-- a source that is unchanged twice is unchanged
 pub keeps_on : {S : Type 0} {count : S → ℕ} {holds : S → List ℕ → Type 0} {fails : S → Type 0} {unchanged : S → S → Type 0}
     → ((a b c : S) → unchanged a b → unchanged b c → unchanged a c)
     → {a b c : S} → Keeps count holds fails unchanged a b → Keeps count holds fails unchanged b c → Keeps count holds fails unchanged a c

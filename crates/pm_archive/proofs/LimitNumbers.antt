@@ -1,15 +1,15 @@
--- The limits of an archive, and of what is cached of one.
+-- The number of each limit.
 use Rattle.std.proofs.Common.{◌≡◌, refl}
-use Rattle.pm_archive.specs.declared.limits.TheConstants.{OPENING_END, MAX_LEAVES, KEPT_LEAF_BYTES, KEPT_LEAVES_BYTES}
+use Rattle.pm_archive.specs.declared.limits.TheConstants.{OPENING_END, MAX_LEAF_LEVELS, MAX_CACHED_LEAF_BYTES, MAX_CACHED_BYTES}
 
 pub opening_end_is : OPENING_END ≡ 16384
 opening_end_is = refl
 
-pub max_leaves_is : MAX_LEAVES ≡ 3
-max_leaves_is = refl
+pub max_leaf_levels_is : MAX_LEAF_LEVELS ≡ 3
+max_leaf_levels_is = refl
 
-pub kept_leaf_bytes_is : KEPT_LEAF_BYTES ≡ 65536
-kept_leaf_bytes_is = refl
+pub max_cached_leaf_bytes_is : MAX_CACHED_LEAF_BYTES ≡ 65536
+max_cached_leaf_bytes_is = refl
 
-pub kept_leaves_bytes_is : KEPT_LEAVES_BYTES ≡ 1048576
-kept_leaves_bytes_is = refl
+pub max_cached_bytes_is : MAX_CACHED_BYTES ≡ 1048576
+max_cached_bytes_is = refl

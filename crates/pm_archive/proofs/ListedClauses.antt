@@ -13,7 +13,7 @@ use Rattle.pm_archive.specs.declared.fault.Count.{Count}
 use Rattle.pm_archive.specs.Answers.{IsOutside, UnlessOutside}
 use Rattle.pm_archive.specs.Sections.{HasSections, section_bytes}
 use Rattle.pm_archive.specs.Entries.{HasEntries, EachLists, Lists}
-use Rattle.pm_archive.specs.declared.limits.TheConstants.{MAX_LEAVES}
+use Rattle.pm_archive.specs.declared.limits.TheConstants.{MAX_LEAF_LEVELS}
 use Rattle.pm_archive.specs.Archive.{HasCounts}
 use Rattle.pm_archive.specs.Reading.{list_at}
 use Rattle.pm_archive.specs.Verified.{HasTile, IsSound, IsVerified, HasOtherCount, VerifyingHas, report_of}
@@ -32,9 +32,9 @@ listed bytes h root tiles dir has =
     ap (list_at bytes h) (one_directory (section_bytes h.root bytes) root has.0 dir has.1) ∙ list_only bytes h has.0 tiles has.2
 
 pub has_each : (bytes : List ℕ) (h : Header) (root tiles : List DirectoryEntry) → IsDirectory (section_bytes h.root bytes) root → HasEntries bytes h tiles
-    → EachLists (Lists bytes h MAX_LEAVES) TILE_IDS root tiles
+    → EachLists (Lists bytes h MAX_LEAF_LEVELS) TILE_IDS root tiles
 has_each bytes h root tiles dir has =
-    subst (λ (es : List DirectoryEntry). EachLists (Lists bytes h MAX_LEAVES) TILE_IDS es tiles)
+    subst (λ (es : List DirectoryEntry). EachLists (Lists bytes h MAX_LEAF_LEVELS) TILE_IDS es tiles)
     (one_directory (section_bytes h.root bytes) has.0 root has.1 dir) has.2
 
 module _ {X : Type 0} (view : X → List DirectoryEntry) (bytes : List ℕ) (h : Header) (items root : List DirectoryEntry) (same : items ≡ root) where

@@ -12,7 +12,7 @@ use Rattle.pm_directory.proofs.DirectoryLaws.{directory_ok, directory_only}
 use Rattle.pm_archive.specs.declared.fault.ArchiveFault.{ArchiveFault}
 use Rattle.pm_archive.specs.declared.fault.ArchiveFault.TheVariants as faults
 use Rattle.pm_archive.specs.Entries.{entry_bytes, bound_of, AreBetween, EachLists, ListsTile, IsLeaf, Lists}
-use Rattle.pm_archive.specs.declared.limits.TheConstants.{MAX_LEAVES}
+use Rattle.pm_archive.specs.declared.limits.TheConstants.{MAX_LEAF_LEVELS}
 use Rattle.reader.specs.Reading.{Read, ◌>>=◌}
 use Rattle.reader.proofs.Steps.{done, same_value, not_both, then_ok, pass_ok, either_ok}
 use Rattle.pm_archive.specs.Reading.{stray_id, unless_stray, directory_or_fault, directory_of_entry, leaf_at, tile_at, each_at, lists_at, list_at}
@@ -133,9 +133,10 @@ lists_only bytes h (suc more) x bound ts is =
 
 -- the tile entries that are read below a root directory are those below it
 pub list_ok : (bytes : List ℕ) (h : Header) (root ts : List DirectoryEntry) → list_at bytes h root ≡ Ok ts
-    → EachLists (Lists bytes h MAX_LEAVES) TILE_IDS root ts
-list_ok bytes h root ts e = each_ok (lists_at bytes h MAX_LEAVES) (Lists bytes h MAX_LEAVES) (lists_ok bytes h MAX_LEAVES) TILE_IDS root ts e
+    → EachLists (Lists bytes h MAX_LEAF_LEVELS) TILE_IDS root ts
+list_ok bytes h root ts e = each_ok (lists_at bytes h MAX_LEAF_LEVELS) (Lists bytes h MAX_LEAF_LEVELS) (lists_ok bytes h MAX_LEAF_LEVELS) TILE_IDS root ts e
 
-pub list_only : (bytes : List ℕ) (h : Header) (root ts : List DirectoryEntry) → EachLists (Lists bytes h MAX_LEAVES) TILE_IDS root ts
+pub list_only : (bytes : List ℕ) (h : Header) (root ts : List DirectoryEntry) → EachLists (Lists bytes h MAX_LEAF_LEVELS) TILE_IDS root ts
     → list_at bytes h root ≡ Ok ts
-list_only bytes h root ts each = each_only (lists_at bytes h MAX_LEAVES) (Lists bytes h MAX_LEAVES) (lists_only bytes h MAX_LEAVES) TILE_IDS root ts each
+list_only bytes h root ts each =
+    each_only (lists_at bytes h MAX_LEAF_LEVELS) (Lists bytes h MAX_LEAF_LEVELS) (lists_only bytes h MAX_LEAF_LEVELS) TILE_IDS root ts each

@@ -14,9 +14,9 @@ use Rattle.pm_archive.specs.Listing.{behind}
 use Rattle.pm_archive.specs.Answers.{IsOutside, UnlessOutside}
 use Rattle.pm_archive.specs.declared.fault.ArchiveFault.{ArchiveFault}
 
--- ---- behind what there was
+-- ---- after what there was
 
--- what was listed stands in front of what is listed on
+-- what was listed comes before what is listed next
 pub behind_on : (before after : List DirectoryEntry) (front rest : Read ArchiveFault (List DirectoryEntry)) → behind before front ≡ Ok after
     → behind before (front >>= λ xs. rest >>= λ ys. Ok (xs ++ ys)) ≡ behind after rest
 behind_on before after (Ok xs) (Ok ys) listed = let e : before ++ xs ≡ after = (cc) in rw (← e) (rw append_assoc refl)
@@ -65,7 +65,7 @@ module _ (lists : DirectoryEntry → ℕ → Read ArchiveFault (List DirectoryEn
   each_fault whole fault lt is so_far listed = unless_on IsOutside fault (behind before (lists (get_or entries i d) b)) whole
       (λ e h. so_far ∙ fault_at lt is e h) listed
 
--- the first entry lies inside its section, by those that were listed
+-- the first entry is inside its section, by those that were listed
 pub first_lies : (h : Header) (es : List DirectoryEntry) (j : ℕ) (e : DirectoryEntry) → j < length es → (0 < j → LiesInside h (slice_get es 0))
     → LiesInside h (Some (get_or es j e)) → LiesInside h (slice_get es 0)
 first_lies h [] j e lt before here = absurd (omega arith)

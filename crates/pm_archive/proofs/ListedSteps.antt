@@ -27,7 +27,7 @@ unless_weaker One Other to d h inside = to d (h inside)
 
 -- ---- a test
 
--- no id where a test doesn't hold
+-- no id if a test doesn't hold
 pub pass_none : (b : Bool) (x : ℕ) (r : Option ℕ) → cond b (Some x) r ≡ None → (b ≡ false) × (r ≡ None)
 pass_none true x r e = absurd (cc)
 pass_none false x r e = (refl, e)

@@ -14,7 +14,7 @@ use Rattle.pm_archive.specs.Reading.{directory_of_entry}
 use Rattle.pm_archive.specs.Archive.{content_of_entry, content_of}
 use Rattle.pm_archive.specs.Looked.{last_up_to, where_leads, leading_of, leading_at, reached_at, content_at}
 
--- ---- between which ids the tiles lie
+-- ---- the bounds of the tiles' ids
 
 -- the ids of the tiles are at least this one
 abbrev AreFrom : ℕ → List DirectoryEntry → Type 0
@@ -39,7 +39,7 @@ Leading = DirectoryEntry → ℕ → List DirectoryEntry → Type 0
 abbrev GoesFrom : Leading → Type 0
 GoesFrom Leads = (e : DirectoryEntry) (bound : ℕ) (tiles : List DirectoryEntry) → Leads e bound tiles → AreFrom e.id tiles
 
--- nor one from the bound on, where the entry has none
+-- nor one from the bound on, if the entry has none
 abbrev GoesBelow : Leading → Type 0
 GoesBelow Leads = (e : DirectoryEntry) (bound : ℕ) (tiles : List DirectoryEntry) → Leads e bound tiles → ids_behind e ≤ bound → AreBelow bound tiles
 
@@ -51,7 +51,7 @@ each_from Leads goes from bound (e ∷ es) tiles past h =
     (goes e (bound_of bound es) h.0 h.3) in
     subst (AreFrom from) (sym h.2) (all_append (λ t. from ≤ t.id) h.0 h.1 front (each_from Leads goes from bound es h.1 past.1 h.4))
 
--- where the next entry begins, or the directory's bound
+-- the id of the next entry, or the directory's bound
 bound_behind : (bound : ℕ) (e : DirectoryEntry) (es : List DirectoryEntry) → AscendFrom (ids_behind e) es → AllByRecursion (λ t. ids_behind t ≤ bound) (e ∷ es)
     → (ids_behind e ≤ bound_of bound es) × (bound_of bound es ≤ bound)
 bound_behind bound e [] rise ends = (ends.0, omega arith)
@@ -139,7 +139,7 @@ last_behind e n es =
 
 -- ---- the entry of a directory that leads to an id
 
--- where the tile of the id lies: below the last entry up to it
+-- the tile of the id is below the last entry up to it
 abbrev Below : Leading → ℕ → List DirectoryEntry → Option DirectoryEntry → Type 0
 Below Leads id tiles None = entry_of tiles id ≡ None
 Below Leads id tiles (Some e) = (bound : ℕ) × (front : List DirectoryEntry) × (e.id ≤ id) × Leads e bound front × (entry_of tiles id ≡ entry_of front id)
@@ -158,7 +158,7 @@ last_next id e n es le next =
     ∙ last_behind e n (up_to id es)
     ∙ ap last_entry (sym (one_up_to id n es next))
 
--- no entry behind the first is up to the id
+-- no entry after the first is up to the id
 below_first : (Leads : Leading) → GoesFrom Leads → (id bound : ℕ) (e : DirectoryEntry) (es tiles : List DirectoryEntry) → e.id ≤ id
     → AllByRecursion (λ x. suc id ≤ x.id) es → EachLists Leads bound (e ∷ es) tiles → Below Leads id tiles (last_up_to id (e ∷ es))
 below_first Leads goes id bound e es tiles le past h =
@@ -242,7 +242,7 @@ reached_leaf bytes h id more e bound es leaf =
     let same : eqb e.run 0 ≡ true = eq-eqb e.run 0 names in
     rw (same, none, leaf_read bytes h e bound es leaf) refl
 
--- what is reached from an entry below which the id's tile lies
+-- what is reached from an entry below which the id's tile is
 abbrev Reaches : List ℕ → Header → ℕ → ℕ → Type 0
 Reaches bytes h id more = (from bound : ℕ) (es tiles : List DirectoryEntry) → AscendFrom from es → EachLists (Lists bytes h more) bound es tiles
     → reached_at bytes h id more (leading_of id es) ≡ Ok (entry_of tiles id)

@@ -4,7 +4,7 @@ use Rattle.std.proofs.lemmas.Bool.{le-ltb}
 use Rattle.pm_header.specs.declared.header.Header.{Header}
 use Rattle.pm_directory.specs.declared.entry.DirectoryEntry.{DirectoryEntry}
 use Rattle.pm_archive.specs.declared.fault.ArchiveFault.{ArchiveFault}
-use Rattle.pm_archive.specs.declared.limits.TheConstants.{MAX_LEAVES}
+use Rattle.pm_archive.specs.declared.limits.TheConstants.{MAX_LEAF_LEVELS}
 use Rattle.reader.specs.Reading.{Read, ◌>>=◌, GivesUnless}
 use Rattle.reader.proofs.Steps.{unless_on, then_on, then_stop}
 use Rattle.pm_archive.specs.Answers.{IsOutside, UnlessOutside}
@@ -36,22 +36,22 @@ reached_on {X} bytes h id view r (suc more) leaf below names some leads a =
 -- ---- a content
 
 module _ (bytes : List ℕ) (h : Header) (id : ℕ) (root : List DirectoryEntry) (start : Option DirectoryEntry) (leads : start ≡ leading_of id root) where
-  looked_from : looked_at bytes h root id ≡ (reached_at bytes h id MAX_LEAVES start >>= content_at bytes h)
+  looked_from : looked_at bytes h root id ≡ (reached_at bytes h id MAX_LEAF_LEVELS start >>= content_at bytes h)
   unfolding looked_at
-  looked_from = ap (λ (o : Option DirectoryEntry). reached_at bytes h id MAX_LEAVES o >>= content_at bytes h) (sym leads)
+  looked_from = ap (λ (o : Option DirectoryEntry). reached_at bytes h id MAX_LEAF_LEVELS o >>= content_at bytes h) (sym leads)
 
   -- what is answered for the tile entry to which the way leads
   pub looked_on : {X : Type 0} (view : X → Option (List ℕ)) (r : Result X ArchiveFault) (found : Option DirectoryEntry)
-      → reached_at bytes h id MAX_LEAVES start ≡ Ok found → GivesUnless IsOutside view r (content_at bytes h found)
+      → reached_at bytes h id MAX_LEAF_LEVELS start ≡ Ok found → GivesUnless IsOutside view r (content_at bytes h found)
       → GivesUnless IsOutside view r (looked_at bytes h root id)
   looked_on {X} view r found is a =
       let same : looked_at bytes h root id ≡ content_at bytes h found =
-      looked_from ∙ then_on (reached_at bytes h id MAX_LEAVES start) (content_at bytes h) found is in
+      looked_from ∙ then_on (reached_at bytes h id MAX_LEAF_LEVELS start) (content_at bytes h) found is in
       subst (λ (reading : Read ArchiveFault (Option (List ℕ))). GivesUnless IsOutside view r reading) (sym same) a
 
   -- a fault on the way
-  pub looked_fault : (d : ArchiveFault) → UnlessOutside (λ f. reached_at bytes h id MAX_LEAVES start ≡ Err f) d
+  pub looked_fault : (d : ArchiveFault) → UnlessOutside (λ f. reached_at bytes h id MAX_LEAF_LEVELS start ≡ Err f) d
       → UnlessOutside (λ f. looked_at bytes h root id ≡ Err f) d
   looked_fault d =
-      unless_on IsOutside d (reached_at bytes h id MAX_LEAVES start) (looked_at bytes h root id)
-      (λ f e. looked_from ∙ then_stop (reached_at bytes h id MAX_LEAVES start) (content_at bytes h) f e)
+      unless_on IsOutside d (reached_at bytes h id MAX_LEAF_LEVELS start) (looked_at bytes h root id)
+      (λ f e. looked_from ∙ then_stop (reached_at bytes h id MAX_LEAF_LEVELS start) (content_at bytes h) f e)

@@ -6,12 +6,12 @@ use Rattle.hilbert_id.specs.declared.number.TheConstants.{TILE_IDS}
 use Rattle.pm_header.specs.declared.header.Header.{Header}
 use Rattle.pm_directory.specs.declared.entry.DirectoryEntry.{DirectoryEntry}
 use Rattle.pm_directory.specs.Directory.{IsDirectory}
-use Rattle.pm_archive.specs.declared.limits.TheConstants.{MAX_LEAVES}
+use Rattle.pm_archive.specs.declared.limits.TheConstants.{MAX_LEAF_LEVELS}
 use Rattle.pm_archive.specs.Sections.{HasSections, section_bytes}
 use Rattle.pm_archive.specs.Entries.{HasEntries, entry_of}
 use Rattle.pm_archive.specs.Archive.{IsArchiveOf, content_of}
 use Rattle.pm_archive.specs.Looked.{leading_of, reached_at, content_at, looked_at}
-use Rattle.pm_archive.specs.Lookup.{LeafView, IsLeafOf, IsKeptOf}
+use Rattle.pm_archive.specs.Lookup.{LeafView, IsLeafOf, AreCachedOf}
 use Rattle.pm_archive.proofs.ListedClauses.{has_each}
 use Rattle.pm_archive.proofs.LookedLaws.{reaches, content_found}
 use Rattle.pm_archive.proofs.OpenedLaws.{one_header}
@@ -21,8 +21,8 @@ pub looked_below : (bytes : List ℕ) (h : Header) (root tiles : List DirectoryE
 unfolding looked_at
 looked_below bytes h root tiles id dir has =
     let lists = has_each bytes h root tiles dir has in
-    then_is (reached_at bytes h id MAX_LEAVES (leading_of id root)) (content_at bytes h) (entry_of tiles id) (Ok (content_of bytes h tiles id))
-    (reaches bytes h id MAX_LEAVES 0 TILE_IDS root tiles dir.ascending lists) (content_found bytes h id MAX_LEAVES TILE_IDS root tiles lists)
+    then_is (reached_at bytes h id MAX_LEAF_LEVELS (leading_of id root)) (content_at bytes h) (entry_of tiles id) (Ok (content_of bytes h tiles id))
+    (reaches bytes h id MAX_LEAF_LEVELS 0 TILE_IDS root tiles dir.ascending lists) (content_found bytes h id MAX_LEAF_LEVELS TILE_IDS root tiles lists)
 
 pub looked_content : (bytes : List ℕ) (h : Header) (root : List DirectoryEntry) (content : ℕ → Option (List ℕ)) (id : ℕ) → HasSections bytes h
     → IsDirectory (section_bytes h.root bytes) root → IsArchiveOf bytes content → looked_at bytes h root id ≡ Ok (content id)
@@ -32,6 +32,6 @@ looked_content bytes h root content id has dir archive =
     let told : content_of bytes h archive.1 id ≡ content id = ap (λ (g : Header). content_of bytes g archive.1 id) (sym same) ∙ sym (archive.3 id) in
     looked_below bytes h root archive.1 id dir entries ∙ ap (λ (c : Option (List ℕ)). Ok c) told
 
--- where no leaf directory is kept, each that is kept is the one that its entry names
-pub none_kept : (bytes : List ℕ) (h : Header) (leaves : List LeafView) → leaves ≡ [] → IsKeptOf bytes h leaves
-none_kept bytes h leaves none = subst (λ (ls : List LeafView). IsKeptOf bytes h ls) (sym none) (All-nil (IsLeafOf bytes h))
+-- if no leaf directory is cached, each cached one is the one that its entry names
+pub none_cached : (bytes : List ℕ) (h : Header) (leaves : List LeafView) → leaves ≡ [] → AreCachedOf bytes h leaves
+none_cached bytes h leaves none = subst (λ (ls : List LeafView). AreCachedOf bytes h ls) (sym none) (All-nil (IsLeafOf bytes h))

@@ -1,4 +1,4 @@
--- What archives begin with: their header and their root directory are what their bytes say, and no fault stands beside them.
+-- The header and the root directory of an archive are those of its bytes, and bytes that have them have no fault.
 use Rattle.std.proofs.Common.{rules, refl, ◌≡◌, ◌≢◌, true, OnOk, ℕ, ◌+◌, ◌-◌, ◌<◌, ◌≤◌, List, length, take, drop, slice_range, slice_index, Result, Ok, Err}
 use Rattle.std.proofs.Common.{inl, inr, sym, ap, subst, ◌∙◌, arith, lit≤, lit<}
 use Rattle.std.specs.Int.{w32, w64, from_le_bytes, cast_signed}
@@ -116,7 +116,7 @@ not_misplaced count h s placed (IsMisplaced.tiles_misplaced e r t m l past) = ab
 pub are_placed : (bytes : List ℕ) (h : Header) → HasSections bytes h → ArePlaced (length bytes) h
 are_placed bytes h has = (has.root_inside, has.root_early, has.metadata_inside, has.leaves_inside, has.tiles_inside)
 
--- the faults behind a header, by how many bytes there are
+-- the faults after a header, by the number of bytes
 module _ (bytes : List ℕ) (h : Header) (count : ℕ) (all : count ≡ length bytes) (is : IsHeader bytes h) where
   pub misplaced_fault : (s : Section) → IsMisplaced count h s → OpeningHas bytes (faults.Section s)
   misplaced_fault s at = OpeningHas.misplaced h s refl is (subst (λ (n : ℕ). IsMisplaced n h s) all at)

@@ -1,4 +1,4 @@
--- The first fault of an archive that was opened, by where it was met.
+-- The first fault of an open archive, by the step that finds it.
 use Rattle.std.proofs.Common.{◌≡◌, ℕ, inl, inr, List, [], ◌∷◌, ◌++◌, refl, subst, append_assoc, Ok}
 use Rattle.std.specs.List.{AllByRecursion}
 use Rattle.pm_header.specs.declared.header.Header.{Header}
@@ -22,7 +22,7 @@ module _ (bytes : List ℕ) (h : Header) (root : List DirectoryEntry) (tiles : L
   pub other_count : (d : ArchiveFault) → UnlessOutside (IsCountFault h tiles) d → UnlessOutside (VerifyingHas bytes h root) d
   other_count = unless_weaker (IsCountFault h tiles) (VerifyingHas bytes h root) (λ d f. bad_count f.0 tiles f.1 metadata listed f.2)
 
-  -- behind the tiles that can be read, the first that can't be
+  -- after the tiles that can be decoded, the first that can't
   first_unread : HasCounts h tiles → AreVector h → (d : ArchiveFault) (front es : List DirectoryEntry) → tiles ≡ front ++ es
       → AllByRecursion (HasTile bytes h) front → IsFirstTileFault bytes h es d → VerifyingHas bytes h root d
   first_unread counts vector d front [] parts read f = absurd f

@@ -1,4 +1,4 @@
--- Tiles that were read, and those that can't be.
+-- Tiles that were decoded, and those that can't be.
 use Rattle.std.proofs.Common.{◌≡◌, ◌≢◌, ℕ, zero, suc, ◌+◌, ◌<◌, inr, Bool, true, false, cond, ◌&&◌, List, [], ◌∷◌, length, get_or, drop, refl, sym, subst, ◌∙◌}
 use Rattle.std.proofs.Common.{add-one, arith, slice_range, Ok, Err, Result, ◌↔◌}
 use Rattle.std.specs.Prelude.{IfOk, IsTrue}
@@ -22,7 +22,7 @@ use Rattle.pm_archive.specs.VerifiedPieces.{IsFirstTileFault, span_cmp, AreRead}
 
 -- ---- one tile
 
--- a fault that is met where these layers are read, an allocation that failed aside
+-- a fault that is met when these layers are read, a failed allocation aside
 abbrev Meets : TileFault → List LayerView → Type 0
 Meets d ls = ¬ (d ≡ tile_faults.Memory) → ◌≡◌ {A = Result (List LayerView) TileFault} (Ok ls) (Err d)
 

@@ -1,4 +1,4 @@
--- What a call answers, where memory suffices and no read fails.
+-- What a call returns if memory suffices and no read fails.
 use Rattle.std.specs.Prelude.{◌≡◌, ◌⊎◌}
 use Rattle.pm_archive.specs.declared.fault.ArchiveFault.{ArchiveFault}
 use Rattle.pm_archive.specs.declared.fault.ArchiveFault.TheVariants.{Read, Memory}

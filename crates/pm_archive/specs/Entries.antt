@@ -7,18 +7,18 @@ use Rattle.pm_header.specs.declared.section_span.SectionSpan.{SectionSpan}
 use Rattle.pm_header.specs.declared.header.Header.{Header}
 use Rattle.pm_directory.specs.declared.entry.DirectoryEntry.{DirectoryEntry}
 use Rattle.pm_directory.specs.Directory.{IsDirectory, ids_behind}
-use Rattle.pm_archive.specs.declared.limits.TheConstants.{MAX_LEAVES}
+use Rattle.pm_archive.specs.declared.limits.TheConstants.{MAX_LEAF_LEVELS}
 use Rattle.pm_archive.specs.Sections.{section_bytes}
 
 -- the bytes of an entry, whose offset is counted from the start of its section
 abbrev pub entry_bytes : SectionSpan → DirectoryEntry → List ℕ → List ℕ
 entry_bytes s e bytes = slice_range bytes (s.offset + e.offset) (s.offset + e.offset + e.length)
 
--- the entry lies inside the section
+-- the bytes of the entry are inside the section
 abbrev pub LiesIn : SectionSpan → DirectoryEntry → Type 0
 LiesIn s e = e.offset + e.length ≤ s.length
 
--- there is an entry, and its bytes, a leaf directory or a content, lie inside their section
+-- there is an entry, and its bytes, a leaf directory or a content, are inside their section
 abbrev pub LiesInside : Header → Option DirectoryEntry → Type 0
 LiesInside h None = ⊥
 LiesInside h (Some e) = LiesIn (if e.run == 0 then h.leaves else h.tiles) e
@@ -51,7 +51,7 @@ pub record IsLeaf (bytes : List ℕ) (h : Header) (e : DirectoryEntry) (bound : 
   pub directory : IsDirectory (entry_bytes h.leaves e bytes) entries
   pub between : AreBetween e.id bound entries
 
--- an entry lists itself, or what its leaf directory lists, below which so many more leaf directories may stand
+-- an entry lists itself, or what its leaf directory lists; the number is that of the levels of leaf directories that may follow
 abbrev pub Lists : List ℕ → Header → ℕ → DirectoryEntry → ℕ → List DirectoryEntry → Type 0
 Lists bytes h zero e bound tiles = ListsTile h e tiles
 Lists bytes h (suc more) e bound tiles = ListsTile h e tiles
@@ -60,7 +60,7 @@ Lists bytes h (suc more) e bound tiles = ListsTile h e tiles
 -- these are the tile entries below the root directory, in ascending order
 abbrev pub HasEntries : List ℕ → Header → List DirectoryEntry → Type 0
 HasEntries bytes h tiles = (root : List DirectoryEntry) × IsDirectory (section_bytes h.root bytes) root
-    × EachLists (Lists bytes h MAX_LEAVES) TILE_IDS root tiles
+    × EachLists (Lists bytes h MAX_LEAF_LEVELS) TILE_IDS root tiles
 
 -- the entry whose run has the id
 abbrev pub entry_of : List DirectoryEntry → ℕ → Option DirectoryEntry

@@ -5,7 +5,7 @@ use Rattle.pm_archive.specs.declared.fault.ArchiveFault.{ArchiveFault}
 use Rattle.pm_directory.specs.declared.entry.DirectoryEntry.{DirectoryEntry}
 use Rattle.pm_directory.specs.Directory.{ids_behind}
 
--- what a reading lists, behind the tile entries that there were before
+-- what a reading lists, after the tile entries that there were before
 abbrev pub behind : List DirectoryEntry → Read ArchiveFault (List DirectoryEntry) → Read ArchiveFault (List DirectoryEntry)
 behind before reading = reading >>= λ listed. Ok (before ++ listed)
 

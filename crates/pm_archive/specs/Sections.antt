@@ -6,7 +6,7 @@ use Rattle.pm_header.specs.Compression.{IsPlain}
 use Rattle.pm_header.specs.Layout.{IsHeader}
 use Rattle.pm_archive.specs.declared.limits.TheConstants.{OPENING_END}
 
--- behind the last byte of a section
+-- the offset after the last byte of a section
 abbrev pub end_of : SectionSpan → ℕ
 end_of p = p.offset + p.length
 
@@ -14,8 +14,8 @@ end_of p = p.offset + p.length
 abbrev pub section_bytes : SectionSpan → List ℕ → List ℕ
 section_bytes p bytes = slice_range bytes p.offset (end_of p)
 
--- The bytes begin with a header, and each section that it names lies inside them, the root directory also inside the
--- opening. The directories aren't compressed.
+-- The bytes begin with a header, and each section that it names is inside them, the root directory also inside the first `OPENING_END`
+-- bytes. The directories aren't compressed.
 pub record HasSections (bytes : List ℕ) (h : Header) : Type 0 where
   pub header : IsHeader bytes h
   pub root_inside : end_of h.root ≤ length bytes

@@ -29,11 +29,11 @@ AreVector h = (h.kind ≡ VECTOR_TILES) × (h.compression ≡ NOT_COMPRESSED)
 abbrev pub HasTile : List ℕ → Header → DirectoryEntry → Type 0
 HasTile bytes h e = IsTile (entry_bytes h.tiles e bytes)
 
--- what is told of an archive with these tile entries
+-- the counts of an archive with these tile entries
 abbrev pub report_of : List DirectoryEntry → Report
 report_of tiles = record { tiles = addressed_by tiles; entries = length tiles; contents = contents_of tiles }
 
--- the bytes are an archive; where its tiles are vector tiles, each of them can be read
+-- the bytes are an archive; if its tiles are uncompressed vector tiles, each of them can be decoded
 pub record IsSound (bytes : List ℕ) (report : Report) : Type 0 where
   pub header : Header
   pub tiles : List DirectoryEntry
@@ -41,7 +41,7 @@ pub record IsSound (bytes : List ℕ) (report : Report) : Type 0 where
   pub each : AreVector header → AllByRecursion (HasTile bytes header) tiles
   pub told : report ≡ report_of tiles
 
--- of an archive that was opened with this header and these entries of its root directory, all that `IsSound` asks behind its opening
+-- of an archive that was opened with this header and these entries of its root directory, all else that `IsSound` asks
 pub record IsVerified (bytes : List ℕ) (h : Header) (root : List DirectoryEntry) (report : Report) : Type 0 where
   pub metadata : IsMetadata (section_bytes h.metadata bytes)
   pub tiles : List DirectoryEntry
@@ -50,7 +50,7 @@ pub record IsVerified (bytes : List ℕ) (h : Header) (root : List DirectoryEntr
   pub each : AreVector h → AllByRecursion (HasTile bytes h) tiles
   pub told : report ≡ report_of tiles
 
--- the first count that is another one
+-- the first count that differs
 pub data HasOtherCount (h : Header) (tiles : List DirectoryEntry) (c : Count) : Type 0 where
   other_addressed : c ≡ counts.Addressed → ¬ Says h.addressed (addressed_by tiles) → HasOtherCount h tiles c
   other_entries : c ≡ counts.Entries → Says h.addressed (addressed_by tiles) → ¬ Says h.entries (length tiles) → HasOtherCount h tiles c

@@ -1,4 +1,4 @@
-//! Archives that are open.
+//! Open archives.
 
 ghost use Rattle.std.specs.Prelude.{◌≡◌, ◌<◌, ℕ, List, Option, slice_get, IfOk, IfErr, MatchResult, option_map};
 ghost use Rattle.reader.specs.Reading.{GivesUnless};
@@ -30,7 +30,7 @@ use pm_header::Header;
 use std::alloc::Global;
 use std::marker::Model;
 
-/// An archive that was opened: its source, its header and its root directory.
+/// An open archive: its source, its header and its root directory.
 #[derive(Drop)]
 pub struct Archive<B: Bytes + Drop> {
     source: B,
@@ -49,11 +49,12 @@ impl<B: Bytes + Drop> Model for Archive<B> {
 }
 
 impl<B: Bytes + Drop> Archive<B> {
-    /// Opens an archive: reads its header and its root directory, and nothing else. A fault comes with the source.
+    /// Opens an archive: reads its header and its root directory, and nothing else. If it fails, the source is returned.
     ///
     /// # Errors
     ///
-    /// `Short`, `Magic`, `Version`, `Section`, `Compressed`, `Directory` of the root, the first that there is in this order.
+    /// `Short`, `Magic`, `Version`, `Section`, `Compressed`, `Directory` of the root, the first that applies. `Read` if a read of the
+    /// source fails. `Memory` only if the header and the section bounds are valid.
     pub fn open(alloc: Global, source: B) -> Result<Archive<B>, (B, ArchiveFault)>
         ensures source { IfOk result (λ a. Keeps B.count B.holds B.fails B.unchanged source a.source) }
         ensures back { IfErr result (λ e. Keeps B.count B.holds B.fails B.unchanged source e.0) }
@@ -94,8 +95,8 @@ impl<B: Bytes + Drop> Archive<B> {
     ///
     /// # Errors
     ///
-    /// `Directory`, `Order`, `Depth`, `Place`, the first that is met going through the directories in order, each leaf
-    /// directory where it is named. `Memory` only where there is a first entry, and its bytes lie inside their section.
+    /// `Directory`, `Order`, `Depth`, `Place`, the first in the order of the entries, a leaf directory's at the entry that names it.
+    /// `Read` if a read of the source fails. `Memory` only if there is a first entry whose bytes are inside their section.
     pub fn list(&mut self) -> Result<Vec<DirectoryEntry>, ArchiveFault>
         ensures header { self.new.header ≡ self.old.header }
         ensures root { self.new.root ≡ self.old.root }
@@ -112,13 +113,12 @@ impl<B: Bytes + Drop> Archive<B> {
         entries_below(alloc, &mut self.source, &self.header, &self.root)
     }
 
-    /// The content of a tile id, `None` where no entry has it. Reads the directories on the way to its entry, and the
-    /// content.
+    /// The content of a tile id, or `None` if no entry has it. Reads the directories on the way to its entry, and the content.
     ///
     /// # Errors
     ///
-    /// `Directory`, `Depth`, `Place`, the first on the way; where `list` has no fault there is none. `Memory` only where an
-    /// entry of the root directory leads to the id, and its bytes lie inside their section.
+    /// `Directory`, `Depth`, `Place`, the first on the way; none of them if `list` succeeds. `Read` if a read of the source fails.
+    /// `Memory` only if an entry of the root directory leads to the id and its bytes are inside their section.
     pub fn tile(&mut self, id: u64) -> Result<Option<Vec<u8>>, ArchiveFault>
         ensures header { self.new.header ≡ self.old.header }
         ensures root { self.new.root ≡ self.old.root }
@@ -131,23 +131,24 @@ impl<B: Bytes + Drop> Archive<B> {
         ensures memory { result ≡ Err ArchiveFault.Memory → LiesInside self.old.header (leading_of id self.old.root) }
     {
         let alloc = *self.root.allocator();
-        let mut kept = Leaves::none(alloc);
+        let mut cached = Leaves::none(alloc);
         content_below(
             alloc,
             &mut self.source,
             &self.header,
             &self.root,
-            &mut kept,
+            &mut cached,
             id,
         )
     }
 
-    /// Judges the archive: its metadata, its directories, the counts of its header, and each tile where they are Mapbox
-    /// vector tiles that aren't compressed.
+    /// Verifies the archive: its metadata, its directories, the counts of its header, and, if the tiles are uncompressed Mapbox
+    /// vector tiles, each of them. Returns its true counts.
     ///
     /// # Errors
     ///
-    /// `Metadata`, then those of `list`, then `Count` (addressed, entries, contents), then `Tile`, the first that there is.
+    /// `Metadata`, then those of `list`, then `Count` (addressed, entries, contents), then `Tile`, the first that applies. `Read` if a
+    /// read of the source fails. `Memory` only if the metadata has a byte or more.
     pub fn verify(&mut self) -> Result<Report, ArchiveFault>
         ensures header { self.new.header ≡ self.old.header }
         ensures root { self.new.root ≡ self.old.root }

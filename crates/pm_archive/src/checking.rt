@@ -1,4 +1,4 @@
-//! Whether the contents of tiles can be read.
+//! Checks that the contents of tiles can be decoded.
 
 ghost use Rattle.std.specs.Prelude.{◌≡◌, ◌≢◌, ◌≤◌, ◌↔◌, ℕ, List, false, Err, IfOk, IfErr, OnOk, OnErr, IsTrue};
 ghost use Rattle.std.specs.List.{AllByRecursion};
@@ -18,7 +18,7 @@ use pm_header::Header;
 use std::alloc::{AllocError, Global};
 use std::collections::BTreeSet;
 
-// What a fault says: that the bytes are no tile, unless memory ran out.
+// The meaning of a fault: the bytes aren't a tile, or memory ran out.
 fn refused(fault: TileFault) -> Result<bool, AllocError>
     ensures memory { OnErr result (fault ≡ TileFault.Memory) }
     ensures other { IfOk result (λ is. (is ≡ false) × (fault ≢ TileFault.Memory)) }
@@ -39,7 +39,7 @@ pub(crate) fn is_tile(alloc: Global, content: &[u8]) -> Result<bool, AllocError>
     }
 }
 
-// What was asked of an archive holds, or this is its fault.
+// Returns the fault unless the condition holds.
 pub(crate) fn check_holds(is: bool, otherwise: ArchiveFault) -> Result<(), ArchiveFault>
     ensures holds { OnOk result (IsTrue is) }
     ensures fault { IfErr result (λ fault. (fault ≡ otherwise) × ¬ IsTrue is) }
@@ -47,7 +47,7 @@ pub(crate) fn check_holds(is: bool, otherwise: ArchiveFault) -> Result<(), Archi
     if is { Ok(()) } else { Err(otherwise) }
 }
 
-// Reads the tile of an entry.
+// Decodes the tile of an entry.
 #[tactic(auto, unfolding(crate::specs::Reading::content_of_tile))]
 fn check_tile<B: Bytes>(
     alloc: Global,
@@ -69,7 +69,7 @@ fn check_tile<B: Bytes>(
     }
 }
 
-// Reads the tile of an entry, unless its bytes are among those that were read. Then they are.
+// Decodes the tile of an entry, unless its bytes were decoded before, and remembers where they are.
 fn check_once<B: Bytes>(
     alloc: Global,
     source: &mut B,
@@ -98,7 +98,7 @@ fn check_once<B: Bytes>(
     }
 }
 
-// Reads the tile of each entry, the same bytes once.
+// Decodes the tile of each entry, the same bytes once.
 pub(crate) fn check_tiles<B: Bytes>(
     alloc: Global,
     source: &mut B,

@@ -1,3 +1,5 @@
+//! What is wrong with an archive.
+
 use std::fmt;
 use thiserror::Error;
 
@@ -28,11 +30,11 @@ impl fmt::Display for Section {
 /// A count of an archive's header.
 #[derive(Clone, Copy, Debug, PartialEq, Eq)]
 pub enum Count {
-    /// How many tile ids have a content.
+    /// The number of tile ids that have a content.
     Addressed,
-    /// How many tile entries there are.
+    /// The number of tile entries.
     Entries,
-    /// How many different contents there are.
+    /// The number of different contents.
     Contents,
 }
 
@@ -46,7 +48,7 @@ impl fmt::Display for Count {
     }
 }
 
-/// Why bytes aren't an archive, or couldn't be read.
+/// Why bytes aren't a sound archive, or why they couldn't be examined.
 #[derive(Clone, Copy, Debug, PartialEq, Eq, Error)]
 pub enum ArchiveFault {
     /// There are fewer than 127 bytes.
@@ -55,34 +57,34 @@ pub enum ArchiveFault {
     /// The first seven bytes aren't `PMTiles`.
     #[error("bad magic")]
     Magic,
-    /// The version, which stands behind these, isn't 3.
+    /// The version, the byte after these, isn't 3.
     #[error("version: {0}")]
     Version(u8),
-    /// A section doesn't lie inside the file, or the root directory ends past byte 16,384.
+    /// A section isn't inside the file, or the root directory ends after byte 16,384.
     #[error("section: {0}")]
     Section(Section),
-    /// The directories are compressed, by this number of the header.
+    /// The directories are compressed, with this number of the header.
     #[error("compressed directories: {0}")]
     Compressed(u8),
-    /// At this offset of the file stands no directory.
+    /// The bytes at this offset of the file aren't a directory.
     #[error("bad directory at: {0}")]
     Directory(u64),
-    /// This id of a leaf directory isn't among those to which the leaf's entry may lead.
+    /// This id of a leaf directory isn't among those to which the entry that names it may lead.
     #[error("order: {0}")]
     Order(u64),
-    /// A leaf directory stands more than three below the root.
+    /// A leaf directory is more than three levels below the root.
     #[error("leaf depth")]
     Depth,
     /// The entry of this id names bytes outside of its section.
     #[error("place: {0}")]
     Place(u64),
-    /// A count of the header is another one.
+    /// A count of the header is wrong.
     #[error("count: {0}")]
     Count(Count),
-    /// The content of this id, the least of its entry, is no vector tile.
+    /// The content of this id, the least of its entry, isn't a vector tile.
     #[error("bad tile: {0}")]
     Tile(u64),
-    /// The metadata is no JSON object.
+    /// The metadata isn't a JSON object.
     #[error("bad metadata")]
     Metadata,
     /// A read of the source failed. This says nothing of the bytes.

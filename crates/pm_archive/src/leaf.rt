@@ -1,4 +1,4 @@
-//! A leaf directory that was read.
+//! A leaf directory in memory.
 
 ghost use Rattle.std.specs.Prelude.{◌≡◌, ◌↔◌, ℕ, ◌≤◌, List, Err, IfOk, OnOk, IsTrue};
 ghost use Rattle.reader.specs.Reading.{GivesUnless};
@@ -29,7 +29,7 @@ pub(crate) fn leading(entries: &[DirectoryEntry], id: u64) -> Option<DirectoryEn
     find(entries, id)
 }
 
-// A leaf directory that was read.
+// A leaf directory, and the entry that names it.
 #[derive(Drop)]
 pub(crate) struct Leaf {
     entry: DirectoryEntry,
@@ -45,7 +45,7 @@ impl Model for Leaf {
 }
 
 impl Leaf {
-    // The leaf directory that an entry names.
+    // Reads the leaf directory that an entry names.
     pub(crate) fn read<B: Bytes>(
         alloc: Global,
         source: &mut B,
@@ -67,7 +67,7 @@ impl Leaf {
         }
     }
 
-    // It is the one that this entry names.
+    // Whether this entry names it.
     pub(crate) fn is_of(&self, entry: DirectoryEntry) -> bool
         ensures { IsTrue result ↔ (self.now.entry ≡ entry) }
     {

@@ -1,4 +1,4 @@
-//! The leaf directories that are kept between look-ups.
+//! A cache of leaf directories for look-ups.
 
 ghost use Rattle.std.specs.Prelude.{◌≡◌, ℕ, ◌+◌, ◌≤◌, ◌<◌, ◌⊎◌, List, [], ◌∷◌, ◌++◌, Err, OnOk, IfSome, IfNone};
 ghost use Rattle.std.specs.List.{All, Contains};
@@ -9,18 +9,18 @@ ghost use Rattle.pm_archive.specs.Sections.{end_of};
 ghost use Rattle.pm_archive.specs.Entries.{LiesIn};
 ghost use Rattle.pm_archive.specs.Answers.{IsOutside};
 ghost use Rattle.pm_archive.specs.Looked.{leading_at};
-ghost use Rattle.pm_archive.specs.Lookup.{LeafView, IsLeafOf, IsKeptOf, IsSmall, IsKeptBeside, leaf_bytes, bytes_of, left_beside};
+ghost use Rattle.pm_archive.specs.Lookup.{LeafView, IsLeafOf, AreCachedOf, IsSmall, IsCachedBeside, leaf_bytes, bytes_of, left_beside};
 
 use crate::fault::ArchiveFault;
 use crate::leaf::Leaf;
-use crate::limits::{KEPT_LEAF_BYTES, KEPT_LEAVES_BYTES};
+use crate::limits::{MAX_CACHED_BYTES, MAX_CACHED_LEAF_BYTES};
 use byte_source::Bytes;
 use pm_directory::DirectoryEntry;
 use pm_header::Header;
 use std::alloc::Global;
 use std::marker::Model;
 
-// Leaf directories that were read, the latest at the end.
+// Cached leaf directories, the latest at the end.
 #[derive(Drop)]
 pub(crate) struct Leaves {
     all: Vec<Leaf>,
@@ -37,7 +37,7 @@ impl Model for Leaves {
 }
 
 impl Leaves {
-    // None, which takes no memory.
+    // An empty cache. It allocates nothing.
     pub(crate) fn none(alloc: Global) -> Leaves
         ensures { result ≡ [] }
     {
@@ -47,10 +47,10 @@ impl Leaves {
         }
     }
 
-    // The one that this entry names, if it is kept.
+    // The directory that this entry names, if it is cached.
     fn find(&self, entry: DirectoryEntry) -> Option<&Leaf>
         ensures of_entry { IfSome result (λ leaf. leaf.now.entry ≡ entry) }
-        ensures kept { IfSome result (λ leaf. Contains self.now leaf.now) }
+        ensures cached { IfSome result (λ leaf. Contains self.now leaf.now) }
         ensures none { IfNone result (All (λ leaf. ¬ (leaf.entry ≡ entry)) self.now) }
     {
         let mut at = self.all.len();
@@ -64,22 +64,22 @@ impl Leaves {
         None
     }
 
-    // Drops all of them if one of this length doesn't fit beside them.
+    // Drops all of them if a directory of this length wouldn't fit as well.
     fn make_room(&mut self, length: u32)
-        requires { length ≤ KEPT_LEAF_BYTES }
+        requires { length ≤ MAX_CACHED_LEAF_BYTES }
         ensures { self.new ≡ left_beside length self.old }
     {
-        if self.bytes + length > KEPT_LEAVES_BYTES {
+        if self.bytes + length > MAX_CACHED_BYTES {
             self.all.clear();
             self.bytes = 0;
         }
     }
 
-    // Adds one that fits, unless memory is refused.
+    // Adds a directory that fits. If memory runs out, it isn't added.
     fn push(&mut self, leaf: Leaf)
-        requires small { leaf_bytes leaf ≤ KEPT_LEAF_BYTES }
-        requires fits { bytes_of self.old + leaf_bytes leaf ≤ KEPT_LEAVES_BYTES }
-        ensures kept { (self.new ≡ self.old ++ leaf ∷ []) ⊎ (self.new ≡ self.old) }
+        requires small { leaf_bytes leaf ≤ MAX_CACHED_LEAF_BYTES }
+        requires fits { bytes_of self.old + leaf_bytes leaf ≤ MAX_CACHED_BYTES }
+        ensures cached { (self.new ≡ self.old ++ leaf ∷ []) ⊎ (self.new ≡ self.old) }
         ensures room { IsSmall self.new }
     {
         let length = leaf.len();
@@ -88,15 +88,15 @@ impl Leaves {
         }
     }
 
-    // Keeps one if it is small. If it doesn't fit beside the others, they are dropped first. If memory is refused, it is dropped.
-    fn keep(&mut self, leaf: Leaf)
-        ensures large { KEPT_LEAF_BYTES < leaf_bytes leaf → self.new ≡ self.old }
-        ensures kept { leaf_bytes leaf ≤ KEPT_LEAF_BYTES → IsKeptBeside leaf self.old self.new }
-        ensures still { (bytes : List ℕ) (h : Header) → IsLeafOf bytes h leaf → IsKeptOf bytes h self.old → IsKeptOf bytes h self.new }
+    // Caches a directory if it is small. If it doesn't fit beside the others, they are dropped first. If memory runs out, it isn't cached.
+    fn insert(&mut self, leaf: Leaf)
+        ensures large { MAX_CACHED_LEAF_BYTES < leaf_bytes leaf → self.new ≡ self.old }
+        ensures cached { leaf_bytes leaf ≤ MAX_CACHED_LEAF_BYTES → IsCachedBeside leaf self.old self.new }
+        ensures still { (bytes : List ℕ) (h : Header) → IsLeafOf bytes h leaf → AreCachedOf bytes h self.old → AreCachedOf bytes h self.new }
         ensures room { IsSmall self.old → IsSmall self.new }
     {
         let length = leaf.len();
-        if length > KEPT_LEAF_BYTES {
+        if length > MAX_CACHED_LEAF_BYTES {
             return;
         }
         self.make_room(length);
@@ -104,35 +104,35 @@ impl Leaves {
     }
 }
 
-// The entry that leads to an id, of the leaf directory that an entry names. It is one that is kept, or is read, and then kept.
+// The entry that leads to an id in the leaf directory that an entry names. The directory is taken from the cache, or read and cached.
 #[tactic(auto, unfolding(crate::specs::Looked::leading_at))]
 pub(crate) fn leading_below<B: Bytes>(
     alloc: Global,
     source: &mut B,
     header: &Header,
     entry: DirectoryEntry,
-    kept: &mut Leaves,
+    cached: &mut Leaves,
     id: u64,
 ) -> Result<Option<DirectoryEntry>, ArchiveFault>
     requires { end_of header.now.leaves ≤ B.count source.old }
     ensures source { Keeps B.count B.holds B.fails B.unchanged source.old source.new }
-    ensures still { (bytes : List ℕ) → B.holds source.new bytes → IsKeptOf bytes header.now kept.old → IsKeptOf bytes header.now kept.new }
-    ensures room { IsSmall kept.old → IsSmall kept.new }
-    ensures first { (bytes : List ℕ) → B.holds source.new bytes → IsKeptOf bytes header.now kept.old
+    ensures still { (bytes : List ℕ) → B.holds source.new bytes → AreCachedOf bytes header.now cached.old → AreCachedOf bytes header.now cached.new }
+    ensures room { IsSmall cached.old → IsSmall cached.new }
+    ensures first { (bytes : List ℕ) → B.holds source.new bytes → AreCachedOf bytes header.now cached.old
         → GivesUnless IsOutside (λ found. found) result (leading_at bytes header.now id entry) }
     ensures read { result ≡ Err ArchiveFault.Read → B.fails source.old }
     ensures memory { result ≡ Err ArchiveFault.Memory → LiesIn header.now.leaves entry }
-    ensures inside { kept.old ≡ [] → OnOk result (LiesIn header.now.leaves entry) }
-    // One that is kept isn't read.
-    ensures again { (leaf : LeafView) → Contains kept.old leaf → leaf.entry ≡ entry → (source.new ≡ source.old) × (kept.new ≡ kept.old) }
-    ensures kept { All (λ leaf. ¬ (leaf.entry ≡ entry)) kept.old → entry.length ≤ KEPT_LEAF_BYTES
-        → OnOk result ((leaf : LeafView) × (leaf.entry ≡ entry) × IsKeptBeside leaf kept.old kept.new) }
+    ensures inside { cached.old ≡ [] → OnOk result (LiesIn header.now.leaves entry) }
+    // A cached directory isn't read.
+    ensures again { (leaf : LeafView) → Contains cached.old leaf → leaf.entry ≡ entry → (source.new ≡ source.old) × (cached.new ≡ cached.old) }
+    ensures cached { All (λ leaf. ¬ (leaf.entry ≡ entry)) cached.old → entry.length ≤ MAX_CACHED_LEAF_BYTES
+        → OnOk result ((leaf : LeafView) × (leaf.entry ≡ entry) × IsCachedBeside leaf cached.old cached.new) }
 {
-    if let Some(leaf) = kept.find(entry) {
+    if let Some(leaf) = cached.find(entry) {
         return Ok(leaf.leading(id));
     }
     let leaf = Leaf::read(alloc, source, header, entry)?;
     let found = leaf.leading(id);
-    kept.keep(leaf);
+    cached.insert(leaf);
     Ok(found)
 }

@@ -1,8 +1,7 @@
-//! Tile archives (PMTiles 3): opened over any source of bytes, listed, looked into, and judged.
+//! Tile archives (PMTiles 3): opened over any source of bytes, listed, looked up, and verified.
 //!
-//! Sections may stand in any order, tiles may lie in any order, and leaf directories may have leaf directories,
-//! to three below the root. Nothing is decompressed: compressed directories are refused by name, compressed tiles
-//! aren't decoded.
+//! Sections and contents may be stored in any order, and leaf directories may have leaf directories, up to three levels below the
+//! root. Nothing is decompressed: an archive with compressed directories is refused, compressed tiles aren't decoded.
 #![tactic(auto)]
 
 mod archive;

@@ -1,11 +1,13 @@
-/// The root directory ends by this offset (PMTiles 3, 4).
+//! The limits of an archive, and of the cache of leaf directories.
+
+/// The root directory ends at this offset or before (PMTiles 3, 4).
 pub(crate) const OPENING_END: u64 = 16_384;
 
-/// So many leaf directories may stand one below the other.
-pub(crate) const MAX_LEAVES: u8 = 3;
+/// The most levels of leaf directories.
+pub(crate) const MAX_LEAF_LEVELS: u8 = 3;
 
-/// A leaf directory of more bytes isn't kept between look-ups. This bounds the memory that is taken for it.
-pub(crate) const KEPT_LEAF_BYTES: u32 = 65_536;
+/// The most stored bytes of a leaf directory that is cached. This bounds the memory that it takes.
+pub(crate) const MAX_CACHED_LEAF_BYTES: u32 = 65_536;
 
-/// The stored bytes of all leaf directories that are kept between look-ups are at most this many.
-pub(crate) const KEPT_LEAVES_BYTES: u32 = 1_048_576;
+/// The most stored bytes of all cached leaf directories.
+pub(crate) const MAX_CACHED_BYTES: u32 = 1_048_576;

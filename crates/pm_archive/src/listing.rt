@@ -1,4 +1,4 @@
-//! The tile entries of all directories.
+//! Lists the tile entries of all directories.
 
 ghost use Rattle.std.specs.Prelude.{◌≡◌, ◌≢◌, ℕ, List, Err, IfOk, OnOk, Some, slice_get};
 ghost use Rattle.reader.specs.Reading.{GivesUnless};
@@ -10,7 +10,7 @@ ghost use Rattle.pm_archive.specs.Answers.{IsOutside};
 ghost use Rattle.pm_archive.specs.Listing.{behind, stray_of};
 
 use crate::fault::ArchiveFault;
-use crate::limits::MAX_LEAVES;
+use crate::limits::MAX_LEAF_LEVELS;
 use crate::reading::{directory_of, lies_in};
 use byte_source::Bytes;
 use hilbert_id::TILE_IDS;
@@ -18,7 +18,7 @@ use pm_directory::DirectoryEntry;
 use pm_header::Header;
 use std::alloc::Global;
 
-// An id below which are those to which an entry leads, by the entries behind it.
+// The bound below which an entry leads to ids, by the entries after it.
 fn bound_behind(entries: &[DirectoryEntry], bound: u64) -> u64
     ensures { result ≡ bound_of bound entries.now }
 {
@@ -28,7 +28,7 @@ fn bound_behind(entries: &[DirectoryEntry], bound: u64) -> u64
     }
 }
 
-// An id of an entry that isn't between these.
+// An id of an entry that is below `from`, or isn't below `bound`.
 fn stray(entry: DirectoryEntry, from: u64, bound: u64) -> Option<u64>
     ensures { result ≡ stray_of from bound entry }
 {
@@ -41,7 +41,7 @@ fn stray(entry: DirectoryEntry, from: u64, bound: u64) -> Option<u64>
     }
 }
 
-// The least id of the entries that isn't between these.
+// The least id of the entries that is below `from`, or isn't below `bound`.
 fn least_stray(entries: &[DirectoryEntry], from: u64, bound: u64) -> Option<u64>
     ensures { result ≡ stray_id from bound entries.now }
 {
@@ -53,7 +53,7 @@ fn least_stray(entries: &[DirectoryEntry], from: u64, bound: u64) -> Option<u64>
     None
 }
 
-// The ids of the entries are between these.
+// Checks that the ids of the entries are from `from` on and below `bound`.
 fn check_between(entries: &[DirectoryEntry], from: u64, bound: u64) -> Result<(), ArchiveFault>
     ensures { result ≡ stray_fault (stray_id from bound entries.now) }
 {
@@ -63,7 +63,7 @@ fn check_between(entries: &[DirectoryEntry], from: u64, bound: u64) -> Result<()
     }
 }
 
-// The entries of the leaf directory that an entry names, where their ids are below the bound.
+// The entries of the leaf directory that an entry names, if their ids are below the bound.
 #[tactic(auto, unfolding(crate::specs::Reading::leaf_at))]
 fn leaf_of<B: Bytes>(
     alloc: Global,
@@ -106,7 +106,7 @@ fn push_tile(
     }
 }
 
-// Adds what an entry lists, below which so many more leaf directories may stand.
+// Adds what an entry lists; `more` is the number of levels of leaf directories that may follow.
 #[cycle(listing)]
 fn push_listed<B: Bytes>(
     alloc: Global,
@@ -161,7 +161,7 @@ fn push_each<B: Bytes>(
     Ok(())
 }
 
-// The tile entries below a root directory, or the first fault.
+// The tile entries of a root directory and its leaf directories, or the first fault.
 pub(crate) fn entries_below<B: Bytes>(
     alloc: Global,
     source: &mut B,
@@ -176,7 +176,13 @@ pub(crate) fn entries_below<B: Bytes>(
 {
     let mut tiles = Vec::new(alloc);
     push_each(
-        alloc, source, header, root, TILE_IDS, MAX_LEAVES, &mut tiles,
+        alloc,
+        source,
+        header,
+        root,
+        TILE_IDS,
+        MAX_LEAF_LEVELS,
+        &mut tiles,
     )?;
     Ok(tiles)
 }

@@ -1,4 +1,4 @@
-//! The content of one tile id.
+//! Looks up the content of one tile id.
 
 ghost use Rattle.std.specs.Prelude.{◌≡◌, ℕ, ◌<◌, ◌≤◌, List, [], Ok, Err, OnOk, Option, Some, None, option_map};
 ghost use Rattle.reader.specs.Reading.{GivesUnless};
@@ -10,40 +10,40 @@ ghost use Rattle.pm_archive.specs.Entries.{LiesIn, LiesInside};
 ghost use Rattle.pm_archive.specs.Reading.{ArePlaced};
 ghost use Rattle.pm_archive.specs.Answers.{IsOutside};
 ghost use Rattle.pm_archive.specs.Looked.{leading_of, reached_at, content_at, looked_at};
-ghost use Rattle.pm_archive.specs.Lookup.{IsKeptOf, IsSmall};
+ghost use Rattle.pm_archive.specs.Lookup.{AreCachedOf, IsSmall};
 
 use crate::fault::ArchiveFault;
 use crate::leaf::leading;
 use crate::leaves::{Leaves, leading_below};
-use crate::limits::MAX_LEAVES;
+use crate::limits::MAX_LEAF_LEVELS;
 use crate::reading::content_of;
 use byte_source::Bytes;
 use pm_directory::DirectoryEntry;
 use pm_header::Header;
 use std::alloc::Global;
 
-// The tile entry that an entry is, or to which its leaf directory leads, below which so many more may stand.
+// The tile entry that an entry is, or to which its leaf directory leads; `more` is the number of levels of leaf directories that may follow.
 #[tactic(auto, unfolding(crate::specs::Looked::reached_at))]
 fn tile_entry<B: Bytes>(
     alloc: Global,
     source: &mut B,
     header: &Header,
     entry: Option<DirectoryEntry>,
-    kept: &mut Leaves,
+    cached: &mut Leaves,
     id: u64,
     more: u8,
 ) -> Result<Option<DirectoryEntry>, ArchiveFault>
     requires { end_of header.now.leaves ≤ B.count source.old }
     ensures source { Keeps B.count B.holds B.fails B.unchanged source.old source.new }
-    ensures still { (bytes : List ℕ) → B.holds source.new bytes → IsKeptOf bytes header.now kept.old → IsKeptOf bytes header.now kept.new }
-    ensures room { IsSmall kept.old → IsSmall kept.new }
-    ensures first { (bytes : List ℕ) → B.holds source.new bytes → IsKeptOf bytes header.now kept.old
+    ensures still { (bytes : List ℕ) → B.holds source.new bytes → AreCachedOf bytes header.now cached.old → AreCachedOf bytes header.now cached.new }
+    ensures room { IsSmall cached.old → IsSmall cached.new }
+    ensures first { (bytes : List ℕ) → B.holds source.new bytes → AreCachedOf bytes header.now cached.old
         → GivesUnless IsOutside (λ e. e) result (reached_at bytes header.now id more entry) }
     ensures read { result ≡ Err ArchiveFault.Read → B.fails source.old }
     ensures none { entry ≡ None → result ≡ Ok None }
     ensures tile { (tile : DirectoryEntry) → entry ≡ Some tile → 0 < tile.run → result ≡ Ok (Some tile) }
-    ensures inside { kept.old ≡ [] → (leaf : DirectoryEntry) → entry ≡ Some leaf → leaf.run ≡ 0 → OnOk result (LiesIn header.now.leaves leaf) }
-    ensures memory { kept.old ≡ [] → result ≡ Err ArchiveFault.Memory
+    ensures inside { cached.old ≡ [] → (leaf : DirectoryEntry) → entry ≡ Some leaf → leaf.run ≡ 0 → OnOk result (LiesIn header.now.leaves leaf) }
+    ensures memory { cached.old ≡ [] → result ≡ Err ArchiveFault.Memory
         → (leaf : DirectoryEntry) × (entry ≡ Some leaf) × (leaf.run ≡ 0) × (0 < more) × LiesIn header.now.leaves leaf }
 {
     let leaf = match entry {
@@ -56,8 +56,8 @@ fn tile_entry<B: Bytes>(
     if more == 0 {
         return Err(ArchiveFault::Depth);
     }
-    let below = leading_below(alloc, source, header, leaf, kept, id)?;
-    tile_entry(alloc, source, header, below, kept, id, more - 1)
+    let below = leading_below(alloc, source, header, leaf, cached, id)?;
+    tile_entry(alloc, source, header, below, cached, id, more - 1)
 }
 
 // The content of a tile entry, if there is one.
@@ -82,33 +82,33 @@ fn content_in<B: Bytes>(
     Ok(Some(content))
 }
 
-// The content of an id, by the directories on the way to its entry: the leaf directories that are kept, and those that are read.
+// The content of an id, by the directories on the way to its entry: cached ones, and others that are read and cached.
 pub(crate) fn content_below<B: Bytes>(
     alloc: Global,
     source: &mut B,
     header: &Header,
     root: &[DirectoryEntry],
-    kept: &mut Leaves,
+    cached: &mut Leaves,
     id: u64,
 ) -> Result<Option<Vec<u8>>, ArchiveFault>
     requires placed { ArePlaced (B.count source.old) header.now }
     requires ascending { IsAscending root.now }
     ensures source { Keeps B.count B.holds B.fails B.unchanged source.old source.new }
-    ensures still { (bytes : List ℕ) → B.holds source.new bytes → IsKeptOf bytes header.now kept.old → IsKeptOf bytes header.now kept.new }
-    ensures room { IsSmall kept.old → IsSmall kept.new }
-    ensures first { (bytes : List ℕ) → B.holds source.new bytes → IsKeptOf bytes header.now kept.old
+    ensures still { (bytes : List ℕ) → B.holds source.new bytes → AreCachedOf bytes header.now cached.old → AreCachedOf bytes header.now cached.new }
+    ensures room { IsSmall cached.old → IsSmall cached.new }
+    ensures first { (bytes : List ℕ) → B.holds source.new bytes → AreCachedOf bytes header.now cached.old
         → GivesUnless IsOutside (option_map (λ v. v.items)) result (looked_at bytes header.now root.now id) }
     ensures read { result ≡ Err ArchiveFault.Read → B.fails source.old }
-    ensures memory { kept.old ≡ [] → result ≡ Err ArchiveFault.Memory → LiesInside header.now (leading_of id root.now) }
+    ensures memory { cached.old ≡ [] → result ≡ Err ArchiveFault.Memory → LiesInside header.now (leading_of id root.now) }
 {
     let entry = tile_entry(
         alloc,
         source,
         header,
         leading(root, id),
-        kept,
+        cached,
         id,
-        MAX_LEAVES,
+        MAX_LEAF_LEVELS,
     )?;
     content_in(alloc, source, header, entry)
 }

@@ -1,4 +1,4 @@
-//! Look-ups of tiles in an archive whose source is passed to each.
+//! Look-ups of tiles in an archive whose source is passed to each call.
 
 ghost use Rattle.std.specs.Prelude.{◌≡◌, ℕ, List, [], Option, Err, IfOk, IfErr, MatchResult, option_map};
 ghost use Rattle.reader.specs.Reading.{GivesUnless};
@@ -23,9 +23,8 @@ use pm_header::Header;
 use std::alloc::Global;
 use std::marker::Model;
 
-/// What is kept of an archive between look-ups: its header, its root directory, and leaf directories that were read. One of more
-/// than 65,536 stored bytes isn't kept. If one more would take them over 1,048,576 stored bytes together, all others are dropped
-/// first. It owns no source: each call is passed it.
+/// The header, the root directory and cached leaf directories of an archive. A leaf directory of more than 65,536 stored bytes isn't
+/// cached. If another one would take the cache over 1,048,576 stored bytes, all are dropped first. The source is passed to each call.
 #[derive(Drop)]
 pub struct Lookup {
     count: u64,
@@ -47,8 +46,8 @@ impl Lookup {
     ///
     /// # Errors
     ///
-    /// `Short`, `Magic`, `Version`, `Section`, `Compressed`, `Directory` of the root, the first that there is in this order.
-    /// The source is as it was.
+    /// `Short`, `Magic`, `Version`, `Section`, `Compressed`, `Directory` of the root, the first that applies. `Read` if a read of the
+    /// source fails. `Memory` only if the header and the section bounds are valid.
     pub fn open<B: Bytes>(alloc: Global, source: &mut B) -> Result<Lookup, ArchiveFault>
         ensures source { Keeps B.count B.holds B.fails B.unchanged source.old source.new }
         ensures count { IfOk result (λ l. l.count ≡ B.count source.old) }
@@ -71,13 +70,13 @@ impl Lookup {
         }
     }
 
-    /// The content of a tile id, `None` where no entry has it. Reads the content, and of the directories on the way to its
-    /// entry those that aren't kept. The source has as many bytes as the one that was opened.
+    /// The content of a tile id, or `None` if no entry has it. Reads the content, and those directories on the way to its entry that
+    /// aren't cached. The source has as many bytes as the one that was opened.
     ///
     /// # Errors
     ///
-    /// `Directory`, `Depth`, `Place`, the first on the way. None of an archive. What is kept is still of the source, and the
-    /// source as it was.
+    /// `Directory`, `Depth`, `Place`, the first on the way; none of them if the source is an archive. `Read` if a read of the source
+    /// fails. `Memory`. After an error the cache is still that of the source.
     pub fn tile<B: Bytes>(
         &mut self,
         source: &mut B,

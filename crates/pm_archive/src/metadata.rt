@@ -1,4 +1,4 @@
-//! Whether metadata is a JSON object.
+//! Checks that metadata is a JSON object.
 
 ghost use Rattle.std.specs.Prelude.{◌≡◌, ◌↔◌, ◌<◌, false, length, IfOk, OnErr, IsTrue};
 ghost use Rattle.pm_archive.specs.Archive.{IsMetadata};
@@ -7,7 +7,7 @@ ghost use Rattle.serde_json.specs.Errors.{IsMemory};
 use serde_json::{Error, Value};
 use std::alloc::{AllocError, Global};
 
-// What an error says: that the bytes are no JSON text, unless memory ran out.
+// The meaning of an error: the bytes aren't a JSON text, or memory ran out.
 fn refused(error: &Error) -> Result<bool, AllocError>
     ensures memory { OnErr result (IsMemory error.now) }
     ensures other { IfOk result (λ is. (is ≡ false) × ¬ IsMemory error.now) }
@@ -23,7 +23,7 @@ fn refused(error: &Error) -> Result<bool, AllocError>
 ///
 /// # Errors
 ///
-/// Memory ran out. That is never answered of no bytes.
+/// Memory ran out, which can't happen if there are no bytes.
 pub fn is_metadata(alloc: Global, bytes: &[u8]) -> Result<bool, AllocError>
     ensures metadata { IfOk result (λ is. IsTrue is ↔ IsMetadata bytes.now) }
     ensures some { IfOk result (λ is. IsTrue is → 0 < length bytes.now) }

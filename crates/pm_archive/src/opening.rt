@@ -1,4 +1,4 @@
-//! The header and the root directory of an archive.
+//! Reads the header and the root directory of an archive.
 
 ghost use Rattle.std.specs.Prelude.{◌≡◌, ◌≢◌, ◌↔◌, ℕ, ◌≤◌, List, length, Err, IfOk, IfErr, IfSome, IfNone, IsTrue};
 ghost use Rattle.pm_header.specs.declared.header.Header.{Header};
@@ -42,14 +42,14 @@ fn header_in<B: Bytes>(source: &mut B) -> Result<Header, ArchiveFault>
     }
 }
 
-// The section ends inside so many bytes.
+// Whether the section ends inside the first `count` bytes.
 fn ends_by(section: SectionSpan, count: u64) -> bool
     ensures { IsTrue result ↔ (end_of section ≤ count) }
 {
     section.offset <= count && section.length <= count - section.offset
 }
 
-// The first section that is misplaced, in a file of so many bytes.
+// The first section that isn't inside a file of `count` bytes, or the root directory if it isn't early enough.
 fn misplaced(header: &Header, count: u64) -> Option<Section>
     ensures section { IfSome result (IsMisplaced count header.now) }
     ensures none { IfNone result (ArePlaced count header.now) }

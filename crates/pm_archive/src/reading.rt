@@ -1,4 +1,4 @@
-//! Pieces of a source: its bytes and its directories.
+//! Reads bytes, directories and contents from a source.
 
 ghost use Rattle.std.specs.Prelude.{◌≡◌, ◌↔◌, ℕ, ◌+◌, ◌<◌, ◌≤◌, List, Err, length, IfOk, IfErr, OnOk, IsTrue, slice_range};
 ghost use Rattle.reader.specs.Reading.{GivesUnless};
@@ -17,7 +17,7 @@ use pm_directory::{DirectoryEntry, DirectoryFault, read_directory};
 use pm_header::{Header, SectionSpan};
 use std::alloc::Global;
 
-// Reads the bytes from an offset on, as many as `into` has room for.
+// Reads the bytes from an offset on, as many as `into` has.
 fn read_into<B: Bytes>(source: &mut B, offset: u64, into: &mut [u8]) -> Result<(), ArchiveFault>
     requires { offset + length into.old ≤ B.count source.old }
     ensures source { Keeps B.count B.holds B.fails B.unchanged source.old source.new }
@@ -55,7 +55,7 @@ pub(crate) fn bytes_at<B: Bytes>(
     Ok(bytes)
 }
 
-// What a fault of the directory at an offset is to the archive.
+// The archive's fault for a fault of the directory at an offset.
 fn directory_fault(offset: u64, fault: DirectoryFault) -> ArchiveFault
     ensures { result ≡ fault_at offset fault }
 {
@@ -65,7 +65,7 @@ fn directory_fault(offset: u64, fault: DirectoryFault) -> ArchiveFault
     }
 }
 
-// The entries of the directory that stands at an offset.
+// The entries of the directory at an offset.
 pub(crate) fn directory_from<B: Bytes>(
     alloc: Global,
     source: &mut B,
@@ -87,14 +87,14 @@ pub(crate) fn directory_from<B: Bytes>(
     }
 }
 
-// The bytes of an entry lie inside its section.
+// Whether the bytes of an entry are inside its section.
 pub(crate) fn lies_in(section: SectionSpan, entry: DirectoryEntry) -> bool
     ensures { IsTrue result ↔ LiesIn section entry }
 {
     entry.offset <= section.length && u64::from(entry.length) <= section.length - entry.offset
 }
 
-// Where the bytes of an entry of a section begin in the source.
+// The offset in the source of the bytes of an entry of a section.
 fn offset_of<B: Bytes>(
     source: &B,
     section: SectionSpan,
@@ -104,7 +104,7 @@ fn offset_of<B: Bytes>(
     ensures inside { IfOk result (λ offset. (offset ≡ section.offset + entry.offset) × LiesIn section entry) }
     ensures outside { IfErr result (λ fault. (fault ≡ ArchiveFault.Place entry.id) × ¬ LiesIn section entry) }
 {
-    // The section ends where the source does, so that no offset is past 64 bits.
+    // The section is inside the source, whose length fits in 64 bits, so no offset overflows.
     let _count = source.len();
     if !lies_in(section, entry) {
         return Err(ArchiveFault::Place(entry.id));
@@ -112,7 +112,7 @@ fn offset_of<B: Bytes>(
     Ok(section.offset + entry.offset)
 }
 
-// The entries of the leaf directory that an entry names, wherever its ids lie.
+// The entries of the leaf directory that an entry names, with any ids.
 #[tactic(auto, unfolding(crate::specs::Reading::directory_of_entry))]
 pub(crate) fn directory_of<B: Bytes>(
     alloc: Global,

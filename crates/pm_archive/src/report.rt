@@ -1,13 +1,15 @@
+//! The counts of a sound archive.
+
 use std::fmt;
 
-/// What an archive without a fault has.
+/// The counts of a sound archive.
 #[derive(Clone, Copy, Debug, PartialEq, Eq)]
 pub struct Report {
-    /// How many tile ids have a content.
+    /// The number of tile ids that have a content.
     pub tiles: u64,
-    /// How many tile entries there are.
+    /// The number of tile entries.
     pub entries: u64,
-    /// How many different contents there are, by where they lie in the file.
+    /// The number of different contents, by their offset and length in the file.
     pub contents: u64,
 }
 

@@ -1,4 +1,4 @@
-//! Whether an archive that was opened is sound.
+//! Verifies an open archive.
 
 ghost use Rattle.std.specs.Prelude.{◌≡◌, ◌≢◌, ℕ, ◌^◌, ◌<◌, ◌≤◌, List, Ok, Err, IfOk, IfErr, OnOk};
 ghost use Rattle.std.specs.List.{AllByRecursion};
@@ -25,7 +25,7 @@ use pm_directory::DirectoryEntry;
 use pm_header::{Header, NOT_COMPRESSED, VECTOR_TILES};
 use std::alloc::Global;
 
-// Reads the metadata.
+// Checks that the metadata is a JSON object.
 fn check_metadata<B: Bytes>(
     alloc: Global,
     source: &mut B,
@@ -51,7 +51,7 @@ fn check_metadata<B: Bytes>(
     }
 }
 
-// What is told of the entries, where the counts of the header agree.
+// The counts of the entries, if those of the header agree with them.
 fn report_on(
     alloc: Global,
     header: &Header,
@@ -70,7 +70,7 @@ fn report_on(
     Ok(report)
 }
 
-// Reads the tile of each entry, where the tiles are vector tiles that aren't compressed.
+// Decodes the tile of each entry, if the tiles are uncompressed vector tiles.
 fn check_vector_tiles<B: Bytes>(
     alloc: Global,
     source: &mut B,
@@ -91,7 +91,7 @@ fn check_vector_tiles<B: Bytes>(
     check_tiles(alloc, source, header, tiles)
 }
 
-// What the archive has, or the first fault.
+// The counts of the archive, or its first fault.
 pub(crate) fn verdict_below<B: Bytes>(
     alloc: Global,
     source: &mut B,

@@ -1,4 +1,4 @@
--- Tiles with one more behind them, and the runs that a builder keeps of them.
+-- Tiles with one more after them, and their runs in a builder.
 use Rattle.std.proofs.Common.{◌≡◌, ◌↔◌, ℕ, zero, suc, ◌+◌, ◌<◌, ◌≤◌, List, [], ◌∷◌, ◌++◌, length, get_or, slice_set, All, refl, sym, ap, subst, ◌∙◌, arith}
 use Rattle.std.specs.List.{AllByRecursion}
 use Rattle.std.proofs.lemmas.List.{length_push}
@@ -31,7 +31,7 @@ ids_room from (u ∷ us) h each le = omega (arith, h.0, ids_room (suc u.0) us h.
 pub tiles_room : (ts : List Tile) → AreTiles ts → length ts ≤ TILE_IDS
 tiles_room ts are = let room = ids_room 0 ts are.0 are.1 (omega arith) in omega (arith, room)
 
--- ---- the id behind them
+-- ---- the id after them
 
 abbrev ids_end : ℕ → List Tile → ℕ
 ids_end from [] = from
@@ -74,7 +74,7 @@ end_is : (rs : List TileRun) → AllByRecursion HasCount rs → ids_end 0 (tiles
 end_is [] h = refl
 end_is (r ∷ rs) h = end_runs 0 r rs h
 
--- a tile can be added if its id is at or behind that end
+-- a tile can be added if its id is that end or greater
 pub can_add : (rs : List TileRun) (t : Tile) → AreTiles (tiles_in rs) → AreLongestRuns (tiles_in rs) rs
     → ((runs_end rs ≤ t.0) × IsTile t) ↔ CanAdd (tiles_in rs) t
 can_add rs t are l = (to, from)

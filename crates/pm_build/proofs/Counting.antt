@@ -16,7 +16,7 @@ use Rattle.pm_directory.specs.declared.entry.DirectoryEntry.{DirectoryEntry}
 use Rattle.pm_build.specs.Runs.{TileRun}
 use Rattle.pm_build.specs.Offsets.{offset_from, spans_from, EachPlaced, ArePlacedRuns}
 
--- ---- a content where it begins
+-- ---- a content at its offset
 
 -- the bytes before a content and after it
 pub record Stands (from : ℕ) (cs : List (List ℕ)) (q : List ℕ) (k : ℕ) : Type 0 where

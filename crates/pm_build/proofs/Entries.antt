@@ -169,6 +169,6 @@ end_of_runs [] h = omega arith
 end_of_runs (r ∷ []) h = h.0.ids_fit
 end_of_runs (r ∷ s ∷ rs) h = end_of_runs (s ∷ rs) h.1
 
--- the id behind the last run is at most that behind the last tile of all
+-- the id after the last run is at most that after the last tile of all
 pub end_low : (tiles : List Tile) (rs : List TileRun) → AreTiles tiles → AreLongestRuns tiles rs → runs_end rs ≤ TILE_IDS
 end_low tiles rs t l = end_of_runs rs (runs_in tiles rs t l)

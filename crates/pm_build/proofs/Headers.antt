@@ -1,4 +1,4 @@
--- A header is the same whatever stands behind it.
+-- A header is the same with any bytes after it.
 use Rattle.std.proofs.Common.{◌≡◌, ℕ, ◌+◌, ◌<◌, ◌≤◌, List, ◌++◌, length, get_or, sym, ap, ◌∙◌, arith, lit≤, lit<}
 use Rattle.std.specs.Int.{w32, w64, from_le_bytes, cast_signed}
 use Rattle.std.proofs.lemmas.List.{length-append, take-append-le, get_or_append_left}

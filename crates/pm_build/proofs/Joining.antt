@@ -13,7 +13,7 @@ use Rattle.pm_build.specs.Joined.{goes_on, run_of, one_more, runs_from, runs_of,
 
 -- ---- the test
 
--- what it says of a tile that goes on
+-- what it means that a tile continues a run
 pub record Follows (r : TileRun) (t : Tile) : Type 0 where
   pub id_is : t.0 ≡ r.first + r.count
   pub room : r.count < 4294967295
@@ -101,7 +101,7 @@ unfolding runs_of
 counts [] = tt
 counts (t ∷ ts) = counts_from (run_of t) ts (omega arith, omega arith)
 
--- the first of the runs begins where the run does
+-- the first of the runs has the run's first id
 record Begins (r : TileRun) (runs : List TileRun) : Type 0 where
   head : TileRun
   rest : List TileRun
@@ -211,7 +211,7 @@ only_runs (r ∷ rs) each n =
 pub runs_of_from_longest : (ts : List Tile) (runs : List TileRun) → AreLongestRuns ts runs → runs_of ts ≡ runs
 runs_of_from_longest ts runs h = ap runs_of (sym h.together) ∙ only_runs runs h.each h.longest
 
--- ---- one tile more behind the others
+-- ---- one more tile after the others
 
 with_behind : (r : TileRun) (rs : List TileRun) (t : Tile) → 0 < length rs → with_tile (r ∷ rs) t ≡ r ∷ with_tile rs t
 with_behind r [] t some = absurd (omega arith)
@@ -236,7 +236,7 @@ from_push r (u ∷ us) t = by (goes_on r u) (from_push (one_more r) us t) (from_
     by true on off = on
     by false on off = ap (λ x. r ∷ x) off ∙ sym (with_behind r (runs_from (run_of u) us) t (some_from (run_of u) us))
 
--- the longest runs of tiles with one more behind them
+-- the longest runs of tiles with one more after them
 pub runs_push : (ts : List Tile) (t : Tile) → runs_of (ts ++ t ∷ []) ≡ with_tile (runs_of ts) t
 unfolding runs_of runs_from
 runs_push [] t = refl
@@ -267,7 +267,7 @@ runs_behind ts (u ∷ us) =
       ap (λ (x : List Tile). length (runs_of x)) (append_assoc ts (u ∷ []) us),
     )
 
--- where tiles need more entries than an archive has, they do with any tiles behind them
+-- if tiles need more entries than an archive has, they do with any tiles after them
 pub too_many_behind : (ts us : List Tile) (runs : List TileRun) → AreTooMany ts → AreLongestRuns (ts ++ us) runs → MAX_ENTRIES < length runs
 too_many_behind ts us runs (found, longest, many) all =
     omega (

@@ -1,4 +1,4 @@
--- What a builder keeps when a tile is added.
+-- The state of a builder when a tile is added.
 use Rattle.std.proofs.Common.{◌≡◌, ◌↔◌, ◌+◌, ◌<◌, ◌≤◌, List, [], ◌∷◌, ◌++◌, length, sym, ap, subst, ◌∙◌, arith}
 use Rattle.std.proofs.lemmas.List.{length-map}
 use Rattle.pm_build.specs.Building.{CanAdd, AreTooMany, AreFew}

@@ -1,4 +1,4 @@
--- Leaf directories that are put one behind the other.
+-- Leaf directories one after the other.
 use Rattle.std.proofs.Common.{◌≡◌, ℕ, zero, suc, ◌+◌, ◌*◌, ◌^◌, ◌<◌, ◌≤◌, List, [], ◌∷◌, ◌++◌, length, take, drop, get_or, slice_range, refl, sym, ap, subst}
 use Rattle.std.proofs.Common.{◌∙◌, append_assoc, arith}
 use Rattle.std.specs.List.{AllByRecursion}
@@ -80,7 +80,7 @@ named_more bytes more (n ∷ ns) es name leaf (front, rest, parts, first, named)
   named_more bytes more ns rest name leaf named h,
 )
 
--- a name of a leaf directory that stands behind these bytes
+-- a name of a leaf directory that is stored after these bytes
 pub record IsNameOf (bytes piece : List ℕ) (leaf : List DirectoryEntry) (name : DirectoryEntry) : Type 0 where
   pub first : StartWith name.id leaf
   pub run_is : name.run ≡ 0

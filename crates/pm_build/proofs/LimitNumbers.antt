@@ -1,4 +1,4 @@
--- The limits of an archive that is built.
+-- The number of each limit.
 use Rattle.std.proofs.Common.{◌≡◌, refl}
 use Rattle.pm_build.specs.declared.limit.TheConstants.{MAX_ENTRIES}
 use Rattle.pm_build.specs.declared.directories.TheConstants.{DIRECTORY_ENTRIES}

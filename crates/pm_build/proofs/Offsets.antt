@@ -1,4 +1,4 @@
--- Contents one behind the other: what one more changes.
+-- Contents one after the other: what one more changes.
 use Rattle.std.proofs.Common.{◌≡◌, ◌≢◌, ℕ, ◌+◌, Bool, true, false, cond, List, [], ◌∷◌, ◌++◌, length, map, Option, Some, None, refl, sym, ap, ◌∙◌, arith}
 use Rattle.std.specs.Option.{is_some}
 use Rattle.std.specs.Borrow.{Bor}
@@ -33,7 +33,7 @@ none_parts from c cs q h = by (bytes_eq q c) refl h
     by true e g = cc
     by false e g = record { test = e; rest = g }
 
--- ---- where they begin, with one more
+-- ---- the offsets with one more
 
 pub push_same : (from : ℕ) (cs : List (List ℕ)) (d : List ℕ) → offset_from from cs d ≡ None
     → offset_from from (cs ++ d ∷ []) d ≡ Some (from + length (concat cs))
@@ -60,7 +60,7 @@ push_kept from (c ∷ cs) d q k h = by (bytes_eq q c) (push_kept (from + length 
     by true on g = g
     by false on g = on g
 
--- a new content is found at the end, and the others where they were
+-- a new content is found at the end, and the others at the same offsets
 push_update : (cs : List (List ℕ)) (d q : List ℕ) → offset_from 0 cs d ≡ None
     → offset_from 0 (cs ++ d ∷ []) q ≡ cond (bytes_eq d q) (Some (length (concat cs))) (offset_from 0 cs q)
 push_update cs d q h = by (bytes_eq d q) refl

@@ -1,16 +1,16 @@
--- Parts of lists that are put one behind the other.
+-- Parts of lists that are appended to one another.
 use Rattle.std.proofs.Common.{◌≡◌, ℕ, zero, suc, ◌+◌, ◌-◌, ◌≤◌, List, [], ◌∷◌, ◌++◌, length, take, drop, slice_range, refl, sym, ap, ◌∙◌, arith}
 use Rattle.std.specs.List.{AllByRecursion}
 use Rattle.std.proofs.lemmas.List.{take-append-le, take-take, take_at, drop-drop, drop-take}
 use Rattle.std.proofs.lemmas.Slice.{between_is, between_from_start}
 use Rattle.std.proofs.Math.Seq.{drop-append-add}
 
--- what stands behind a part changes nothing in it
+-- what is appended doesn't change a part before it
 pub part_front : {X : Type 0} (xs ys : List X) (i j : ℕ) → j ≤ length xs → slice_range (xs ++ ys) i j ≡ slice_range xs i j
 part_front xs ys i j le =
     between_is (xs ++ ys) i j ∙ ap (λ (zs : List _). drop i zs) (take-append-le j xs ys le) ∙ sym (between_is xs i j)
 
--- a part of what stands behind
+-- a part of what is appended
 pub part_behind : {X : Type 0} (xs ys : List X) (n i j : ℕ) → length xs ≡ n → slice_range (xs ++ ys) (n + i) (n + j) ≡ slice_range ys i j
 part_behind xs ys n i j e =
     let size : (n + j) - (n + i) ≡ j - i = omega arith in

@@ -5,14 +5,14 @@ use Rattle.pm_build.specs.declared.run.Run.{Run}
 use Rattle.pm_build.specs.Tiles.{Tile}
 use Rattle.pm_build.specs.Runs.{TileRun}
 
--- a run without where it lies in memory
+-- a run as contracts see it
 abbrev pub run_view : Run → TileRun
 run_view r = record { first = r.first; count = r.count; content = r.content.items }
 
 abbrev pub run_views : List Run → List TileRun
 run_views rs = map run_view rs
 
--- whether the tile goes on with the run
+-- whether the tile continues the run
 abbrev pub goes_on : TileRun → Tile → Bool
 goes_on r t = nat_eq t.0 (r.first + r.count) && (nat_lt r.count 4294967295 && bytes_eq t.1 r.content)
 
@@ -24,7 +24,7 @@ run_of t = record { first = t.0; count = 1; content = t.1 }
 abbrev pub one_more : TileRun → TileRun
 one_more r = record { first = r.first; count = r.count + 1; content = r.content }
 
--- the runs of tiles that stand behind this run
+-- this run, continued as far as it goes, and the runs of the tiles after it
 unfoldable pub runs_from : TileRun → List Tile → List TileRun
 runs_from r [] = r ∷ []
 runs_from r (t ∷ ts) = cond (goes_on r t) (runs_from (one_more r) ts) (r ∷ runs_from (run_of t) ts)
@@ -36,13 +36,13 @@ runs_of (t ∷ ts) = runs_from (run_of t) ts
 
 -- ---- one tile after the other
 
--- the id behind the last tile of the runs
+-- the id after the last tile of the runs
 abbrev pub runs_end : List TileRun → ℕ
 runs_end [] = 0
 runs_end (r ∷ []) = r.first + r.count
 runs_end (r ∷ s ∷ rs) = runs_end (s ∷ rs)
 
--- whether the tile goes on with the last of the runs
+-- whether the tile continues the last run
 abbrev pub goes_on_last : List TileRun → Tile → Bool
 goes_on_last [] t = false
 goes_on_last (r ∷ []) t = goes_on r t
@@ -54,6 +54,6 @@ last_grown [] = []
 last_grown (r ∷ []) = one_more r ∷ []
 last_grown (r ∷ s ∷ rs) = r ∷ last_grown (s ∷ rs)
 
--- the runs with one tile more, which goes on with the last of them or is a run of its own
+-- the runs with one tile more, which continues the last of them or is a run of its own
 abbrev pub with_tile : List TileRun → Tile → List TileRun
 with_tile rs t = if goes_on_last rs t then last_grown rs else rs ++ run_of t ∷ []

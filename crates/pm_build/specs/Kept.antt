@@ -1,4 +1,4 @@
--- What a builder keeps of the tiles that were added.
+-- The state of a builder.
 use Rattle.std.specs.Prelude.{◌≡◌, ◌≤◌, List, length}
 use Rattle.pm_build.specs.declared.builder.ArchiveBuilder.TheInside.{Inside}
 use Rattle.pm_build.specs.declared.limit.TheConstants.{MAX_ENTRIES}
@@ -10,7 +10,7 @@ use Rattle.pm_build.specs.Tiles.{Tile, AreTiles}
 abbrev pub tiles_kept : Inside → List Tile
 tiles_kept b = tiles_in (run_views b.runs.items)
 
--- the runs are the longest ones of their tiles, and an archive has so many entries
+-- the runs are the longest ones of their tiles, no more than an archive has entries
 pub record IsBuilder (b : Inside) : Type 0 where
   pub tiles : AreTiles (tiles_kept b)
   pub longest : AreLongestRuns (tiles_kept b) (run_views b.runs.items)

@@ -4,7 +4,7 @@ use Rattle.std.specs.Borrow.{Bor}
 use Rattle.std.specs.List.{AllByRecursion, concat}
 use Rattle.hilbert_id.specs.Curve.{IsTileId}
 use Rattle.pm_header.specs.declared.header.Header.{Header}
-use Rattle.pm_header.specs.declared.header.TheConstants.{CLUSTERED, VECTOR_TILES}
+use Rattle.pm_header.specs.declared.header.TheConstants.{CLUSTERED, HEADER_BYTES, VECTOR_TILES}
 use Rattle.pm_header.specs.declared.compression.TheConstants.{NOT_COMPRESSED}
 use Rattle.pm_header.specs.Layout.{IsHeader}
 use Rattle.pm_build.specs.Runs.{TileRun, AreLongestRuns}
@@ -24,13 +24,14 @@ AreZooms tiles low high =
     × IsZoomOf last.0 high
 
 -- The header of sections of these lengths, in the order root directory, metadata, leaf directories, contents. The contents are in
--- ascending order of their tile ids. Nothing is compressed. The tiles are Mapbox vector tiles of the whole map between these zooms.
+-- ascending order of their tile ids. Nothing is compressed. The tiles are Mapbox vector tiles of the whole map between these zooms, whose
+-- bounds are in 1/10,000,000 of a degree.
 unfoldable pub header_for : Lengths → Counts → ℕ → ℕ → Header
 header_for l n min_zoom max_zoom = record {
-  root = record { offset = 127; length = l.root };
-  metadata = record { offset = 127 + l.root; length = l.metadata };
-  leaves = record { offset = 127 + l.root + l.metadata; length = l.leaves };
-  tiles = record { offset = 127 + l.root + l.metadata + l.leaves; length = l.tiles };
+  root = record { offset = HEADER_BYTES; length = l.root };
+  metadata = record { offset = HEADER_BYTES + l.root; length = l.metadata };
+  leaves = record { offset = HEADER_BYTES + l.root + l.metadata; length = l.leaves };
+  tiles = record { offset = HEADER_BYTES + l.root + l.metadata + l.leaves; length = l.tiles };
   addressed = n.addressed;
   entries = n.entries;
   contents = n.contents;

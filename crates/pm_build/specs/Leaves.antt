@@ -9,7 +9,7 @@ abbrev pub StartWith : ℕ → List DirectoryEntry → Type 0
 StartWith id [] = ⊥
 StartWith id (e ∷ es) = e.id ≡ id
 
--- the name is of a leaf directory of these entries, which stands where it says
+-- the name is of a leaf directory of these entries, stored at its offset
 pub record NamesLeaf (bytes : List ℕ) (name : DirectoryEntry) (entries : List DirectoryEntry) : Type 0 where
   pub leaf : name.run ≡ 0
   pub first : StartWith name.id entries

@@ -1,4 +1,4 @@
--- Contents one behind the other, and where each begins.
+-- Contents one after the other, and the offset of each.
 use Rattle.std.specs.Prelude.{◌≡◌, ℕ, ◌+◌, ◌<◌, ◌^◌, ◌++◌, cond, List, [], ◌∷◌, length, map, Option, Some, None, is_some, ⊤, Contains}
 use Rattle.std.specs.List.{AllByRecursion, concat}
 use Rattle.std.specs.Ordering.{nat_cmp}
@@ -12,16 +12,16 @@ use Rattle.pm_build.specs.Runs.{TileRun}
 use Rattle.pm_build.specs.Placed.{AreDifferent}
 use Rattle.pm_build.specs.Clustered.{end_of, IsClustered}
 
--- where the first content begins that is equal to this one, if there is one, and the first of all begins at `from`
+-- the offset of the first content that is equal to this one, if there is one; the first of all begins at `from`
 unfoldable pub offset_from : ℕ → List (List ℕ) → List ℕ → Option ℕ
 offset_from from [] content = None
 offset_from from (c ∷ cs) content = cond (bytes_eq content c) (Some from) (offset_from (from + length c) cs content)
 
--- the contents with this one behind them, unless it is among them
+-- the contents with this one after them, unless it is among them
 unfoldable pub with_content : List (List ℕ) → List ℕ → List (List ℕ)
 with_content contents content = cond (is_some (offset_from 0 contents content)) contents (contents ++ content ∷ [])
 
--- where each begins and how long it is
+-- the offset and the length of each
 abbrev pub spans_from : ℕ → List (List ℕ) → List (ℕ × ℕ)
 spans_from from [] = []
 spans_from from (c ∷ cs) = (from, length c) ∷ spans_from (from + length c) cs

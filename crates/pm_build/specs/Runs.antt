@@ -3,7 +3,7 @@ use Rattle.std.specs.Prelude.{◌≡◌, ℕ, zero, suc, ◌+◌, ◌<◌, ◌^�
 use Rattle.std.specs.List.{AllByRecursion}
 use Rattle.pm_build.specs.Tiles.{Tile}
 
--- so many tiles from this id on, all with this content
+-- `count` tiles from this id on, all with this content
 pub record TileRun : Type 0 where
   pub first : ℕ
   pub count : ℕ
@@ -18,7 +18,7 @@ abbrev pub tiles_in : List TileRun → List Tile
 tiles_in [] = []
 tiles_in (r ∷ rs) = repeated r.first r.count r.content ++ tiles_in rs
 
--- two runs, one behind the other, could be one
+-- two runs, one after the other, could be one
 pub record CanJoin (r s : TileRun) : Type 0 where
   pub follows : s.first ≡ r.first + r.count
   pub same : s.content ≡ r.content

@@ -1,3 +1,5 @@
+//! Builds an archive from tiles.
+
 ghost use Rattle.std.specs.Prelude.{ℕ, ◌≡◌, ◌≢◌, ◌+◌, ◌*◌, ◌≤◌, ◌↔◌, List, [], ◌∷◌, ◌++◌, length, Err, OnOk, OnErr, IfOk, IsTrue, map, Contains};
 ghost use Rattle.std.specs.List.{AllByRecursion, concat};
 ghost use Rattle.pm_build.specs.Building.{CanAdd, AreTooMany, AreFew};
@@ -16,12 +18,12 @@ use crate::runs::{add_tile, end_of};
 use std::alloc::{AllocError, Global};
 use std::marker::Model;
 
-/// An archive that is built from tiles, added by ascending id. A tile that follows the last run, with an equal content, is joined
-/// with it, and its bytes are freed.
+/// Builds an archive from tiles that are added in ascending order of their ids. A tile that follows the last run with an equal
+/// content is joined with it, and its bytes are freed.
 #[derive(Debug, Drop)]
 pub struct ArchiveBuilder {
     runs: Vec<Run>,
-    /// How many tiles were added.
+    /// The number of tiles that were added.
     addressed: u64,
     alloc: Global,
 }
@@ -40,7 +42,7 @@ impl Model for ArchiveBuilder {
 }
 
 impl ArchiveBuilder {
-    /// A builder to which no tile was added. It allocates nothing.
+    /// A builder without tiles. It allocates nothing.
     pub fn new(alloc: Global) -> ArchiveBuilder
         ensures { result ≡ [] }
     {
@@ -66,12 +68,12 @@ impl ArchiveBuilder {
         is_tile(end_of(&self.runs), id, content)
     }
 
-    /// Adds a tile. It needs memory only if the tile begins a run.
+    /// Adds a tile. It allocates memory only if the tile begins a run.
     ///
     /// # Errors
     ///
-    /// `TooManyEntries` if the runs, with this tile, number over `MAX_ENTRIES`, and then no other. `Memory` if an allocation fails.
-    /// Nothing is added then.
+    /// `TooManyEntries` exactly if there are more than `MAX_ENTRIES` runs with this tile. `Memory` if an allocation fails. After an
+    /// error nothing is added.
     pub fn add(&mut self, id: u64, content: Vec<u8>) -> Result<(), BuildFault>
         requires { CanAdd self.old (id, content.items) }
         ensures added { OnOk result (self.new ≡ self.old ++ (id, content.items) ∷ []) }
@@ -87,10 +89,16 @@ impl ArchiveBuilder {
         Ok(())
     }
 
-    /// The archive of the tiles that were added, with this metadata, a JSON object.
+    /// The archive of the tiles that were added, with this metadata, a JSON object: header, root directory, metadata, leaf directories
+    /// and contents, without gaps.
     ///
-    /// Tiles of consecutive ids with equal contents share an entry, and equal contents are stored once. Up to 512 entries
-    /// stand in the root directory, more in leaf directories of 512 each. The only error is out of memory.
+    /// Tiles of consecutive ids with equal contents share an entry, and equal contents are stored once. Up to 512 entries are stored in
+    /// the root directory, more in leaf directories of 512 each. The header has the counts of tiles, entries and contents, the zooms of
+    /// the tiles, the bounds of the whole map, and as the centre its middle at the lowest zoom.
+    ///
+    /// # Errors
+    ///
+    /// An allocation failed.
     pub fn finish(&self, metadata: &[u8]) -> Result<Vec<u8>, AllocError>
         requires some { self.now ≢ [] }
         requires metadata { IsMetadata metadata.now }

@@ -1,3 +1,5 @@
+//! Writes an archive of runs of tiles.
+
 ghost use Rattle.std.specs.Prelude.{◌≡◌, ℕ, ◌+◌, ◌*◌, ◌^◌, ◌<◌, ◌≤◌, List, length, IfOk, map, Contains};
 ghost use Rattle.std.specs.List.{AllByRecursion, concat};
 ghost use Rattle.pm_build.specs.Tiles.{AreTiles};
@@ -18,7 +20,7 @@ use crate::runs::end_of;
 use pm_header::{HEADER_BYTES, Header};
 use std::alloc::{AllocError, Global};
 
-// How many bytes the contents have together.
+// The length of all contents in bytes.
 fn total(contents: &[&[u8]]) -> usize
     requires { length (joined_contents contents.now) < 2 ^ 64 }
     ensures { result ≡ length (joined_contents contents.now) }
@@ -30,7 +32,7 @@ fn total(contents: &[&[u8]]) -> usize
     total
 }
 
-// The header and the sections one behind the other.
+// The header and the sections, one after the other.
 fn joined(
     alloc: Global,
     header: &Header,
@@ -67,7 +69,7 @@ fn zooms_of(runs: &[Run]) -> (u8, u8)
     (first, last)
 }
 
-// The header of an archive of the tiles of these runs.
+// The header of the archive of these runs.
 fn header_for_runs(
     runs: &[Run],
     addressed: u64,
@@ -105,7 +107,7 @@ fn header_for_runs(
     header_of(lengths, counts, min_zoom, max_zoom)
 }
 
-// The archive of the tiles of these runs, which are placed.
+// The archive of these runs, by their entries and contents.
 fn archive_of(
     alloc: Global,
     runs: &[Run],
@@ -130,7 +132,7 @@ fn archive_of(
     joined(alloc, &header, &directories, metadata, &placed.contents)
 }
 
-/// The archive of the tiles of these runs, their longest ones, with this metadata.
+/// The archive of these runs, which are the longest ones of their tiles, with this metadata.
 pub(crate) fn archive_of_runs(
     alloc: Global,
     runs: &[Run],

@@ -1,16 +1,19 @@
+//! The contents of an archive, each stored once.
+
 ghost use Rattle.std.specs.Prelude.{◌≡◌, ◌+◌, ◌<◌, ◌≤◌, ◌^◌, [], length, OnOk, IfOk, Some};
 ghost use Rattle.pm_build.specs.Offsets.{offset_from, with_content, contents_view, IsKept};
 
 use std::alloc::{AllocError, Global};
 use std::collections::BTreeMap;
 
-/// Contents one behind the other, each once.
+/// Different contents, one after the other.
 #[derive(Drop)]
 pub(crate) struct Contents<'a> {
+    /// The contents in the order in which they are stored.
     pub(crate) placed: Vec<&'a [u8]>,
-    /// Where each begins.
+    /// The offset of each.
     offsets: BTreeMap<&'a [u8], u64>,
-    /// Where the last one ends.
+    /// The offset after the last one.
     end: u64,
 }
 
@@ -28,7 +31,7 @@ impl<'a> Contents<'a> {
         }
     }
 
-    /// Where this content begins. One that isn't there yet is put behind the others.
+    /// The offset of this content, which is added after the others if it isn't there yet.
     pub(crate) fn place(&mut self, content: &'a [u8]) -> Result<u64, AllocError>
         requires kept { IsKept self.old }
         requires room { self.old.end + length content.now < 2 ^ 64 }

@@ -1,4 +1,4 @@
-//! The directories of an archive.
+//! Encodes the directories of an archive.
 
 ghost use Rattle.std.specs.Prelude.{◌≡◌, ◌+◌, ◌*◌, ◌<◌, ◌≤◌, ◌++◌, List, length, OnOk, IfOk};
 ghost use Rattle.std.specs.List.{AllByRecursion};
@@ -10,7 +10,7 @@ use crate::limit::MAX_ENTRIES;
 use pm_directory::{DirectoryEntry, write_directory};
 use std::alloc::{AllocError, Global};
 
-// How many entries a root directory of tile entries has at most, and a leaf directory.
+// The most tile entries of a root directory, and of a leaf directory.
 const DIRECTORY_ENTRIES: usize = 512;
 
 /// The bytes of the directories of an archive.
@@ -18,7 +18,7 @@ const DIRECTORY_ENTRIES: usize = 512;
 pub(crate) struct Directories {
     /// The root directory.
     pub(crate) root: Vec<u8>,
-    /// The leaf directories one behind the other. There may be none.
+    /// The leaf directories, one after the other. There may be none.
     pub(crate) leaves: Vec<u8>,
 }
 
@@ -29,7 +29,7 @@ struct Leaves {
     bytes: Vec<u8>,
 }
 
-// Puts a leaf directory of these entries behind the others.
+// Adds a leaf directory of these entries.
 fn push_leaf(
     alloc: Global,
     leaves: &mut Leaves,
@@ -56,7 +56,7 @@ fn push_leaf(
     Ok(())
 }
 
-// Leaf directories of these entries, of 512 each, the last of the rest.
+// Leaf directories of these entries: 512 in each, the rest in the last.
 fn write_leaves(alloc: Global, entries: &[DirectoryEntry]) -> Result<Leaves, AllocError>
     requires ascending { IsAscending entries.now }
     requires each { AllByRecursion IsEntry entries.now }

@@ -1,6 +1,8 @@
+//! Why a tile was not added.
+
 use thiserror::Error;
 
-/// Why no archive was built.
+/// Why a tile was not added.
 #[derive(Clone, Copy, Debug, PartialEq, Eq, Error)]
 pub enum BuildFault {
     /// The tiles need more than `MAX_ENTRIES` entries.

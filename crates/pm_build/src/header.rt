@@ -1,4 +1,4 @@
-//! The header of an archive whose sections stand without gaps.
+//! The header of an archive whose sections are stored without gaps.
 
 ghost use Rattle.std.specs.Prelude.{◌≡◌, ◌+◌, ◌<◌, ◌^◌};
 ghost use Rattle.pm_build.specs.Laid.{IsZoomOf, header_for};
@@ -6,7 +6,7 @@ ghost use Rattle.pm_build.specs.Laid.{IsZoomOf, header_for};
 use hilbert_id::{TILE_IDS, tile_of};
 use pm_header::{CLUSTERED, HEADER_BYTES, Header, NOT_COMPRESSED, SectionSpan, VECTOR_TILES};
 
-/// How many bytes the sections have.
+/// The lengths of the sections in bytes.
 #[derive(Clone, Copy, Debug, PartialEq, Eq)]
 pub(crate) struct Lengths {
     pub(crate) root: u64,
@@ -15,7 +15,7 @@ pub(crate) struct Lengths {
     pub(crate) tiles: u64,
 }
 
-/// How many tiles, tile entries and contents there are.
+/// The numbers of tiles, of tile entries and of different contents.
 #[derive(Clone, Copy, Debug, PartialEq, Eq)]
 pub(crate) struct Counts {
     pub(crate) addressed: u64,
@@ -23,9 +23,10 @@ pub(crate) struct Counts {
     pub(crate) contents: u64,
 }
 
-// The map's edges, in degrees times 10,000,000.
+// The eastern edge of the map, in 1/10,000,000 of a degree.
 const EAST: i32 = 1_800_000_000;
 
+// The northern edge of the map, in 1/10,000,000 of a degree.
 const NORTH: i32 = 850_511_287;
 
 /// The zoom of a tile id.

@@ -1,5 +1,5 @@
-//! Archives made of tiles (PMTiles 3): header, root directory, metadata, leaf directories, contents, without gaps. Runs
-//! of equal contents are joined while the tiles are added, and each content is placed once (4.2).
+//! Builds archives from tiles (PMTiles 3): header, root directory, metadata, leaf directories, contents, without gaps. Tiles of
+//! consecutive ids with equal contents are joined to runs as they are added, and each content is stored once (4.2).
 #![tactic(auto)]
 
 mod builder;

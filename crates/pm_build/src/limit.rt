@@ -1,2 +1,4 @@
-/// How many entries an archive that is built has at most.
+//! The limit of an archive that is built.
+
+/// The most tile entries of an archive that is built.
 pub const MAX_ENTRIES: usize = 131_072;

@@ -1,3 +1,5 @@
+//! Makes the entries of runs and places their contents.
+
 ghost use Rattle.std.specs.Prelude.{◌≡◌, ◌<◌, ◌≤◌, ◌^◌, length, map, All, IfOk};
 ghost use Rattle.pm_build.specs.Joined.{run_views};
 ghost use Rattle.pm_build.specs.Offsets.{ArePlacedRuns};
@@ -9,8 +11,8 @@ use crate::run::Run;
 use pm_directory::DirectoryEntry;
 use std::alloc::{AllocError, Global};
 
-/// The entries of runs, and their contents, each once, in the order of their first use. Equal contents of different runs are
-/// found by a map from contents to offsets.
+/// The entries of runs, and their different contents in the order of first use. Equal contents of different runs are found by a map
+/// from contents to offsets.
 pub(crate) fn place_runs<'a>(alloc: Global, runs: &'a [Run]) -> Result<Placed<'a>, AllocError>
     requires lengths { All (λ r. length r.content.items < 2 ^ 32) runs.now }
     requires few { length runs.now ≤ MAX_ENTRIES }

@@ -1,9 +1,11 @@
-/// Tiles of consecutive ids with one content.
+//! A run of tiles.
+
+/// Tiles of consecutive ids with equal contents.
 #[derive(Debug, Drop)]
 pub(crate) struct Run {
-    /// The id of the first.
+    /// The id of the first tile.
     pub(crate) first: u64,
-    /// How many there are.
+    /// The number of tiles.
     pub(crate) count: u32,
     pub(crate) content: Vec<u8>,
 }

@@ -1,4 +1,4 @@
-//! The longest runs of tiles that come one after the other.
+//! Joins tiles to the longest runs.
 ghost use Rattle.std.specs.Prelude.{◌≡◌, ◌+◌, ◌<◌, ◌≤◌, ◌^◌, ◌↔◌, ◌++◌, ◌∷◌, [], length, Err, OnOk, OnErr, if◌then◌else◌};
 ghost use Rattle.pm_build.specs.Joined.{run_view, run_views, goes_on, run_of, runs_end, goes_on_last, last_grown, with_tile};
 
@@ -6,7 +6,7 @@ use crate::fault::BuildFault;
 use crate::limit::MAX_ENTRIES;
 use crate::run::Run;
 
-/// Whether a tile goes on with a run: its id follows, its content is equal, and there is room.
+/// Whether a tile continues a run: its id follows, its content is equal, and the run has fewer than 2^32 - 1 tiles.
 fn goes_on(run: &Run, id: u64, content: &[u8]) -> bool
     requires { run.now.first + run.now.count < 2 ^ 64 }
     ensures { result ≡ goes_on (run_view run.now) (id, content.now) }
@@ -16,7 +16,7 @@ fn goes_on(run: &Run, id: u64, content: &[u8]) -> bool
         && content == run.content.as_slice()
 }
 
-/// The id behind the last tile of the runs, and 0 if there is none.
+/// The id after the last tile of the runs, or 0 if there are none.
 pub(crate) fn end_of(runs: &[Run]) -> u64
     requires { runs_end (run_views runs.now) < 2 ^ 64 }
     ensures { result ≡ runs_end (run_views runs.now) }
@@ -28,7 +28,7 @@ pub(crate) fn end_of(runs: &[Run]) -> u64
     last.first + u64::from(last.count)
 }
 
-/// Joins a tile with the last of the runs if it goes on with it, and says whether it did.
+/// Joins a tile with the last run if it continues it, and returns whether it did.
 fn join_last(runs: &mut [Run], id: u64, content: &[u8]) -> bool
     requires { runs_end (run_views runs.old) < 2 ^ 64 }
     ensures joins { result ≡ goes_on_last (run_views runs.old) (id, content.now) }

@@ -17,7 +17,7 @@ use Rattle.reader.proofs.Steps.{gives_found, same_value, not_both, then_ok, then
 use Rattle.pm_directory.proofs.NumberLaws.{number_found, number_only, number_err, numbers_found, numbers_only, numbers_err}
 use Rattle.pm_directory.proofs.EntryLaws.{AreSaid, entries_ok, entries_only, entries_err}
 
--- ---- numbers that are spelled
+-- ---- varints
 
 all_fit : (bytes ns : List ℕ) → AreVarints bytes ns → AllByRecursion (λ n. n < 2 ^ 64) ns
 all_fit bytes [] h = tt

@@ -1,4 +1,4 @@
--- Numbers that are read are spelled so, and those that are spelled so are read.
+-- Numbers that are read are varints of the bytes, and varints of the bytes are read.
 use Rattle.std.proofs.Common.{◌≡◌, ℕ, zero, suc, ◌*◌, ◌<◌, ◌≤◌, Bool, true, false, cond, ltb, List, [], ◌∷◌, ◌++◌, length, take, drop, Result, Ok, Err, ◌⊎◌}
 use Rattle.std.proofs.Common.{inl, inr, refl, sym, ap, subst, ◌∙◌, append_assoc, append-nil, arith}
 use Rattle.std.proofs.lemmas.List.{take-append-drop, drop_at}
@@ -82,7 +82,7 @@ number_found bytes n rest e =
     let h = found_is bytes n x.0 x.1 in
     (take x.0 bytes, sym (take-append-drop x.0 bytes) ∙ ap (λ (r : List ℕ). take x.0 bytes ++ r) (sym x.2), h.1)
 
--- where there is room for the numbers of some entries
+-- there are enough bytes for the numbers of the entries
 pub has_room : (bytes : List ℕ) (n : ℕ) (rest : List ℕ) → number_at bytes ≡ Ok (n, rest) → 4 * n ≤ length rest → 0 < 4 * n → HasRoom bytes
 has_room bytes n rest e room some = let h = number_found bytes n rest e in (n, h.0, rest, h.1, h.2, omega arith, room)
 
@@ -105,7 +105,7 @@ number_err bytes d e = number_has bytes (varint_at bytes) d refl e
 
 -- ---- numbers one after the other
 
--- a number was read behind others, and then this stands in front
+-- a number that was read after others is then the first
 one_found : (before bytes all rest : List ℕ) → one_more (before, bytes) ≡ Ok (all, rest)
     → (n : ℕ) × (front : List ℕ) × (all ≡ before ++ n ∷ []) × (bytes ≡ front ++ rest) × IsVarint front n
 unfolding one_more

@@ -16,7 +16,7 @@ varints-append : (xs ys : List ℕ) → varints (xs ++ ys) ≡ varints xs ++ var
 varints-append [] ys = refl
 varints-append (x ∷ xs) ys = ap (λ (r : List ℕ). varint x ++ r) (varints-append xs ys) ∙ sym (append_assoc (varint x) (varints xs) (varints ys))
 
--- the parts one behind the other
+-- the parts one after the other
 pub parts_are : (es : List DirectoryEntry) → varint (length es) ++ varints (id_deltas 0 es) ++ varints (runs_of es) ++ varints (lengths_of es)
     ++ varints (offset_numbers None es) ≡ directory_bytes es
 unfolding directory_bytes

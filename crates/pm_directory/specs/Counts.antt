@@ -8,7 +8,7 @@ abbrev pub addressed_by : List DirectoryEntry → ℕ
 addressed_by [] = 0
 addressed_by (e ∷ es) = e.run + addressed_by es
 
--- where the content of an entry lies
+-- the offset and the length of the content of an entry
 abbrev pub span_of : DirectoryEntry → ℕ × ℕ
 span_of e = (e.offset, e.length)
 

@@ -5,16 +5,16 @@ use Rattle.pb_wire.specs.Varint.{IsVarint, varint}
 use Rattle.hilbert_id.specs.declared.number.TheConstants.{TILE_IDS}
 use Rattle.pm_directory.specs.declared.entry.DirectoryEntry.{DirectoryEntry}
 
--- the bytes spell these numbers, one after the other, and nothing else
+-- the bytes are the varints of these numbers, one after the other, and nothing else
 abbrev pub AreVarints : List ℕ → List ℕ → Type 0
 AreVarints bytes [] = bytes ≡ []
 AreVarints bytes (n ∷ ns) = (front : List ℕ) × (rest : List ℕ) × (bytes ≡ front ++ rest) × IsVarint front n × AreVarints rest ns
 
--- the first id behind those of an entry: behind its run, or behind a leaf's own id
+-- the first id after those of an entry: after its run, or after a leaf's own id
 abbrev pub ids_behind : DirectoryEntry → ℕ
 ids_behind e = e.id + max 1 e.run
 
--- no id is below this one, and each entry's ids are behind those of the entry before it
+-- no id is below this one, and each entry's ids are after those of the previous entry
 abbrev pub AscendFrom : ℕ → List DirectoryEntry → Type 0
 AscendFrom from [] = ⊤
 AscendFrom from (e ∷ es) = (from ≤ e.id) × AscendFrom (ids_behind e) es
@@ -35,12 +35,12 @@ pub record IsEntry (e : DirectoryEntry) : Type 0 where
 abbrev pub HasEnd : DirectoryEntry → Type 0
 HasEnd e = (0 < e.length) × (e.offset + e.length < 2 ^ 64)
 
--- how far each id is behind the one before it, the first behind 0
+-- the difference of each id from the previous one, of the first from 0
 abbrev pub id_deltas : ℕ → List DirectoryEntry → List ℕ
 id_deltas from [] = []
 id_deltas from (e ∷ es) = (e.id - from) ∷ id_deltas e.id es
 
--- the offset that a number says: 0 that where the entry before ends, if there is one; else the number less one
+-- the offset that a number means: 0 the end of the previous entry's bytes, if there is one; any other number the number less one
 abbrev pub offset_at : Option ℕ → ℕ → Option ℕ
 offset_at end zero = end
 offset_at end (suc n) = Some n
@@ -58,8 +58,7 @@ runs_of entries = map (λ e. e.run) entries
 abbrev pub lengths_of : List DirectoryEntry → List ℕ
 lengths_of entries = map (λ e. e.length) entries
 
--- The bytes are a directory of these entries. A number may be spelled longer than it need be, and an offset by itself
--- where it could be 0.
+-- The bytes are a directory of these entries. A varint may be longer than necessary, and an offset may be given where 0 would do.
 pub record IsDirectory (bytes : List ℕ) (entries : List DirectoryEntry) : Type 0 where
   pub offsets : List ℕ
   pub spelled : AreVarints bytes (length entries ∷ (id_deltas 0 entries ++ (runs_of entries ++ (lengths_of entries ++ offsets))))
@@ -67,14 +66,14 @@ pub record IsDirectory (bytes : List ℕ) (entries : List DirectoryEntry) : Type
   pub ascending : IsAscending entries
   pub each : AllByRecursion IsEntry entries
 
--- ---- the spelling that is written
+-- ---- the encoding that is written
 
--- the shortest spelling of each
+-- the shortest varint of each
 abbrev pub varints : List ℕ → List ℕ
 varints [] = []
 varints (n ∷ ns) = varint n ++ varints ns
 
--- the number of an offset behind where the entry before ends
+-- the number of an offset, after a previous entry whose bytes end here
 abbrev pub offset_number : Option ℕ → ℕ → ℕ
 offset_number None offset = suc offset
 offset_number (Some end) offset = if end == offset then 0 else suc offset

@@ -7,12 +7,12 @@ use Rattle.pm_directory.specs.declared.fault.DirectoryFault.{DirectoryFault}
 use Rattle.pm_directory.specs.declared.fault.DirectoryFault.TheVariants as faults
 use Rattle.pm_directory.specs.Directory.{AreVarints, ids_behind, offset_at, IsEntry}
 
--- where a number must stand, the bytes end inside it, or it goes on too long
+-- where a number is expected, the bytes end inside it, or it is too long
 pub data NumberHas (bytes : List ℕ) (d : DirectoryFault) : Type 0 where
   cut : d ≡ faults.Cut → IsCut bytes → NumberHas bytes d
   overlong : d ≡ faults.Varint → IsOverlong bytes → NumberHas bytes d
 
--- behind fewer numbers than there must be, one has a fault
+-- after fewer numbers than there must be, one has a fault
 pub record NumbersHave (count : ℕ) (bytes : List ℕ) (d : DirectoryFault) : Type 0 where
   pub numbers : List ℕ
   pub front : List ℕ
@@ -22,7 +22,7 @@ pub record NumbersHave (count : ℕ) (bytes : List ℕ) (d : DirectoryFault) : T
   pub spelled : AreVarints front numbers
   pub fault : NumberHas rest d
 
--- of the entry before, if there is one: its id, the first id behind its ids, and where its bytes end
+-- of the previous entry, if there is one: its id, the first id after its ids, and the end of its bytes
 abbrev pub id_from : Option DirectoryEntry → ℕ
 id_from None = 0
 id_from (Some b) = b.id
@@ -35,7 +35,7 @@ abbrev pub end_from : Option DirectoryEntry → Option ℕ
 end_from None = None
 end_from (Some b) = Some (b.offset + b.length)
 
--- a number of each column is this entry, behind the one before
+-- a number of each column is this entry, after the previous one
 pub record IsNext (before : Option DirectoryEntry) (delta run len offset : ℕ) (e : DirectoryEntry) : Type 0 where
   pub id_is : e.id ≡ id_from before + delta
   pub run_is : e.run ≡ run
@@ -44,7 +44,7 @@ pub record IsNext (before : Option DirectoryEntry) (delta run len offset : ℕ) 
   pub behind : ids_from before ≤ e.id
   pub proper : IsEntry e
 
--- a number of each column is no entry behind the one before
+-- a number of each column is no entry after the previous one
 pub data EntryHas (before : Option DirectoryEntry) (delta run len offset : ℕ) (d : DirectoryFault) : Type 0 where
   not_behind : d ≡ faults.Order → id_from before + delta < ids_from before → EntryHas before delta run len offset d
   id_large : d ≡ faults.Range → 2 ^ 64 ≤ id_from before + delta → EntryHas before delta run len offset d
@@ -55,7 +55,7 @@ pub data EntryHas (before : Option DirectoryEntry) (delta run len offset : ℕ) 
   no_offset : d ≡ faults.Offset → before ≡ None → offset ≡ 0 → EntryHas before delta run len offset d
   offset_large : d ≡ faults.Range → (end : ℕ) → end_from before ≡ Some end → offset ≡ 0 → 2 ^ 64 ≤ end → EntryHas before delta run len offset d
 
--- behind entries that the columns say, one has a fault
+-- after entries that the columns give, one has a fault
 abbrev pub EntriesHave : Option DirectoryEntry → List ℕ → List ℕ → List ℕ → List ℕ → DirectoryFault → Type 0
 EntriesHave before (delta ∷ ds) (run ∷ rs) (len ∷ ls) (offset ∷ os) d = EntryHas before delta run len offset d
     ⊎ ((e : DirectoryEntry) × IsNext before delta run len offset e × EntriesHave (Some e) ds rs ls os d)
@@ -72,6 +72,6 @@ pub data DirectoryHas (bytes : List ℕ) (d : DirectoryFault) : Type 0 where
   at_entry : (ds : List ℕ) → (rs : List ℕ) → (ls : List ℕ) → (os : List ℕ) → length rs ≡ length ds → length ls ≡ length ds → length os ≡ length ds
       → AreVarints bytes (length ds ∷ (ds ++ (rs ++ (ls ++ os)))) → EntriesHave None ds rs ls os d → DirectoryHas bytes d
 
--- the bytes begin with a count of entries, and behind it stands a byte or more for each of their four numbers
+-- the bytes begin with a count of entries, and after it there is a byte or more for each of their four numbers
 abbrev pub HasRoom : List ℕ → Type 0
 HasRoom bytes = (n : ℕ) × (front : List ℕ) × (rest : List ℕ) × (bytes ≡ front ++ rest) × IsVarint front n × (0 < n) × (4 * n ≤ length rest)

@@ -19,19 +19,19 @@ number_of bytes (Err kinds.Cut) = Err Cut
 number_of bytes (Err kinds.Number) = Err Cut
 number_of bytes (Err kinds.WireType) = Err Cut
 
--- the number in front, and the bytes behind it
+-- the first number, and the bytes after it
 unfoldable pub number_at : List ℕ → Read DirectoryFault (ℕ × List ℕ)
 number_at bytes = number_of bytes (varint_at bytes)
 
--- one more number behind those that were read, and the bytes behind it
+-- one more number after those that were read, and the bytes after it
 unfoldable pub one_more : List ℕ × List ℕ → Read DirectoryFault (List ℕ × List ℕ)
 one_more s = number_at s.1 >>= λ x. Ok (s.0 ++ x.0 ∷ [], x.1)
 
--- so many numbers, and the bytes behind them
+-- the first `count` numbers, and the bytes after them
 abbrev pub numbers_at : ℕ → List ℕ → Read DirectoryFault (List ℕ × List ℕ)
 numbers_at count bytes = repeated one_more count ([], bytes)
 
--- ---- one entry, behind the one before it
+-- ---- one entry, after the previous one
 
 abbrev pub id_at : Option DirectoryEntry → ℕ → Read DirectoryFault ℕ
 id_at None delta = Ok delta
@@ -43,7 +43,7 @@ run_at id run = if nat_lt run (2 ^ 32) then (if nat_le (id + run) TILE_IDS then 
 abbrev pub length_at : ℕ → Read DirectoryFault ℕ
 length_at len = if len == 0 then Err Length else (if nat_lt len (2 ^ 32) then Ok len else Err Range)
 
--- where the entry before ends
+-- the end of the previous entry's bytes
 abbrev pub end_before : Option DirectoryEntry → Read DirectoryFault ℕ
 end_before None = Err Offset
 end_before (Some b) = if nat_lt (b.offset + b.length) (2 ^ 64) then Ok (b.offset + b.length) else Err Range
@@ -59,7 +59,7 @@ entry_at before delta run len offset =
 
 -- ---- all entries
 
--- the entries of the columns behind those that were read
+-- the entries of the columns, after those that were read
 unfoldable pub entries_at : Option DirectoryEntry → List DirectoryEntry → List ℕ → List ℕ → List ℕ → List ℕ → Read DirectoryFault (List DirectoryEntry)
 entries_at before done (d ∷ ds) (r ∷ rs) (l ∷ ls) (o ∷ os) = entry_at before d r l o >>= λ e. entries_at (Some e) (done ++ e ∷ []) ds rs ls os
 entries_at before done _ _ _ _ = Ok done
@@ -70,7 +70,7 @@ columns_at bytes =
     number_at bytes >>= λ n. if nat_lt (length n.1) (4 * n.0) then Err Cut
     else (numbers_at (4 * n.0) n.1 >>= λ x. if length x.1 == 0 then Ok (n.0, x.0) else Err Rest)
 
--- the entries of so many numbers in each column
+-- the entries of `n` numbers in each column
 abbrev pub entries_of : ℕ → List ℕ → Read DirectoryFault (List DirectoryEntry)
 entries_of n xs = entries_at None [] (take n xs) (take n (drop n xs)) (take n (drop n (drop n xs))) (drop n (drop n (drop n xs)))
 

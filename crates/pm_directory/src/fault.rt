@@ -1,19 +1,21 @@
+//! What is wrong with bytes that aren't a directory.
+
 ghost use Rattle.std.specs.Prelude.{◌≡◌};
 ghost use Rattle.pm_directory.specs.declared.fault.DirectoryFault.TheVariants.{Memory};
 
 use std::alloc::{AllocError, AllocFailed};
 use thiserror::Error;
 
-/// Why bytes are no directory. Where they have several faults, one of these is named.
+/// Why bytes aren't a directory. If they have several faults, the first that is met is named.
 #[derive(Clone, Copy, Debug, PartialEq, Eq, Error)]
 pub enum DirectoryFault {
-    /// The bytes end inside a number or before the last one, or are fewer than a byte for each number.
+    /// The bytes end inside a number or before the last one, or there are fewer bytes than numbers.
     #[error("the bytes end inside the directory")]
     Cut,
-    /// A number goes on after its tenth byte, or passes 64 bits.
+    /// A number is longer than ten bytes, or doesn't fit in 64 bits.
     #[error("a number is longer than ten bytes or passes 64 bits")]
     Varint,
-    /// Bytes stand behind the last number.
+    /// There are bytes after the last number.
     #[error("bytes stand behind the directory")]
     Rest,
     /// An id isn't above the one before it, or is in the run before it.
@@ -22,14 +24,13 @@ pub enum DirectoryFault {
     /// A length is 0.
     #[error("the length of an entry is 0")]
     Length,
-    /// The first offset refers to an entry before.
+    /// The first offset refers to a previous entry.
     #[error("the first entry has no offset")]
     Offset,
-    /// A run or a length is 2^32 or more, an id or an offset 2^64 or more, or an id and its run reach
-    /// past the ids of zoom 31.
+    /// A run or a length is 2^32 or more, an id or an offset 2^64 or more, or a run exceeds the ids of zoom 31.
     #[error("a number is out of its range")]
     Range,
-    /// Memory ran out. This says nothing of the bytes.
+    /// An allocation failed. This says nothing of the bytes.
     #[error("out of memory")]
     Memory,
 }

@@ -1,4 +1,4 @@
-//! The directories of a tile archive: which tiles it has, and where each content lies (PMTiles 3, 4).
+//! The directories of a tile archive: which tiles it has, and where each content is stored (PMTiles 3, 4).
 #![tactic(auto)]
 
 mod entry;

@@ -1,4 +1,4 @@
-//! The entry of an id.
+//! Finds the entry of an id.
 
 ghost use Rattle.std.specs.Prelude.{◌≡◌, ◌≤◌, ◌↔◌, length, take, IsTrue, IfSome, IfNone};
 ghost use Rattle.pm_directory.specs.Directory.{IsAscending};
@@ -7,7 +7,7 @@ ghost use Rattle.pm_directory.specs.declared.entry.DirectoryEntry.{DirectoryEntr
 
 use crate::entry::DirectoryEntry;
 
-// How many entries have an id that is at most this one.
+// The number of entries whose id is at most this one.
 fn count_up_to(entries: &[DirectoryEntry], id: u64) -> usize
     requires { IsAscending entries.now }
     ensures within { result ≤ length entries.now }
@@ -16,6 +16,7 @@ fn count_up_to(entries: &[DirectoryEntry], id: u64) -> usize
     entries.partition_point(|entry| entry.id <= id)
 }
 
+// Whether the entry names a leaf directory, or its run has the id.
 fn leads_to(entry: DirectoryEntry, id: u64) -> bool
     requires { entry.id ≤ id }
     ensures { IsTrue result ↔ LeadsTo id entry }
@@ -23,8 +24,8 @@ fn leads_to(entry: DirectoryEntry, id: u64) -> bool
     entry.run == 0 || id - entry.id < u64::from(entry.run)
 }
 
-/// The entry that leads to a tile (PMTiles 3, 4.1): the last one whose id is at most the tile's, where it names a leaf
-/// directory or its run has the tile. It takes no memory, and time by the logarithm of the number of entries.
+/// The entry that leads to a tile (PMTiles 3, 4.1): the last one whose id is at most the tile's, if it names a leaf directory or its
+/// run has the tile. It is a binary search and allocates nothing.
 pub fn find(entries: &[DirectoryEntry], id: u64) -> Option<DirectoryEntry>
     requires { IsAscending entries.now }
     ensures found { IfSome result (λ entry. IsLastUpTo id entries.now entry × LeadsTo id entry) }

@@ -1,4 +1,4 @@
-//! Directories as entries.
+//! Decodes directories.
 
 ghost use Rattle.std.specs.Prelude.{◌≡◌, ◌≢◌, ◌*◌, ◌<◌, ◌≤◌, [], List, length, Ok, Err, IfOk, IfErr, OnOk, MatchResult};
 ghost use Rattle.pm_directory.specs.Directory.{IsDirectory};
@@ -13,7 +13,7 @@ use crate::numbers::{number, numbers};
 use hilbert_id::TILE_IDS;
 use std::alloc::Global;
 
-// The id so far behind that of the entry before.
+// The id that is greater by `delta` than that of the previous entry.
 fn id_behind(before: Option<DirectoryEntry>, delta: u64) -> Result<u64, DirectoryFault>
     ensures { result ≡ id_at before delta }
 {
@@ -24,7 +24,7 @@ fn id_behind(before: Option<DirectoryEntry>, delta: u64) -> Result<u64, Director
     }
 }
 
-// The run of an entry of this id.
+// The run of an entry of this id, from its number.
 fn run_of(id: u64, run: u64) -> Result<u32, DirectoryFault>
     ensures { result ≡ run_at id run }
 {
@@ -34,6 +34,7 @@ fn run_of(id: u64, run: u64) -> Result<u32, DirectoryFault>
     Ok(run as u32)
 }
 
+// The length of an entry, from its number.
 fn length_of(length: u64) -> Result<u32, DirectoryFault>
     ensures { result ≡ length_at length }
 {
@@ -43,7 +44,7 @@ fn length_of(length: u64) -> Result<u32, DirectoryFault>
     u32::try_from(length).map_err(|_| DirectoryFault::Range)
 }
 
-// The offset that a number says: 0 where the entry before ends, else the number less 1.
+// The offset of an entry, from its number: 0 means the end of the previous entry's bytes, any other number the number less 1.
 fn offset_behind(before: Option<DirectoryEntry>, number: u64) -> Result<u64, DirectoryFault>
     ensures { result ≡ offset_of before number }
 {
@@ -59,7 +60,7 @@ fn offset_behind(before: Option<DirectoryEntry>, number: u64) -> Result<u64, Dir
     }
 }
 
-// The entry of a number of each column.
+// The entry after another one, from a number of each column.
 #[tactic(auto, unfolding(crate::specs::Reading::entry_at))]
 fn entry_behind(
     before: Option<DirectoryEntry>,
@@ -106,7 +107,7 @@ fn entries_of(
     Ok(entries)
 }
 
-// How many entries there are, and the bytes behind this count. Each number of their columns has a byte or more.
+// The number of entries, and the bytes after it. Each number of their columns has a byte or more.
 #[tactic(auto, unfolding(crate::specs::Reading::columns_at))]
 fn count_of(bytes: &[u8]) -> Result<(usize, &[u8]), DirectoryFault>
     ensures count { IfOk result (λ x. (number_at bytes.now ≡ Ok (x.0, x.1.now)) × (4 * x.0 ≤ length x.1.now)) }
@@ -120,7 +121,7 @@ fn count_of(bytes: &[u8]) -> Result<(usize, &[u8]), DirectoryFault>
     Ok((count as usize, rest))
 }
 
-// Nothing stands behind the last number.
+// Checks that there are no bytes after the last number.
 fn check_end(rest: &[u8]) -> Result<(), DirectoryFault>
     ensures end { OnOk result (length rest.now ≡ 0) }
     ensures fault { IfErr result (λ fault. (fault ≡ DirectoryFault.Rest) × (0 < length rest.now)) }
@@ -131,7 +132,7 @@ fn check_end(rest: &[u8]) -> Result<(), DirectoryFault>
     Ok(())
 }
 
-// How many entries there are, and the numbers of their four columns one behind the other.
+// The number of entries, and the numbers of their four columns, one column after the other.
 #[tactic(auto, unfolding(crate::specs::Reading::columns_at))]
 fn columns(alloc: Global, bytes: &[u8]) -> Result<(usize, Vec<u64>), DirectoryFault>
     ensures four { IfOk result (λ x. length x.1.items ≡ 4 * x.0) }
@@ -145,6 +146,7 @@ fn columns(alloc: Global, bytes: &[u8]) -> Result<(usize, Vec<u64>), DirectoryFa
     Ok((count, numbers))
 }
 
+// The entries of a directory, or its first fault.
 #[tactic(auto, unfolding(crate::specs::Reading::directory_at))]
 fn entries_in(alloc: Global, bytes: &[u8]) -> Result<Vec<DirectoryEntry>, DirectoryFault>
     ensures exact { Gives DirectoryFault.Memory (λ entries. entries.items) result (directory_at bytes.now) }
@@ -157,22 +159,24 @@ fn entries_in(alloc: Global, bytes: &[u8]) -> Result<Vec<DirectoryEntry>, Direct
     entries_of(alloc, deltas, runs, lengths, offsets)
 }
 
-/// The entries of a directory (PMTiles 3, 4.2): in ascending order, without overlapping runs.
+/// Decodes a directory (PMTiles 3, 4.2): its entries, in ascending order and without overlapping runs.
 ///
-/// Whatever count the bytes begin with, memory is taken only for numbers that stand there: a count of more entries than
-/// there are bytes for is `Cut`, and never `Memory`.
+/// # Errors
+///
+/// The first fault of the bytes. `Memory` if an allocation fails. Memory is allocated for numbers that are there, not for the count
+/// that the bytes begin with: a count of more entries than there are bytes for is `Cut`, and never `Memory`.
 pub fn read_directory(alloc: Global, bytes: &[u8]) -> Result<Vec<DirectoryEntry>, DirectoryFault>
     ensures found { IfOk result (λ entries. IsDirectory bytes.now entries.items) }
 
-    // A directory is refused where memory runs out, and nowhere else.
+    // A directory is refused only if memory runs out.
     ensures only { (entries : List DirectoryEntry) → IsDirectory bytes.now entries
         → MatchResult result (λ read. read.items ≡ entries) (λ fault. fault ≡ DirectoryFault.Memory) }
 
-    // Another fault is one that the bytes have, and of several the first that is met.
+    // Any other fault is the first one of the bytes.
     ensures fault { IfErr result (λ fault. fault ≢ DirectoryFault.Memory → DirectoryHas bytes.now fault) }
     ensures first { Gives DirectoryFault.Memory (λ entries. entries.items) result (directory_at bytes.now) }
 
-    // Memory runs out only where the bytes have room for as many entries as they claim.
+    // Memory runs out only if there are enough bytes for the entries that are claimed.
     ensures memory { IfErr result (λ fault. fault ≡ DirectoryFault.Memory → HasRoom bytes.now) }
 {
     entries_in(alloc, bytes)

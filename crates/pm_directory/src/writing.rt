@@ -1,4 +1,4 @@
-//! Entries as a directory.
+//! Encodes directories.
 
 ghost use Rattle.std.specs.Prelude.{◌≡◌, ◌+◌, ◌*◌, ◌<◌, ◌≤◌, ◌^◌, ◌++◌, length, OnOk, IfOk};
 ghost use Rattle.std.specs.List.{AllByRecursion};
@@ -9,6 +9,7 @@ use crate::entry::DirectoryEntry;
 use pb_wire::put_varint;
 use std::alloc::{AllocError, Global};
 
+// Appends the column of ids, each as the difference from the previous one.
 fn put_deltas(out: &mut Vec<u8>, entries: &[DirectoryEntry]) -> Result<(), AllocError>
     requires { IsAscending entries.now }
     ensures { OnOk result (out.new.items ≡ out.old.items ++ varints (id_deltas 0 entries.now)) }
@@ -21,6 +22,7 @@ fn put_deltas(out: &mut Vec<u8>, entries: &[DirectoryEntry]) -> Result<(), Alloc
     Ok(())
 }
 
+// Appends the column of runs.
 fn put_runs(out: &mut Vec<u8>, entries: &[DirectoryEntry]) -> Result<(), AllocError>
     ensures { OnOk result (out.new.items ≡ out.old.items ++ varints (runs_of entries.now)) }
 {
@@ -30,6 +32,7 @@ fn put_runs(out: &mut Vec<u8>, entries: &[DirectoryEntry]) -> Result<(), AllocEr
     Ok(())
 }
 
+// Appends the column of lengths.
 fn put_lengths(out: &mut Vec<u8>, entries: &[DirectoryEntry]) -> Result<(), AllocError>
     ensures { OnOk result (out.new.items ≡ out.old.items ++ varints (lengths_of entries.now)) }
 {
@@ -39,7 +42,7 @@ fn put_lengths(out: &mut Vec<u8>, entries: &[DirectoryEntry]) -> Result<(), Allo
     Ok(())
 }
 
-// The number of an offset behind where the entry before ends.
+// The number of an offset, after a previous entry whose bytes end at `end`.
 fn number_of_offset(end: Option<u64>, offset: u64) -> u64
     requires { offset + 1 < 2 ^ 64 }
     ensures { result ≡ offset_number end offset }
@@ -62,8 +65,8 @@ fn put_offsets(out: &mut Vec<u8>, entries: &[DirectoryEntry]) -> Result<(), Allo
     Ok(())
 }
 
-/// The directory of these entries (PMTiles 3, 4.2), each number spelled as short as can be, and an offset as 0
-/// wherever its content follows that of the entry before.
+/// Encodes a directory of these entries (PMTiles 3, 4.2), each number as short as possible, and an offset as 0 if its content follows
+/// that of the previous entry.
 pub fn write_directory(alloc: Global, entries: &[DirectoryEntry]) -> Result<Vec<u8>, AllocError>
     requires ascending { IsAscending entries.now }
     requires each { AllByRecursion IsEntry entries.now }

@@ -1,4 +1,4 @@
--- The numbers of the format, each as the standard says it.
+-- The number of each limit and enumerated value.
 use Rattle.std.proofs.Common.{◌≡◌, refl}
 use Rattle.pm_header.specs.declared.header.TheConstants.{HEADER_BYTES, CLUSTERED, VECTOR_TILES}
 use Rattle.pm_header.specs.declared.compression.TheConstants.{UNKNOWN_COMPRESSION, NOT_COMPRESSED, GZIP, BROTLI, ZSTD}

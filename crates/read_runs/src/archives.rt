@@ -6,7 +6,7 @@ use pm_header::{HEADER_BYTES, Header};
 use script_bytes::number_in;
 use std::alloc::{AllocError, Global};
 
-/// The header, and whether it is written as it was read.
+/// The header, and whether it is encoded as it was decoded.
 fn header(alloc: Global, bytes: &[u8]) -> Result<String, AllocError> {
     match Header::from_bytes(bytes) {
         Ok(header) => {
@@ -52,7 +52,7 @@ fn list(alloc: Global, bytes: &[u8]) -> Result<String, AllocError> {
     }
 }
 
-/// What was found of an id.
+/// The text for the content of an id.
 fn content(
     alloc: Global,
     found: Result<Option<Vec<u8>>, ArchiveFault>,
@@ -64,7 +64,7 @@ fn content(
     }
 }
 
-/// Adds what was found of an id to the others.
+/// Adds the text for the content of an id to the others.
 fn add_content(
     alloc: Global,
     told: &mut Vec<String>,
@@ -74,7 +74,7 @@ fn add_content(
     Ok(())
 }
 
-/// What an archive has for these ids.
+/// The contents of an archive for these ids.
 fn contents_of(
     alloc: Global,
     archive: &mut Archive<&[u8]>,
@@ -95,7 +95,7 @@ fn contents(alloc: Global, ids: &str, bytes: &[u8]) -> Result<String, AllocError
     }
 }
 
-/// What one look-up that is kept tells of these ids in turn.
+/// The contents that one look-up finds for these ids in turn.
 fn looks(alloc: Global, ids: &str, bytes: &[u8]) -> Result<String, AllocError> {
     let mut source = bytes;
     let mut lookup = match Lookup::open(alloc, &mut source) {
@@ -110,14 +110,14 @@ fn looks(alloc: Global, ids: &str, bytes: &[u8]) -> Result<String, AllocError> {
     format!(in alloc; "{told:?}")
 }
 
-/// The line of `verify`, behind the status of its program.
+/// The line of `verify`, after the status of its program.
 fn judged(alloc: Global, bytes: &[u8]) -> Result<String, AllocError> {
     let verdict = Verdict::of(verify(alloc, bytes));
     let status = verdict.status();
     format!(in alloc; "{status} {verdict}")
 }
 
-/// What `show` writes, or the word of its fault.
+/// The text that `show` writes, or the name of its fault.
 fn shown(alloc: Global, bytes: &[u8]) -> Result<String, AllocError> {
     let mut out = Vec::new(alloc);
     match show(bytes, &mut out) {
@@ -129,7 +129,7 @@ fn shown(alloc: Global, bytes: &[u8]) -> Result<String, AllocError> {
     }
 }
 
-/// What a line about an archive comes to.
+/// The answer to a line about an archive.
 pub(crate) fn answer(
     alloc: Global,
     word: &str,
@@ -146,7 +146,7 @@ pub(crate) fn answer(
     }
 }
 
-/// What a line about ids in an archive comes to.
+/// The answer to a line about ids in an archive.
 pub(crate) fn ids_answer(
     alloc: Global,
     word: &str,

@@ -12,7 +12,7 @@ const METADATA: &[u8] = br#"{"vector_layers":[{"fields":{},"id":"p","maxzoom":2,
 /// The id of a tile, and its content.
 type Tile = (u64, Vec<u8>);
 
-/// Adds tiles to an archive. It is false where one is no tile, or not behind those before it.
+/// Adds tiles to an archive. Returns false if one isn't a tile, or its id isn't greater than those before it.
 fn add_all(builder: &mut ArchiveBuilder, tiles: Vec<Tile>) -> Result<bool, BuildFault> {
     for (id, content) in tiles {
         if !builder.can_add(id, &content) {
@@ -23,7 +23,7 @@ fn add_all(builder: &mut ArchiveBuilder, tiles: Vec<Tile>) -> Result<bool, Build
     Ok(true)
 }
 
-/// The archive of tiles; none where they are no tiles.
+/// The archive of tiles, or `None` if they aren't tiles.
 fn built(
     alloc: Global,
     tiles: Vec<Tile>,
@@ -59,7 +59,7 @@ fn judged(alloc: Global, built: Option<Result<Vec<u8>, BuildFault>>) -> Result<S
     }
 }
 
-/// A content in hexadecimal digits; no bytes where it is none.
+/// A content in hexadecimal digits, or no bytes if it isn't one.
 fn content(alloc: Global, text: &str) -> Vec<u8> {
     hex::decode(alloc, text).unwrap_or(Vec::new(alloc))
 }
@@ -74,7 +74,7 @@ fn tiles_in(alloc: Global, rest: &str) -> Result<Vec<Tile>, AllocError> {
     Ok(tiles)
 }
 
-/// So many tiles of even ids, all with this content.
+/// `count` tiles of even ids, all with this content.
 fn even_tiles(alloc: Global, rest: &str) -> Result<Vec<Tile>, AllocError> {
     let (count, text) = parted(rest);
     let content = content(alloc, text);
@@ -85,7 +85,7 @@ fn even_tiles(alloc: Global, rest: &str) -> Result<Vec<Tile>, AllocError> {
     Ok(tiles)
 }
 
-/// So many tiles of even ids, each with a content of so many bytes of its own: its number, lowest byte first, and zeros.
+/// `count` tiles of even ids, each with a content of `len` bytes of its own: its number, least significant byte first, and zeros.
 fn apart_tiles(alloc: Global, rest: &str) -> Result<Vec<Tile>, AllocError> {
     let (count, len) = parted(rest);
     let len = place(number_in(len)).min(1_000);
@@ -118,7 +118,7 @@ fn even_judged(alloc: Global, rest: &str) -> Result<String, AllocError> {
     judged(alloc, built(alloc, tiles)?)
 }
 
-/// What a line about an archive that is built comes to.
+/// The answer to a line about an archive that is built.
 pub(crate) fn answer(alloc: Global, line: Line<'_>) -> Option<Result<String, AllocError>> {
     match line.word {
         "build" => Some(some(alloc, line.rest)),

@@ -16,7 +16,7 @@ use sector_disk::Sectors;
 use std::alloc::{AllocError, Global};
 use std::test::Fail;
 
-/// An archive of three tiles with one content, written by hand: behind the header of 127 bytes its root directory of 9, metadata of
+/// An archive of three tiles with one content, written by hand: after the header of 127 bytes its root directory of 9, metadata of
 /// 366, of which 300 are spaces, and from byte 502 on the content of 21, so that a sector's border cuts it.
 fn archive() -> [u8; 1536] {
     let mut bytes = [b' '; 1536];
@@ -40,7 +40,7 @@ fn archive() -> [u8; 1536] {
 const CONTENT: [u8; 21] =
     *b"\x1a\x13\x0a\x01\x70\x12\x09\x08\x07\x18\x01\x22\x03\x09\0\0\x28\x80\x20\x78\x02";
 
-/// Opens an archive of so many bytes that begins in this sector, looks the content of a tile id up, and gives the disk back to its
+/// Opens an archive of `len` bytes that begins in this sector, looks up the content of a tile id, and gives the disk back to its
 /// owner, who knows that nothing was written to it and whose content this is.
 fn look_up<D: Sectors>(
     alloc: Global,
@@ -81,7 +81,7 @@ fn looked_up(
 }
 
 /// Ids of tiles, whether each has the content, and how many calls a look takes. The header, the root directory and the first bytes of
-/// the content stand in the first sector, which is read once.
+/// the content are in the first sector, which is read once.
 const LOOKS: [(u64, bool, u64); 4] = [(0, true, 2), (1, true, 2), (5, true, 2), (2, false, 1)];
 
 #[test]

@@ -11,7 +11,7 @@ decreases-push_each g l = 2 * l.more + 1
 abbrev pub decreases-push_listed : goal.decreases-push_listed
 decreases-push_listed g l = 2 * l.more
 
--- the source is as it was, what the entries that are left list belongs behind what there is now, and the first one that was listed lies inside
+-- the source is as it was, what the other entries list comes after what there is now, and the first one that was listed is inside
 abbrev pub invariant-push_each-loop-i : goal.invariant-push_each-loop-i
 invariant-push_each-loop-i g l = record {
   source : Keeps g.B.Bytes.count g.B.Bytes.holds g.B.Bytes.fails g.B.Bytes.unchanged l.initial.source l.source;

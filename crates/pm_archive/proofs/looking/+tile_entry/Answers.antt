@@ -3,16 +3,16 @@ use Rattle.pm_archive.proofs.LookedSteps.{reached_on, reached_fault}
 use Rattle.pm_archive.proofs.looking.+tile_entry.Goals as goal
 
 pub returns-clause-first : goal.returns-clause-first
-returns-clause-first g t c = λ bytes holds kept.
+returns-clause-first g t c = λ bytes holds cached.
     let before = c.tile_entry.ensures.source.no_others bytes holds in
     rw c.in-Some.is
     (reached_on bytes c.args.header.now c.args.id (λ e. e) c.tile_entry.result c.args.more c.in-Some.leaf c.in_ok-below.below
-    c.if-leaf-gt0.false c.if-more-eq0.false (c.in_ok-below.ensures.first bytes before kept)
-    (c.tile_entry.ensures.first bytes holds (c.in_ok-below.ensures.still bytes before kept)))
+    c.if-leaf-gt0.false c.if-more-eq0.false (c.in_ok-below.ensures.first bytes before cached)
+    (c.tile_entry.ensures.first bytes holds (c.in_ok-below.ensures.still bytes before cached)))
 
 pub returns-in_err-below-clause-first : goal.returns-in_err-below-clause-first
 returns-in_err-below-clause-first g t c =
     let p = err_from_is_err_and c.from_residual.result c.from_residual.ensures.1 in
-    rw (p.1, p.2) (λ bytes holds kept. rw c.in-Some.is
+    rw (p.1, p.2) (λ bytes holds cached. rw c.in-Some.is
     (reached_fault bytes c.args.header.now c.args.id c.args.more c.in-Some.leaf c.in_err-below.field-0.0 c.if-leaf-gt0.false c.if-more-eq0.false
-    (c.in_err-below.ensures.first bytes holds kept)))
+    (c.in_err-below.ensures.first bytes holds cached)))

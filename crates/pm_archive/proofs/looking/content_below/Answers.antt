@@ -4,13 +4,13 @@ use Rattle.pm_archive.proofs.LookedSteps.{looked_on, looked_fault}
 use Rattle.pm_archive.proofs.looking.content_below.Goals as goal
 
 pub returns-clause-first : goal.returns-clause-first
-returns-clause-first g c bytes holds kept =
+returns-clause-first g c bytes holds cached =
     looked_on bytes c.args.header.now c.args.id c.args.root.now c.leading.result c.leading.ensures (option_map (λ v. v.items)) c.content_in.result
-    c.in_ok-entry.entry (c.in_ok-entry.ensures.first bytes (c.content_in.ensures.source.no_others bytes holds) kept)
+    c.in_ok-entry.entry (c.in_ok-entry.ensures.first bytes (c.content_in.ensures.source.no_others bytes holds) cached)
     (c.content_in.ensures.first bytes holds)
 
 pub returns-in_err-entry-clause-first : goal.returns-in_err-entry-clause-first
 returns-in_err-entry-clause-first g c =
     let p = err_from_is_err_and c.from_residual.result c.from_residual.ensures.1 in
-    rw (p.1, p.2) (λ bytes holds kept. looked_fault bytes c.args.header.now c.args.id c.args.root.now c.leading.result c.leading.ensures
-    c.in_err-entry.field-0.0 (c.in_err-entry.ensures.first bytes holds kept))
+    rw (p.1, p.2) (λ bytes holds cached. looked_fault bytes c.args.header.now c.args.id c.args.root.now c.leading.result c.leading.ensures
+    c.in_err-entry.field-0.0 (c.in_err-entry.ensures.first bytes holds cached))

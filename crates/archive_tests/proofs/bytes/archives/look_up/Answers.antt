@@ -8,7 +8,7 @@ use Rattle.sector_bytes.specs.Source.{SourceView, AreItsBytes}
 use Rattle.sector_bytes.proofs.Laws.{still_there}
 use Rattle.archive_tests.proofs.bytes.archives.look_up.Goals as goal
 
--- the source that was made has the bytes that stand on the disk
+-- the source has the bytes that are stored on the disk
 made : {D : Type 0} (history : D → History) (source : SourceView D) (disk : D) (first len : ℕ) (bytes : List ℕ) → source.disk.now ≡ disk
     → source.first ≡ first → source.len ≡ len → length bytes ≡ len → StandsIn first bytes (seen (history disk))
     → AreItsBytes source.first source.len bytes (seen (history source.disk.now))

@@ -8,7 +8,7 @@ use Rattle.pm_archive.specs.Archive.{content_of}
 use Rattle.pm_archive.specs.Answers.{IsOutside}
 use Rattle.pm_archive.specs.Looked.{looked_at}
 use Rattle.pm_archive.proofs.ListedSteps.{inside_or_outside}
-use Rattle.pm_archive.proofs.LookupLaws.{looked_below, none_kept}
+use Rattle.pm_archive.proofs.LookupLaws.{looked_below, none_cached}
 use Rattle.pm_archive.proofs.archive.Archive.tile.Goals as goal
 
 pub returns-clause-content : goal.returns-clause-content
@@ -23,7 +23,7 @@ returns-clause-content g c =
     (looked_at bytes h c.deref.result.now c.args.id) (content_of bytes h tiles c.args.id)
     (subst (λ (es : List DirectoryEntry). looked_at bytes h es c.args.id ≡ Ok (content_of bytes h tiles c.args.id)) (sym c.deref.ensures.value)
     (looked_below bytes h c.self.inside.root.items tiles c.args.id dir has))
-    (c.content_below.ensures.first bytes holds (none_kept bytes h c.none-kept.result c.none-kept.ensures)))
+    (c.content_below.ensures.first bytes holds (none_cached bytes h c.none-cached.result c.none-cached.ensures)))
 
 pub returns-clause-first : goal.returns-clause-first
 returns-clause-first g c =
@@ -33,4 +33,4 @@ returns-clause-first g c =
     let h = c.self.inside.header in
     subst (λ (root : List DirectoryEntry). GivesUnless IsOutside (option_map (λ v. v.items)) c.content_below.result
     (looked_at bytes h root c.args.id)) c.deref.ensures.value
-    (c.content_below.ensures.first bytes holds (none_kept bytes h c.none-kept.result c.none-kept.ensures)))
+    (c.content_below.ensures.first bytes holds (none_cached bytes h c.none-cached.result c.none-cached.ensures)))

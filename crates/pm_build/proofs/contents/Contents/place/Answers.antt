@@ -14,7 +14,7 @@ grown c = view_push _ _ c.args.content c.in_ok-push.ensures.items
 absent : (c : goal.After-self-1) → offset_from 0 (contents_view c.args.self.now) c.args.content.now ≡ None
 absent c = none_there c.args.self.now c.args.content.now c.requires.kept (sym c.in_default.ensures.value)
 
--- what is kept at the end
+-- the state at the end
 abbrev after : (c : goal.After-self-1) → Contents
 after c = record { placed = c.push.new.self; offsets = c.insert.new.self; end = c.args.self.now.end + length c.args.content.now }
 
