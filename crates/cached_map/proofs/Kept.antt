@@ -18,7 +18,7 @@ use Rattle.tile_cache.specs.declared.cached_tiles.TheConstants.{MAX_TILE_BYTES}
 use Rattle.tile_cache.proofs.Marks.{marked_more, reached_at_most}
 use Rattle.tile_cache.proofs.Numbers.{newest_once}
 use Rattle.tile_cache.proofs.Places.{place_is}
-use Rattle.cached_map.specs.Cached.{IsUntouched, IsKept, AreKept, AreReadRight, KeepsOrNot, MayKeep, WasMap}
+use Rattle.cached_map.specs.Cached.{IsUntouched, IsKept, AreKept, AreReadRight, KeepsFirst, KeepsOrNot, WasMap}
 
 none_is_none : {T : Type 0} {t : T} → ◌≡◌ {A = Option T} None (Some t) → ⊥
 none_is_none is = cc
@@ -192,16 +192,12 @@ read_kept m cells last number old new z x y bytes was kept earlier content befor
 
 pub keeps_or_not : {T E : Type 0} (r : Result T E) (old new : CacheView) (z x y : ℕ) (t : TileView)
     → OnOk r (IsSmall t.bytes → kept_at new z x y ≡ Some t) → (¬ IsSmall t.bytes → new ≡ old) → OnOk r (KeepsFewer z x y old new)
-    → OnErr r (new ≡ old) → KeepsOrNot z x y t old new
-keeps_or_not (Ok done) old new z x y t kept large others same = elim (cases_lt MAX_TILE_BYTES (length t.bytes)) [
+    → OnOk r (IsSmall t.bytes → KeepsFirst z x y t old new) → OnErr r (new ≡ old) → KeepsOrNot z x y t old new
+keeps_or_not (Ok done) old new z x y t kept large others latest same = elim (cases_lt MAX_TILE_BYTES (length t.bytes)) [
   | inl more ↦ inr (large (λ small. absurd (omega (arith, more, small))))
-  | inr small ↦ inl (kept small, others)
+  | inr small ↦ inl (kept small, others, latest small, small)
 ]
-keeps_or_not (Err fault) old new z x y t kept large others same = inr same
-
-pub may_keep : (old new : CacheView) (z x y : ℕ) (t : TileView) → KeepsOrNot z x y t old new → MayKeep z x y t old new
-may_keep old new z x y t (inl kept) = inl (λ small. kept.0, kept.1)
-may_keep old new z x y t (inr same) = inr same
+keeps_or_not (Err fault) old new z x y t kept large others latest same = inr same
 
 -- ---- the newest edit that reaches a tile
 

@@ -14,7 +14,6 @@ use Rattle.number_map.proofs.Numbers.{less, equal, greater, by_order}
 use Rattle.number_map.proofs.Entries.{lookup_here, lookup_on, removed_here, removed_on, set_step}
 use Rattle.feature_model.specs.Data.{FeatureData}
 use Rattle.feature_model.specs.Types.{LiesInWorld}
-use Rattle.mvt_layer.specs.Tile.{FeatureView, LayerView}
 use Rattle.tile_cutter.specs.Covered.{all_points, least_of, greatest_of}
 use Rattle.tile_cutter.specs.Cut.{feature_cut}
 use Rattle.tile_cutter.specs.WorldBox.{bounding_box, tile_box}
@@ -28,7 +27,7 @@ use Rattle.cached_map.specs.Cached.{box_of}
 
 -- ---- what is cut of a map
 
-module _ (g : ℕ × FeatureData → Option FeatureView) where
+module _ {V : Type 0} (g : ℕ × FeatureData → Option V) where
   skips : (e : ℕ × FeatureData) (m : FeatureMap) → g e ≡ None → filter_map g (e ∷ m) ≡ filter_map g m
   skips e m none = ap (λ o. cons_option o (filter_map g m)) none
 
@@ -83,18 +82,18 @@ module _ (z x y : ℕ) where
   no_cut : (name : List ℕ) (id : ℕ) (f : FeatureData) → IsHidden f → cut_for name z x y (id, f) ≡ None
   no_cut name id f none = rw none (none_either _)
     where
-      none_either : (b : Bool) → ◌≡◌ {A = Option FeatureView} (cond b None None) None
+      none_either : {V : Type 0} (b : Bool) → ◌≡◌ {A = Option V} (cond b None None) None
       none_either true = refl
       none_either false = refl
 
-  abbrev IsNamed : List LayerView → ℕ × FeatureData → Type 0
-  IsNamed ls e = IsSome (feature_cut e.1 z x y) → Contains (names_of ls) e.1.layer
+  abbrev IsNamed : List (List ℕ) → ℕ × FeatureData → Type 0
+  IsNamed names e = IsSome (feature_cut e.1 z x y) → Contains names e.1.layer
 
-  not_named : (ls : List LayerView) (id : ℕ) (f : FeatureData) → IsHidden f → IsNamed ls (id, f)
-  not_named ls id f none some = absurd (false≢true (subst IsSome none some))
+  not_named : (names : List (List ℕ)) (id : ℕ) (f : FeatureData) → IsHidden f → IsNamed names (id, f)
+  not_named names id f none some = absurd (false≢true (subst IsSome none some))
 
   same_layers : (m n : FeatureMap) → ((name : List ℕ) → cuts_of n name z x y ≡ cuts_of m name z x y)
-      → ((ls : List LayerView) → All (IsNamed ls) m → All (IsNamed ls) n) → layers n z x y ≡ layers m z x y
+      → ((names : List (List ℕ)) → All (IsNamed names) m → All (IsNamed names) n) → layers n z x y ≡ layers m z x y
   same_layers m n cuts named = go (is_tile z x y) refl
     where
       go : (b : Bool) → is_tile z x y ≡ b → layers n z x y ≡ layers m z x y
@@ -106,20 +105,20 @@ module _ (z x y : ℕ) where
             ascending = was.ascending;
             layers = All-weaker (IsLayer m z x y) (IsLayer n z x y)
                 (λ l h. record { version = h.version; extent = h.extent; some = h.some; cuts = h.cuts ∙ sym (cuts l.name) }) ls was.layers;
-            every = named ls was.every;
+            every = named (names_of ls) was.every;
           }))
 
   pub layers_put : (m : FeatureMap) (id : ℕ) (f : FeatureData) → IsHidden f → IsHiddenAt m id → layers (with_feature m id f) z x y ≡ layers m z x y
   unfolding with_feature
   layers_put m id f none before = same_layers m (insert_entry nat_cmp m id f)
       (λ name. set_hidden (cut_for name z x y) m id f (no_cut name id f none) (λ old is. no_cut name id old (before old is)))
-      (λ ls all. All-set_entry (IsNamed ls) m id f (not_named ls id f none) all)
+      (λ names all. All-set_entry (IsNamed names) m id f (not_named names id f none) all)
 
   pub layers_removed : (m : FeatureMap) (id : ℕ) → IsHiddenAt m id → layers (without_feature m id) z x y ≡ layers m z x y
   unfolding without_feature
   layers_removed m id before = same_layers m (remove_entry (is_at (nat_cmp id)) m)
       (λ name. removed_hidden (cut_for name z x y) m id (λ old is. no_cut name id old (before old is)))
-      (λ ls all. All-removed_entry (IsNamed ls) m id all)
+      (λ names all. All-removed_entry (IsNamed names) m id all)
 
 -- ---- what a box doesn't reach
 

@@ -1,18 +1,18 @@
--- A map with tiles that were made of it, and which of them are still its tiles.
+-- A map with a cache of its tiles, and which of them are still its tiles.
 use Rattle.std.specs.Prelude.{◌≡◌, ◌⊎◌, ℕ, ◌≤◌, List, [], ◌∷◌, All, Option, Some, None, option_map}
 use Rattle.feature_model.specs.declared.feature.WorldBox.{WorldBox}
 use Rattle.feature_model.specs.Data.{FeatureData, ChangeData, put, delete}
 use Rattle.feature_store.specs.Content.{IsTileContent}
 use Rattle.feature_store.specs.Layers.{layers}
 use Rattle.feature_store.specs.Store.{FeatureMap, feature_at, changed}
-use Rattle.tile_cache.specs.Kept.{TileView, CacheView, kept_at, IsSmall, KeepsFewer}
+use Rattle.tile_cache.specs.Kept.{TileView, CacheView, kept_at, with_first, IsSmall, KeepsFewer, KeepsLatest}
 use Rattle.tile_cache.specs.Touched.{Mark, Reaches, Remembers}
 use Rattle.tile_cache.specs.declared.cached_tiles.Origin.{Origin}
 use Rattle.tile_cache.specs.declared.cached_tiles.Origin.TheVariants.{Read}
 use Rattle.tile_cutter.specs.WorldBox.{bounding_box}
 
--- what contracts see: the map, how many features it takes without memory, the number of its last edit, the newest edit of each cell of
--- the world, and the tiles that are kept
+-- what contracts see: the map, how many features can be added without allocating, the number of the last edit, the newest edit of each
+-- cell of the world, and the cached tiles
 pub record CachedView : Type 0 where
   pub features : FeatureMap
   pub spare : ℕ
@@ -45,14 +45,14 @@ abbrev pub marks_after : FeatureMap → List ChangeData → ℕ → List Mark �
 marks_after m [] number marks = marks
 marks_after m (c ∷ cs) number marks = marks_after (changed m c) cs number (marks_of m c number marks)
 
--- no edit behind this number can have touched what the tile shows
+-- no edit after this number can have touched what the tile shows
 abbrev pub IsUntouched : List Mark → (z x y number : ℕ) → Type 0
 IsUntouched marks z x y number = All (λ m. Reaches m.0 z x y → m.1 ≤ number) marks
 
 -- ---- earlier maps
 
--- Of a map whose last edit has a number, and of which cells of the world have the newest edits: after the edit of number n it was this
--- one, as far as tiles tell that no edit behind that can have touched.
+-- The map was `was` after the edit of number n, as far as the tiles show that no later edit can have touched; `m` is the map now, `cells`
+-- the newest edit of each cell, and `last` the number of the last edit.
 pub record WasMap (m : FeatureMap) (cells : List ℕ) (last n : ℕ) (was : FeatureMap) : Type 0 where
   pub marks : List Mark
   pub remembers : Remembers cells marks
@@ -61,7 +61,7 @@ pub record WasMap (m : FeatureMap) (cells : List ℕ) (last n : ℕ) (was : Feat
 
 -- ---- what is kept
 
--- a kept tile is that of the map, unless an edit behind its number may have touched it
+-- a cached tile is that of the map, unless an edit after its number may have touched it
 pub record IsKept (m : FeatureMap) (marks : List Mark) (last z x y : ℕ) (t : TileView) : Type 0 where
   pub number : t.number ≤ last
   pub tile : IsUntouched marks z x y t.number → IsTileContent (layers m z x y) (Some t.bytes)
@@ -73,15 +73,16 @@ pub record AreKept (origin : Origin) (m : FeatureMap) (cells : List ℕ) (last :
   pub numbers : All (λ m. m.1 ≤ last) marks
   pub tiles : (z x y : ℕ) (t : TileView) → kept_at kept z x y ≡ Some t → t.origin ≡ origin → IsKept m marks last z x y t
 
--- what was read and kept can be relied on: what it was read from told the truth
+-- cached tiles that were read are right: what they were read from returned what was written
 abbrev pub AreReadRight : FeatureMap → (cells : List ℕ) → (last : ℕ) → CacheView → Type 0
 AreReadRight = AreKept Read
 
--- this tile is kept for its place, and others may have given way for it; or the same is kept as before
-abbrev pub KeepsOrNot : (z x y : ℕ) → TileView → (old new : CacheView) → Type 0
-KeepsOrNot z x y t old new = ((kept_at new z x y ≡ Some t) × KeepsFewer z x y old new) ⊎ (new ≡ old)
+-- this tile is the first for its place, and of the others those that were asked for last are kept, as many as the bounds allow
+abbrev pub KeepsFirst : (z x y : ℕ) → TileView → (old new : CacheView) → Type 0
+KeepsFirst z x y t old new = KeepsLatest (with_first (record { z = z; x = x; y = y }) t old.kept) new.kept
 
--- This tile is kept for its place, unless it is too large, and others may have given way for it; or, where memory is refused, the same is
--- kept as before.
-abbrev pub MayKeep : (z x y : ℕ) → TileView → (old new : CacheView) → Type 0
-MayKeep z x y t old new = ((IsSmall t.bytes → kept_at new z x y ≡ Some t) × KeepsFewer z x y old new) ⊎ (new ≡ old)
+-- This tile is kept for its place, and those asked for longest ago may be dropped for it; or, if it is too large or out of memory, the
+-- cache is unchanged.
+abbrev pub KeepsOrNot : (z x y : ℕ) → TileView → (old new : CacheView) → Type 0
+KeepsOrNot z x y t old new =
+    ((kept_at new z x y ≡ Some t) × KeepsFewer z x y old new × KeepsFirst z x y t old new × IsSmall t.bytes) ⊎ (new ≡ old)

@@ -1,30 +1,30 @@
+//! A map with a cache of its tiles.
+
 ghost use Rattle.std.specs.Prelude.{◌≡◌, ◌↔◌, ◌≢◌, ◌<◌, ◌≤◌, ◌+◌, ℕ, List, [], ◌∷◌, length, map, All, true, Some, None};
 ghost use Rattle.std.specs.Prelude.{IsSome, IsTrue, IfOk, IfSome, OnOk, OnErr};
-ghost use Rattle.feature_model.specs.Data.{put, change_data};
+ghost use Rattle.feature_model.specs.Data.{put, delete, change_data};
 ghost use Rattle.feature_model.specs.Spelled.{spelled_changes};
 ghost use Rattle.feature_model.specs.Types.{IsChange};
 ghost use Rattle.feature_store.specs.Content.{IsTileContent};
 ghost use Rattle.feature_store.specs.Layers.{layers};
 ghost use Rattle.feature_store.specs.Store.{FeatureMap, feature_at, with_feature, without_feature, changed, edited, snapshot, puts_in};
 ghost use Rattle.feature_store.specs.declared.limit.TheConstants.{TEXTS_END};
-ghost use Rattle.tile_cache.specs.Kept.{kept_at, fresh, KeepsSame};
-ghost use Rattle.tile_cache.specs.Touched.{Mark, Remembers, IsNewest, IsNewestOf};
+ghost use Rattle.tile_cache.specs.Kept.{kept_at, fresh, asked_for, KeepsSame};
+ghost use Rattle.tile_cache.specs.Touched.{Mark, Remembers, StaysElsewhere, IsClear, IsNewest, IsNewestOf};
 ghost use Rattle.tile_cache.specs.declared.cached_tiles.Origin.TheVariants.{Cut, Read};
-ghost use Rattle.cached_map.specs.Cached.{with_box, marks_of, marks_after, WasMap, AreReadRight, KeepsOrNot, MayKeep};
+ghost use Rattle.cached_map.specs.Cached.{with_box, marks_of, marks_after, WasMap, AreReadRight, KeepsOrNot};
 
 use bytes::Bytes;
 use feature_model::{Change, WorldBox};
 use feature_store::Store;
 use hilbert_id::TileAt;
-use mvt_write::write_tile;
 use std::alloc::{AllocError, Global};
 use std::marker::Model;
 use tile_cache::{CachedTile, Origin, TileCache, TouchGrid};
 
-/// A map, the newest edit of each part of the world, and tiles that were made of it.
+/// A map, the newest edit of each cell of the world, and a cache of tiles.
 #[derive(Drop)]
 pub struct CachedMap {
-    alloc: Global,
     store: Store,
     touched: TouchGrid,
     kept: TileCache,
@@ -40,20 +40,22 @@ impl Model for CachedMap {
 
     ghost view = { λ m. record { features = m.store.features; spare = m.store.spare; last = m.last; touched = m.touched; kept = m.kept } };
 
-    // What was cut is right whatever any disk says.
+    // Tiles that were cut are right whatever a disk returns.
     ghost invariant = { λ m. AreKept Cut m.store.features m.touched m.last m.kept };
 }
 
 /// Notes that an edit of this number touches a box, if there is one.
 fn mark_some(touched: &mut TouchGrid, bounds: Option<WorldBox>, number: u64)
-    ensures { (marks : List Mark) → Remembers touched.old marks → Remembers touched.new (with_box bounds number marks) }
+    ensures remembers { (marks : List Mark) → Remembers touched.old marks → Remembers touched.new (with_box bounds number marks) }
+    ensures stays { (marks : List Mark) (first : List ℕ) → StaysElsewhere marks first touched.old
+        → StaysElsewhere (with_box bounds number marks) first touched.new }
 {
     if let Some(bounds) = bounds {
         touched.mark(&bounds, number);
     }
 }
 
-/// Makes a change by an edit of this number, and notes what it touches. It allocates nothing.
+/// Makes a change by an edit of this number, and marks what it touches. It allocates nothing.
 fn make_one(store: &mut Store, touched: &mut TouchGrid, change: Change, number: u64)
     requires change { IsChange (change_data change) }
     requires room { puts_in (change_data change ∷ []) ≤ store.old.spare }
@@ -62,6 +64,8 @@ fn make_one(store: &mut Store, touched: &mut TouchGrid, change: Change, number: 
     ensures spare { store.old.spare ≤ store.new.spare + puts_in (change_data change ∷ []) }
     ensures marks { (marks : List Mark) → Remembers touched.old marks
         → Remembers touched.new (marks_of store.old.features (change_data change) number marks) }
+    ensures stays { (marks : List Mark) (first : List ℕ) → StaysElsewhere marks first touched.old
+        → StaysElsewhere (marks_of store.old.features (change_data change) number marks) first touched.new }
 {
     match change {
         Change::Put { id, feature } => {
@@ -76,7 +80,7 @@ fn make_one(store: &mut Store, touched: &mut TouchGrid, change: Change, number: 
     }
 }
 
-/// The same of changes, from the first to the last.
+/// Makes changes by an edit of this number, from the first to the last, and marks what they touch.
 fn make_each(store: &mut Store, touched: &mut TouchGrid, changes: Vec<Change>, number: u64)
     requires changes { All IsChange (map change_data changes.items) }
     requires room { puts_in (map change_data changes.items) ≤ store.old.spare }
@@ -84,13 +88,15 @@ fn make_each(store: &mut Store, touched: &mut TouchGrid, changes: Vec<Change>, n
     ensures map { store.new.features ≡ edited store.old.features (map change_data changes.items) }
     ensures marks { (marks : List Mark) → Remembers touched.old marks
         → Remembers touched.new (marks_after store.old.features (map change_data changes.items) number marks) }
+    ensures stays { (marks : List Mark) (first : List ℕ) → StaysElsewhere marks first touched.old
+        → StaysElsewhere (marks_after store.old.features (map change_data changes.items) number marks) first touched.new }
 {
     for change in changes {
         make_one(store, touched, change, number);
     }
 }
 
-/// Keeps the bytes of a tile, which it shares with the caller, if memory is there for the entry.
+/// Caches the bytes of a tile, which it shares with the caller, unless the entry is out of memory.
 fn keep_shared(kept: &mut TileCache, at: TileAt, origin: Origin, number: u64, bytes: &Bytes)
     ensures { KeepsOrNot at.z at.x at.y (record { origin = origin; number = number; bytes = bytes.now }) kept.old kept.new }
 {
@@ -105,7 +111,7 @@ fn keep_shared(kept: &mut TileCache, at: TileAt, origin: Origin, number: u64, by
 }
 
 impl CachedMap {
-    /// A map whose last edit has this number, and of which no tile is kept.
+    /// A map whose last edit has this number, without cached tiles.
     pub fn new(alloc: Global, store: Store, last: u64) -> Result<CachedMap, AllocError>
         ensures features { IfOk result (λ m. m.features ≡ store.features) }
         ensures spare { IfOk result (λ m. m.spare ≡ store.spare) }
@@ -117,7 +123,6 @@ impl CachedMap {
     {
         let kept = TileCache::new(alloc)?;
         Ok(CachedMap {
-            alloc,
             store,
             touched: TouchGrid::new(),
             kept,
@@ -140,8 +145,8 @@ impl CachedMap {
         self.last
     }
 
-    /// The number of the newest edit that can have touched a tile, or of a later one; 0 where there was none since the map was made. So a tile
-    /// has the layers that it had after any edit whose number isn't below this one.
+    /// The number of the newest edit that can have touched a tile, or of a later one; 0 if there was none since the map was made. So a
+    /// tile has the layers that it had after any edit whose number is at least this one.
     pub fn newest(&self, at: TileAt) -> u64
         ensures marked { (marks : List Mark) → Remembers self.now.touched marks → IsNewest marks at.z at.x at.y result }
         ensures since { (n : ℕ) (was : FeatureMap) → WasMap self.now.features self.now.touched self.now.last n was → result ≤ n
@@ -152,7 +157,7 @@ impl CachedMap {
         self.touched.newest(at)
     }
 
-    /// Makes room for each feature that the changes set, so that an edit of them allocates nothing.
+    /// Reserves memory for each feature that the changes put, so that an edit of them allocates nothing.
     pub fn room_all(&mut self, changes: &[Change]) -> Result<(), AllocError>
         ensures same { self.new ≡ record self.old { spare = self.new.spare } }
         ensures room { OnOk result (puts_in (map change_data changes.now) ≤ self.new.spare) }
@@ -163,6 +168,9 @@ impl CachedMap {
     }
 
     /// Makes the changes of an edit of this number, from the first to the last. It allocates nothing.
+    ///
+    /// The boxes that each change's feature had before and has after it are marked with the number; no other cell's number changes, and
+    /// no cached tile is dropped.
     pub fn make_edit(&mut self, changes: Vec<Change>, number: u64)
         requires changes { All IsChange (map change_data changes.items) }
         requires room { puts_in (map change_data changes.items) ≤ self.old.spare }
@@ -170,6 +178,12 @@ impl CachedMap {
         requires later { self.old.last < number }
         ensures map { self.new.features ≡ edited self.old.features (map change_data changes.items) }
         ensures last { self.new.last ≡ number }
+        ensures marks { (marks : List Mark) → Remembers self.old.touched marks
+            → Remembers self.new.touched (marks_after self.old.features (map change_data changes.items) number marks) }
+        ensures stays { StaysElsewhere (marks_after self.old.features (map change_data changes.items) number []) self.old.touched self.new.touched }
+        // A tile of which no marked box touches a cell keeps its newest edit.
+        ensures clear { (z x y n : ℕ) → IsClear (marks_after self.old.features (map change_data changes.items) number []) z x y
+            → IsNewestOf self.old.touched z x y n → IsNewestOf self.new.touched z x y n }
         ensures now { WasMap self.new.features self.new.touched self.new.last self.new.last self.new.features }
         ensures since { (n : ℕ) (was : FeatureMap) → WasMap self.old.features self.old.touched self.old.last n was
             → WasMap self.new.features self.new.touched self.new.last n was }
@@ -182,13 +196,21 @@ impl CachedMap {
         self.last = number;
     }
 
-    /// Takes the number's feature away, by an edit of this number, and says whether it had one. It allocates nothing, and room stays.
+    /// Removes the feature of an id, by an edit of this number, and says whether there was one. It allocates nothing, and `spare` doesn't
+    /// fall.
+    ///
+    /// The box that the feature had is marked with the number; no other cell's number changes, and no cached tile is dropped.
     pub fn remove(&mut self, id: u64, number: u64) -> bool
         requires later { self.old.last < number }
         ensures found { IsTrue result ↔ IsSome (feature_at self.old.features id) }
         ensures map { self.new.features ≡ without_feature self.old.features id }
         ensures spare { self.old.spare ≤ self.new.spare }
         ensures last { self.new.last ≡ number }
+        ensures marks { (marks : List Mark) → Remembers self.old.touched marks
+            → Remembers self.new.touched (marks_after self.old.features (delete id ∷ []) number marks) }
+        ensures stays { StaysElsewhere (marks_after self.old.features (delete id ∷ []) number []) self.old.touched self.new.touched }
+        ensures clear { (z x y n : ℕ) → IsClear (marks_after self.old.features (delete id ∷ []) number []) z x y
+            → IsNewestOf self.old.touched z x y n → IsNewestOf self.new.touched z x y n }
         ensures now { WasMap self.new.features self.new.touched self.new.last self.new.last self.new.features }
         ensures since { (n : ℕ) (was : FeatureMap) → WasMap self.old.features self.old.touched self.old.last n was
             → WasMap self.new.features self.new.touched self.new.last n was }
@@ -203,22 +225,22 @@ impl CachedMap {
         bounds.is_some()
     }
 
-    /// Keeps the bytes of a tile, if memory is there for it.
+    /// Caches the bytes of a tile, unless out of memory.
     fn keep(&mut self, at: TileAt, bytes: &Bytes)
         requires content { IsTileContent (layers self.old.features at.z at.x at.y) (Some bytes.now) }
         ensures same { self.new ≡ record self.old { kept = self.new.kept } }
-        ensures keeps { MayKeep at.z at.x at.y (record { origin = Cut; number = self.old.last; bytes = bytes.now }) self.old.kept self.new.kept }
+        ensures keeps { KeepsOrNot at.z at.x at.y (record { origin = Cut; number = self.old.last; bytes = bytes.now }) self.old.kept self.new.kept }
         ensures reads { AreReadRight self.old.features self.old.touched self.old.last self.old.kept
             → AreReadRight self.new.features self.new.touched self.new.last self.new.kept }
     {
         keep_shared(&mut self.kept, at, Origin::Cut, self.last, bytes);
     }
 
-    /// Keeps the bytes of a tile that were read elsewhere and are those of the map after the edit of this number, if memory is there for
-    /// it. Whether they are rests on what they were read from.
+    /// Caches the bytes of a tile that were read elsewhere and are those of the map after the edit of this number, unless out of memory.
+    /// Whether they are depends on what they were read from.
     pub fn keep_read(&mut self, at: TileAt, number: u64, bytes: &Bytes)
         ensures same { self.new ≡ record self.old { kept = self.new.kept } }
-        ensures keeps { MayKeep at.z at.x at.y (record { origin = Read; number = number; bytes = bytes.now }) self.old.kept self.new.kept }
+        ensures keeps { KeepsOrNot at.z at.x at.y (record { origin = Read; number = number; bytes = bytes.now }) self.old.kept self.new.kept }
         ensures reads { (was : FeatureMap) → WasMap self.old.features self.old.touched self.old.last number was
             → IsTileContent (layers was at.z at.x at.y) (Some bytes.now)
             → AreReadRight self.old.features self.old.touched self.old.last self.old.kept
@@ -231,25 +253,25 @@ impl CachedMap {
     fn cut_tile(&self, at: TileAt) -> Result<Option<Bytes>, AllocError>
         ensures tile { IfOk result (λ content. IsTileContent (layers self.now.features at.z at.x at.y) content) }
     {
-        let layers = self.store.layers(at)?;
-        if layers.len() == 0 {
+        let Some(mut bytes) = self.store.tile(at)? else {
             return Ok(None);
-        }
-        let mut bytes = write_tile(self.alloc, &layers)?;
+        };
         bytes.shrink_to_fit();
         Ok(Some(Bytes::from_vec(bytes)?))
     }
 
-    /// The bytes of a tile (Mapbox Vector Tile 2.1) that was made or read before, and that no edit can have touched since, if they
-    /// are kept; what was read counts only where `reads` is true. The only error is out of memory.
+    /// The cached bytes of a tile (Mapbox Vector Tile 2.1), if there are any and no edit can have touched the tile since; bytes that were
+    /// read count only if `reads` is true. The only error is out of memory.
     pub fn kept(&mut self, at: TileAt, reads: bool) -> Result<Option<Bytes>, AllocError>
         ensures tile { (reads ≡ true → AreReadRight self.old.features self.old.touched self.old.last self.old.kept)
             → IfOk result (λ found. IfSome found (λ bytes. IsTileContent (layers self.old.features at.z at.x at.y) (Some bytes))) }
-        // What is kept and fresh is given.
+        // Bytes that are cached and fresh are returned.
         ensures given { (newest : ℕ) → IsNewestOf self.old.touched at.z at.x at.y newest
             → IfOk result (λ found. found ≡ fresh newest reads (kept_at self.old.kept at.z at.x at.y)) }
         ensures same { self.new ≡ record self.old { kept = self.new.kept } }
         ensures keeps { KeepsSame self.old.kept self.new.kept }
+        // The tile is now the one that was asked for last.
+        ensures order { self.new.kept.kept ≡ asked_for (record { z = at.z; x = at.x; y = at.y }) self.old.kept.kept }
         ensures reads { AreReadRight self.old.features self.old.touched self.old.last self.old.kept
             → AreReadRight self.new.features self.new.touched self.new.last self.new.kept }
     {
@@ -261,13 +283,13 @@ impl CachedMap {
         Ok(None)
     }
 
-    /// The bytes of a tile, cut anew: none where it shows nothing, so above the greatest zoom too. They are kept where memory is there
-    /// for them. The only error is out of memory.
+    /// The bytes of a tile, cut anew: none if it shows nothing, as above the greatest zoom. They are cached, unless the entry is out of
+    /// memory. The only error is out of memory.
     pub fn make(&mut self, at: TileAt) -> Result<Option<Bytes>, AllocError>
         ensures tile { IfOk result (λ content. IsTileContent (layers self.old.features at.z at.x at.y) content) }
         ensures same { self.new ≡ record self.old { kept = self.new.kept } }
         ensures keeps { IfOk result (λ content. IfSome content (λ bytes.
-            MayKeep at.z at.x at.y (record { origin = Cut; number = self.old.last; bytes = bytes }) self.old.kept self.new.kept)) }
+            KeepsOrNot at.z at.x at.y (record { origin = Cut; number = self.old.last; bytes = bytes }) self.old.kept self.new.kept)) }
         ensures reads { AreReadRight self.old.features self.old.touched self.old.last self.old.kept
             → AreReadRight self.new.features self.new.touched self.new.last self.new.kept }
     {

@@ -1,4 +1,4 @@
-//! A map that keeps the tiles made of it: a tile that was asked for before, and that no edit can have touched since, isn't cut again.
+//! A map with a cache of its tiles: a tile that was asked for before, and that no edit can have touched since, isn't cut again.
 #![tactic(auto)]
 
 mod cached_map;

@@ -1,3 +1,5 @@
+pub mod Latest
+pub mod LimitNumbers
 pub mod Marks
 pub mod Numbers
 pub mod Places

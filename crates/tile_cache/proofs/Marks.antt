@@ -1,6 +1,6 @@
 -- What a grid remembers of marks.
 use Rattle.std.proofs.Common.{◌≡◌, ℕ, zero, suc, replicate, slice_index, ◌+◌, ◌-◌, ◌*◌, ◌/◌, ◌^◌, ◌<◌, ◌≤◌, ◌⊎◌, List, [], ◌∷◌}
-use Rattle.std.proofs.Common.{map, max, refl, sym, subst, inl, inr, arith}
+use Rattle.std.proofs.Common.{map, max, refl, sym, subst, inl, inr, arith, ◌∙◌}
 use Rattle.std.specs.Prelude.{All, Bool, true, false, nat_le, if◌then◌else◌}
 use Rattle.feature_model.specs.declared.limits.TheConstants.{MAX_ZOOM}
 use Rattle.std.proofs.Math.ListN.{get_or}
@@ -10,9 +10,11 @@ use Rattle.std.proofs.lemmas.List.Elements.{All-nil, All-cons, All-head, All-tai
 use Rattle.feature_model.specs.declared.feature.WorldBox.{WorldBox}
 use Rattle.tile_cutter.specs.declared.coordinates.TheConstants.{EXTENT, MARGIN, WORLD_ZOOM}
 use Rattle.tile_cutter.specs.WorldBox.{tile_box, first_shown, last_shown}
+use Rattle.tile_cache.specs.declared.touch_grid.Cells.{Cells}
 use Rattle.tile_cache.specs.declared.touch_grid.TheConstants.{LEVELS, CELL_BITS}
-use Rattle.tile_cache.specs.Cells.{place_in, cell_at, cell_of, cells_of, HasCell, RisesTo, HasWhole, IsZeroOrCell}
-use Rattle.tile_cache.specs.Touched.{Mark, Reaches, Touches, IsZeroOrMarked, Remembers, IsNewest, IsNewestOf, shown_box, world}
+use Rattle.tile_cache.specs.Cells.{place_in, cell_at, cell_of, cells_of, HasCell, RisesTo, StaysBut, IsOfBox, HasWhole, IsZeroOrCell, IsGreatestIn, IsLookedAt}
+use Rattle.tile_cache.specs.Touched.{Mark, IsOrdered, Reaches, Touches, TouchesPlace, IsZeroOrMarked, Remembers, StaysElsewhere, IsNewest, IsNewestOf}
+use Rattle.tile_cache.specs.Touched.{shown_box, world, IsClear}
 
 either : {P Q R : Type 0} → (P → R) → (Q → R) → P ⊎ Q → R
 either f g (inl p) = f p
@@ -51,6 +53,19 @@ remembers_more old new m marks r here before = record {
       (marked_more m marks (get_or old at 0) (before.only at)))
       (λ (is : get_or new at 0 ≡ m.1). subst (IsZeroOrMarked (m ∷ marks)) (sym is) (marked_here m marks)) (r.only at);
 }
+
+-- ---- what no mark touches
+
+-- a box whose sides are the wrong way round touches nothing
+pub stays_empty : (cells : List ℕ) (m : Mark) (marks : List Mark) (first : List ℕ) → StaysElsewhere marks first cells
+    → StaysElsewhere (m ∷ marks) first cells
+stays_empty cells m marks first before at all = before at (All-tail (λ (k : Mark). ¬ TouchesPlace k.0 at) m marks all)
+
+pub stays_more : (old new : List ℕ) (m : Mark) (marks : List Mark) (first : List ℕ) → IsOrdered m.0 → StaysBut (IsOfBox m.0) old new
+    → StaysElsewhere marks first old → StaysElsewhere (m ∷ marks) first new
+stays_more old new m marks first ordered stays before at all =
+    stays at (λ is. All-head (λ (k : Mark). ¬ TouchesPlace k.0 at) m marks all (ordered, is))
+    ∙ before at (All-tail (λ (k : Mark). ¬ TouchesPlace k.0 at) m marks all)
 
 -- ---- a box that reaches a tile has a cell in common with it
 
@@ -143,3 +158,32 @@ newest_of cells marks zoom column row n newest remembers = record {
     only : IsZeroOrCell cells level (cells_of level (shown_box zoom column row)) n → IsZeroOrMarked marks n
     only (inl is) = inl is
     only (inr one) = subst (IsZeroOrMarked marks) (sym one.3) (remembers.only (place_in level one.0 one.1))
+
+-- ---- a tile that no mark touches has the newest edit that it had
+
+greatest_same : (old new : List ℕ) (level n : ℕ) (range : Cells)
+    → ((across down : ℕ) → HasCell range across down → cell_at new level across down ≡ cell_at old level across down)
+    → IsGreatestIn old level range n → IsGreatestIn new level range n
+greatest_same old new level n range same is = record {
+  reached = λ across down has. omega (arith, is.reached across down has, same across down has);
+  found = go is.found;
+}
+  where
+    go : IsZeroOrCell old level range n → IsZeroOrCell new level range n
+    go (inl none) = inl none
+    go (inr one) = inr (one.0, one.1, one.2, one.3 ∙ sym (same one.0 one.1 one.2))
+
+pub newest_stays : (marks : List Mark) (old new : List ℕ) (zoom column row n : ℕ) → StaysElsewhere marks old new → IsClear marks zoom column row
+    → IsNewestOf old zoom column row n → IsNewestOf new zoom column row n
+newest_stays marks old new zoom column row n stays clear is = record {
+  least = λ level m looked of_m.
+      is.least level m looked (greatest_same new old level m (cells_of level b) (λ across down has. sym (same level looked across down has)) of_m);
+  found = (is.found.0, is.found.1, greatest_same old new is.found.0 n (cells_of is.found.0 b) (same is.found.0 is.found.1) is.found.2);
+}
+  where
+    b : WorldBox
+    b = shown_box zoom column row
+
+    same : (level : ℕ) → IsLookedAt level b → (across down : ℕ) → HasCell (cells_of level b) across down
+        → cell_at new level across down ≡ cell_at old level across down
+    same level looked across down has = stays (place_in level across down) (clear level across down looked has)

@@ -7,7 +7,7 @@ use Rattle.tile_cache.specs.declared.touch_grid.Cells.{Cells}
 use Rattle.feature_model.specs.declared.feature.WorldBox.{WorldBox}
 use Rattle.tile_cache.specs.declared.touch_grid.TheConstants.{SIDE, LEVEL_CELLS, LEVELS}
 use Rattle.tile_cache.specs.Cells.{place_in, cell_at, cells_of, HasCell, IsNarrow, RisesTo, IsZeroOrOneOf, IsZeroOrCell, IsGreatestIn}
-use Rattle.tile_cache.specs.Cells.{IsLookedAt, IsNewestIn}
+use Rattle.tile_cache.specs.Cells.{IsLookedAt, IsNewestIn, StaysBut}
 
 either : {P Q R : Type 0} → (P → R) → (Q → R) → P ⊎ Q → R
 either f g (inl p) = f p
@@ -47,6 +47,21 @@ module _ (number : ℕ) where
   raised_more level row first at xs ys r here before k le lt =
       either (λ (less : k < at). omega (arith, before k le less, r.rises (place_in level k row)))
       (λ (not_less : at ≤ k). let same : at ≡ k = omega (arith, lt, not_less) in subst (λ j. number ≤ cell_at ys level j row) same here) (cases_lt k at)
+
+-- ---- what stays
+
+pub stays_none : (Raised : ℕ → Type 0) (xs : List ℕ) → StaysBut Raised xs xs
+stays_none Raised xs at out = refl
+
+pub stays_again : (Raised : ℕ → Type 0) (xs ys zs : List ℕ) → StaysBut Raised xs ys → StaysBut Raised ys zs → StaysBut Raised xs zs
+stays_again Raised xs ys zs r s at out = s at out ∙ r at out
+
+-- the same with more places
+pub stays_wider : (P Q : ℕ → Type 0) (xs ys : List ℕ) → ((at : ℕ) → P at → Q at) → StaysBut P xs ys → StaysBut Q xs ys
+stays_wider P Q xs ys more r at out = r at (λ p. out (more at p))
+
+pub stays_set : (Raised : ℕ → Type 0) (xs : List ℕ) (at n : ℕ) → Raised at → StaysBut Raised xs (set xs at n)
+stays_set Raised xs at n is other out = get_or-set_other xs at other n 0 (λ (same : other ≡ at). out (subst Raised (sym same) is))
 
 -- of cells that share a number one is among the first SIDE
 pub wrapped : (first last n : ℕ) → first ≤ n → n ≤ last → (k : ℕ) × (first ≤ k) × (k < min last (first + 31) + 1) × (k % SIDE ≡ n % SIDE)

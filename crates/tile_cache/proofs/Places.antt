@@ -98,7 +98,7 @@ module _ {K V : Type 0} (test : K → Bool) where
   put_here es n more k v (Some e) here is = rw ((Contains-lookup_entry test es e is).1) refl
 
   -- how many there are
-  length_without : (es : List (K × V)) (e : K × V) → lookup_entry test es ≡ Some e → length (remove_entry test es) + 1 ≡ length es
+  pub length_without : (es : List (K × V)) (e : K × V) → lookup_entry test es ≡ Some e → length (remove_entry test es) + 1 ≡ length es
   length_without [] e is = cc
   length_without (f ∷ es) e is = (elim (test f.0) as (λ b. test f.0 ≡ b → length (remove_entry test (f ∷ es)) + 1 ≡ length (f ∷ es)) [
     | true ↦ λ t. rw t (omega arith)
@@ -165,7 +165,7 @@ lookup_promoted p q es = go (is_place p q) refl
 abbrev pub Entry : Type 0
 Entry = TileKey × CachedTile
 
-abbrev size : Entry → ℕ
+abbrev pub size : Entry → ℕ
 size e = length e.1.bytes
 
 -- the bytes of the first entries, and of the one behind them
@@ -192,28 +192,44 @@ take_less (suc m) zero es le = absurd (omega (arith, le))
 take_less (suc m) (suc n) [] le = refl
 take_less (suc m) (suc n) (e ∷ es) le = ap (λ r. e ∷ r) (take_less m n es (omega (arith, le)))
 
+take_length : (m : ℕ) (es : List Entry) → take (length (take m es)) es ≡ take m es
+take_length zero es = refl
+take_length (suc m) [] = refl
+take_length (suc m) (e ∷ es) = ap (λ r. e ∷ r) (take_length m es)
+
 -- where the first is small and all together have too many bytes, another is the last
 front_without_last : (es : List Entry) (more : ℕ) → IsFirstSmall es → MAX_CACHED_BYTES < bytes_of (take (suc more) es)
-    → (n : ℕ) × (take (length (take (suc more) es) - 1) (take (suc more) es) ≡ take (suc n) es)
+    → (n : ℕ) × (take (length (take (suc more) es) - 1) (take (suc more) es) ≡ take (suc n) es) × (take (suc more) es ≡ take (suc (suc n)) es)
 front_without_last [] more small many = absurd small
 front_without_last (e ∷ es) more small many =
     let others : List Entry = take more es in
     let some : 0 < length others = some_bytes others (omega (arith, small, many, sum_by-cons size e others)) in
     let n : ℕ = length others - 1 in
     let last : length (e ∷ others) - 1 ≡ suc n = omega (arith, some) in
-    (n, rw last (ap (λ r. e ∷ r) (take_less n more es (omega (arith, length-take more es)))))
+    let whole : length others ≡ suc n = omega (arith, some) in (
+      n,
+      rw last (ap (λ r. e ∷ r) (take_less n more es (omega (arith, length-take more es)))),
+      ap (λ r. e ∷ r) (sym (take_length more es) ∙ ap (λ k. take k es) whole),
+    )
 
 pub front_goes_on : (old now new : LruCache TileKey CachedTile) → IsFirstSmall old.entries → IsFront old now → MAX_CACHED_BYTES < bytes_of now.entries
     → new ≡ lru_cache (take (length now.entries - 1) now.entries) now.cap → IsFront old new
 front_goes_on old now new small front many is =
-    let less = front_without_last old.entries front.more small (subst (λ es. MAX_CACHED_BYTES < bytes_of es) front.entries many) in record {
+    let too_many = subst (λ es. MAX_CACHED_BYTES < bytes_of es) front.entries many in
+    let less = front_without_last old.entries front.more small too_many in record {
       more = less.0;
       entries = ap (λ c. c.entries) is ∙ ap (λ es. take (length es - 1) es) front.entries ∙ less.1;
       cap = ap (λ c. c.cap) is ∙ front.cap;
+      most = inr (subst (λ es. MAX_CACHED_BYTES < bytes_of es) less.2 too_many);
     }
 
 pub front_of_all : (old : LruCache TileKey CachedTile) → IsFront old old
-front_of_all old = record { more = length old.entries; entries = sym (take_all (suc (length old.entries)) old.entries (omega arith)); cap = refl }
+front_of_all old = record {
+  more = length old.entries;
+  entries = sym (take_all (suc (length old.entries)) old.entries (omega arith));
+  cap = refl;
+  most = inl (omega arith);
+}
 
 -- ---- a tile that is put first
 

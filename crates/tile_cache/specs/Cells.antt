@@ -45,6 +45,22 @@ pub record RisesTo (number : ℕ) (old new : List ℕ) : Type 0 where
   pub rises : (at : ℕ) → slice_index old at ≤ slice_index new at
   pub only : (at : ℕ) → (slice_index new at ≡ slice_index old at) ⊎ (slice_index new at ≡ number)
 
+-- the place of the number of one of the cells of a row from one column up to another
+abbrev pub IsInRow : (level row first end : ℕ) → ℕ → Type 0
+IsInRow level row first end at = (column : ℕ) × (first ≤ column) × (column < end) × (place_in level column row ≡ at)
+
+-- the place of the number of one of these cells
+abbrev pub IsOfCells : ℕ → Cells → ℕ → Type 0
+IsOfCells level range at = (column : ℕ) × (row : ℕ) × HasCell range column row × (place_in level column row ≡ at)
+
+-- the place of the number of a cell that a box of the world touches, on one of the levels
+abbrev pub IsOfBox : WorldBox → ℕ → Type 0
+IsOfBox b at = (level : ℕ) × (level < LEVELS) × IsOfCells level (cells_of level b) at
+
+-- the numbers at all other places are unchanged
+abbrev pub StaysBut : (Raised : ℕ → Type 0) → (old new : List ℕ) → Type 0
+StaysBut Raised old new = (at : ℕ) → ¬ Raised at → slice_index new at ≡ slice_index old at
+
 -- 0, or the number of one of the cells of a row from one column up to another
 abbrev pub IsZeroOrOneOf : List ℕ → (level row first end : ℕ) → ℕ → Type 0
 IsZeroOrOneOf cells level row first end n =

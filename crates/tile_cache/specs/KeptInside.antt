@@ -1,4 +1,4 @@
--- How a cache of tiles is kept.
+-- How a cache of tiles is stored.
 use Rattle.std.specs.Prelude.{◌≡◌, ◌≤◌, map, length}
 use Rattle.tile_cache.specs.Kept.{CacheView, tile_view, bytes_in}
 use Rattle.tile_cache.specs.declared.cached_tiles.TheConstants.{MAX_CACHED_TILES, MAX_CACHED_BYTES}
@@ -8,7 +8,7 @@ use Rattle.tile_cache.specs.declared.cached_tiles.TileCache.TheInside.{Inside}
 abbrev pub cache_view : Inside → CacheView
 cache_view c = record { kept = map (λ e. (e.0, tile_view e.1)) c.tiles.entries }
 
--- it has room for so many tiles, and counts their bytes
+-- it holds at most MAX_CACHED_TILES tiles and MAX_CACHED_BYTES bytes, and counts the bytes
 pub record IsCache (c : Inside) : Type 0 where
   pub cap : c.tiles.cap ≡ MAX_CACHED_TILES
   pub room : length c.tiles.entries ≤ MAX_CACHED_TILES

@@ -4,7 +4,7 @@ use Rattle.feature_model.specs.declared.feature.WorldBox.{WorldBox}
 use Rattle.tile_cutter.specs.WorldBox.{tile_box, Meets}
 use Rattle.feature_model.specs.declared.limits.TheConstants.{MAX_ZOOM}
 use Rattle.tile_cache.specs.declared.touch_grid.TheConstants.{LEVELS}
-use Rattle.tile_cache.specs.Cells.{cell_at, cells_of, HasCell, IsNewestIn}
+use Rattle.tile_cache.specs.Cells.{place_in, cell_at, cells_of, HasCell, IsOfBox, IsLookedAt, IsNewestIn}
 
 -- an edit that was noted: the box that it touched, and its number
 abbrev pub Mark : Type 0
@@ -24,6 +24,14 @@ pub record Reaches (b : WorldBox) (zoom column row : ℕ) : Type 0 where
 pub record Touches (b : WorldBox) (level column row : ℕ) : Type 0 where
   pub ordered : IsOrdered b
   pub cell : HasCell (cells_of level b) column row
+
+-- the place of the number of a cell that a box touches
+abbrev pub TouchesPlace : WorldBox → ℕ → Type 0
+TouchesPlace b at = IsOrdered b × IsOfBox b at
+
+-- the numbers at all places that no marked box touches are unchanged
+abbrev pub StaysElsewhere : List Mark → (old new : List ℕ) → Type 0
+StaysElsewhere marks old new = (at : ℕ) → All (λ m. ¬ TouchesPlace m.0 at) marks → slice_index new at ≡ slice_index old at
 
 -- 0, or the number of a mark
 abbrev pub IsZeroOrMarked : List Mark → ℕ → Type 0
@@ -50,3 +58,10 @@ shown_box zoom column row = if nat_le zoom MAX_ZOOM then tile_box zoom column ro
 -- the newest edit of the cells that the box of a tile touches, of the level where it is the least
 abbrev pub IsNewestOf : List ℕ → (zoom column row : ℕ) → ℕ → Type 0
 IsNewestOf cells zoom column row = IsNewestIn cells (shown_box zoom column row)
+
+-- No marked box touches a cell of the box of a tile, or one that shares its number with such a cell, on the levels that are looked at for
+-- the tile.
+abbrev pub IsClear : List Mark → (zoom column row : ℕ) → Type 0
+IsClear marks zoom column row =
+    (level across down : ℕ) → IsLookedAt level (shown_box zoom column row) → HasCell (cells_of level (shown_box zoom column row)) across down
+    → All (λ m. ¬ TouchesPlace m.0 (place_in level across down)) marks

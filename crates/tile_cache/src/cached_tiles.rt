@@ -1,3 +1,5 @@
+//! Tiles by their place, the one that was asked for last first.
+
 ghost use Rattle.std.specs.Prelude.{◌≡◌, ◌+◌, ◌<◌, ◌≤◌, [], length, Some, OnOk, OnErr, IfOk, option_map};
 ghost use Rattle.std.specs.Option.{option_map_or};
 ghost use Rattle.lru.specs.LruCache.{lru_cache, put_entries};
@@ -11,13 +13,13 @@ use std::alloc::{AllocError, Global};
 use std::marker::Model;
 use std::num::NonZeroUsize;
 
-/// The most tiles that are kept.
+/// The most tiles in the cache.
 pub const MAX_CACHED_TILES: usize = 256;
 
-/// The most bytes that all kept tiles have together: 64 MiB.
+/// The most bytes of all cached tiles together: 64 MiB.
 pub const MAX_CACHED_BYTES: usize = 67_108_864;
 
-/// The most bytes of a tile that is kept: a quarter of all.
+/// The most bytes of a cached tile: a quarter of all.
 pub const MAX_TILE_BYTES: usize = MAX_CACHED_BYTES / 4;
 
 /// A zoom, a column and a row.
@@ -28,7 +30,7 @@ pub struct TileKey {
     pub y: u32,
 }
 
-/// Where the bytes of a tile are from.
+/// The origin of a tile's bytes.
 #[derive(Clone, Copy, Debug, PartialEq, Eq)]
 pub enum Origin {
     /// They were cut from the map in memory.
@@ -45,11 +47,11 @@ pub struct CachedTile {
     pub bytes: Bytes,
 }
 
-/// Tiles made or read before, by their place: at most `MAX_CACHED_TILES`, and at most `MAX_CACHED_BYTES` bytes.
+/// A cache of tiles, by their place: at most `MAX_CACHED_TILES` tiles, and at most `MAX_CACHED_BYTES` bytes.
 #[derive(Drop)]
 pub struct TileCache {
     tiles: LruCache<TileKey, CachedTile>,
-    /// How many bytes they have together.
+    /// The bytes of all tiles together.
     bytes: usize,
 }
 
@@ -76,7 +78,7 @@ fn place_of(at: TileAt) -> TileKey
     }
 }
 
-/// Whether bytes from there count, where those that were read may not.
+/// Whether bytes of this origin count, if those that were read may not.
 fn counts(origin: Origin, reads: bool) -> bool
     ensures { result ≡ counts reads origin }
 {
@@ -86,7 +88,7 @@ fn counts(origin: Origin, reads: bool) -> bool
     }
 }
 
-/// How many bytes the tile that gave way had, if one did.
+/// The bytes of the tile that was dropped, or 0 if none was.
 fn bytes_freed(displaced: Option<(TileKey, CachedTile)>) -> usize
     ensures { result ≡ option_map_or (λ e. length e.1.bytes) displaced 0 }
 {
@@ -96,7 +98,7 @@ fn bytes_freed(displaced: Option<(TileKey, CachedTile)>) -> usize
     }
 }
 
-/// Puts a tile first, and returns how many bytes all have together then.
+/// Puts a tile first, and returns the bytes of all tiles together after that.
 fn put_first(
     tiles: &mut LruCache<TileKey, CachedTile>,
     bytes: usize,
@@ -119,7 +121,8 @@ fn put_first(
     }
 }
 
-/// Lets tiles go, the one asked for longest ago first, until the others have few enough bytes together. Returns how many they have.
+/// Drops tiles, the one asked for longest ago first, until the others have at most `MAX_CACHED_BYTES` bytes together. Returns how many
+/// they have.
 fn drop_oldest(tiles: &mut LruCache<TileKey, CachedTile>, mut bytes: usize) -> usize
     requires count { bytes ≡ bytes_of tiles.old.entries }
     requires first { IsFirstSmall tiles.old.entries }
@@ -135,9 +138,9 @@ fn drop_oldest(tiles: &mut LruCache<TileKey, CachedTile>, mut bytes: usize) -> u
 }
 
 impl TileCache {
-    ghost use Rattle.tile_cache.specs.Kept.{kept_at, fresh, bytes_in, tile_view, KeepsSame, KeepsOthers, KeepsFewer};
+    ghost use Rattle.tile_cache.specs.Kept.{kept_at, fresh, bytes_in, tile_view, asked_for, with_first, KeepsSame, KeepsOthers, KeepsFewer, KeepsLatest};
 
-    /// Keeps nothing yet.
+    /// An empty cache.
     pub fn new(alloc: Global) -> Result<TileCache, AllocError>
         ensures { IfOk result (λ c. c.kept ≡ []) }
     {
@@ -148,15 +151,16 @@ impl TileCache {
         })
     }
 
-    /// Notes that the tile of a place was asked for: others give way first.
+    /// Notes that the tile of a place was asked for: it becomes the first, so that all others are dropped before it.
     pub fn promote(&mut self, at: TileAt)
-        ensures { KeepsSame self.old self.new }
+        ensures same { KeepsSame self.old self.new }
+        ensures order { self.new.kept ≡ asked_for (record { z = at.z; x = at.x; y = at.y }) self.old.kept }
     {
         let place = place_of(at);
         self.tiles.promote(&place);
     }
 
-    /// The bytes kept for a place, if they are right as of the edit `newest` or a later one, and were cut where `reads` is false.
+    /// The bytes cached for a place, if they are right as of the edit `newest` or a later one, and if they were cut or `reads` is true.
     pub fn peek(&self, at: TileAt, newest: u64, reads: bool) -> Option<&Bytes>
         ensures { option_map (λ b. b.now) result ≡ fresh newest reads (kept_at self.now at.z at.x at.y) }
     {
@@ -175,14 +179,17 @@ impl TileCache {
         }
     }
 
-    /// Keeps a tile, if it has at most `MAX_TILE_BYTES` bytes; those asked for longest ago give way, as many as must.
+    /// Caches a tile, if it has at most `MAX_TILE_BYTES` bytes. A full cache drops the tile that was asked for longest ago, and as many
+    /// more, in that order, as the bound on bytes needs.
     ///
-    /// The error: an allocation failed, and all is kept as it was.
+    /// The only error is out of memory: the cache is unchanged then.
     pub fn keep(&mut self, at: TileAt, tile: CachedTile) -> Result<(), AllocError>
         ensures kept { OnOk result (IsSmall tile.bytes → kept_at self.new at.z at.x at.y ≡ Some (tile_view tile)) }
+        ensures latest { OnOk result (IsSmall tile.bytes
+            → KeepsLatest (with_first (record { z = at.z; x = at.x; y = at.y }) (tile_view tile) self.old.kept) self.new.kept) }
         ensures large { ¬ IsSmall tile.bytes → self.new ≡ self.old }
         ensures others { OnOk result (KeepsFewer at.z at.x at.y self.old self.new) }
-        // Nothing gives way while there is room.
+        // Nothing is dropped while there is room.
         ensures room { length self.old.kept < MAX_CACHED_TILES → bytes_in self.old + length tile.bytes ≤ MAX_CACHED_BYTES
             → OnOk result (KeepsOthers at.z at.x at.y self.old self.new) }
         ensures most_tiles { length self.new.kept ≤ MAX_CACHED_TILES }

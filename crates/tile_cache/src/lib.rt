@@ -1,5 +1,6 @@
-//! Which tiles may be answered from memory although the map was edited since they were made: the newest edit of each part of
-//! the world, and tiles made or read before with the number of the edit as of which they are right. Nothing here knows a map or a disk.
+//! A cache of tiles that is invalidated by region: the number of the newest edit of each cell of the world, and tiles, cut or read before,
+//! each with the number of the edit as of which its bytes are right. A cached tile is used unless a newer edit touched a cell of its box,
+//! or one that shares its number with such a cell. Nothing here depends on a map or a disk.
 #![tactic(auto)]
 
 mod cached_tiles;

@@ -1,25 +1,29 @@
+//! The newest edit of each cell of the world.
+
 ghost use Rattle.std.specs.Prelude.{◌≡◌, ◌↔◌, ℕ, ◌+◌, ◌<◌, ◌≤◌, ◌^◌, ◌∷◌, [], List, length, min, IsTrue};
-ghost use Rattle.tile_cache.specs.Cells.{cell_at, cell_of, cells_of, place_in, IsNear, IsNarrow, HasCell, RisesTo, IsZeroOrOneOf, IsGreatestIn, IsNewestIn};
-ghost use Rattle.tile_cache.specs.Touched.{Mark, Remembers, IsNewest, IsNewestOf, shown_box};
+ghost use Rattle.tile_cache.specs.Cells.{cell_at, cell_of, cells_of, place_in, IsNear, IsNarrow, HasCell, RisesTo, StaysBut, IsInRow, IsOfCells, IsOfBox};
+ghost use Rattle.tile_cache.specs.Cells.{IsZeroOrOneOf};
+ghost use Rattle.tile_cache.specs.Cells.{IsGreatestIn, IsNewestIn};
+ghost use Rattle.tile_cache.specs.Touched.{Mark, Remembers, StaysElsewhere, IsNewest, IsNewestOf, shown_box};
 
 use feature_model::{MAX_ZOOM, WorldBox};
 use hilbert_id::TileAt;
 use std::marker::Model;
 use tile_cutter::tile_box;
 
-/// How many cells a level has in a row, and how many rows of them.
+/// The number of columns of cells of a level, and of rows.
 const SIDE: usize = 32;
 
-/// How many cells a level has.
+/// The number of cells of a level.
 const LEVEL_CELLS: usize = SIDE * SIDE;
 
-/// How many levels there are.
+/// The number of levels.
 const LEVELS: usize = 3;
 
-/// How many cells there are.
+/// The number of cells.
 const CELLS: usize = LEVELS * LEVEL_CELLS;
 
-/// How many bits of a coordinate a cell has, by level. The first level is as wide as the world. Each further one is as wide as a cell of
+/// The bits of a coordinate within a cell, by level. The first level is as wide as the world. Each further one is as wide as a cell of
 /// the one before, and is repeated over the world: cells that are `SIDE` columns or rows apart share one number.
 const CELL_BITS: [u32; LEVELS] = [27, 22, 17];
 
@@ -42,7 +46,7 @@ impl Model for TouchGrid {
     ghost invariant = { λ g. length g.cells ≡ CELLS };
 }
 
-/// Cells of a level, ends included.
+/// A rectangle of cells of a level, ends included.
 #[derive(Clone, Copy, Debug)]
 pub(crate) struct Cells {
     left: usize,
@@ -61,7 +65,7 @@ impl Cells {
     }
 }
 
-/// The column of cells of a level that has a column of the world, or the row that has a row.
+/// The column of cells of a level that contains a column of the world, or the row that contains a row.
 fn cell_of(level: usize, coordinate: u32) -> usize
     requires { level < LEVELS }
     ensures cell { result ≡ cell_of level coordinate }
@@ -84,7 +88,7 @@ fn cells_of(level: usize, bounds: &WorldBox) -> Cells
     }
 }
 
-/// The place of the number of a cell.
+/// The index of the number of a cell.
 fn place_in(level: usize, column: usize, row: usize) -> usize
     requires { level < LEVELS }
     ensures place { result ≡ place_in level column row }
@@ -93,7 +97,7 @@ fn place_in(level: usize, column: usize, row: usize) -> usize
     LEVEL_CELLS * level + SIDE * (row % SIDE) + column % SIDE
 }
 
-/// The end of the cells from one to another, but of `SIDE` at most: those behind share their numbers.
+/// The end of the cells from one to another, at most `SIDE` of them: those after share their numbers.
 fn end_of(first: usize, last: usize) -> usize
     requires { first < 2 ^ 32 }
     ensures { result ≡ min last (first + 31) + 1 }
@@ -107,6 +111,7 @@ fn raise_row(cells: &mut [u64], level: usize, row: usize, first: usize, end: usi
     requires all { length cells.old ≡ CELLS }
     ensures rises { RisesTo number cells.old cells.new }
     ensures raised { (column : ℕ) → first ≤ column → column < end → number ≤ cell_at cells.new level column row }
+    ensures stays { StaysBut (IsInRow level row first end) cells.old cells.new }
 {
     for column in first..end {
         let at = place_in(level, column, row);
@@ -121,6 +126,7 @@ fn raise_cells(cells: &mut [u64], level: usize, range: Cells, number: u64)
     requires near { IsNear range }
     ensures rises { RisesTo number cells.old cells.new }
     ensures raised { (column row : ℕ) → HasCell range column row → number ≤ cell_at cells.new level column row }
+    ensures stays { StaysBut (IsOfCells level range) cells.old cells.new }
 {
     let end = end_of(range.left, range.right);
     for row in range.top..end_of(range.top, range.bottom) {
@@ -133,6 +139,7 @@ fn raise_levels(cells: &mut [u64], bounds: &WorldBox, number: u64)
     requires { length cells.old ≡ CELLS }
     ensures rises { RisesTo number cells.old cells.new }
     ensures raised { (level column row : ℕ) → level < LEVELS → HasCell (cells_of level bounds.now) column row → number ≤ cell_at cells.new level column row }
+    ensures stays { StaysBut (IsOfBox bounds.now) cells.old cells.new }
 {
     for level in 0..LEVELS {
         raise_cells(cells, level, cells_of(level, bounds), number);
@@ -167,8 +174,8 @@ fn greatest_of(cells: &[u64], level: usize, range: Cells) -> u64
     newest
 }
 
-/// The greatest number of the cells that a box touches, by the level where it is the least. A level that the box is wider than isn't
-/// looked at, except the first.
+/// The greatest number of the cells that a box touches, on the level where it is the least. A level that is narrower than the box is
+/// skipped, except the first.
 fn newest_of(cells: &[u64], bounds: &WorldBox) -> u64
     requires { length cells.now ≡ CELLS }
     ensures { IsNewestIn cells.now bounds.now result }
@@ -183,7 +190,7 @@ fn newest_of(cells: &[u64], bounds: &WorldBox) -> u64
     newest
 }
 
-/// The box that a tile shows: the world, where no tile of the zoom shows anything.
+/// The box that a tile shows: the world, if no tile of the zoom shows anything.
 fn shown_by(at: TileAt) -> WorldBox
     ensures { result ≡ shown_box at.z at.x at.y }
 {
@@ -199,16 +206,20 @@ fn shown_by(at: TileAt) -> WorldBox
 }
 
 impl TouchGrid {
-    /// A grid that no edit touched.
+    /// A grid without edits.
     pub fn new() -> TouchGrid
         ensures { Remembers result [] }
     {
         TouchGrid { cells: [0; CELLS] }
     }
 
-    /// Notes that an edit of this number touched a box. Numbers only rise: the greatest stays.
+    /// Notes that an edit of this number touched a box. The numbers of the cells that the box touches rise to this one, if they are
+    /// lower; all others are unchanged.
     pub fn mark(&mut self, bounds: &WorldBox, number: u64)
-        ensures { (marks : List Mark) → Remembers self.old marks → Remembers self.new ((bounds.now, number) ∷ marks) }
+        ensures remembers { (marks : List Mark) → Remembers self.old marks → Remembers self.new ((bounds.now, number) ∷ marks) }
+        // With no marks and `first` the grid before the call: only numbers of cells that the box touches change.
+        ensures stays { (marks : List Mark) (first : List ℕ) → StaysElsewhere marks first self.old
+            → StaysElsewhere ((bounds.now, number) ∷ marks) first self.new }
     {
         if bounds.x1 < bounds.x0 || bounds.y1 < bounds.y0 {
             return;
@@ -216,7 +227,7 @@ impl TouchGrid {
         raise_levels(&mut self.cells, bounds, number);
     }
 
-    /// At least the number of every marked edit whose box can reach the tile, its margin included; 0 where none was marked.
+    /// At least the number of every marked edit whose box can reach the tile, its margin included; 0 if none was marked.
     pub fn newest(&self, at: TileAt) -> u64
         ensures marked { (marks : List Mark) → Remembers self.now marks → IsNewest marks at.z at.x at.y result }
         ensures of_cells { IsNewestOf self.now at.z at.x at.y result }

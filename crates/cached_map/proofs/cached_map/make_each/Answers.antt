@@ -1,4 +1,4 @@
-use Rattle.std.proofs.Common.{◌∙◌, [], ◌∷◌, ◌++◌, length, map, All, sym, ap, subst, append_assoc, arith}
+use Rattle.std.proofs.Common.{◌≡◌, ◌∙◌, List, [], ◌∷◌, ◌++◌, length, map, All, refl, sym, ap, subst, append_assoc, append-nil, arith}
 use Rattle.std.proofs.lemmas.List.{map-append}
 use Rattle.std.proofs.lemmas.List.Elements.{All-tail}
 use Rattle.std.specs.Vec.Iter.{into_iter_items}
@@ -6,7 +6,7 @@ use Rattle.feature_model.specs.Data.{change_data}
 use Rattle.feature_model.specs.Spelled.{spelled_changes}
 use Rattle.feature_model.specs.Types.{IsChange}
 use Rattle.feature_store.specs.Store.{changed, edited, snapshot, puts_in}
-use Rattle.tile_cache.specs.Touched.{Remembers}
+use Rattle.tile_cache.specs.Touched.{Remembers, StaysElsewhere}
 use Rattle.cached_map.specs.Cached.{marks_of, marks_after}
 use Rattle.cached_map.proofs.Edits.{changed_short, texts_on, puts_first, marks_push, edited_push}
 use Rattle.cached_map.proofs.cached_map.make_each.Goals as goal
@@ -45,6 +45,10 @@ loop-change-preserved c =
           (ap (λ m. marks_of m change number (marks_after first done number marks)) inv.map_is ∙ sym (marks_push first done change number marks)
           ∙ ap (λ cs. marks_after first cs number marks) one_more)
           (c.make_one.ensures.marks (marks_after first done number marks) (inv.marks marks remembers));
+      stays = λ marks start stay. subst (λ ms. StaysElsewhere ms start c.make_one.new.touched)
+          (ap (λ m. marks_of m change number (marks_after first done number marks)) inv.map_is ∙ sym (marks_push first done change number marks)
+          ∙ ap (λ cs. marks_after first cs number marks) one_more)
+          (c.make_one.ensures.stays (marks_after first done number marks) start (inv.stays marks start stay));
       are = All-tail IsChange change rest (subst (λ l. All IsChange (map change_data l)) steps.0 inv.are);
       room = omega (
         arith,
@@ -62,3 +66,16 @@ loop-change-preserved c =
         ap (λ m. length (snapshot m)) c.make_one.ensures.map,
       );
     }
+
+nothing_left : {A : Type 0} (xs : List A) → length xs ≡ 0 → xs ≡ []
+nothing_left [] none = refl
+nothing_left (x ∷ xs) none = absurd (omega (arith, none))
+
+pub returns-clause-stays : goal.returns-clause-stays
+returns-clause-stays c marks first before =
+    let inv = c.loop-change.invariant in
+    let m = c.args.store.now.features in
+    let yielded = c.loop-change.yielded in
+    let empty = nothing_left (into_iter_items c.loop-change.change-iterator) (sym inv.left ∙ c.in-None.ensures.steps.0) in
+    let all = sym (append-nil yielded) ∙ ap (λ l. yielded ++ l) (sym empty) ∙ inv.items in
+    subst (λ l. StaysElsewhere (marks_after m (map change_data l) c.args.number marks) first c.loop-change.touched) all (inv.stays marks first before)

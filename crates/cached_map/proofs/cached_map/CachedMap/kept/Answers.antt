@@ -11,8 +11,8 @@ returns-in-Some-clause-tile c =
     rw (← c.self.view_is)
     (λ read. subst (λ b. IsTileContent (layers inside.store.features at.z at.x at.y) (Some b)) (sym c.in_ok-clone.ensures.cases)
     (found_is inside.store.features inside.touched inside.last kept at.z at.x at.y c.newest-newest.result c.args.reads c.in-Some.bytes.now
-    (same_kept Cut inside.store.features inside.touched inside.last inside.kept kept c.promote.ensures c.self.invariant)
-    (λ counted. same_kept Read inside.store.features inside.touched inside.last inside.kept kept c.promote.ensures (read counted))
+    (same_kept Cut inside.store.features inside.touched inside.last inside.kept kept c.promote.ensures.same c.self.invariant)
+    (λ counted. same_kept Read inside.store.features inside.touched inside.last inside.kept kept c.promote.ensures.same (read counted))
     (rw (← c.self.view_is) at c.newest-newest.ensures.marked) c.in-Some.ensures))
 
 pub returns-in-Some-clause-given : goal.returns-in-Some-clause-given
@@ -20,7 +20,7 @@ returns-in-Some-clause-given c =
     let at = c.args.at in let inside = c.self.inside in
     rw (← c.self.view_is)
     (λ newest is. fresh_same inside.touched inside.kept c.promote.new.self at.z at.x at.y c.newest-newest.result newest c.args.reads
-    (Some c.in_ok-clone.field-0) c.promote.ensures (rw (← c.self.view_is) at c.newest-newest.ensures.of_cells) is
+    (Some c.in_ok-clone.field-0) c.promote.ensures.same (rw (← c.self.view_is) at c.newest-newest.ensures.of_cells) is
     (ap Some c.in_ok-clone.ensures.cases ∙ c.in-Some.ensures))
 
 pub returns-clause-given : goal.returns-clause-given
@@ -28,34 +28,34 @@ returns-clause-given c =
     let at = c.args.at in let inside = c.self.inside in
     rw (← c.self.view_is)
     (λ newest is. fresh_same inside.touched inside.kept c.promote.new.self at.z at.x at.y c.newest-newest.result newest c.args.reads
-    None c.promote.ensures (rw (← c.self.view_is) at c.newest-newest.ensures.of_cells) is c.in_default.ensures)
+    None c.promote.ensures.same (rw (← c.self.view_is) at c.newest-newest.ensures.of_cells) is c.in_default.ensures)
 
 pub invariant_of-self : goal.invariant_of-self
 invariant_of-self c =
     let inside = c.self.inside in
-    same_kept Cut inside.store.features inside.touched inside.last inside.kept c.promote.new.self c.promote.ensures c.self.invariant
+    same_kept Cut inside.store.features inside.touched inside.last inside.kept c.promote.new.self c.promote.ensures.same c.self.invariant
 
 pub invariant_of-self-in-Some : goal.invariant_of-self-in-Some
 invariant_of-self-in-Some c =
     let inside = c.self.inside in
-    same_kept Cut inside.store.features inside.touched inside.last inside.kept c.promote.new.self c.promote.ensures c.self.invariant
+    same_kept Cut inside.store.features inside.touched inside.last inside.kept c.promote.new.self c.promote.ensures.same c.self.invariant
 
 pub invariant_of-self-2 : goal.invariant_of-self-2
 invariant_of-self-2 c =
     let inside = c.self.inside in
-    same_kept Cut inside.store.features inside.touched inside.last inside.kept c.promote.new.self c.promote.ensures c.self.invariant
+    same_kept Cut inside.store.features inside.touched inside.last inside.kept c.promote.new.self c.promote.ensures.same c.self.invariant
 
 pub returns-in_err-clone-clause-reads : goal.returns-in_err-clone-clause-reads
 returns-in_err-clone-clause-reads c =
     let inside = c.self.inside in
-    rw (← c.self.view_is) (same_kept Read inside.store.features inside.touched inside.last inside.kept c.promote.new.self c.promote.ensures)
+    rw (← c.self.view_is) (same_kept Read inside.store.features inside.touched inside.last inside.kept c.promote.new.self c.promote.ensures.same)
 
 pub returns-in-Some-clause-reads : goal.returns-in-Some-clause-reads
 returns-in-Some-clause-reads c =
     let inside = c.self.inside in
-    rw (← c.self.view_is) (same_kept Read inside.store.features inside.touched inside.last inside.kept c.promote.new.self c.promote.ensures)
+    rw (← c.self.view_is) (same_kept Read inside.store.features inside.touched inside.last inside.kept c.promote.new.self c.promote.ensures.same)
 
 pub returns-clause-reads : goal.returns-clause-reads
 returns-clause-reads c =
     let inside = c.self.inside in
-    rw (← c.self.view_is) (same_kept Read inside.store.features inside.touched inside.last inside.kept c.promote.new.self c.promote.ensures)
+    rw (← c.self.view_is) (same_kept Read inside.store.features inside.touched inside.last inside.kept c.promote.new.self c.promote.ensures.same)

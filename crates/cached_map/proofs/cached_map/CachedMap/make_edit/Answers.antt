@@ -1,6 +1,7 @@
-use Rattle.std.proofs.Common.{map}
+use Rattle.std.proofs.Common.{map, [], refl}
 use Rattle.feature_model.specs.Data.{change_data}
 use Rattle.tile_cache.specs.declared.cached_tiles.Origin.TheVariants.{Cut, Read}
+use Rattle.tile_cache.proofs.Marks.{newest_stays}
 use Rattle.cached_map.specs.Cached.{CachedView, marks_after}
 use Rattle.cached_map.proofs.Edits.{IsEdited, edited_by, still_kept, still_was}
 use Rattle.cached_map.proofs.cached_map.CachedMap.make_edit.Goals as goal
@@ -39,3 +40,15 @@ pub returns-clause-reads : goal.returns-clause-reads
 returns-clause-reads c =
     let at = (goal.at.returns-clause-reads c).After-make_each in
     rw (← c.self.view_is) (still_kept (before at) (after at) _ (edited at) Read c.self.inside.kept)
+
+pub returns-clause-marks : goal.returns-clause-marks
+returns-clause-marks c = rw (← c.self.view_is) c.make_each.ensures.marks
+
+pub returns-clause-stays : goal.returns-clause-stays
+returns-clause-stays c = rw (← c.self.view_is) (c.make_each.ensures.stays [] c.self.inside.touched (λ at all. refl))
+
+pub returns-clause-clear : goal.returns-clause-clear
+returns-clause-clear c =
+    let before = c.self.inside.touched in
+    let marks = marks_after c.self.inside.store.features (map change_data c.args.changes.items) c.args.number [] in
+    rw (← c.self.view_is) (λ z x y n. newest_stays marks before c.make_each.new.touched z x y n (c.make_each.ensures.stays [] before (λ at all. refl)))

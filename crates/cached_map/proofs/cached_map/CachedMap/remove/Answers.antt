@@ -1,7 +1,9 @@
-use Rattle.std.proofs.Common.{subst}
-use Rattle.tile_cache.specs.Touched.{Remembers}
+use Rattle.std.proofs.Common.{subst, [], refl}
+use Rattle.feature_store.specs.Store.{feature_at}
+use Rattle.tile_cache.specs.Touched.{Remembers, StaysElsewhere}
 use Rattle.tile_cache.specs.declared.cached_tiles.Origin.TheVariants.{Cut, Read}
-use Rattle.cached_map.specs.Cached.{CachedView, with_box}
+use Rattle.tile_cache.proofs.Marks.{newest_stays}
+use Rattle.cached_map.specs.Cached.{CachedView, with_mark, with_box}
 use Rattle.cached_map.proofs.Edits.{IsEdited, removal, removed, still_kept, still_was}
 use Rattle.cached_map.proofs.cached_map.CachedMap.remove.Goals as goal
 use Rattle.cached_map.proofs.cached_map.CachedMap.remove.Goals.{After-mark_some}
@@ -24,7 +26,7 @@ after c =
 edited : (c : After-mark_some) → IsEdited (before c) (after c) (removal (before c) (after c) c.args.id)
 edited c = removed (before c) (after c) c.args.id c.len-count.ensures.map (rw (← c.self.view_is) at c.requires.later) c.remove-bounds.ensures.map
     (λ marks remembers. subst (λ o. Remembers c.mark_some.new.touched (with_box o c.args.number marks)) c.remove-bounds.ensures.bounds
-    (c.mark_some.ensures marks remembers))
+    (c.mark_some.ensures.remembers marks remembers))
 
 pub invariant_of-self : goal.invariant_of-self
 invariant_of-self c =
@@ -40,3 +42,24 @@ pub returns-clause-reads : goal.returns-clause-reads
 returns-clause-reads c =
     let at = (goal.at.returns-clause-reads c).After-mark_some in
     rw (← c.self.view_is) (still_kept (before at) (after at) (removal (before at) (after at) c.args.id) (edited at) Read c.self.inside.kept)
+
+pub returns-clause-marks : goal.returns-clause-marks
+returns-clause-marks c =
+    let at = (goal.at.returns-clause-marks c).After-mark_some in
+    rw (← c.self.view_is) (edited at).remembers
+
+stays : (c : After-mark_some) → StaysElsewhere (with_mark (feature_at c.self.inside.store.features c.args.id) c.args.number []) c.self.inside.touched
+    c.mark_some.new.touched
+stays c =
+    subst (λ o. StaysElsewhere (with_box o c.args.number []) c.self.inside.touched c.mark_some.new.touched) c.remove-bounds.ensures.bounds
+    (c.mark_some.ensures.stays [] c.self.inside.touched (λ at all. refl))
+
+pub returns-clause-stays : goal.returns-clause-stays
+returns-clause-stays c = rw (← c.self.view_is) (stays (goal.at.returns-clause-stays c).After-mark_some)
+
+pub returns-clause-clear : goal.returns-clause-clear
+returns-clause-clear c =
+    let at = (goal.at.returns-clause-clear c).After-mark_some in
+    let inside = c.self.inside in
+    let marks = with_mark (feature_at inside.store.features c.args.id) c.args.number [] in
+    rw (← c.self.view_is) (λ z x y n. newest_stays marks inside.touched c.mark_some.new.touched z x y n (stays at))

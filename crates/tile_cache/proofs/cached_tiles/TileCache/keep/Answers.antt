@@ -1,5 +1,6 @@
 use Rattle.std.proofs.Common.{◌∙◌, sym, ap, subst, arith}
-use Rattle.tile_cache.specs.Kept.{KeepsOthers, KeepsFewer}
+use Rattle.tile_cache.specs.Kept.{tile_view, with_first, KeepsOthers, KeepsFewer, KeepsLatest}
+use Rattle.tile_cache.proofs.Latest.{latest}
 use Rattle.tile_cache.proofs.Places.{seen, small_put, count_seen, bytes_seen, front_is, tile_kept, others_kept, others_with_room, few_kept}
 use Rattle.tile_cache.proofs.cached_tiles.TileCache.keep.Goals as goal
 
@@ -25,6 +26,14 @@ returns-in-Ok-clause-kept c =
     let old = c.self.inside.tiles in let at = c.place_of.result in let front = c.drop_oldest-self-inside.ensures.front in
     let is = front_is old at c.args.tile c.put_first.new.tiles c.drop_oldest-self-inside.new.tiles c.in-Ok.ensures.entries front in
     let kept = tile_kept old at c.args.tile front.more c.drop_oldest-self-inside.new.tiles.entries is in λ small. rw c.place_of.ensures at kept
+
+pub returns-in-Ok-clause-latest : goal.returns-in-Ok-clause-latest
+returns-in-Ok-clause-latest c =
+    let old = c.self.inside.tiles in let at = c.place_of.result in let new = c.drop_oldest-self-inside.new.tiles in
+    let kept = latest old at c.args.tile c.self.invariant.cap (omega (arith, c.self.invariant.room, c.self.invariant.cap)) c.put_first.new.tiles new
+    c.in-Ok.ensures.entries c.drop_oldest-self-inside.ensures.front in
+    let seen_so = subst (λ before. KeepsLatest (with_first at (tile_view c.args.tile) before.kept) (seen new.entries).kept) c.self.view_is kept in
+    λ small. rw c.place_of.ensures at seen_so
 
 pub returns-in-Ok-clause-others : goal.returns-in-Ok-clause-others
 returns-in-Ok-clause-others c =

@@ -1,0 +1,12 @@
+use Rattle.std.proofs.Common.{subst, sym}
+use Rattle.tile_cache.specs.Touched.{StaysElsewhere}
+use Rattle.cached_map.specs.Cached.{with_box}
+use Rattle.cached_map.proofs.cached_map.mark_some.Goals as goal
+
+pub returns-in-Some-clause-stays : goal.returns-in-Some-clause-stays
+returns-in-Some-clause-stays c marks first before =
+    subst (λ o. StaysElsewhere (with_box o c.args.number marks) first c.mark.new.self) (sym c.in-Some.is) (c.mark.ensures.stays marks first before)
+
+pub returns-in_default-clause-stays : goal.returns-in_default-clause-stays
+returns-in_default-clause-stays c marks first before =
+    subst (λ o. StaysElsewhere (with_box o c.args.number marks) first c.args.touched.now) (sym c.in_default.is) before

@@ -1,0 +1,28 @@
+-- The number of each limit.
+use Rattle.std.proofs.Common.{◌≡◌, ◌∷◌, [], refl}
+use Rattle.tile_cache.specs.declared.cached_tiles.TheConstants.{MAX_CACHED_TILES, MAX_CACHED_BYTES, MAX_TILE_BYTES}
+use Rattle.tile_cache.specs.declared.touch_grid.TheConstants.{SIDE, LEVEL_CELLS, LEVELS, CELLS, CELL_BITS}
+
+pub max_cached_tiles_is : MAX_CACHED_TILES ≡ 256
+max_cached_tiles_is = refl
+
+pub max_cached_bytes_is : MAX_CACHED_BYTES ≡ 67108864
+max_cached_bytes_is = refl
+
+pub max_tile_bytes_is : MAX_TILE_BYTES ≡ 16777216
+max_tile_bytes_is = refl
+
+pub side_is : SIDE ≡ 32
+side_is = refl
+
+pub level_cells_is : LEVEL_CELLS ≡ 1024
+level_cells_is = refl
+
+pub levels_is : LEVELS ≡ 3
+levels_is = refl
+
+pub cells_is : CELLS ≡ 3072
+cells_is = refl
+
+pub cell_bits_is : CELL_BITS ≡ 27 ∷ 22 ∷ 17 ∷ []
+cell_bits_is = refl
