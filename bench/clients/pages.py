@@ -74,7 +74,8 @@ def town(folder, url):
 
 def unexpected(front):
     """The lines of nginx's log of errors that aren't about a server that doesn't run, or an address that may not edit."""
-    return [line for line in front.errors() if "Connection refused" not in line and "access forbidden" not in line and "prematurely closed" not in line]
+    known = ["Connection refused", "access forbidden", "prematurely closed", "Connection reset by peer"]
+    return [line for line in front.errors() if not any(word in line for word in known)]
 
 
 class People:

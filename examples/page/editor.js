@@ -59,7 +59,7 @@ export class Editor {
 
     openForm() {
         const { feature, pieces, was, id } = this.draft;
-        this.draft.form = formOf(feature, this.layers().map(layer => layer.id).filter(name => !isOutline(name)));
+        this.draft.form = formOf(feature, this.layers().map(layer => layer.id).filter(name => !isOutline(name)), !was);
         const shape = pieces ? `The import cut it into ${pieces.length} pieces. Its shape can be changed by a desktop GIS (examples/gis.py).`
             : `${described(feature.geometry)}. Drag a point to move it, or a small one to add it; a right click removes it, Ctrl+Z undoes.`;
         const isWrong = !pieces && isLarge(feature);
@@ -101,7 +101,7 @@ export class Editor {
 
     /** The id after the greatest one in use, those of pieces aside. If somebody takes it first, the edit is refused, and gets another. */
     async nextId() {
-        const { last } = await this.server.status();
+        const { last } = await this.server.value("admin/status");
         let [least, end] = last < PIECE ? [Number(last ?? 0) + 1, 0] : [1, PIECE];
         while (least < end) {
             const middle = Math.floor((least + end) / 2), row = await this.server.from(middle);

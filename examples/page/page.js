@@ -8,7 +8,8 @@ import { Style, isOutline, plain } from "./style.js";
 import { View } from "./view.js";
 import { WORLD, bounds, distance, isInside } from "./world.js";
 
-const SECONDS_BETWEEN_LOOKS = 4;
+// Seconds between two looks at the map, of those who edit and of those who don't: nginx keeps tiles for these.
+const BETWEEN_LOOKS = { editor: 4, viewer: 20 };
 const server = new Server(new URL("../", location.href));
 let style, view, editor, layers, isEditor;
 // The feature that is selected, as a tile has it, and those that clicks at the same place have selected before.
@@ -62,12 +63,12 @@ async function showEdit(edit) {
         element("i", { style: `background: ${style.colourOf(id)}` }), id)));
 }
 
-/** Looks whether somebody else has edited the map, and shows it. */
+/** Looks whether somebody else has edited the map, and shows it. Who may not edit isn't told of edits, and asks for the tiles again. */
 async function look() {
-    const status = document.hidden ? null : await server.status();
+    const status = document.hidden ? null : isEditor ? await server.status() : { edits: view.edit + 1 };
     if (status?.edits > view.edit) {
         await showEdit(status.edits);
-        tell(`${status.features} features, edit ${status.edits}`);
+        isEditor && tell(`${status.features} features, edit ${status.edits}`);
         await editor.isOvertaken() && tell("somebody else has just changed what you edit: when you save, you see both", true);
     }
 }
@@ -112,7 +113,7 @@ async function start() {
     listen();
     view.goTo(location.hash.slice(1)) || view.goTo(style.centre ?? "") || view.show(await boxOfMap());
     tell(isEditor ? `${status.features} features, edit ${status.edits}` : "view only: this machine may not edit the map");
-    isEditor && setInterval(() => look().catch(fault => tell(fault.message, true)), SECONDS_BETWEEN_LOOKS * 1000);
+    setInterval(() => look().catch(fault => tell(fault.message, true)), BETWEEN_LOOKS[isEditor ? "editor" : "viewer"] * 1000);
 }
 
 start().catch(fault => tell(fault.message, true));

@@ -53,7 +53,9 @@ export class Server {
     }
 
     async ask(path, words) {
-        const reply = await fetch(new URL(path, this.base), { cache: "no-store", ...words });
+        const reply = await fetch(new URL(path, this.base), { cache: "no-store", ...words }).catch(fault => {
+            throw words?.signal?.aborted ? fault : new Error("the server doesn't answer");
+        });
         return { status: reply.status, content: await reply.arrayBuffer() };
     }
 
