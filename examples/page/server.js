@@ -32,7 +32,15 @@ function refusal(status, word) {
 
 /** A value of the server's JSON. An integer that a number of JavaScript would round is a BigInt. */
 function parse(json) {
-    return JSON.parse(json, (key, value, context) => typeof value === "number" && !Number.isSafeInteger(value) ? BigInt(context.source) : value);
+    return JSON.parse(json, (key, value, context) => {
+        if (typeof value !== "number" || Number.isSafeInteger(value)) {
+            return value;
+        }
+        if (!context?.source) {
+            throw new Error("it has a number that this browser would round: use a newer browser");
+        }
+        return BigInt(context.source);
+    });
 }
 
 /** A value as JSON. */
