@@ -1,4 +1,4 @@
--- Reading a shape from left to right, with the first fault that is met.
+-- Decoding a shape from left to right, with the first fault.
 use Rattle.std.specs.Prelude.{ℕ, zero, suc, ◌/◌, ◌%◌, ◌==◌, Bool, true, false, List, [], ◌∷◌, ◌++◌, length, drop, slice_index, Ok, Err, nat_lt}
 use Rattle.std.specs.Prelude.{if◌then◌else◌}
 use Rattle.reader.specs.Reading.{Read, ◌>>=◌, repeated}
@@ -11,7 +11,7 @@ use Rattle.geometry_commands.specs.Commands.{move_to, line_to, close_path, origi
 use Rattle.geometry_commands.specs.Ways.{led_to, fits}
 use Rattle.geometry_commands.specs.Shapes.{ShapeView, points, lines, rings, raw, least}
 
--- points, where the cursor stands, and the integers behind
+-- points, the cursor after them, and the integers that remain
 abbrev pub Walk : Type 0
 Walk = List Pt × Pt × List ℕ
 
@@ -32,7 +32,7 @@ step_at from ints =
 abbrev pub walk_step : Walk → Read GeometryFault Walk
 walk_step w = step_at w.1 w.2 >>= λ s. Ok (w.0 ++ s.0 ∷ [], s.0, s.1)
 
--- so many points behind those that were read
+-- this count of points after those that were read
 abbrev pub walk_at : ℕ → List Pt → Pt → List ℕ → Read GeometryFault Walk
 walk_at count before from ints = repeated walk_step count (before, from, ints)
 
@@ -46,22 +46,22 @@ line_made all rest = Ok (all.0, all.1, rest)
 abbrev pub line_end : Bool → Walk → Read GeometryFault Walk
 line_end closed all = close_at closed all.2 >>= line_made all
 
--- behind the first point and a count
+-- after the first point and a count
 unfoldable pub line_others : Bool → Walk → ℕ × List ℕ → Read GeometryFault Walk
 line_others closed first c = if nat_lt c.0 (least closed) then Err Count else (walk_at c.0 first.0 first.1 c.1 >>= line_end closed)
 
--- behind the first point
+-- after the first point
 unfoldable pub line_second : Bool → Walk → Read GeometryFault Walk
 line_second closed first = command_at line_to first.2 >>= line_others closed first
 
--- behind a command to move so many times
+-- after a MoveTo with this count
 abbrev pub line_first : Bool → Pt → ℕ × List ℕ → Read GeometryFault Walk
 line_first closed from m = if m.0 == 1 then (walk_at 1 [] from m.1 >>= line_second closed) else Err Count
 
 unfoldable pub line_at : Bool → Pt → List ℕ → Read GeometryFault Walk
 line_at closed from ints = command_at move_to ints >>= line_first closed from
 
--- the lines behind those that were read, so many at most
+-- the lines after those that were read, at most the given count
 unfoldable pub lines_in : ℕ → Bool → List (List Pt) → Pt → List ℕ → Read GeometryFault (List (List Pt))
 lines_in zero closed before from ints = Ok before
 lines_in (suc more) closed before from [] = Ok before
@@ -70,7 +70,7 @@ lines_in (suc more) closed before from (i ∷ is) = line_at closed from (i ∷ i
 abbrev pub lines_at : Bool → List ℕ → Read GeometryFault (List (List Pt))
 lines_at closed ints = lines_in (length ints) closed [] origin ints
 
--- nothing may stand behind the points
+-- no integers may follow the points
 unfoldable pub points_end : Walk → Read GeometryFault (List Pt)
 points_end w = if length w.2 == 0 then Ok w.0 else Err Command
 

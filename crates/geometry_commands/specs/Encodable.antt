@@ -1,4 +1,4 @@
--- Which shapes can be spelled: lists long enough and not too long, and each point near enough to the one before it.
+-- Which shapes can be encoded: lists long enough and not too long, and each point near enough to the one before it.
 use Rattle.std.specs.Prelude.{◌<◌, ◌^◌, Bool, true, false, List, [], ◌∷◌, length}
 use Rattle.std.specs.List.{AllByRecursion}
 use Rattle.geometry_commands.specs.declared.point.Pt.{Pt}

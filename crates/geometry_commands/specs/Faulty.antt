@@ -1,4 +1,4 @@
--- The faults that integers have, each where it stands.
+-- The faults that integers have, each with its place.
 use Rattle.std.specs.Prelude.{◌≡◌, ℕ, ◌<◌, ◌%◌, Bool, true, false, List, [], ◌∷◌, ◌++◌, length}
 use Rattle.std.specs.List.{AllByRecursion}
 use Rattle.geometry_commands.specs.declared.point.Pt.{Pt}
@@ -10,17 +10,17 @@ use Rattle.geometry_commands.specs.Commands.{steps, command, move_to, line_to, c
 use Rattle.geometry_commands.specs.Ways.{led_to, FitsPt}
 use Rattle.geometry_commands.specs.Shapes.{last_of, lines_spelled, least, IsLine}
 
--- where a command of this number must stand, the integers end, or another stands
+-- where a command of this number is needed, the integers end, or there is another
 pub data CommandHas (id : ℕ) (ints : List ℕ) (d : GeometryFault) : Type 0 where
   ends : d ≡ faults.Cut → ints ≡ [] → CommandHas id ints d
   other : d ≡ faults.Command → (c : ℕ) → (rest : List ℕ) → ints ≡ c ∷ rest → (c % 8 ≡ id → ⊥) → CommandHas id ints d
 
--- where a point must stand, fewer than two integers stand, or two that lead too far
+-- where a point is needed, there are fewer than two integers, or two that lead too far
 pub data StepHas (from : Pt) (ints : List ℕ) (d : GeometryFault) : Type 0 where
   few : d ≡ faults.Cut → length ints < 2 → StepHas from ints d
   far : d ≡ faults.Cursor → (a : ℕ) → (b : ℕ) → (rest : List ℕ) → ints ≡ a ∷ b ∷ rest → (FitsPt (led_to from a b) → ⊥) → StepHas from ints d
 
--- behind fewer points than there must be, one has a fault
+-- after fewer points than are needed, one has a fault
 pub record WalkHas (count : ℕ) (from : Pt) (ints : List ℕ) (d : GeometryFault) : Type 0 where
   pub points : List Pt
   pub rest : List ℕ
@@ -29,7 +29,7 @@ pub record WalkHas (count : ℕ) (from : Pt) (ints : List ℕ) (d : GeometryFaul
   pub fits : AllByRecursion FitsPt points
   pub fault : StepHas (last_of from points) rest d
 
--- what doesn't begin as a line, or a ring, must, from where the one before it ends
+-- integers that don't begin with a line, or a ring, from where the one before it ends
 pub data LineHas (closed : Bool) (from : Pt) (ints : List ℕ) (d : GeometryFault) : Type 0 where
   at_move : CommandHas move_to ints d → LineHas closed from ints d
   move_count : d ≡ faults.Count → (n : ℕ) → (rest : List ℕ) → ints ≡ command move_to n ∷ rest → (n ≡ 1 → ⊥) → LineHas closed from ints d
@@ -52,7 +52,7 @@ abbrev pub end_of : Pt → List (List Pt) → Pt
 end_of from [] = from
 end_of from (l ∷ ls) = end_of (last_of from l) ls
 
--- behind whole lines stands what is none
+-- after whole lines there are integers that are none
 pub record LinesHas (closed : Bool) (from : Pt) (ints : List ℕ) (d : GeometryFault) : Type 0 where
   pub lines : List (List Pt)
   pub rest : List ℕ

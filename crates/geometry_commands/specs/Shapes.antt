@@ -41,7 +41,7 @@ unfoldable pub lines_spelled : Bool → Pt → List (List Pt) → List ℕ
 lines_spelled closed from [] = []
 lines_spelled closed from (l ∷ ls) = line_spelled closed from l ++ lines_spelled closed (last_of from l) ls
 
--- how many points stand behind the first, at least
+-- the least count of points after the first
 abbrev pub least : Bool → ℕ
 least true = 2
 least false = 1
@@ -50,7 +50,7 @@ pub record IsLine (closed : Bool) (l : List Pt) : Type 0 where
   pub long : least closed < length l
   pub fits : AllByRecursion FitsPt l
 
--- the integers spell the shape, which is of this kind
+-- the integers encode the shape, which is of this kind
 abbrev pub IsShape : ShapeKind → List ℕ → ShapeView → Type 0
 IsShape kinds.Points ints (points ps) = (ints ≡ points_spelled ps) × AllByRecursion FitsPt ps
 IsShape kinds.Lines ints (lines ls) = (ints ≡ lines_spelled false origin ls) × AllByRecursion (IsLine false) ls

@@ -1,4 +1,4 @@
--- Tiles without where they lie in memory.
+-- Tiles as values, without their memory.
 use Rattle.std.specs.Prelude.{ℕ, ℤ, Bool, List, map, Option}
 use Rattle.std.specs.Borrow.{Bor}
 use Rattle.geometry_commands.specs.Shapes.{ShapeView, shape_view}
@@ -38,7 +38,7 @@ pub record LayerView : Type 0 where
   pub extent : ℕ
   pub features : List FeatureView
 
--- texts or parts without where they lie in memory
+-- texts or parts as values
 abbrev pub bytes_of : List (Bor (List ℕ)) → List (List ℕ)
 bytes_of parts = map (λ t. t.now) parts
 

@@ -73,7 +73,7 @@ fn check_new(is_new: bool) -> Result<(), TileFault>
     Ok(())
 }
 
-/// The tags of these indices, a key's and a value's in turn. A key index comes once. `used` gives its room, and comes back.
+/// The tags of these indices, a key's and a value's in turn. A key index comes once. The memory of `used` is reused and returned.
 fn tags_of<'a>(
     alloc: Global,
     keys: &[&'a str],

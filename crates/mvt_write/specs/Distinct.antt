@@ -35,7 +35,7 @@ first_apart more a b xs ys false false p q behind e =
     let same = behind xs ys rest in
     (omega (arith, same.0), same.1)
 
--- two numbers with bytes behind them are spelled alike only where they are one
+-- two numbers followed by bytes are encoded alike only if they are equal
 shortest_apart : (more a b : ℕ) (xs ys : List ℕ) → shortest_in more a ++ xs ≡ shortest_in more b ++ ys → (a ≡ b) × (xs ≡ ys)
 unfolding shortest_in
 shortest_apart zero a b xs ys e = (cc, cc)

@@ -16,7 +16,7 @@ pub record FitsTag (t : Tagged) : Type 0 where
   pub key : IsUtf8 t.0
   pub value : FitsValue t.1
 
--- the integers of the shape have 32 bits, and spell it
+-- the integers of the shape have 32 bits, and encode it
 pub record FitsFeature (f : FeatureView) : Type 0 where
   pub id : IfSome f.id (λ id. id < 2 ^ 64)
   pub tags : All FitsTag f.tags

@@ -20,7 +20,7 @@ cell_of level coordinate = coordinate / 2 ^ slice_index CELL_BITS level
 abbrev pub cells_of : ℕ → WorldBox → Cells
 cells_of level b = record { left = cell_of level b.x0; right = cell_of level b.x1; top = cell_of level b.y0; bottom = cell_of level b.y1 }
 
--- one of these cells stands in this column and row
+-- one of these cells is in this column and row
 pub record HasCell (range : Cells) (column row : ℕ) : Type 0 where
   pub left : range.left ≤ column
   pub right : column ≤ range.right
