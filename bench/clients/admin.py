@@ -54,10 +54,11 @@ def statuses(cases, server):
     curl(url + "/publish/begin", "-X", "POST")
     same(cases, "status: a publication under way", curl(url + STATUS), status(**one, left=3))
     curl(url + "/publish/step", "-X", "POST")
-    done = {**one, "archive": 223, "area": {"sectors": 1534, "used": 2}, "generation": 1, "journal": {"places": 1024, "used": 0}, "published": 1}
+    done = {**one, "archive": 223, "area": {"sectors": 1534, "used": 2}, "generation": 1, "published": 1, "journal": {"places": 1024, "used": 0}}
     same(cases, "status: it is installed", curl(url + STATUS), status(**done))
     curl(url + "/features/7", "-X", "DELETE")
-    same(cases, "status: nothing is left of the map", curl(url + STATUS), status(**{**done, "edits": 2, "features": 0, "journal": {"places": 1024, "used": 1}, "last": None}))
+    empty = {**done, "edits": 2, "features": 0, "journal": {"places": 1024, "used": 1}, "last": None}
+    same(cases, "status: nothing is left of the map", curl(url + STATUS), status(**empty))
     same(cases, "status: another method", curl(url + STATUS, "-X", "PUT", body="{}"), refusal(405, "Method", more=[("allow", "GET, HEAD")]))
 
 

@@ -313,7 +313,8 @@ def numbers(cases, folder, server):
     rows = [row("Point", [5, 5], nr=13, name="moved"), row("Point", [6, 6], nr=11, name="11")]
     status, lines = imported(written(folder, "two.geojson", rows), server.url, "--layer", "n", "--id", "nr", "--replace", "n")
     found = [(shown(server, at) or {"tags": {}})["tags"].get("name") for at in (11, 12, 13)]
-    cases.show("import: --replace deletes what the file no longer has", (status, lines[-1], found), (0, "0 new, 2 changed, 1 deleted, 0 unchanged", ["11", None, "moved"]))
+    wanted = (0, "0 new, 2 changed, 1 deleted, 0 unchanged", ["11", None, "moved"])
+    cases.show("import: --replace deletes what the file no longer has", (status, lines[-1], found), wanted)
     cases.show("import: and nothing else", (shown(server, 99) or {}).get("layer"), "other")
     rows = [row("Point", [5, 5], nr=99)]
     status, lines = imported(written(folder, "taken.geojson", rows), server.url, "--layer", "n", "--id", "nr", "--replace", "n")
@@ -347,7 +348,8 @@ def pieces(cases, folder, server):
     other = written(folder, "unfit.geojson", [row("Polygon", [square(20, 50, 0.05)], nr=21, whole=1), row("Point", [20, 50], nr=22)])
     status, lines = imported(other, server.url, *words)
     there = shown(server, 21 + piece) is not None
-    cases.show("import: --replace leaves the pieces of what is refused", (status, lines[-1], there), (1, "0 new, 0 changed, 0 deleted, 1 unchanged, 1 refused", True))
+    wanted = (1, "0 new, 0 changed, 0 deleted, 1 unchanged, 1 refused", True)
+    cases.show("import: --replace leaves the pieces of what is refused", (status, lines[-1], there), wanted)
     path = written(folder, "small.geojson", [row("Polygon", [square(20, 50, 0.005)], nr=21), row("Point", [20, 50], nr=22)])
     status, lines = imported(path, server.url, *words)
     left = [at for at in range(1, 40) if shown(server, 21 + at * piece)]

@@ -28,11 +28,13 @@ from direct import direct
 from editors import editors
 from imports import disk_full, imports, kills, large
 from desktop import desktop
+from operation import operation
 from pages import page
 from screens import screens
 from stand import BYTES, EXAMPLES, HALF, JSON, METADATA, MVT, PROGRAM, ROOT, SHOWN, SYSTEM_PYTHON, TEXT, TILE
 from stand import Cases, Nginx, Server, curl, feature, field, parsed, refusal, same, status_of, wanted
 from units import units
+from updates import updates
 
 
 def archive():
@@ -610,6 +612,8 @@ def main():
         "gdal": gdal,
         "large": large,
         "import": imports,
+        "updates": updates,
+        "operation": operation,
         "admin": admin,
         "batches": batches,
         "editors": editors,

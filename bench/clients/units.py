@@ -7,7 +7,22 @@ import re
 import shutil
 import subprocess
 
-from stand import PROGRAM, TOP, curl, feature, free_port, status_of
+from stand import EXAMPLES, PROGRAM, SYSTEM_PYTHON, TOP, Server, curl, feature, free_port, status_of
+
+# The greatest exposure of each unit, by systemd-analyze.
+EXPOSURE = {
+    "vtserve.service": 1.5,
+    "vtserve-nginx.service": 3.5,
+    "vtserve-publish.service": 1.5,
+    "vtserve-watch.service": 1.5,
+    "vtserve-backup.service": 1.0,
+}
+# What the units with timers run, of examples/.
+TASKS = {
+    "vtserve-publish.service": ["bash", "publish.sh", "URL", "--record", "record"],
+    "vtserve-watch.service": [SYSTEM_PYTHON, "watch.py", "URL", "--state", "state", "--record", "record", "--metrics", "metrics"],
+    "vtserve-backup.service": [SYSTEM_PYTHON, "map_backup.py", "save", "map.jsonl", "--disk", "DISK"],
+}
 
 
 def unit(name):
@@ -17,8 +32,9 @@ def unit(name):
 
 def judged(cases):
     """What systemd-analyze says of the units."""
-    for name, most in [("vtserve.service", 1.5), ("vtserve-nginx.service", 3.5)]:
-        child = subprocess.run(["systemd-analyze", "verify", unit(name)], capture_output=True, text=True)
+    for name, most in EXPOSURE.items():
+        timer = [unit(name.replace(".service", ".timer"))] if name in TASKS else []
+        child = subprocess.run(["systemd-analyze", "verify", unit(name), *timer], capture_output=True, text=True)
         # The commands of the units may not be installed here.
         faults = [line for line in child.stderr.splitlines() if "is not executable: No such file" not in line]
         cases.show(f"units: systemd-analyze verify {name}", faults, [])
@@ -69,6 +85,18 @@ def session(folder):
     return [status_of(reply) for reply in replies], calls, lines
 
 
+def tasks(cases, folder):
+    """Runs what the units with timers run, and shows the system calls that they don't allow."""
+    with Server(folder, "timed", 4096) as server:
+        for name, (program, script, *words) in TASKS.items():
+            trace = os.path.join(folder, name)
+            words = [{"URL": server.url, "DISK": server.disk}.get(word, word) for word in words]
+            ran = subprocess.run(["strace", "-f", "-o", trace, program, os.path.join(EXAMPLES, script), *words], cwd=folder, capture_output=True)
+            with open(trace, encoding="utf-8", errors="replace") as file:
+                calls = {found[1] for line in file if (found := re.match(r"\d+ +(\w+)\(", line))}
+            cases.show(f"units: what {name} runs, and system calls that it doesn't allow", (ran.returncode, sorted(calls - filtered(name))), (0, []))
+
+
 def units(cases, folder):
     """The units, and whether the filter of system calls has all that the process needs."""
     if not shutil.which("systemd-analyze"):
@@ -78,6 +106,7 @@ def units(cases, folder):
     if not shutil.which("strace"):
         cases.say("no strace: the filter of system calls isn't tried")
         return
+    tasks(cases, folder)
     statuses, calls, lines = session(folder)
     cases.show("units: a session under strace", statuses, [200] * 7)
     cases.show("units: system calls of serve that its unit doesn't allow", sorted(calls - filtered("vtserve.service")), [])

@@ -1,0 +1,64 @@
+"""A stand-in for what happens between a script and the server: requests are passed on, some after something else has happened, some without
+a reply."""
+import http.client
+import http.server
+import threading
+
+
+class Passes(http.server.BaseHTTPRequestHandler):
+    """Passes a request on."""
+
+    protocol_version = "HTTP/1.1"
+
+    def pass_on(self):
+        body = self.rfile.read(int(self.headers.get("content-length", 0)))
+        between = self.server.between
+        between.before(self.command, self.path)
+        connection = http.client.HTTPConnection("127.0.0.1", between.port, timeout=120)
+        connection.request(self.command, self.path, body)
+        reply = connection.getresponse()
+        content = reply.read()
+        connection.close()
+        if between.loses(self.command, self.path):
+            self.close_connection = True
+            return
+        self.send_response(reply.status)
+        if reply.status != 204:
+            self.send_header("content-length", str(len(content)))
+        self.end_headers()
+        self.wfile.write(content)
+
+    do_GET = do_PUT = do_POST = do_DELETE = pass_on
+
+    def log_message(self, *_):
+        pass
+
+
+class Between:
+    """A port whose requests are passed on to a server. `before(method, path)` is called first; a reply is lost if `loses(method, path)`."""
+
+    def __init__(self, server, before=lambda *_: None, loses=lambda *_: False):
+        self.port, self.before, self.loses = server.port, before, loses
+
+    def __enter__(self):
+        self.server = http.server.ThreadingHTTPServer(("127.0.0.1", 0), Passes)
+        self.server.between = self
+        self.url = f"http://127.0.0.1:{self.server.server_port}"
+        threading.Thread(target=self.server.serve_forever, daemon=True).start()
+        return self
+
+    def __exit__(self, *fault):
+        self.server.shutdown()
+        self.server.server_close()
+
+
+def once(method, path):
+    """Whether a request is the first of this method to this path."""
+    seen = []
+
+    def is_first(*asked):
+        if asked == (method, path):
+            seen.append(asked)
+        return asked == (method, path) and len(seen) == 1
+
+    return is_first
