@@ -26,8 +26,9 @@ export class Changed extends Error {
 
 /** A refusal with its cause. Nothing was changed. */
 function refusal(status, word) {
-    const known = Object.keys(WHY).find(key => word.startsWith(key)) ?? status;
-    return new Error(WHY[known] ? `${WHY[known]} (${word.split("\n")[0].slice(0, 60) || status})` : `${status} ${word}`);
+    // nginx refuses with a page of its own.
+    const why = WHY[Object.keys(WHY).find(key => word.startsWith(key)) ?? status], told = word.startsWith("<") ? "" : word.trim();
+    return new Error(why ? `${why} (${told || status})` : `${status} ${told}`);
 }
 
 /** A value of the server's JSON. An integer that a number of JavaScript would round is a BigInt. */
