@@ -9,6 +9,7 @@ use Rattle.reader.proofs.Steps.{failed, not_both, same_fault as same_kind, then_
 use Rattle.pb_wire.specs.declared.fault.FaultKind.{FaultKind}
 use Rattle.pb_wire.specs.declared.fault.WireFault.{WireFault}
 use Rattle.pb_wire.specs.declared.fault.FaultKind.TheVariants.{Cut, Varint, Number, WireType}
+use Rattle.pb_wire.specs.declared.limits.TheConstants.{MAX_FIELD}
 use Rattle.pb_wire.specs.Varint.{IsVarint, IsCut, IsOverlong, behind, read_in, varint_at}
 use Rattle.pb_wire.specs.Message.{Value, varint_value, eight_bytes, some_bytes, four_bytes, FieldData, IsField, IsMessage, front_at, value_at, field_at}
 use Rattle.pb_wire.specs.Items.{Item, item_then, items_in, items_of}
@@ -139,10 +140,10 @@ value_refused wire bytes d (four_cut is w short) = rw (is, w, lt-ltb (length byt
 
 -- ---- fields
 
-not_numbered : (n : ℕ) → (eqb n 0 || ltb 536870911 n) ≡ true → IsFieldNumber n → ⊥
+not_numbered : (n : ℕ) → (eqb n 0 || ltb MAX_FIELD n) ≡ true → IsFieldNumber n → ⊥
 not_numbered n e h =
     let none : eqb n 0 ≡ false = ne_eqb n 0 (λ z. absurd (omega (arith, z, h.0))) in
-    let low : ltb 536870911 n ≡ false = le-ltb _ _ h.1 in
+    let low : ltb MAX_FIELD n ≡ false = le-ltb _ _ h.1 in
     absurd (false≢true (rw (none, low) at e))
 
 field_faults : (bytes : List ℕ) (d : FaultKind) → field_at bytes ≡ Err d → FieldHas bytes d
@@ -151,7 +152,7 @@ field_faults bytes d e =
     elim (then_err (varint_at bytes) (behind_key bytes) d e) [
       | inl h ↦ number_faults bytes d h key_cut key_overlong
       | inr h ↦ let p = number_parts bytes h.0 h.1 in
-          elim (chosen ((eqb (h.0.0 / 8) 0) || ltb 536870911 (h.0.0 / 8)) _ _ _ h.2) [
+          elim (chosen ((eqb (h.0.0 / 8) 0) || ltb MAX_FIELD (h.0.0 / 8)) _ _ _ h.2) [
             | inl k ↦ no_number (sym (same_kind {A = FieldData × ℕ} Number d k.1)) (take h.0.1 bytes) (drop h.0.1 bytes) h.0.0 p.0 p.1
                 (not_numbered (h.0.0 / 8) k.0)
             | inr k ↦ elim (then_err (value_at (h.0.0 % 8) (drop h.0.1 bytes)) (made_field h.0) d k.1) [
@@ -168,14 +169,14 @@ field_refused bytes d (key_cut is cut) = rw (is, is_cut bytes cut) refl
 field_refused bytes d (key_overlong is long) = rw (is, is_overlong bytes long) refl
 field_refused bytes d (no_number is key rest k parts spelled none) =
     let read : varint_at bytes ≡ Ok (k, length key) = ap varint_at parts ∙ spelling_is_found key rest k spelled in
-    elim (cases_Bool (eqb (k / 8) 0 || ltb 536870911 (k / 8))) [
+    elim (cases_Bool (eqb (k / 8) 0 || ltb MAX_FIELD (k / 8))) [
       | inl b ↦ rw (is, read, b) refl
       | inr b ↦ absurd (none (is_numbered (k / 8) b))
     ]
 field_refused bytes d (at_value key rest k parts spelled number has) =
     let read : varint_at bytes ≡ Ok (k, length key) = ap varint_at parts ∙ spelling_is_found key rest k spelled in
     let behind_it : drop (length key) bytes ≡ rest = ap (drop (length key)) parts ∙ drop_at key rest (length key) refl in
-    elim (cases_Bool (eqb (k / 8) 0 || ltb 536870911 (k / 8))) [
+    elim (cases_Bool (eqb (k / 8) 0 || ltb MAX_FIELD (k / 8))) [
       | inl b ↦ absurd (not_numbered (k / 8) b number)
       | inr b ↦ rw (read, b, behind_it, value_refused (k % 8) rest d has) refl
     ]

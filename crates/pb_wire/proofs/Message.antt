@@ -8,6 +8,7 @@ use Rattle.reader.specs.Reading.{◌>>=◌}
 use Rattle.reader.proofs.Steps.{then_ok, guard_ok, same_value}
 use Rattle.pb_wire.specs.declared.fault.FaultKind.{FaultKind}
 use Rattle.pb_wire.specs.declared.fault.FaultKind.TheVariants.{Number}
+use Rattle.pb_wire.specs.declared.limits.TheConstants.{MAX_FIELD}
 use Rattle.pb_wire.specs.Varint.{IsGroups, varint_at}
 use Rattle.pb_wire.specs.Message.{Value, FieldData, value_at, field_at}
 use Rattle.pb_wire.specs.Faulty.{IsFieldNumber}
@@ -24,17 +25,17 @@ varint_len bytes n e = let h = found_is bytes n.0 n.1 e in at_least n.1 h.1.grou
 
 -- ---- a field in its parts
 
-pub is_numbered : (n : ℕ) → (eqb n 0 || ltb 536870911 n) ≡ false → IsFieldNumber n
+pub is_numbered : (n : ℕ) → (eqb n 0 || ltb MAX_FIELD n) ≡ false → IsFieldNumber n
 is_numbered n e =
-    let h = or_parts (eqb n 0) (ltb 536870911 n) e in
+    let h = or_parts (eqb n 0) (ltb MAX_FIELD n) e in
     let not0 = eqb-false n 0 h.0 in
-    (omega (arith, not0), ltb-false 536870911 n h.1)
+    (omega (arith, not0), ltb-false MAX_FIELD n h.1)
 
 abbrev pub made_field : ℕ × ℕ → Value × ℕ → Result (FieldData × ℕ) FaultKind
 made_field key value = Ok (record { number = key.0 / 8; value = value.0 }, key.1 + value.1)
 
 abbrev pub behind_key : List ℕ → ℕ × ℕ → Result (FieldData × ℕ) FaultKind
-behind_key bytes key = cond ((eqb (key.0 / 8) 0) || ltb 536870911 (key.0 / 8)) (Err Number) (value_at (key.0 % 8) (drop key.1 bytes) >>= made_field key)
+behind_key bytes key = cond ((eqb (key.0 / 8) 0) || ltb MAX_FIELD (key.0 / 8)) (Err Number) (value_at (key.0 % 8) (drop key.1 bytes) >>= made_field key)
 
 -- the key and the value of which a field was made
 pub record FieldParts (bytes : List ℕ) (x : FieldData × ℕ) : Type 0 where
@@ -49,7 +50,7 @@ pub field_parts : (bytes : List ℕ) (x : FieldData × ℕ) → field_at bytes �
 unfolding field_at
 field_parts bytes x e =
     let key = then_ok (varint_at bytes) (behind_key bytes) x e in
-    let rest = guard_ok ((eqb (key.0.0 / 8) 0) || ltb 536870911 (key.0.0 / 8)) Number
+    let rest = guard_ok ((eqb (key.0.0 / 8) 0) || ltb MAX_FIELD (key.0.0 / 8)) Number
     (value_at (key.0.0 % 8) (drop key.0.1 bytes) >>= made_field key.0) x key.2 in
     let value = then_ok (value_at (key.0.0 % 8) (drop key.0.1 bytes)) (made_field key.0) x rest.1 in
     record {

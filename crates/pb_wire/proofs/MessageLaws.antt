@@ -9,6 +9,7 @@ use Rattle.reader.proofs.Steps.{then_ok, guard_ok, same_value, not_both}
 use Rattle.pb_wire.specs.declared.fault.FaultKind.{FaultKind}
 use Rattle.pb_wire.specs.declared.fault.WireFault.{WireFault}
 use Rattle.pb_wire.specs.declared.fault.FaultKind.TheVariants.{Cut, WireType}
+use Rattle.pb_wire.specs.declared.limits.TheConstants.{MAX_FIELD}
 use Rattle.pb_wire.specs.Varint.{IsVarint, varint_at}
 use Rattle.pb_wire.specs.Message.{Value, varint_value, eight_bytes, some_bytes, four_bytes, FieldData, wire_type, SpellsValue, IsField, IsMessage, front_at}
 use Rattle.pb_wire.specs.Message.{value_at, field_at}
@@ -147,7 +148,7 @@ field_again bytes rest f h =
     let number : (8 * f.number + wire_type f.value) / 8 ≡ f.number = omega arith in
     let type : (8 * f.number + wire_type f.value) % 8 ≡ wire_type f.value = omega arith in
     let not0 : eqb f.number 0 ≡ false = ne_eqb f.number 0 (λ e. absurd (omega (arith, h.number.0))) in
-    let low : ltb 536870911 f.number ≡ false = le-ltb _ _ h.number.1 in
+    let low : ltb MAX_FIELD f.number ≡ false = le-ltb _ _ h.number.1 in
     let len : length h.key + length h.value ≡ length bytes = omega (arith, ap length h.parts, length-append h.key h.value) in
     ap field_at regrouped ∙ rw (read, number, type, behind, not0, low, value_again h.value rest f.value h.value_is, len) refl
 
