@@ -19,6 +19,7 @@ server doesn't answer.
 """
 import argparse
 import os
+import sqlite3
 import sys
 from collections import Counter
 
@@ -297,6 +298,9 @@ def main():
         return checkout(words, Client(words.url)) if words.task == "checkout" else checkin(words)
     except Unusable as fault:
         print(fault, file=sys.stderr)
+        return 2
+    except (OSError, sqlite3.Error) as fault:
+        print(f"{words.file}: {fault}; run it again: nothing is made twice", file=sys.stderr)
         return 2
     except (NoAnswer, Stopped) as fault:
         print(fault, file=sys.stderr)

@@ -158,6 +158,7 @@ class Checkout:
             raise Unusable(f"there is no file {path}")
         self.file = sqlite3.connect(path)
         try:
+            self.lock(path)
             self.told = {name: json.loads(value) for name, value in self.file.execute("SELECT * FROM gpkg_vtserve_checkout")}
             self.layers = {name: rest for name, *rest in self.file.execute("SELECT * FROM gpkg_vtserve_tables")}
             self.columns = defaultdict(dict)
@@ -170,6 +171,14 @@ class Checkout:
         self.base = {(name, fid): base_of(json.loads(pieces)) for name, fid, _, pieces in kept if pieces != NOTHING}
         self.noted = {(name, fid): number for name, fid, number, pieces in kept if pieces == NOTHING}
         self.unreadable = []
+
+    def lock(self, path):
+        """Sees that the file can be written, before anything is sent."""
+        try:
+            self.file.execute("BEGIN IMMEDIATE")
+            self.file.rollback()
+        except sqlite3.OperationalError as fault:
+            raise Unusable(f"{path} can't be written ({fault}): save the edits in the other program, and close the file there") from fault
 
     def rows(self):
         """The rows that were changed, are new, or are gone."""

@@ -2,6 +2,7 @@
 sent back. Somebody else edits the map meanwhile."""
 import json
 import os
+import sqlite3
 import subprocess
 
 from pages import town
@@ -197,5 +198,10 @@ class Desk:
         self.show("a layer that is gone isn't deleted without a word", gis("checkin", emptied), (2, [told]))
         self.show("nothing was sent", self.edits(), edit)
         self.show("a file that isn't there", gis("checkin", emptied + ".no"), (2, [f"there is no file {emptied}.no"]))
+        with sqlite3.connect(self.file, isolation_level=None) as other:
+            other.execute("BEGIN EXCLUSIVE")
+            status, lines = gis("checkin", self.file)
+            other.execute("ROLLBACK")
+        self.show("a file that another program writes just now", (status, lines[0].partition(" (")[0]), (2, f"{self.file} can't be written"))
         status, lines = gis("checkin", self.file, "--url", "http://127.0.0.1:1")
         self.show("no server", (status, lines[0].partition(": ")[0]), (3, "no reply of http://127.0.0.1:1"))
