@@ -133,7 +133,7 @@ codec_next_number done = codec_if number_at eight_bytes NumberFits (EndsWithin 8
     (λ id is t. (is, new_from done id t))
     (λ id is. (is.0, is_new_from done id is.1))
 
--- the text behind the kind
+-- the text after the kind
 abbrev change_body : ChangeData → List ℕ
 change_body (put id f) = eight_bytes id ++ spelled_feature f
 change_body (delete id) = eight_bytes id
@@ -142,7 +142,7 @@ abbrev feature_text : ChangeData → List ℕ
 feature_text (put id f) = spelled_feature f
 feature_text (delete id) = []
 
--- what the table allows, of any length, behind these changes
+-- what the table allows, of any length, after these changes
 abbrev pub IsOfTable : List ChangeData → ChangeData → Type 0
 IsOfTable done (put id f) = IsNextNumber done id × IsFeature f
 IsOfTable done (delete id) = IsNextNumber done id

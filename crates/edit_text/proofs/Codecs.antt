@@ -1,4 +1,4 @@
--- Ways to read, each tied to what it reads: what is found stands there, what stands there is found, and bytes are cut
+-- Ways to read, each tied to what it reads: what is found is there, what is there is found, and bytes are cut
 -- exactly where they end inside.
 use Rattle.std.proofs.Common.{◌≡◌, ℕ, ◌+◌, ◌<◌, ◌≤◌, ◌⊎◌, inl, inr, Bool, true, false, List, ◌++◌}
 use Rattle.std.proofs.Common.{length, get_or, Ok, Err, refl, sym, ap, subst, ◌∙◌, append_assoc, cond, lit<}

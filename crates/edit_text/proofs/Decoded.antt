@@ -1,4 +1,4 @@
--- What is decoded, in terms of what stands in front.
+-- What is decoded, in terms of what is in front.
 use Rattle.std.proofs.Common.{◌≡◌, ◌≢◌, ℕ, ◌+◌, ◌-◌, ◌<◌, ◌≤◌, ◌⊎◌, inl, inr, List, ◌++◌, length, take}
 use Rattle.std.proofs.Common.{drop, Result, Ok, Err, cond, min, refl, sym, ap, ◌∙◌, length-append, append_assoc, arith}
 use Rattle.std.proofs.lemmas.Bool.{cases_lt, le-ltb, lt-ltb}
@@ -38,7 +38,7 @@ is_memory _ = inr (λ e. cc)
 front_of : (front rest : List ℕ) (n k : ℕ) → n ≡ length front + k → take n (front ++ rest) ≡ front ++ take k rest
 front_of front rest n k e = ap (λ m. take m (front ++ rest)) e ∙ take-append-add front rest k
 
--- ---- texts of at most so many bytes, tied to what is read
+-- ---- texts of at most a given length, tied to what is read
 
 -- The bytes that are cut.
 abbrev CutWithin : ℕ → (List ℕ → Type 0) → List ℕ → Type 0

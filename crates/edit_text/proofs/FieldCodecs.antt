@@ -46,7 +46,7 @@ codec_byte = record {
   ends = byte_ends;
 }
 
--- ---- so many bytes
+-- ---- a given number of bytes
 
 front_short : (n : ℕ) (bytes : List ℕ) → length bytes < n → front_at n bytes ≡ Err Cut
 unfolding front_at

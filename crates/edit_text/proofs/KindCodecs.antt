@@ -8,7 +8,7 @@ use Rattle.edit_text.specs.Cut.{EndsWithin, EndsBehindKind}
 use Rattle.edit_text.proofs.Codecs.{AreBytes, Codec, bytes_behind}
 use Rattle.edit_text.proofs.FieldCodecs.{codec_byte}
 
--- what is read behind a kind of at least so much, tied to what is read with the kind
+-- what is read after a kind of at least this, tied to what is read with the kind
 pub record KindCodec {A : Type 0} (least : ℕ) (read : ℕ → List ℕ → Part A) (spell : A → List ℕ) (Is : A → Type 0) (Ends : List ℕ → Type 0) : Type 0 where
   pub found : (k : ℕ) (bytes : List ℕ) (x : A) (rest : List ℕ) → AreBytes bytes → read k bytes ≡ Ok (x, rest) → Is x × (k ∷ bytes ≡ spell x ++ rest)
   pub reads : (x : A) (rest : List ℕ) → Is x → (k : ℕ) × (bytes : List ℕ) × (least ≤ k) × (spell x ++ rest ≡ k ∷ bytes) × (read k bytes ≡ Ok (x, rest))

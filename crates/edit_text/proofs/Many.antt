@@ -1,4 +1,4 @@
--- A loop that reads so many.
+-- A loop that reads a given number of parts.
 use Rattle.std.proofs.Common.{◌≡◌, ℕ, zero, suc, ◌+◌, ◌-◌, ◌<◌, ◌≤◌, List, [], ◌∷◌, ◌++◌, Ok, Err, refl, subst, sym, arith}
 use Rattle.std.specs.Prelude.{IsOk}
 use Rattle.reader.specs.Reading.{◌>>=◌, repeated}
@@ -31,7 +31,7 @@ module _ {A : Type 0} (read : List A → List ℕ → Part A) where
       → count ≤ i → many_at read (count - i) done bytes ≡ whole → whole ≡ Ok (done, bytes)
   many_done count i done bytes whole h so_far = repeated_done (next_at read) count i (done, bytes) whole h so_far
 
--- a fact of the bytes at which the first begins, where one behind it was reached, or is it
+-- a fact of the bytes at which the first begins, if a later one was reached, or is it
 pub first_has : (Has : List ℕ → Type 0) (i : ℕ) (rest bytes : List ℕ) → (i ≡ 0 → rest ≡ bytes) → (0 < i → Has bytes) → Has rest → Has bytes
 first_has Has zero rest bytes start first has = subst Has (start refl) has
 first_has Has (suc i) rest bytes start first has = first (omega arith)

@@ -1,4 +1,4 @@
--- So many in a row, tied to what is read.
+-- A given number of parts in a row, tied to what is read.
 use Rattle.std.proofs.Common.{◌≡◌, ℕ, zero, suc, ◌<◌, List, [], ◌∷◌, ◌++◌, length, Ok, Err, refl, sym, ap, subst, ◌∙◌, All, append_assoc, length-append, arith}
 use Rattle.std.specs.List.{flat_map}
 use Rattle.std.proofs.lemmas.List.{append-nil, get_or_append_left}
@@ -49,7 +49,7 @@ many_found read spell Are Ends steps (suc n) done bytes whole rest are h e =
     (λ x behind are' h' e'. many_found read spell Are Ends steps n (done ++ x ∷ []) behind whole rest are' h' e')
     (read done bytes) refl e
 
--- ---- what stands there
+-- ---- what is there
 
 many_reads : {A : Type 0} (read : List A → List ℕ → Part A) (spell : A → List ℕ) (Are : List A → Type 0) (Ends : List A → List ℕ → Type 0)
     → Steps read spell Are Ends

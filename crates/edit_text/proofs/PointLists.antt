@@ -60,7 +60,7 @@ many_none : (count : ℕ) (done : List World) (bytes : List ℕ) → length byte
 unfolding repeated
 many_none count done bytes l = ap (goes_on (λ _. point_at) count done) (point_cut bytes l)
 
--- the bytes of so many points are there
+-- the bytes of this number of points are there
 pub points_whole : (count : ℕ) (done : List World) (bytes : List ℕ) → 8 * count ≤ length bytes → IsOk (many_at (λ _. point_at) count done bytes)
 unfolding repeated
 points_whole zero done bytes l = refl

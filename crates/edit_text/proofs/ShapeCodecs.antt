@@ -110,7 +110,7 @@ codec_polygons = codec_list 1 (lines_at MIN_RING) (spelled_list spelled_line) Is
 
 -- ---- kinds
 
--- the text behind the kind
+-- the text after the kind
 abbrev shape_text : GeometryData → List ℕ
 shape_text (world_points points) = spelled_line points
 shape_text (world_lines lines) = spelled_list spelled_line lines

@@ -11,7 +11,7 @@ flat_map-map : {X A : Type 0} (spell : A → List ℕ) (f : X → A) (xs : List 
 flat_map-map spell f [] = refl
 flat_map-map spell f (x ∷ xs) = ap (λ r. spell (f x) ++ r) (flat_map-map spell f xs)
 
--- the texts of the first so many stand behind what was there, and a fact holds of each of these
+-- the texts of the first n are appended to what was there, and a fact holds of each of these
 pub record IsPut {X A : Type 0} (spell : A → List ℕ) (P : A → Type 0) (f : X → A) (xs : List X) (i : ℕ) (front out : List ℕ) : Type 0 where
   pub text : out ≡ front ++ flat_map (λ x. spell (f x)) (take i xs)
   pub types : All (λ x. P (f x)) (take i xs)

@@ -42,7 +42,7 @@ codec_bits = codec_if eight_at eight_bytes (λ n. n < 2 ^ 64) (EndsWithin 8) (λ
 
 -- ---- values
 
--- the text behind the kind
+-- the text after the kind
 abbrev value_text : ValueData → List ℕ
 value_text (text_value bytes) = two_bytes (length bytes) ++ bytes
 value_text (natural_value n) = eight_bytes n

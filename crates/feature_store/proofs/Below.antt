@@ -22,7 +22,7 @@ use Rattle.feature_store.specs.Tiles.{IsTile, AreTiles, AreTilesBelow, ShowsNoth
 
 -- ---- ascending numbers
 
--- a number behind lower ones
+-- a number after lower ones
 sorted_push : (ns : List ℕ) (n : ℕ) → IsStrictlySortedBy nat_cmp ns → All (λ k. k < n) ns → IsStrictlySortedBy nat_cmp (ns ++ n ∷ [])
 unfolding IsStrictlySortedBy
 sorted_push [] n s low = (tt, tt)

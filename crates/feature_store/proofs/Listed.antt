@@ -103,7 +103,7 @@ shown_among z x y (e ∷ m) =
 
 module _ (m : FeatureMap) (z x y : ℕ) (g : Gathered) (cuts : (name : List ℕ) → gathered_for g name ≡ cuts_of m name z x y)
     (ordered : IsOrdered (λ a b. slice_cmp nat_cmp a.now b.now) g) where
-  -- what a name finds is what stands there
+  -- what a name finds is what is there
   abbrev pub IsFound : Bor (List ℕ) × Vec TileFeature Global → Type 0
   IsFound e = lookup (is_name e.0.now) g.entries ≡ Some e.1
 

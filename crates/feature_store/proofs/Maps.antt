@@ -45,7 +45,7 @@ lookup_set_same (e ∷ m) id f =
     (λ h. subst Q (sym (set_step id f e m Greater (greater id e.0 h)))
     (lookup_on id e (insert_entry nat_cmp m id f) (λ s. omega arith) ∙ lookup_set_same m id f))
 
--- one entry more, or another one, changes nothing where both give the same behind it
+-- one entry more, or another one, changes nothing if both give the same after it
 lookup_past : (n : ℕ) (e : ℕ × FeatureData) (m k : FeatureMap) → lookup (is_at (nat_cmp n)) m ≡ lookup (is_at (nat_cmp n)) k
     → lookup (is_at (nat_cmp n)) (e ∷ m) ≡ lookup (is_at (nat_cmp n)) (e ∷ k)
 lookup_past n e m k h = ap (λ v. cond (is_at (nat_cmp n) e.0) (Some e.1) v) h

@@ -72,7 +72,7 @@ snapshot_of_first e m = refl
 pub none_put : (front : List ℕ) → front ≡ front ++ snapshot []
 none_put front = sym (ap (λ r. front ++ r) snapshot_none ∙ append-nil front)
 
--- behind the snapshot of a map stands the text of one entry more
+-- the snapshot of a map, and then the text of one entry more
 pub snapshot_more : (front : List ℕ) (m : FeatureMap) (e : ℕ × FeatureData) → (front ++ snapshot m) ++ entry_text e ≡ front ++ snapshot (m ++ e ∷ [])
 unfolding snapshot
 snapshot_more front m e = flat_map_more entry_text front m e

@@ -205,7 +205,7 @@ some_zooms (Some s) = refl
 -- ---- all of it
 
 module _ (m : FeatureMap) (g : Layers) (sums : SumsUp g m) where
-  -- what a name finds is what stands there, and its keys ascend
+  -- what a name finds is what is there, and its keys ascend
   abbrev IsFound : Bor (List ℕ) × LayerSummary → Type 0
   IsFound e = layer_at g e.0.now ≡ Some e.1
 

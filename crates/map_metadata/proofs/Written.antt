@@ -1,4 +1,4 @@
--- Layers as JSON: members that are put in the order of their keys stand in that order, and no number is a float.
+-- Layers as JSON: members that are put in the order of their keys are in that order, and no number is a float.
 use Rattle.std.proofs.Common.{◌≡◌, ◌≤◌, ℕ, false, Some, arith, List, [], ◌∷◌, ◌++◌, map, Less, Greater, nat_cmp, Bor}
 use Rattle.std.proofs.Common.{Result, Ok, Err, IfOk, refl, sym, ap, subst, ◌∙◌}
 use Rattle.std.specs.Ordering.{ordering_reverse}

@@ -82,7 +82,7 @@ sub_is u v u_within v_within =
 
 -- ---- the area of points that are left out
 
--- twice the area from a point along others to the first one, behind a sum
+-- twice the area from a point along others to the first one, added to a sum
 abbrev pub area_along : ℤ → Pt → List Pt → Pt → ℤ
 area_along s from ps first = fold ◌+ℤ◌ s (map cross (segments (from ∷ (ps ++ first ∷ []))))
 
@@ -173,7 +173,7 @@ ring_with_area ps qs area same is some =
 
 -- ---- the sum
 
--- a sum of so many parts, and one more
+-- a sum of n parts, and one more
 pub sum_is : (i : ℕ) (s u : ℤ) → i < 2 ^ 29 → neg_ℤ (pos (2 ^ 91 * i)) ≤ℤ s → s ≤ℤ pos (2 ^ 91 * i) → IsWithin 91 u
     → to_z w128 (of_z w128 (s +ℤ to_z w128 (of_z w128 u))) ≡ s +ℤ u
 sum_is i s u few low high within =

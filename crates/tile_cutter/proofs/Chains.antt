@@ -50,7 +50,7 @@ joined_step chain s ss = go (is_kept s)
     go true = joined_kept chain s (slice_split is_left_out ss)
     go false = joined_ended chain (slice_split is_left_out ss)
 
--- the segments behind a point that is there or not
+-- the segments after a point that is there or not
 abbrev pub segments_behind : Option Pt → List Pt → List Segment
 segments_behind None ps = segments ps
 segments_behind (Some p) ps = segments (p ∷ ps)

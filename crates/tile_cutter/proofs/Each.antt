@@ -28,7 +28,7 @@ pub each_all : {X Y : Type 0} (P : Y → Type 0) (f : X → List Y) (xs : List X
 each_all P f [] all = All-nil P
 each_all P f (x ∷ xs) all = All-append P (f x) (flat_map f xs) (All-head (λ y. All P (f y)) x xs all) (each_all P f xs (All-tail (λ y. All P (f y)) x xs all))
 
--- what holds of what each item stands for
+-- what holds of what each item gives
 pub item_keeps : {V X : Type 0} (g : V → X) (P : X → Type 0) (vs : List V) (i : ℕ) (v : V) → i < length vs → v ≡ get_or vs i v → All P (map g vs) → P (g v)
 item_keeps g P vs i v lt item all =
     let mapped_lt : i < length (map g vs) = omega (arith, length-map vs g, lt) in

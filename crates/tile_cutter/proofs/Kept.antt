@@ -86,7 +86,7 @@ length_ring zoom column row ps =
     go true less = omega (arith, length-take (length (quantised_points zoom ps) - 1) (tile_points zoom column row ps))
     go false less = less
 
--- ---- where a point of the world stands
+-- ---- the coordinates of a point of the world
 
 -- a coordinate of the world, quantised
 pub quantised_below : (zoom w : ℕ) → zoom ≤ MAX_ZOOM → w < 2 ^ 32 → w / 2 ^ (WORLD_ZOOM - zoom) < 2 ^ 31
@@ -104,7 +104,7 @@ pub stands_in_tile : (zoom column row : ℕ) → zoom ≤ MAX_ZOOM → (p : Worl
 stands_in_tile zoom column row allowed p inside =
     record { across = side_position zoom column p.x allowed inside.0; down = side_position zoom row p.y allowed inside.1 }
 
--- a point of a tile stands near
+-- a point of a tile is near
 pub small_of_tile : (column row : ℕ) → column < 2 ^ 32 → row < 2 ^ 32 → (p : Pt) → IsOfTile column row p → IsSmall p
 small_of_tile column row across down p is = record {
   across = record { low = omega (arith, ints, is.across.low, is.across.high); high = omega (arith, ints, is.across.low, is.across.high) };

@@ -205,7 +205,7 @@ before_first at least u lt le =
     let far : EXTENT * at + (EXTENT + MARGIN) < least = omega (arith, ceil.1, lt) in
     omega (arith, ints)
 
--- behind the last
+-- after the last
 behind_last : (zoom at greatest u : ℕ) → last_met zoom greatest < at → at < 2 ^ zoom → u ≤ greatest → (pos u -ℤ pos (EXTENT * at)) <ℤ box_start
 behind_last zoom at greatest u lt inside le =
     let far : greatest + MARGIN < EXTENT * at = omega (arith, lt) in
@@ -213,7 +213,7 @@ behind_last zoom at greatest u lt inside le =
 
 -- ---- the law
 
--- in a column, or a row, before the first or behind the last that is met nothing is shown
+-- in a column, or a row, before the first or after the last that is met nothing is shown
 beside : (g : GeometryData) (zoom column row at first last : ℕ) (along : World → ℕ) (Behind Before : Pt → Type 0) → IsSide Behind → IsSide Before
     → ((p : World) → box_end <ℤ (pos (along p) -ℤ pos (EXTENT * at)) → Behind (stands_at zoom column row p))
     → ((p : World) → (pos (along p) -ℤ pos (EXTENT * at)) <ℤ box_start → Before (stands_at zoom column row p))

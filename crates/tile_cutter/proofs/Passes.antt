@@ -16,12 +16,12 @@ use Rattle.tile_cutter.specs.Cut.{quantised, is_same, position_in, tile_points, 
 use Rattle.tile_cutter.specs.Passes.{is_same_position, repeats, is_shown}
 use Rattle.tile_cutter.specs.Range.{IsOfTile}
 
--- the points of a tile that are left, behind one that is there or not
+-- the points of a tile that are left, after one that is there or not
 unfoldable pub left_after : Option Pt → List Pt → List Pt
 left_after before [] = []
 left_after before (p ∷ ps) = cond (repeats before p) (left_after (Some p) ps) (p ∷ left_after (Some p) ps)
 
--- where a point of the world stands
+-- the coordinates of a point of the world
 abbrev pub stands_at : ℕ → ℕ → ℕ → World → Pt
 stands_at zoom column row p = position_in column row (quantised zoom p)
 
@@ -29,7 +29,7 @@ side_same : (a b k : ℕ) → int_eq (pos a -ℤ pos k) (pos b -ℤ pos k) ≡ (
 side_same a b k = same_from_decides (int_eq (pos a -ℤ pos k) (pos b -ℤ pos k)) (a == b) (Decides-int_eq (pos a -ℤ pos k) (pos b -ℤ pos k))
     (Decides-like (a == b) (λ (e : a ≡ b). omega (arith, ints)) (λ (e : pos a -ℤ pos k ≡ pos b -ℤ pos k). omega (arith, ints)) (Decides-eqb a b))
 
--- two points stand at one position where they are one point
+-- two points have one position if they are one point
 pub position_same : (column row : ℕ) (p q : World) → is_same_position (position_in column row p) (position_in column row q) ≡ is_same p q
 position_same column row p q = rw (side_same p.x q.x (EXTENT * column), side_same p.y q.y (EXTENT * row)) refl
 
@@ -43,7 +43,7 @@ same_place p q e =
     let both = (Decides-and (int_eq p.x q.x) (int_eq p.y q.y) (Decides-int_eq p.x q.x) (Decides-int_eq p.y q.y)).0 e in
     λ i. record { x = both.0 i; y = both.1 i }
 
--- what stands behind a point
+-- what comes after a point
 positions_after : (column row : ℕ) (k : World) (ps : List World)
     → map (position_in column row) (dedup_from is_same k ps)
     ≡ position_in column row k ∷ left_after (Some (position_in column row k)) (map (position_in column row) ps)
@@ -92,7 +92,7 @@ stands_end F zoom column row ps i whole past so_far = ap (λ r. F (map (stands_a
 
 -- ---- a pass that keeps points
 
--- what such a pass leaves of a list, behind a point that is there or not: each point, where the test says so
+-- what such a pass leaves of a list, after a point that is there or not: each point that passes the test
 pub record IsPass (keeps : Option Pt → Pt → Bool) (left : Option Pt → List Pt → List Pt) : Type 0 where
   pub none : (before : Option Pt) → left before [] ≡ []
   pub more : (before : Option Pt) (p : Pt) (ps : List Pt) → left before (p ∷ ps) ≡ cond (keeps before p) (p ∷ left (Some p) ps) (left (Some p) ps)

@@ -1,4 +1,4 @@
--- How many integers spell what a tile shows of a geometry: not more than the geometry's text has bytes.
+-- The number of integers that encode what a tile shows of a geometry: at most the bytes of the geometry's text.
 use Rattle.std.proofs.Common.{◌≡◌, ℕ, ◌+◌, ◌*◌, ◌≤◌, suc, pos, Bool, true, false, cond, not, ◌&&◌, List, [], ◌∷◌, ◌++◌, map, length, Some, refl, subst, arith}
 use Rattle.std.specs.Prelude.{filter, int_lt}
 use Rattle.std.specs.List.{flat_map, slice_split, onto_first}
@@ -36,7 +36,7 @@ unfolding line_spelled
 length_line closed from [] = omega arith
 length_line closed from (p ∷ ps) = omega (arith, length-append (steps p ps) (close_spelled closed), length_steps p ps, length_close closed)
 
--- at most so many integers spell lists of points, one after the other
+-- a bound on the integers that encode lists of points, one after the other
 abbrev pub most_for : List (List Pt) → ℕ
 most_for [] = 0
 most_for (l ∷ ls) = 3 + 2 * length l + most_for ls

@@ -44,7 +44,7 @@ lines_spell closed column row from (l ∷ ls) from_is all =
           (All-tail (IsDrawable closed column row) l ls all),
     )
 
--- the origin stands in the world of each tile
+-- the origin is in the world of each tile
 origin_of_tile : (zoom column row : ℕ) → zoom ≤ MAX_ZOOM → column < 2 ^ zoom → row < 2 ^ zoom → IsOfTile column row origin
 origin_of_tile zoom column row allowed across down =
     let columns = side_low zoom column allowed across in

@@ -117,7 +117,7 @@ polygon_hidden zoom column row outer inners e = go (meets_box (tile_ring zoom co
     go false true none = refl
     go false false none = refl
 
--- the rings of a polygon whose outer ring is shown, behind others
+-- the rings of a polygon whose outer ring is shown, after others
 pub rings_appended : (zoom column row : ℕ) (polygon : List (List World)) (outer : List World) (inners : List (List World)) (ring : List Pt)
     (done more all : List (List Pt))
     → polygon ≡ outer ∷ inners → shown_ring Outer (tile_ring zoom column row outer) ≡ Some ring → more ≡ done ++ ring ∷ []
