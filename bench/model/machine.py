@@ -324,7 +324,9 @@ class Service:
             "features": len(self.map),
             "generation": root.generation,
             "journal": {"places": layout.places, "used": self.used},
+            "last": max(self.map, default=None),
             "left": going.sectors - going.written + 1 if going else None,
+            "published": root.edits,
             "sectors": layout.sectors,
             "version": self.version,
         }

@@ -172,6 +172,8 @@ def other_members():
     other_kinds = [{"more": 1}, {"layer": 7}, {"minzoom": "0"}, {"maxzoom": 256}, {"maxzoom": -1}, {"tags": []}, {"geometry": []}]
     yield from (body_of(seen(deletes(7), {**FEATURE, **members})) for members in [*other_kinds, {"geometry": {"points": 5}}])
     yield spelled({"changes": [sets(7)], "was": [None]})
+    yield "what was seen is nested so deep that the body is 127 deep, and 128"
+    yield from (b'{"changes":[{"delete":7,"was":' + b"[" * depth + b"]" * depth + b"}]}" for depth in (124, 125))
     yield "a number that is none"
     yield from (b'{"changes":[{"delete":' + text + b',"was":null}]}' for text in NO_NUMBERS)
     yield from (b'{"changes":[{"put":' + text + b',"feature":' + BODY + b',"was":null}]}' for text in NO_NUMBERS)

@@ -19,7 +19,7 @@ use Rattle.feature_model.specs.Seen.{SeenData}
 use Rattle.feature_store.specs.Store.{FeatureMap}
 use Rattle.tile_service.specs.Machine.{Happening, single, batched, recorded_in, recorded_change, edit, begin, step, cancel}
 use Rattle.tile_service.specs.Machine.{got, tile, look, look_from, metadata, read}
-use Rattle.tile_service.specs.Runs.{begin_and_steps, TakesAll}
+use Rattle.tile_service.specs.Runs.{begin_and_steps, IsUnfinished, TakesAll}
 use Rattle.tile_service.specs.Seen.{IsAsSeen}
 use Rattle.tile_service.specs.Service.{ServiceView, status_of}
 use Rattle.tile_service.specs.declared.publishing_whole.Published.{Published}
@@ -122,12 +122,12 @@ last_outcome (Ok p) = Ok 0
 last_outcome (Err fault) = Err fault
 
 -- The reply reports the generation and the archive that are installed, and the last edit before the publication. With the fault Device
--- the disk has failed.
+-- the disk has failed. Each call before the last leaves something.
 abbrev pub MeansPublish : (failed : Type 0) → (old new : Status) → ReplyView → List Happening → Type 0
 MeansPublish failed old new reply happenings = (outcome : Result Published ServiceFault) × (reply ≡ published_reply outcome)
     × IfErr outcome (λ fault. fault ≡ Device → failed)
     × IfOk outcome (λ p. p ≡ record { generation = new.generation; edits = old.edits; archive_len = new.archive_len })
-    × (before : List (Result ℕ ServiceFault)) × (happenings ≡ begin_and_steps (before ++ last_outcome outcome ∷ []))
+    × (before : List (Result ℕ ServiceFault)) × All IsUnfinished before × (happenings ≡ begin_and_steps (before ++ last_outcome outcome ∷ []))
 
 -- ---- the archive
 

@@ -212,17 +212,22 @@ map_part s = codes ",\"edits\":" ++ decimal s.edits ++ codes ",\"features\":" ++
 unfoldable pub journal_part : Status → List ℕ
 journal_part s = codes ",\"journal\":{" ++ codes "\"places\":" ++ decimal s.journal_places ++ codes ",\"used\":" ++ decimal s.journal_used
 
--- what is left of the publication under way
-abbrev pub left_text : Option ℕ → List ℕ
-left_text None = codes "null"
-left_text (Some left) = decimal left
+-- a number, if there is one
+abbrev pub optional_text : Option ℕ → List ℕ
+optional_text None = codes "null"
+optional_text (Some number) = decimal number
 
--- that, the sectors of the disk, and the version of its format
+-- the greatest id in use, what is left of the publication under way, and the number of the last edit that is published
+unfoldable pub published_part : Status → List ℕ
+published_part s =
+    codes "},\"last\":" ++ optional_text s.last ++ codes ",\"left\":" ++ optional_text s.left ++ codes ",\"published\":" ++ decimal s.published
+
+-- the sectors of the disk, and the version of its format
 unfoldable pub disk_part : Status → List ℕ
-disk_part s = codes "},\"left\":" ++ left_text s.left ++ codes ",\"sectors\":" ++ decimal s.sectors ++ codes ",\"version\":" ++ decimal s.version
+disk_part s = codes ",\"sectors\":" ++ decimal s.sectors ++ codes ",\"version\":" ++ decimal s.version
 
 unfoldable pub status_body : Status → List ℕ
-status_body s = archive_part s ++ broken_part s ++ map_part s ++ journal_part s ++ disk_part s ++ codes "}"
+status_body s = archive_part s ++ broken_part s ++ map_part s ++ journal_part s ++ published_part s ++ disk_part s ++ codes "}"
 
 abbrev pub status_reply : Status → ReplyView
 status_reply s = json_reply (status_body s)

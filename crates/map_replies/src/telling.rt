@@ -1,7 +1,8 @@
 //! The status of the service, in JSON.
 ghost use Rattle.std.specs.Prelude.{◌≡◌, ◌≤◌, ◌+◌, ◌++◌, [], vec_len, vec_capacity, IfOk};
 ghost use Rattle.http_serve.specs.Reply.{reply_view, IsWhole};
-ghost use Rattle.map_replies.specs.Words.{archive_part, broken_part, map_part, journal_part, left_text, disk_part, status_body, status_reply};
+ghost use Rattle.map_replies.specs.Words.{archive_part, broken_part, map_part, journal_part, optional_text, published_part, disk_part};
+ghost use Rattle.map_replies.specs.Words.{status_body, status_reply};
 ghost use Rattle.map_replies.specs.declared.telling.TheConstants.{MAX_PART};
 
 use crate::replies;
@@ -13,8 +14,8 @@ use tile_service::Status;
 /// Capacity for a part: three numbers, and the texts between them.
 const MAX_PART: usize = 3 * MAX_DIGITS + 40;
 
-/// Capacity for all parts, and the byte behind them.
-const MAX_STATUS: usize = 5 * MAX_PART + 1;
+/// Capacity for all parts, and the byte after them.
+const MAX_STATUS: usize = 6 * MAX_PART + 1;
 
 /// Adds what the archive takes.
 #[tactic(auto, unfolding(crate::specs::Words::archive_part))]
@@ -80,20 +81,36 @@ fn push_journal_part(out: &mut Vec<u8>, status: Status)
     push_number(out, status.journal_used);
 }
 
-/// Adds how much is left of the publication under way.
-fn push_left(out: &mut Vec<u8>, left: Option<u64>)
+/// Adds a number, or `null`.
+fn push_optional(out: &mut Vec<u8>, number: Option<u64>)
     requires room { vec_len out.old + MAX_DIGITS ≤ vec_capacity out.old }
-    ensures items { out.new.items ≡ out.old.items ++ left_text left }
+    ensures items { out.new.items ≡ out.old.items ++ optional_text number }
     ensures len { vec_len out.new ≤ vec_len out.old + MAX_DIGITS }
     ensures capacity { vec_capacity out.old ≤ vec_capacity out.new }
 {
-    match left {
-        Some(left) => push_number(out, left),
+    match number {
+        Some(number) => push_number(out, number),
         None => push_text(out, b"null"),
     }
 }
 
-/// Adds that, the size of the disk, and the version of its format.
+/// Adds the greatest id, what is left of the publication under way, and the last edit that is published.
+#[tactic(auto, unfolding(crate::specs::Words::published_part))]
+fn push_published_part(out: &mut Vec<u8>, status: Status)
+    requires room { vec_len out.old + MAX_PART ≤ vec_capacity out.old }
+    ensures items { out.new.items ≡ out.old.items ++ published_part status }
+    ensures len { vec_len out.new ≤ vec_len out.old + MAX_PART }
+    ensures capacity { vec_capacity out.old ≤ vec_capacity out.new }
+{
+    push_text(out, b"},\"last\":");
+    push_optional(out, status.last);
+    push_text(out, b",\"left\":");
+    push_optional(out, status.left);
+    push_text(out, b",\"published\":");
+    push_number(out, status.published);
+}
+
+/// Adds the size of the disk, and the version of its format.
 #[tactic(auto, unfolding(crate::specs::Words::disk_part))]
 fn push_disk_part(out: &mut Vec<u8>, status: Status)
     requires room { vec_len out.old + MAX_PART ≤ vec_capacity out.old }
@@ -101,8 +118,6 @@ fn push_disk_part(out: &mut Vec<u8>, status: Status)
     ensures len { vec_len out.new ≤ vec_len out.old + MAX_PART }
     ensures capacity { vec_capacity out.old ≤ vec_capacity out.new }
 {
-    push_text(out, b"},\"left\":");
-    push_left(out, status.left);
     push_text(out, b",\"sectors\":");
     push_number(out, status.sectors);
     push_text(out, b",\"version\":");
@@ -119,6 +134,7 @@ fn status_body(alloc: Global, status: Status) -> Result<Vec<u8>, AllocError>
     push_broken_part(&mut text, status);
     push_map_part(&mut text, status);
     push_journal_part(&mut text, status);
+    push_published_part(&mut text, status);
     push_disk_part(&mut text, status);
     push_text(&mut text, b"}");
     Ok(text)
