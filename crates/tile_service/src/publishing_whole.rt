@@ -63,7 +63,7 @@ impl<D: Sectors + Drop> Service<D> {
         let edits = self.journal.last;
         let mut rest = match self.publish_begin() {
             Ok(told) => told,
-            Err(fault) => return Err(fault),
+            Err(refusal) => return Err(refusal),
         };
         self.go_on();
         while rest > 0 {

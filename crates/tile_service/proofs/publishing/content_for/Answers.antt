@@ -1,4 +1,6 @@
-use Rattle.std.proofs.Common.{ℕ, List, sym, subst}
+use Rattle.std.proofs.Common.{ℕ, List, length, sym, subst}
+use Rattle.std.specs.Prelude.{string_bytes}
+use Rattle.area_content.specs.Faults.{IsBuiltFor}
 use Rattle.pm_archive.specs.Archive.{IsMetadata}
 use Rattle.tile_service.proofs.PublishSteps.{metadata_is_text, publishable}
 use Rattle.tile_service.proofs.publishing.content_for.Goals as goal
@@ -9,4 +11,7 @@ content_of-requires-clause-metadata c = subst (λ (text : List ℕ). IsMetadata 
 
 pub returns-in-Ok-content_of-clause-archive : goal.returns-in-Ok-content_of-clause-archive
 returns-in-Ok-content_of-clause-archive c =
-    publishable c.args.store.now.features c.in-Ok.text c.in-Ok-content_of.content.archive c.in-Ok.ensures c.in-Ok-content_of.ensures.built
+    let m = c.args.store.now.features in
+    let archive = c.in-Ok-content_of.content.archive in
+    publishable m (string_bytes c.in-Ok.text) archive c.in-Ok.ensures
+    (subst (λ (text : List ℕ). IsBuiltFor m (length text) archive) c.as_bytes.ensures.value c.in-Ok-content_of.ensures.built)

@@ -72,30 +72,30 @@ returns-in-Err-clause-run g c =
     let call = c.in-Err.ensures in
     let old = c.args.self.now in
     let new = c.publish_begin.new.self in
-    let goes = begin_step g.D.Sectors.sectors g.D.Sectors.honest g.D.Sectors.history old new (Err c.in-Err.fault) call.machine call.same call.up in
-    let run = run_on g.D.Sectors.sectors g.D.Sectors.honest g.D.Sectors.history old old new [] (begin (Err c.in-Err.fault))
+    let goes = begin_step g.D.Sectors.sectors g.D.Sectors.honest g.D.Sectors.history old new (Err c.in-Err.refusal) call.machine call.same call.up in
+    let run = run_on g.D.Sectors.sectors g.D.Sectors.honest g.D.Sectors.history old old new [] (begin (Err c.in-Err.refusal))
     (run_begins g.D.Sectors.sectors g.D.Sectors.honest g.D.Sectors.history old) goes in
     record {
       before = [];
       unfinished = All-nil IsUnfinished;
-      last = Err c.in-Err.fault;
+      last = Err c.in-Err.refusal;
       takes = (new, goes, refl);
-      run = takes_run g.D.Sectors.sectors g.D.Sectors.honest g.D.Sectors.history old (begin (Err c.in-Err.fault) ∷ []) new run;
+      run = takes_run g.D.Sectors.sectors g.D.Sectors.honest g.D.Sectors.history old (begin (Err c.in-Err.refusal) ∷ []) new run;
       ends = refl;
     }
 
 pub returns-in-Err-clause-failed : goal.returns-in-Err-clause-failed
 returns-in-Err-clause-failed g c =
-    begin_counts _ _ c.in-Err.fault _ _ (c.in-Err.ensures.machine no_known) (ap (λ s. g.D.Sectors.faults s.disk) c.in-Err.ensures.same)
+    begin_counts _ _ c.in-Err.refusal _ _ (c.in-Err.ensures.machine no_known) (ap (λ s. g.D.Sectors.faults s.disk) c.in-Err.ensures.same)
 
 pub returns-in-Err-clause-given_up : goal.returns-in-Err-clause-given_up
 returns-in-Err-clause-given_up g c =
-    begin_given_up no_known _ _ _ c.in-Err.fault (c.in-Err.ensures.machine no_known) c.in-Err.ensures.refused
+    begin_given_up no_known _ _ _ c.in-Err.refusal (c.in-Err.ensures.machine no_known) c.in-Err.ensures.refused
 
 pub returns-in-Err-clause-archive : goal.returns-in-Err-clause-archive
 returns-in-Err-clause-archive g c =
     let call = c.in-Err.ensures in
-    let goes = begin_step g.D.Sectors.sectors g.D.Sectors.honest g.D.Sectors.history c.args.self.now c.publish_begin.new.self (Err c.in-Err.fault)
+    let goes = begin_step g.D.Sectors.sectors g.D.Sectors.honest g.D.Sectors.history c.args.self.now c.publish_begin.new.self (Err c.in-Err.refusal)
     call.machine call.same call.up in
     goes.keeps_archive (begin_no_step _ _)
 
