@@ -1,27 +1,7 @@
 """The ids of the features in the tiles of an archive of vtserve, for map_backup.py. Needs no package."""
 import struct
 
-
-def varint(data, at):
-    """A number of Protocol Buffers or of a directory, and where it ends."""
-    value = shift = 0
-    while True:
-        byte = data[at]
-        value |= (byte & 127) << shift
-        at, shift = at + 1, shift + 7
-        if byte < 128:
-            return value, at
-
-
-def fields(data):
-    """The fields of a message of a tile of vtserve: numbers and bytes alone."""
-    at = 0
-    while at < len(data):
-        key, at = varint(data, at)
-        value, at = varint(data, at)
-        if key & 7 == 2:
-            value, at = data[at:at + value], at + value
-        yield key >> 3, value
+from protobuf import fields, varint
 
 
 def contents(archive, at, length, leaves, tiles):

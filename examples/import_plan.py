@@ -6,6 +6,7 @@ from collections import namedtuple
 from cut_features import NUMBER_END, FeatureCutter
 from edits import encoded, text_bytes
 from file_features import Nowhere, Unreadable
+from geojson import degrees
 from import_sizes import is_heavy
 from wholes import PIECE
 from world_shapes import Unfit, bounds, count, is_shown, size, wrong_zooms
@@ -146,5 +147,5 @@ class Plan:
         west, north, east, south = self.box
         share = max(east - west, south - north, 1)
         zoom = min(max(math.floor(math.log2(2 ** 32 / share)), self.words.minzoom), self.words.maxzoom)
-        x, y = (west + east) / 2 ** 33, (north + south) / 2 ** 33
-        return f"{zoom}/{math.degrees(math.atan(math.sinh(math.pi * (1 - 2 * y)))):.5f}/{x * 360 - 180:.5f}"
+        longitude, latitude = degrees([(west + east) / 2, (north + south) / 2])
+        return f"{zoom}/{latitude:.5f}/{longitude:.5f}"

@@ -8,6 +8,8 @@ import math
 
 from osgeo import ogr
 
+from wholes import twice_area
+
 WORLD = 2 ** 32
 EARTH = 40075016.685578488
 # Mapbox GL and MapLibre GL clamp coordinates of a tile of 4,096 units to these.
@@ -109,11 +111,6 @@ def wrong_zooms(shape, zooms):
     found = boxes(shape)
     widest = max((max(box[2] - box[0], box[3] - box[1]) for box in found), default=0)
     return [zoom for zoom in zooms if zoom > 1 and widest > SAFE << (20 - zoom) and not all(is_safe(box, zoom) for box in found)]
-
-
-def twice_area(ring):
-    """Twice the signed area of a ring of integers."""
-    return sum(a[0] * b[1] - b[0] * a[1] for a, b in zip(ring, ring[1:] + ring[:1]))
 
 
 def rounded(shape):

@@ -4,6 +4,7 @@ import hashlib
 import http.client
 import json
 import os
+import random
 import re
 import shutil
 import signal
@@ -14,6 +15,9 @@ import time
 
 from imports import BACKUP, area_of, has_gdal, imported, lists_of, round_ring, row, world, written
 from stand import EXAMPLES, HERE, Nginx, Server, curl, feature, free_port, status_of
+
+sys.path.append(os.path.join(HERE, "..", "model"))
+import disk as model  # noqa: E402
 
 PUBLISH = ["bash", os.path.join(EXAMPLES, "publish.sh")]
 
@@ -224,6 +228,37 @@ def served_disk(cases, folder):
     cases.show("operation: --disk, a damaged file", (code, lines, digest(files[0]) == digest(files[1])), (1, ["a root sector"], True))
 
 
+def written_disks(cases, folder):
+    """Random disks of the second writer (bench/model/disk.py), of both versions, with journals that go round the ring."""
+    chance, path, saved, differ = random.Random(5), os.path.join(folder, "written.disk"), os.path.join(folder, "written.jsonl"), []
+    for at in range(40):
+        kind = chance.choice(["points", "lines", "polygons"])
+
+        def made():
+            ring = [[chance.randrange(2 ** 32), chance.randrange(2 ** 32)] for _ in range(chance.randint(3, 90))]
+            tags = {"a": chance.choice([True, False, -2 ** 63, 2 ** 64 - 1, "ä" * chance.randint(0, 500)]), "b": chance.randrange(9)}
+            return json.loads(feature("p", 0, 19, {kind: {"points": ring, "lines": [ring], "polygons": [[ring, ring]]}[kind]}, tags))
+
+        def change():
+            number = chance.choice([chance.randrange(30), 2 ** 63 - 1])
+            return model.Change(number, made() if chance.random() < 0.7 else None)
+
+        version = 1 + at % 2
+        edits = [{one.number: one for one in (change() for _ in range(chance.randint(1, 5) if version > 1 else 1))} for _ in range(60)]
+        records = [model.Record(version, list(edit.values())) for edit in edits]
+        first = {number: made() for number in chance.sample(range(40), 20)}
+        held = model.write_disk(4099, at % 3, first, records, b"archive", chance.randrange(1024), before=at * 2 ** 40, version=version)
+        with open(path, "wb") as file:
+            file.write(held)
+        code, lines = tool("map_backup.py", "save", saved, "--disk", path)
+        with open(saved, encoding="utf-8") as file:
+            found = [(read["id"], json.dumps(read["feature"], sort_keys=True)) for read in map(json.loads, file)]
+        wanted = [(number, json.dumps(one, sort_keys=True)) for number, one in sorted(model.map_of(model.read_disk(held)).items())]
+        if (code, found) != (0, wanted) or not lines[0].endswith(f" of the map after edit {at * 2 ** 40 + 60:,}"):
+            differ.append(at)
+    cases.show("operation: --disk, forty disks of the second writer", differ, [])
+
+
 def digest(path):
     with open(path, "rb") as file:
         return hashlib.sha256(file.read()).hexdigest()
@@ -326,6 +361,6 @@ def operation(cases, folder):
     """Each task of an operator."""
     place = os.path.join(folder, "operation")
     os.mkdir(place)
-    for part in (rooms, watching, served_disk, wholes, stores):
+    for part in (rooms, watching, served_disk, written_disks, wholes, stores):
         part(cases, place)
     shutil.rmtree(place)
