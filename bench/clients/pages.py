@@ -258,12 +258,7 @@ class People:
     def large_feature(self):
         self.one.value("location.hash = '#15/54.5/7.5'")
         self.drawn(self.one)
-        for _ in range(5):
-            self.one.click(300, 500)
-            if self.one.text("#panel h2") == "land 101":
-                break
-        self.one.press("Edit")
-        self.one.wait("document.querySelector('#panel form')")
+        self.edit_land()
         self.write(self.one, "name", "Nordwerth Island")
         self.one.press("Add a tag")
         self.write(self.one, "area", "9007199254740993")
@@ -273,6 +268,28 @@ class People:
         tags = [self.get(number)["tags"] for number in range(101, 118)]
         wanted = {"area": 9007199254740993, "name": "Nordwerth Island", "whole": 101}
         self.show("all pieces of a large feature are changed, and no number is rounded", tags, [wanted] * 17)
+        self.edit_land()
+        self.one.type("#panel form tbody tr:first-child input[aria-label=value]", "8")
+        curl(f"{self.front.url}/features/105", "-X", "PUT", body=json.dumps({**self.get(105), "tags": {**wanted, "name": "by others"}}))
+        self.one.press("Save")
+        self.one.wait("document.querySelector('#panel .differs')")
+        row = [row.split("\t") for row in self.one.text("#panel table").split("\n") if row.startswith("tag name")]
+        self.show("what somebody else changed of one piece is a conflict", [[cell.strip() for cell in cells] for cells in row],
+                  [["tag name", "Nordwerth Island", "by others", "Nordwerth Island"]])
+        self.show("and nothing is changed", [self.get(number)["tags"]["area"] for number in (101, 117)], [wanted["area"]] * 2)
+        self.one.press("Save what is chosen")
+        self.saved(self.one)
+        tags = [self.get(number)["tags"] for number in range(101, 118)]
+        self.show("until it is chosen", tags, [{"area": 8, "name": "by others", "whole": 101}] * 17)
+
+    def edit_land(self):
+        """Opens the form of the land, which the import has cut."""
+        for _ in range(5):
+            self.one.click(300, 500)
+            if self.one.text("#panel h2") == "land 101":
+                break
+        self.one.press("Edit")
+        self.one.wait("document.querySelector('#panel form')")
 
     def away(self):
         self.one.value("location.hash = '#16/54.5/7.5'")

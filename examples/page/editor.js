@@ -3,7 +3,7 @@ import { conflictOf } from "./conflict.js";
 import { MINE, THEIRS, drawShape } from "./draw.js";
 import { formOf } from "./form.js";
 import { button, close, covered, element, open, table, tell } from "./panel.js";
-import { Changed, canonical } from "./server.js";
+import { Changed, canonical, text } from "./server.js";
 import { begun, chainsOf, described, grabbed, isLarge, isWhole, listsOf, pointsOf, remove } from "./shape.js";
 import { isOutline } from "./style.js";
 import { bounds, rounded } from "./world.js";
@@ -112,9 +112,16 @@ export class Editor {
 
     /** Shows both versions of a feature that somebody else has changed. */
     async openConflict(draft) {
-        const { id, was, feature: mine } = draft;
-        draft.pieces &&= await piecesOf(this.server, id);
-        draft.theirs = draft.pieces ? wholeOf(draft.pieces) : await this.server.feature(id);
+        const { id, was } = draft;
+        let mine = draft.feature;
+        if (draft.pieces) {
+            const before = draft.pieces.map(piece => text(piece));
+            draft.pieces = await piecesOf(this.server, id);
+            draft.theirs = wholeOf([draft.pieces.find(piece => !before.includes(text(piece))) ?? draft.pieces[0]]);
+            mine &&= { ...mine, geometry: draft.theirs?.geometry ?? mine.geometry };
+        } else {
+            draft.theirs = await this.server.feature(id);
+        }
         const save = chosen => {
             const { theirs } = draft;
             Object.assign(draft, { was: theirs, theirs: undefined });

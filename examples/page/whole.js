@@ -1,5 +1,5 @@
 // Features that the import cut into pieces: each piece has the tag `whole` with the id of the first piece.
-import { text } from "./server.js";
+import { Changed, text } from "./server.js";
 import { isOutline } from "./style.js";
 
 // With `--id` of the import, pieces after the first have its id plus a multiple of this.
@@ -25,8 +25,14 @@ export function wholeOf([piece]) {
     return piece ? { ...piece.was, tags } : null;
 }
 
-/** Gives all pieces the layer, the zooms and the tags of a feature, or deletes them if it is null. Returns the number of the last edit. */
+/**
+ * Gives all pieces the layer, the zooms and the tags of a feature, or deletes them if it is null. Returns the number of the last edit. Many
+ * pieces take several edits, so it looks first whether somebody else has changed one.
+ */
 export async function changeAll(server, pieces, feature) {
+    if (text(await piecesOf(server, pieces[0].was.tags.whole)) !== text(pieces)) {
+        throw new Changed("a piece was changed");
+    }
     let group = [], edit = 0;
     for (const { id, was } of pieces) {
         const own = feature && { ...feature, geometry: was.geometry, tags: { ...feature.tags, whole: was.tags.whole } };
