@@ -134,6 +134,7 @@ class Desk:
     def all(self):
         self.checkout()
         self.changes()
+        self.interrupted()
         self.mistakes()
 
     def checkout(self):
@@ -187,6 +188,33 @@ class Desk:
         self.show("again it sends nothing, and tells what is left", (status, lines[-1], self.edits()), wanted)
         gis("checkin", self.file, "--mine", "452")
         self.show("the author's word puts it over the other's", self.get(452)["tags"], {"name": "Old Church"})
+
+    def interrupted(self):
+        """A checkin of 600 new features that is killed several times."""
+        many = os.path.join(self.folder, "many.gpkg")
+        gis("checkout", many, "--url", self.url, "--layer", "place")
+        with sqlite3.connect(many) as file:
+            file.executemany("INSERT INTO place (geom, name, minzoom, maxzoom) SELECT geom, ?, 10, 16 FROM place WHERE fid = 451",
+                             [(f"made {number}",) for number in range(600)])
+        kills = 0
+        for seconds in (0.3, 0.5, 0.7, 0.9, 1.1, 1.3):
+            child = subprocess.Popen([SYSTEM_PYTHON, os.path.join(EXAMPLES, "gis.py"), "checkin", many], stdout=subprocess.DEVNULL)
+            try:
+                child.wait(seconds)
+            except subprocess.TimeoutExpired:
+                child.kill()
+                child.wait()
+                kills += 1
+        status, lines = gis("checkin", many)
+        self.show("a checkin that was killed is finished by the next", (kills > 0, status), (True, 0))
+        named, number = [], 0
+        while status_of(reply := curl(f"{self.url}/admin/features/from/{number}")) == 200:
+            row = json.loads(reply[2])
+            number = row["id"] + 1
+            named.append(row["feature"]["tags"].get("name", ""))
+        made = sorted(name for name in named if str(name).startswith("made "))
+        self.show("and made each new feature once", made, sorted(f"made {number}" for number in range(600)))
+        self.show("as the file has it", gis("checkin", many)[1][-1], "0 new, 0 changed, 0 deleted, 0 conflicts, 0 refused")
 
     def mistakes(self):
         """A file that lost its features, one that is none, no server."""
