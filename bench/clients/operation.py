@@ -16,8 +16,9 @@ import time
 from imports import BACKUP, area_of, has_gdal, imported, lists_of, round_ring, row, world, written
 from stand import EXAMPLES, HERE, Nginx, Server, curl, feature, free_port, status_of
 
-sys.path.append(os.path.join(HERE, "..", "model"))
+sys.path += [os.path.join(HERE, "..", "model"), EXAMPLES]
 import disk as model  # noqa: E402
+import disk_file  # noqa: E402
 
 PUBLISH = ["bash", os.path.join(EXAMPLES, "publish.sh")]
 
@@ -228,6 +229,32 @@ def served_disk(cases, folder):
     cases.show("operation: --disk, a damaged file", (code, lines, digest(files[0]) == digest(files[1])), (1, ["a root sector"], True))
 
 
+def passed_by(cases, folder):
+    """Publications pass while the disk file is read: it begins again. Edits go on meanwhile."""
+    with Server(folder, "passed.disk", 2048) as server:
+        for number in range(20):
+            curl(f"{server.url}/features/{number}", "-X", "PUT", body=numbered(number + 1))
+        curl(server.url + "/publish", "-X", "POST")
+        read, passes = disk_file.Disk.snapshot, []
+
+        def passing(disk, root):
+            found = read(disk, root)
+            if len(passes) < 2:
+                passes.append(root.generation)
+                for at in range(2):
+                    curl(f"{server.url}/features/{len(passes)}", "-X", "PUT", body=numbered(100 * len(passes) + at))
+                    curl(server.url + "/publish", "-X", "POST")
+            return found
+
+        disk_file.Disk.snapshot = passing
+        try:
+            moment = disk_file.moment_of(server.disk)
+        finally:
+            disk_file.Disk.snapshot = read
+        listed = json.loads(curl(server.url + "/features/2")[2])
+        cases.show("operation: --disk, publications that pass it by", (moment.passed, moment.edit, moment.features[2] == listed), (2, 24, True))
+
+
 def written_disks(cases, folder):
     """Random disks of the second writer (bench/model/disk.py), of both versions, with journals that go round the ring."""
     chance, path, saved, differ = random.Random(5), os.path.join(folder, "written.disk"), os.path.join(folder, "written.jsonl"), []
@@ -361,6 +388,6 @@ def operation(cases, folder):
     """Each task of an operator."""
     place = os.path.join(folder, "operation")
     os.mkdir(place)
-    for part in (rooms, watching, served_disk, written_disks, wholes, stores):
+    for part in (rooms, watching, served_disk, passed_by, written_disks, wholes, stores):
         part(cases, place)
     shutil.rmtree(place)

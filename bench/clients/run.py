@@ -556,6 +556,23 @@ def in_front(cases, folder):
         with socket.create_connection(("127.0.0.1", front.port), timeout=30) as slow:
             slow.sendall(b"PUT /features/9 HTTP/1.1\r\nhost: x\r\ncontent-length: 100\r\n\r\n{")
             cases.show("nginx: a client that sends half a body keeps nobody waiting", status_of(curl(url + "/features/7", "--max-time", "10")), 200)
+        for query, address, state in [
+            ("?edit=7", "127.0.0.1", "MISS"),
+            ("?edit=7", "127.0.0.1", "HIT"),
+            ("?edit=8", "127.0.0.1", "MISS"),
+            ("?edit=8x", "127.0.0.1", "HIT"),
+            ("?edit=" + "9" * 21, "127.0.0.1", "HIT"),
+            ("?other=9", "127.0.0.1", "HIT"),
+            ("?edit=9", "127.0.0.2", "HIT"),
+        ]:
+            curl(url + "/map/1/0/0.mvt", "--interface", "127.0.0.2")
+            found = field(curl(url + "/map/1/0/0.mvt" + query, "--interface", address), "x-cache")
+            cases.show(f"nginx: a tile asked with {query} from {address}", found, state)
+        tiles = json.loads(curl(url + "/map.json")[2])
+        cases.show("nginx: TileJSON", (tiles["tilejson"], tiles["tiles"], tiles["vector_layers"]),
+                   ("3.0.0", [url + "/map/{z}/{x}/{y}.mvt"], json.loads(METADATA)["vector_layers"]))
+        reply = curl(f"http://[::1]:{front.port}/map/0/0/0.mvt")
+        cases.show("nginx: by IPv6", status_of(reply), 200)
         long = feature("long", 5, 5, tags={"k": "x" * 1024})
         curl(url + "/features/20", "-X", "PUT", body=long)
         reply, bare_reply = curl(url + "/map/5/0/0.mvt", "-H", "Accept-Encoding: gzip"), curl(server.url + "/map/5/0/0.mvt")
@@ -563,6 +580,27 @@ def in_front(cases, folder):
         cases.show("nginx: a tile of over 1,000 bytes is compressed", packed, True)
         cases.show("nginx: and is the server's", curl(url + "/map/5/0/0.mvt", "--compressed")[2] == bare_reply[2], True)
         crowd(cases, front, server)
+    shutil.rmtree(front.folder)
+    passwords(cases, folder)
+
+
+def passwords(cases, folder):
+    """The block of nginx.conf with passwords: people log in from anywhere, this machine needn't, and the map stays public."""
+    nginx = shutil.which("nginx", path=os.environ.get("PATH", "") + ":/usr/sbin")
+    if not (nginx and shutil.which("openssl")):
+        cases.say("no nginx, or no openssl: nobody logs in")
+        return
+    hidden = subprocess.run(["openssl", "passwd", "-apr1", "secret"], capture_output=True, text=True, check=True).stdout
+    people = os.path.join(folder, "people")
+    with open(people, "w", encoding="utf-8") as file:
+        file.write("ann:" + hidden)
+    os.chmod(people, 0o644)
+    block = [("# satisfy any;", "satisfy any;"), ("# auth_basic", "auth_basic"), ("/etc/vtserve/people", people)]
+    with Server(folder, "logged_in") as server, Nginx(nginx, folder, server, block) as front:
+        for words, edits in ((["--interface", "127.0.0.2"], 401), (["--interface", "127.0.0.2", "-u", "ann:secret"], 200), ([], 200)):
+            found = [status_of(curl(front.url + path, *words)) for path in ("/admin/status", "/map/metadata")]
+            cases.show(f"nginx: with passwords, {' '.join(words) or 'from this machine'}", found, [edits, 200])
+    shutil.rmtree(front.folder)
 
 
 def asked_of(server):
