@@ -74,14 +74,15 @@ def main():
     parser.add_argument("--numbers", help="the ids to ask for, as in 1-3000,5000, instead of the whole list")
     parser.add_argument("--no-batches", action="store_true", help="delete each feature in a request of its own")
     words = parser.parse_args()
-    client = Client(words.url, True, 1 if words.no_batches else DELETES_OF_A_SECTOR)
-    found, deleted, end = {}, Counter(), 1
+    client, found, deleted, end = None, {}, Counter(), 1
     try:
+        client = Client(words.url, True, 1 if words.no_batches else DELETES_OF_A_SECTOR)
         found = found_in(client, words.layers, words.numbers)
         end = 0 if delete_all(client, found, deleted) else 1
     except Stopped as fault:
         print(f"stopped: {fault}")
-        tell_rest(client, found, deleted)
+        if found:
+            tell_rest(client, found, deleted)
     except NoAnswer as fault:
         print(f"stopped: {fault}")
         end = 3

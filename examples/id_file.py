@@ -19,7 +19,10 @@ class IdFile:
         # A line that a killed import left unfinished is of no feature that was sent.
         whole = text[:text.rfind("\n") + 1]
         self.file.truncate(len(whole.encode()))
-        self.numbers = {(layer, name): number for layer, name, number in map(json.loads, whole.split("\n")[:-1])}
+        try:
+            self.numbers = {(layer, name): number for layer, name, number in map(json.loads, whole.split("\n")[:-1])}
+        except (ValueError, TypeError) as fault:
+            raise OSError(f"{path} is no file of ids: {fault}") from fault
         self.first = max(self.numbers.values(), default=0) + 1
         # The layers that the file has, and the new ids.
         self.layers, self.new = {layer for layer, _ in self.numbers}, []

@@ -5,17 +5,11 @@ from collections import Counter, defaultdict, namedtuple
 from edits import Change, batches, delete, encoded, sectors
 from import_sizes import Sizes
 from map_client import NUMBER_END
-from wholes import OUTLINE
 
 NEW, CHANGED, SAME, GONE = "new", "changed", "unchanged", "deleted"
 
-# What the map has of an id: the layer, the id of the feature that it is a piece of, and the feature as JSON.
+# What the map has of an id: the layer, or that of the feature that it is a piece of, the id of that feature, and the feature as JSON.
 Found = namedtuple("Found", "layer whole body")
-
-
-def stem(layer):
-    """The layer of a feature or of its outline."""
-    return layer.removesuffix(OUTLINE)
 
 
 def counted_layers(counts):
@@ -28,8 +22,7 @@ class Changes:
 
     def __init__(self, plan, words):
         self.plan, self.words = plan, words
-        named = {words.layer} if words.layer else set()
-        self.layers = {stem(layer) for layer in plan.layers.values()} | named
+        self.layers = plan.layers | ({words.layer} if words.layer else set())
         # What the map has of the ids and the layers of the plan; None if that isn't known.
         self.there = None
         # What is to be done with each id, the feature that it is a piece of, and what is to be done with each feature and its pieces.
@@ -40,17 +33,23 @@ class Changes:
 
     def look(self, client, status):
         """Asks for what the map has, and compares it with the plan."""
-        ids, first, end = self.plan.layers, 0, NUMBER_END
+        ids, first, end = self.plan.ids_to_put, 0, NUMBER_END
         self.there = {}
         if status["last"] is None:
             return self.compare()
         if not self.words.update:
             first, end = min(ids, default=0), max(ids, default=-1) + 1
+        first_pieces = {}
         for number, feature in client.features(first, min(end, status["last"] + 1)):
-            if number in ids or (self.words.update and stem(feature["layer"]) in self.layers):
-                whole = feature["tags"].get(self.words.whole)
-                is_piece = isinstance(whole, int) and not isinstance(whole, bool)
-                self.there[number] = Found(feature["layer"], whole if is_piece else number, encoded(feature))
+            whole, layer = feature["tags"].get(self.words.whole), feature["layer"]
+            if isinstance(whole, bool) or not isinstance(whole, int):
+                whole = number
+            elif whole == number:
+                first_pieces[number] = layer
+            else:
+                layer = first_pieces.get(whole, layer)
+            if number in ids or (self.words.update and layer in self.layers):
+                self.there[number] = Found(layer, whole, encoded(feature))
         return self.compare()
 
     def compare(self):
@@ -61,10 +60,10 @@ class Changes:
             self.states[planned.whole].add(kind)
         planned_wholes, kept = set(self.states), self.plan.kept
         for number, found in (self.there or {}).items():
-            if number in self.plan.layers or number in kept or found.whole in kept:
+            if number in self.plan.ids_to_put or number in kept or found.whole in kept:
                 continue
             is_old_piece = found.whole in planned_wholes
-            if is_old_piece or (self.words.delete_missing and stem(found.layer) in self.missing_from()):
+            if is_old_piece or (self.words.delete_missing and found.layer in self.missing_from()):
                 self.kinds[number], self.wholes[number] = GONE, found.whole
                 self.states[found.whole].add(GONE)
 
@@ -79,7 +78,7 @@ class Changes:
             return NEW
         if found.body == planned.body:
             return SAME
-        if stem(found.layer) not in self.layers:
+        if found.layer not in self.layers:
             self.taken[found.layer] += 1
         elif not self.words.update:
             self.differing[found.layer] += 1

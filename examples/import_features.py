@@ -149,7 +149,7 @@ def obstacles(words, client, status, changes):
     found = list(changes.obstacles())
     layers = {layer["id"] for layer in client.found("/map/metadata")["vector_layers"]} & changes.layers
     if not words.anyway:
-        if words.delete_missing and not changes.plan.layers:
+        if words.delete_missing and not changes.plan.ids_to_put:
             found.append("the file has no features: all of the layer would be deleted (--anyway does it)")
         if words.ids and any(not changes.plan.ids.is_known(layer) for layer in layers):
             found.append(f"{words.ids} has no ids of the layer, which the map has already: is it the file that was used before? (--anyway goes on)")
@@ -248,9 +248,8 @@ def again(words, plan):
 
 def main():
     words = asked()
-    client = Client(words.url, words.publish, 1 if words.no_batches else MOST_CHANGES)
     try:
-        return work(words, client)
+        return work(words, Client(words.url, words.publish, 1 if words.no_batches else MOST_CHANGES))
     except NoAnswer as fault:
         print(f"{fault}: nothing was sent")
         return 3

@@ -26,8 +26,8 @@ class Plan:
         self.zooms = range(words.minzoom, words.maxzoom + 1)
         self.cutter = FeatureCutter(self.zooms, words.split_zoom, not words.no_split, not words.no_outlines, words.whole)
         self.spool = tempfile.TemporaryFile()
-        # The layer of each id; the ids of features that aren't put, whose pieces stay as they are.
-        self.layers, self.kept = {}, set()
+        # The layers of the features; the ids to put; the ids of features that aren't put, whose pieces stay as they are.
+        self.layers, self.ids_to_put, self.kept = set(), set(), set()
         self.next, self.refused, self.cut, self.nowhere, self.box = first, 0, 0, 0, None
 
     def read(self):
@@ -59,8 +59,9 @@ class Plan:
             named = f"feature of the file {feature.GetFID()}" if number is None else f"feature {number}"
             print(f"{named} refused: not sent: {fault}", flush=True)
             return
+        self.layers.add(layer)
         for own, planned in made:
-            self.layers[own] = planned["layer"]
+            self.ids_to_put.add(own)
             self.spool.write(b"%d %d %d %s\n" % (own, number, text_bytes(planned), encoded(planned)))
         self.next = made[-1][0] + 1
 
@@ -89,14 +90,14 @@ class Plan:
         if self.ids is not None:
             number = self.ids.number(layer, str(value))
         elif not str(value).isdecimal():
-            if not (self.layers or self.refused) and any(letter.isalpha() for letter in str(value)):
+            if not (self.ids_to_put or self.refused) and any(letter.isalpha() for letter in str(value)):
                 raise Unreadable(f"{self.words.id} has texts ({value!r}): --ids FILE keeps ids for them")
             raise Unfit(f"its {self.words.id} is {value!r}, no number: --ids FILE keeps ids for texts")
         else:
             number = self.first + int(value)
         if not number < PIECE:
             raise Unfit(f"its {self.words.id} is {value!r}: ids are below {PIECE:,}")
-        if number in self.layers or number in self.kept:
+        if number in self.ids_to_put or number in self.kept:
             raise Unfit(f"its {self.words.id} is {value}, and an earlier feature has the same")
         return number
 

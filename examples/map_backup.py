@@ -117,13 +117,16 @@ def save(words):
 
 def saved_in(path):
     """The ids and features of a file."""
-    with open(path, encoding="utf-8") as file:
-        if is_lines(path):
-            return [(row["id"], row["feature"]) for row in map(json.loads, file)]
-        whole = json.load(file)
-    if whole.get("wholes"):
-        raise Refused(f"{path} was saved with --wholes: put it into a map by import_features.py, which cuts large features again")
-    return [(row["id"], feature_of(row)) for row in whole["features"]]
+    try:
+        with open(path, encoding="utf-8") as file:
+            if is_lines(path):
+                return [(row["id"], row["feature"]) for row in map(json.loads, file)]
+            whole = json.load(file)
+        if not whole.get("wholes"):
+            return [(row["id"], feature_of(row)) for row in whole["features"]]
+    except (ValueError, TypeError, LookupError, AttributeError) as fault:
+        raise Refused(f"{path} is no file that save has written: {type(fault).__name__}: {fault}") from fault
+    raise Refused(f"{path} was saved with --wholes: put it into a map by import_features.py, which cuts large features again")
 
 
 def load(words):

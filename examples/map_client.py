@@ -43,6 +43,7 @@ STATUSES = {
     403: "the proxy in front of the server doesn't let this machine edit the map (`allow` in docs/nginx.conf)",
     404: "the server has no such path: is --url right?",
     405: "the server doesn't take this request: is --url right?",
+    501: "the server doesn't take this request: is --url right?",
     421: "the proxy in front of the server doesn't know this name (`server_name` in docs/nginx.conf)",
     502: "the proxy in front of the server doesn't reach it",
     503: "the proxy in front of the server doesn't reach it",
@@ -85,6 +86,8 @@ class Client:
 
     def __init__(self, url, publishes=False, most=MOST_CHANGES):
         self.url, self.publishes, self.most = urllib.parse.urlsplit(url), publishes, most
+        if self.url.scheme not in ("http", "https") or not self.url.netloc:
+            raise Stopped(f"{url!r} is no address of a server, such as http://127.0.0.1:8080")
         self.connection = None
         # Whether a batch has been accepted; the first change of those that were sent last and aren't known to be made.
         self.has_batches = False
@@ -98,8 +101,7 @@ class Client:
         for is_kept in (True, False) if self.connection else (False,):
             try:
                 if not is_kept:
-                    kind = http.client.HTTPSConnection if self.url.scheme == "https" else http.client.HTTPConnection
-                    self.connection = kind(self.url.netloc, timeout=600)
+                    self.connect()
                 self.connection.request(method, self.url.path.rstrip("/") + path, body, kind_of_body)
                 reply = self.connection.getresponse()
                 return reply.status, reply.read()
@@ -112,6 +114,13 @@ class Client:
                 raise
         return None
 
+    def connect(self):
+        """Opens a connection. A publication may take minutes to begin, a connection not."""
+        kind = http.client.HTTPSConnection if self.url.scheme == "https" else http.client.HTTPConnection
+        self.connection = kind(self.url.netloc, timeout=30)
+        self.connection.connect()
+        self.connection.sock.settimeout(600)
+
     def close(self):
         """Ends the kept connection."""
         if self.connection:
@@ -122,7 +131,7 @@ class Client:
         """The JSON of a reply 200, or None of a reply 404."""
         status, content = self.ask("GET", path)
         if status == 200:
-            return json.loads(content)
+            return self.value(content)
         if word(content) != "NotFound":
             self.stop_at(status, content)
             raise Stopped(f"GET {path}: {status} {word(content)}")
@@ -131,7 +140,14 @@ class Client:
     def status(self):
         """What the server tells of itself, or None if it tells nothing (no --admin, or a proxy that doesn't pass it on)."""
         status, content = self.ask("GET", "/admin/status")
-        return json.loads(content) if status == 200 else None
+        return self.value(content) if status == 200 else None
+
+    def value(self, content):
+        """The JSON of a reply."""
+        try:
+            return json.loads(content)
+        except ValueError as fault:
+            raise Stopped(f"what answers at {urllib.parse.urlunsplit(self.url)} is no vtserve: is --url right?") from fault
 
     def feature(self, number):
         """A feature of the map, or None."""

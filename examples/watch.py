@@ -59,7 +59,10 @@ def status_of(url):
     """What the server tells of itself."""
     try:
         with urllib.request.urlopen(url, timeout=60) as reply:
-            return json.load(reply)
+            status = json.load(reply)
+        if not {"journal", "area", "left", "generation"} <= set(status):
+            raise ValueError("this isn't what a vtserve tells of itself")
+        return status
     except urllib.error.HTTPError as error:
         level, text = FAULTS.get(error.code, (NOW, "it isn't the reply of a vtserve"))
         raise Unseen(level, f"{url}: {error.code}: {text}") from error
@@ -107,6 +110,8 @@ def speed(status, path, now, every):
         with open(path, encoding="utf-8") as file:
             seen = json.load(file)
     except (OSError, ValueError):
+        seen = {}
+    if not {"generation", "interval", "time", "used"} <= set(seen):
         seen = {"generation": None, "interval": None, "time": None}
     used, free = status["journal"]["used"], status["journal"]["places"] - status["journal"]["used"]
     if seen["generation"] != status["generation"]:
@@ -128,12 +133,12 @@ def recorded(path, now, every):
     try:
         with open(path, encoding="utf-8") as file:
             last = json.load(file)
-    except (OSError, ValueError) as error:
+        hours, result = (now - last["time"]) / 3600, last["result"]
+    except (OSError, ValueError, LookupError, TypeError) as error:
         yield UNKNOWN, f"{path}: {error}: has publish.sh run with --record?"
         return
-    hours = (now - last["time"]) / 3600
-    if last["result"] != "published":
-        yield NOW, f"the publication {hours:.1f} hours ago wasn't made: {last['result']}"
+    if result != "published":
+        yield NOW, f"the publication {hours:.1f} hours ago wasn't made: {result}"
     elif every is not None and hours > 2 * every:
         yield SOON, f"the last publication was {hours:.1f} hours ago, and they are to come every {every:.1f} hours"
 

@@ -110,6 +110,22 @@ def large_ones(cases, folder):
         cases.show("updates: no piece of it is left", list(listed(server)), [21])
 
 
+def like_outlines(cases, folder):
+    """A layer whose name ends as those of outlines do is nobody else's."""
+    words = ["--minzoom", "12", "--id", "nr", "--update", "--delete-missing"]
+    with Server(folder, "outlines", 65536) as server:
+        own, large = written(folder, "own_lines.geojson", points(9)), written(folder, "large.geojson", [row("Polygon", [square(20, 50, 0.05)], nr=21)])
+        imported(own, server.url, "--layer", "coast-outline", "--first", "100", *words)
+        imported(large, server.url, "--layer", "coast", *words)
+        before = listed(server)
+        ends = [imported(own, server.url, "--layer", "coast-outline", "--first", "100", *words)[1][-1], imported(large, server.url, "--layer", "coast", *words)[1][-1]]
+        same = [f"0 new, 0 changed, 0 deleted, {count} unchanged" for count in (9, 1)]
+        cases.show("updates: a layer of the name of outlines, beside one that has some", (ends, listed(server) == before), (same, True))
+        small = written(folder, "small.geojson", [row("Polygon", [square(20, 50, 0.004)], nr=21)])
+        said = imported(small, server.url, "--layer", "coast", *words)[1][-1]
+        cases.show("updates: its own outline goes with it, the others stay", (said, layers(server)), ("0 new, 1 changed, 0 deleted, 0 unchanged", {"coast": 1, "coast-outline": 9}))
+
+
 def by_texts(cases, folder):
     """Ids of texts, in a file of the map's own."""
     def named(names):
@@ -226,6 +242,7 @@ def updates(cases, folder):
     six_files(cases, place)
     differences(cases, place)
     large_ones(cases, place)
+    like_outlines(cases, place)
     by_texts(cases, place)
     others_meanwhile(cases, place)
     with Server(place, "tables", 65536) as server:
