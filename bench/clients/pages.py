@@ -152,6 +152,7 @@ class People:
         self.deletion()
         self.large_feature()
         self.view_only(nginx)
+        self.elsewhere(nginx)
         self.away()
         self.faults()
 
@@ -317,6 +318,22 @@ class People:
             self.show("a machine that may not edit is told", made.text("#told"), "view only: this machine may not edit the map")
             made.click(*self.place(made, 453))
             self.show("and sees tags, without buttons", made.text("#panel").split("\n"), ["place 453", "name\tSchool"])
+
+    def elsewhere(self, nginx):
+        """An editor whose address isn't among those that nginx keeps tiles of each edit for, as one with a password from elsewhere."""
+        folder = os.path.join(self.folder, "elsewhere")
+        os.mkdir(folder)
+        with Nginx(nginx, folder, self.server, [("127.0.0.1 1;", "")]) as front:
+            shutil.copytree(PAGE, os.path.join(front.folder, "pages"))
+            made = self.browser.open(f"{front.url}/pages/#16/54.5/7.5")
+            made.wait("document.getElementById('told').textContent")
+            self.drawn(made)
+            self.edit(made, 453)
+            x, y = self.place(made, 453)
+            made.drag((x, y), (x - 60, y - 40))
+            made.press("Save")
+            self.saved(made)
+            self.show("whose tiles nginx keeps sees his edit when its time is over", made.wait(RED % (x - 64, y - 44) + " > 30", 25), True)
 
     def faults(self):
         """What the browser complained of, but for refusals that it should get."""

@@ -9,7 +9,7 @@ import { View } from "./view.js";
 import { WORLD, bounds, distance, isInside } from "./world.js";
 
 // Seconds between two looks at the map, of those who edit and of those who don't: nginx keeps tiles for these.
-const BETWEEN_LOOKS = { editor: 4, viewer: 20 };
+const BETWEEN_LOOKS = { editor: 4, viewer: 30 };
 const server = new Server(new URL("../", location.href));
 let style, view, editor, layers, isEditor;
 // The feature that is selected, as a tile has it, and those that clicks at the same place have selected before.

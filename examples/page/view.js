@@ -5,6 +5,8 @@ import { WORLD, fromDegrees, toDegrees } from "./world.js";
 
 // Pixels of a tile at its own zoom, the greatest zoom of the view, tiles that are kept, and how many zooms up a substitute is sought.
 const SIDE = 512, MAX_ZOOM = 21, MAX_TILES = 300, MAX_UP = 5;
+// Seconds after which no cache has a tile from before an edit: ten in that of nginx, and no more in the browser's.
+const CACHED = 12;
 const clamped = (value, least, greatest) => Math.min(Math.max(value, least), greatest);
 
 export class View {
@@ -59,9 +61,17 @@ export class View {
         this.move(this.toWorld(point).map((part, axis) => this.centre[axis] + before[axis] - part));
     }
 
-    /** Shows the map with an edit. Tiles from before it are asked for again, and shown until then. */
+    /**
+     * Shows the map with an edit. Tiles from before it are asked for again, and shown until then. The cache of nginx knows no edits of those
+     * who edit from elsewhere by a password, so once its time is over they are asked for once more.
+     */
     showEdit(edit) {
         this.edit = Math.max(this.edit, edit);
+        clearTimeout(this.again);
+        this.again = setTimeout(() => {
+            this.tiles.forEach(tile => tile.edit = -1);
+            this.redraw();
+        }, CACHED * 1000);
         this.redraw();
     }
 
