@@ -5,6 +5,7 @@ from collections import Counter, defaultdict, namedtuple
 from edits import Change, batches, delete, encoded, sectors
 from import_sizes import Sizes
 from map_client import NUMBER_END
+from wholes import whole_in
 
 NEW, CHANGED, SAME, GONE = "new", "changed", "unchanged", "deleted"
 
@@ -41,13 +42,12 @@ class Changes:
             first, end = min(ids, default=0), max(ids, default=-1) + 1
         first_pieces = {}
         for number, feature in client.features(first, min(end, status["last"] + 1)):
-            whole, layer = feature["tags"].get(self.words.whole), feature["layer"]
-            if isinstance(whole, bool) or not isinstance(whole, int):
-                whole = number
-            elif whole == number:
+            whole, layer = whole_in(feature["tags"], self.words.whole), feature["layer"]
+            if whole == number:
                 first_pieces[number] = layer
-            else:
-                layer = first_pieces.get(whole, layer)
+            # What has such a tag without being a piece is a feature of its own.
+            whole = whole if whole in first_pieces else number
+            layer = first_pieces.get(whole, layer)
             if number in ids or (self.words.update and layer in self.layers):
                 self.there[number] = Found(layer, whole, encoded(feature))
         return self.compare()

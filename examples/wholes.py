@@ -34,10 +34,16 @@ def wholes_of(features, name=WHOLE):
     return sorted(made)
 
 
+def whole_in(tags, name=WHOLE):
+    """The id of the whole that the tags of a piece name; None if they name none."""
+    number = tags.get(name)
+    return None if isinstance(number, bool) or not isinstance(number, int) else number
+
+
 def group_of(feature, name):
     """What the pieces of one feature have in common, first the id of the whole; None for a feature that is no piece."""
-    number = feature["tags"].get(name)
-    if isinstance(number, bool) or not isinstance(number, int):
+    number = whole_in(feature["tags"], name)
+    if number is None:
         return None
     tags = json.dumps(feature["tags"], sort_keys=True)
     return number, feature["layer"].removesuffix(OUTLINE), feature["minzoom"], feature["maxzoom"], tags

@@ -108,22 +108,29 @@ def large_ones(cases, folder):
             code, lines = imported(path, server.url, *words)
             cases.show(f"updates: a square of {degrees} degrees", (code, lines[-1].startswith(said)), (0, True))
         cases.show("updates: no piece of it is left", list(listed(server)), [21])
+        tagged = written(folder, "tagged.geojson", [row("Point", [at, at], nr=at, whole=21) for at in (21, 30, 31)])
+        said = imported(tagged, server.url, "--layer", "t", "--id", "nr", "--first", "1000", "--update")[1][-1]
+        again = imported(tagged, server.url, "--layer", "t", "--id", "nr", "--first", "1000", "--update", "--delete-missing")[1][-1]
+        same = ("3 new, 0 changed, 0 deleted, 0 unchanged", "0 new, 0 changed, 0 deleted, 3 unchanged")
+        cases.show("updates: tags that only look like those of pieces", (said, again), same)
 
 
 def like_outlines(cases, folder):
     """A layer whose name ends as those of outlines do is nobody else's."""
     words = ["--minzoom", "12", "--id", "nr", "--update", "--delete-missing"]
     with Server(folder, "outlines", 65536) as server:
-        own, large = written(folder, "own_lines.geojson", points(9)), written(folder, "large.geojson", [row("Polygon", [square(20, 50, 0.05)], nr=21)])
-        imported(own, server.url, "--layer", "coast-outline", "--first", "100", *words)
-        imported(large, server.url, "--layer", "coast", *words)
+        lines, large = written(folder, "lines.geojson", points(9)), written(folder, "large.geojson", [row("Polygon", [square(20, 50, 0.05)], nr=21)])
+        ways = [(lines, server.url, "--layer", "coast-outline", "--first", "100", *words), (large, server.url, "--layer", "coast", *words)]
+        for way in ways:
+            imported(*way)
         before = listed(server)
-        ends = [imported(own, server.url, "--layer", "coast-outline", "--first", "100", *words)[1][-1], imported(large, server.url, "--layer", "coast", *words)[1][-1]]
+        ends = [imported(*way)[1][-1] for way in ways]
         same = [f"0 new, 0 changed, 0 deleted, {count} unchanged" for count in (9, 1)]
         cases.show("updates: a layer of the name of outlines, beside one that has some", (ends, listed(server) == before), (same, True))
         small = written(folder, "small.geojson", [row("Polygon", [square(20, 50, 0.004)], nr=21)])
         said = imported(small, server.url, "--layer", "coast", *words)[1][-1]
-        cases.show("updates: its own outline goes with it, the others stay", (said, layers(server)), ("0 new, 1 changed, 0 deleted, 0 unchanged", {"coast": 1, "coast-outline": 9}))
+        wanted = ("0 new, 1 changed, 0 deleted, 0 unchanged", {"coast": 1, "coast-outline": 9})
+        cases.show("updates: its own outline goes with it, the others stay", (said, layers(server)), wanted)
 
 
 def by_texts(cases, folder):
