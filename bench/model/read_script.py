@@ -90,6 +90,9 @@ def shape_lines():
     yield "# No integers are an empty shape of their kind, and integers of no kind are kept."
     yield from [("shape points", "Points([])"), ("shape lines", "Lines([])"), ("shape polygons", "Rings([])"), ("shape unknown", "Raw([])"),
                 ("shape unknown 5 0 7", "Raw([5, 0, 7])")]
+    yield "# The standard's examples of points, of a line and of a ring, each encoded by itself."
+    yield from [("example points", "[17, 10, 14, 3, 9]"), ("example line", "[9, 4, 4, 18, 0, 16, 16, 0]"),
+                ("example ring", "[9, 6, 12, 18, 10, 12, 24, 44, 15]")]
     yield "# No lines and no rings are no integers."
     yield "nothing", "[] []"
     yield "# Rings of any way and of no area, and points that stand still, are read."

@@ -45,6 +45,13 @@ def shape(rest):
         return str(fault)
 
 
+EXAMPLES = {"points": ("points", [(5, 7), (3, 2)]), "line": ("lines", [[(2, 2), (2, 10), (10, 10)]]), "ring": ("rings", [[(3, 6), (8, 12), (20, 34)]])}
+
+
+def example(kind):
+    return debug(tiles.integers(EXAMPLES[kind]))
+
+
 def nothing(_):
     return f"{debug(tiles.integers(('lines', [])))} {debug(tiles.integers(('rings', [])))}"
 
@@ -91,7 +98,7 @@ def written(rest):
 
 
 NUMBERS = {
-    "shape": shape, "nothing": nothing, "spell": spell, "zigzag": zigzag, "unzigzag": unzigzag, "id": tile_id, "place": place,
+    "shape": shape, "example": example, "nothing": nothing, "spell": spell, "zigzag": zigzag, "unzigzag": unzigzag, "id": tile_id, "place": place,
     "range": lambda rest: range_of(rest.encode()), "digits": digits, "written": written}
 
 

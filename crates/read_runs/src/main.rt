@@ -22,6 +22,7 @@
 //! | `even COUNT HEX`, `evenjudged COUNT HEX` | the archive of so many tiles of even ids with one content; the line of `verify` about it |
 //! | `apart COUNT LENGTH` | the archive of so many tiles of even ids, each with a content of so many bytes of its own |
 //! | `shape KIND INTEGER ..` | the shape of `points`, `lines`, `polygons` or `unknown` that integers spell |
+//! | `example points`, `example line`, `example ring` | the integers of the standard's example of this shape |
 //! | `nothing` | the integers that are written of no lines, and of no rings |
 //! | `spell N ..` | numbers as they are spelled in a message, one behind the other |
 //! | `zigzag N`, `unzigzag N` | a signed number as an unsigned one, and back |
@@ -33,6 +34,7 @@
 mod answers;
 mod archives;
 mod builds;
+mod examples;
 mod inputs;
 mod lines;
 mod messages;

@@ -1,4 +1,5 @@
 //! Lines about numbers: of shapes, signed ones, ids of tiles, and those that texts write.
+use crate::examples::example;
 use crate::lines::Line;
 use byte_range::byte_range;
 use decimal_number::{are_digits, digits_number, push_number, push_text};
@@ -107,6 +108,7 @@ pub(crate) fn answer(alloc: Global, line: Line<'_>) -> Option<Result<String, All
     let first = number_in(line.rest);
     match line.word {
         "shape" => Some(shape(alloc, line.rest)),
+        "example" => Some(example(alloc, line.rest)),
         "nothing" => Some(nothing(alloc)),
         "spell" => Some(spell(alloc, line.rest)),
         "zigzag" => {
