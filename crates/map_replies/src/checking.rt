@@ -58,7 +58,7 @@ impl<D: Sectors + Drop> Calls<D> {
 /// A checked edit replaces no feature that its author hadn't seen: if one is acknowledged, the map had until then what the body says of
 /// each number that is changed.
 pub fn replaces_what_was_seen<D: Sectors>()
-    ensures { (failed : Type 0) (version : ℕ) (body : List ℕ) (reply : ReplyView) (happenings : List Happening) (old new : ServiceView D)
-        → MeansCheckedBatch failed version body reply happenings → TakesAll D.sectors D.honest D.history old happenings new
-        → acknowledged happenings ≢ [] → ReplacesSeen old.features body }
+    ensures { (version : ℕ) (body : List ℕ) (reply : ReplyView) (happenings : List Happening) (old new : ServiceView D)
+        → MeansCheckedBatch (DiskFailed D.faults old new) version body reply happenings
+        → TakesAll D.sectors D.honest D.history old happenings new → acknowledged happenings ≢ [] → ReplacesSeen old.features body }
 {}

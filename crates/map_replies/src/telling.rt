@@ -121,7 +121,7 @@ fn push_disk_part(out: &mut Vec<u8>, status: Status)
     push_text(out, b",\"sectors\":");
     push_number(out, status.sectors);
     push_text(out, b",\"version\":");
-    push_number(out, u64::from(status.version));
+    push_number(out, status.version as u64);
 }
 
 /// The whole text.
