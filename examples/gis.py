@@ -10,9 +10,10 @@ WEST,SOUTH,EAST,NORTH (degrees). A layer that has points, lines and areas is sev
 show a feature. A feature that the import has cut is one feature here.
 
 `checkin` compares the file with what was checked out, and sends the difference by checked edits: a feature that somebody else has changed
-meanwhile is left as it is on the map, and listed with both changes as a conflict; --mine 7,9 sends yours of these all the same. What others
-changed elsewhere is listed too. New features get ids that are free. Large shapes are cut for that (needs GDAL's Python module: run it by
-/usr/bin/python3). What was sent is remembered in the file, so a second `checkin` sends the rest. --dry-run sends nothing and lists.
+meanwhile is left as it is on the map, and listed with both changes as a conflict; --mine 7,9 puts what you changed of these over what others
+changed, and keeps what they changed beside it. What others changed elsewhere is listed too. New features get ids that are free. Large shapes
+are cut for that (needs GDAL's Python module: run it by /usr/bin/python3). What was sent is remembered in the file, so a second `checkin` sends
+the rest. --dry-run sends nothing and lists.
 
 The server needs --admin. It ends with 1 if there are conflicts or refusals, with 2 if the file or the command is wrong, with 3 if the
 server doesn't answer.
@@ -25,7 +26,7 @@ from collections import Counter
 
 import geopackage
 from edits import checked, delete, put
-from gis_file import ZOOMS, Checkout, Row, Unusable, write
+from gis_file import ZOOMS, Checkout, Unusable, write
 from map_client import Client, NoAnswer, Stopped
 from wholes import OUTLINE, PIECE, WHOLE, wholes_of
 
@@ -143,12 +144,11 @@ def told_change(before, after):
     return ", ".join(parts + (["its shape"] if before["geometry"] != after["geometry"] else [])) or "nothing"
 
 
-def seen_of(row, now):
-    """What the map has now of a row: the features by their ids, and the whole that they are, or None."""
-    ids = row.base.pieces if row.base else ()
-    pieces = {number: now[number] for number in ids if number in now}
+def seen_of(base, now):
+    """What the map has now of a whole: the whole, with its features by their ids, or None."""
+    pieces = {number: now[number] for number in base.pieces if number in now}
     whole = next(iter(wholes_of(pieces.items())), None)
-    return pieces, whole and whole.feature
+    return whole and whole._replace(pieces=pieces)
 
 
 class Checkin:
@@ -167,7 +167,7 @@ class Checkin:
         for fault in self.file.unreadable:
             self.refused += 1
             print(f"refused: {fault}")
-        self.refuse_many([row for row in rows if row.feature is None])
+        self.refuse_many([row for row in rows if row.said is None])
         self.give_ids([row for row in rows if row.base is None], now, self.client.next_id(status))
         sent = [row for row in rows if self.is_sent(row, now)]
         if not self.words.dry_run:
@@ -191,23 +191,30 @@ class Checkin:
 
     def is_sent(self, row, now):
         """Whether a row is to be sent: what the map has of it is what was checked out, or its author says so."""
-        seen, theirs = seen_of(row, now)
-        mine = told_change(row.base.feature, row.feature) if row.base else "new"
+        base, mine = row.base, told_change(row.shown, row.said) if row.base else "new"
+        theirs = base and seen_of(base, now)
         try:
+            if base and str(row.number) in self.words.mine:
+                row.put_over(theirs)
             row.wanted = pieces_of(row)
         except Unfit as fault:
             self.refused += 1
             print(f"refused: {row}: {fault}")
             return False
-        there = {number: now[number] for number in {*seen, *row.wanted} if number in now}
-        if row.base and seen != row.base.pieces and there != row.wanted and str(row.number) not in self.words.mine:
+        if row.base is base and base and self.is_changed(row, now):
             self.conflicts += 1
-            print(f"conflict: {row}: yours: {mine}; on the map now: {told_change(row.base.feature, theirs)}")
+            print(f"conflict: {row}: yours: {mine}; on the map now: {told_change(base.feature, theirs and theirs.feature)}")
             return False
+        there = {number: now[number] for number in {*(row.base.pieces if row.base else ()), *row.wanted} if number in now}
         row.changes = [checked(put(number, feature), there.get(number)) for number, feature in row.wanted.items() if feature != there.get(number)]
         row.changes += [checked(delete(number), feature) for number, feature in there.items() if number not in row.wanted]
         print(f"{'would be sent' if self.words.dry_run else 'sending' if row.changes else 'on the map already'}: {row}: {mine}")
         return True
+
+    def is_changed(self, row, now):
+        """Whether somebody else has changed a feature of a row: it is neither as it was checked out nor as the row is to be."""
+        ids = {*row.base.pieces, *row.wanted}
+        return any(now.get(number) not in (row.base.pieces.get(number), row.wanted.get(number)) for number in ids)
 
     def send(self, rows):
         """Sends rows, and remembers those that are made."""
@@ -227,8 +234,8 @@ class Checkin:
     def finish(self, row):
         """Remembers a row that was sent, or tells why it is refused."""
         if not row.refusals:
-            self.file.remember([row])
-            self.done["deleted" if row.feature is None else "changed" if row.base else "new"] += 1
+            self.file.remember(row)
+            self.done["deleted" if row.said is None else "changed" if row.shown else "new"] += 1
             return
         refusal = row.refusals[0]
         self.conflicts += refusal.is_conflict
@@ -238,10 +245,10 @@ class Checkin:
     def tell_others(self, now, mine):
         """Lists what others changed of what was checked out, and what they added."""
         ours = {number for base in self.file.base.values() for number in base.pieces}
-        for (table, fid), base in sorted(self.file.base.items()):
-            theirs = seen_of(Row(table, fid, base, None), now)
-            if theirs[0] != base.pieces and base.number not in mine:
-                print(f"changed by others: {base.feature['layer']} {base.number}: {told_change(base.feature, theirs[1])}")
+        for _, base in sorted(self.file.base.items()):
+            theirs = seen_of(base, now)
+            if (theirs is None or theirs.pieces != base.pieces) and base.number not in mine:
+                print(f"changed by others: {base.feature['layer']} {base.number}: {told_change(base.feature, theirs and theirs.feature)}")
         choice = Choice(self.file.told["layers"], self.file.told["bbox"])
         for whole in wholes_of((number, feature) for number, feature in now.items() if number not in ours):
             if whole.number not in mine and whole.feature["tags"].get(WHOLE) not in ours and choice.has(whole):
@@ -276,7 +283,7 @@ def asked():
     out.add_argument("--url", default="http://127.0.0.1:8000", help="the server (http://127.0.0.1:8000)")
     back = tasks.add_parser("checkin", help="sends what was changed in the file")
     back.add_argument("file", help="the GeoPackage that `checkout` wrote")
-    back.add_argument("--mine", type=lambda text: text.split(","), default=[], help="ids of which yours replaces what others made of it")
+    back.add_argument("--mine", type=lambda text: text.split(","), default=[], help="ids of which what you changed is put over what others changed")
     back.add_argument("--dry-run", action="store_true", help="list what would be sent, and send nothing")
     back.add_argument("--delete-many", action="store_true", help="delete even more than half of the features that were checked out")
     back.add_argument("--publish", action="store_true", help="publish when the journal is full")

@@ -17,7 +17,8 @@ MEMORY = """
     CREATE TABLE gpkg_vtserve_checkout (name TEXT PRIMARY KEY, value TEXT NOT NULL);
     CREATE TABLE gpkg_vtserve_tables (name TEXT PRIMARY KEY, layer TEXT NOT NULL, minzoom INTEGER NOT NULL, maxzoom INTEGER NOT NULL);
     CREATE TABLE gpkg_vtserve_columns (name TEXT NOT NULL, column_name TEXT NOT NULL, tag TEXT NOT NULL, form TEXT NOT NULL);
-    CREATE TABLE gpkg_vtserve_features (name TEXT NOT NULL, fid INTEGER NOT NULL, id INTEGER NOT NULL, pieces TEXT NOT NULL, PRIMARY KEY (name, fid));
+    CREATE TABLE gpkg_vtserve_features (name TEXT NOT NULL, fid INTEGER NOT NULL, id INTEGER NOT NULL, pieces TEXT NOT NULL, shown TEXT,
+        PRIMARY KEY (name, fid));
 """
 
 
@@ -89,7 +90,7 @@ class Table:
         zooms = Counter(tuple(whole.feature[zoom] for zoom in ZOOMS) for whole in self.wholes).most_common(1)[0][0]
         file.execute("INSERT INTO gpkg_vtserve_tables VALUES (?, ?, ?, ?)", (self.name, self.layer, *zooms))
         file.executemany("INSERT INTO gpkg_vtserve_columns VALUES (?, ?, ?, ?)", [(self.name, *column) for column in self.columns])
-        remember(file, [(self.name, whole.number, whole.number, whole.pieces) for whole in self.wholes])
+        remember(file, [(self.name, whole.number, whole.number, whole.pieces, None) for whole in self.wholes])
 
     def row(self, whole):
         tags = whole.feature["tags"]
@@ -98,9 +99,11 @@ class Table:
 
 
 def remember(file, rows):
-    """Remembers what the map has of rows: the table, the row, the id, and the features by their ids."""
-    file.executemany("INSERT OR REPLACE INTO gpkg_vtserve_features VALUES (?, ?, ?, ?)",
-                     [(name, fid, number, json.dumps({str(key): value for key, value in pieces.items()})) for name, fid, number, pieces in rows])
+    """Remembers what the map has of rows: the table, the row, the id, the features by their ids, and what the row shows if that is another."""
+    file.executemany("INSERT OR REPLACE INTO gpkg_vtserve_features VALUES (?, ?, ?, ?, ?)", [
+        (name, fid, number, json.dumps({str(key): value for key, value in pieces.items()}), shown and json.dumps(shown))
+        for name, fid, number, pieces, shown in rows
+    ])
 
 
 def tables_of(wholes):
@@ -138,16 +141,36 @@ def write(path, wholes, told):
 # ---- the file as it was edited
 
 class Row:
-    """A feature of the file beside what was checked out: `base` (the whole, None of a new one) and `feature` (None of a deleted one)."""
+    """A feature of the file: what it `said` is now (None: deleted), what it `shown` was before, and the whole of the map that it was made of
+    (`base`). The latter two are None of a new one. `feature` is what it is to be on the map."""
 
-    def __init__(self, table, fid, base, feature):
-        self.table, self.fid, self.base, self.feature = table, fid, base, feature
+    def __init__(self, table, fid, base, shown, said):
+        self.table, self.fid, self.base, self.shown, self.said = table, fid, base, shown, said
+        self.feature = merged(shown, said, base.feature) if base else said
         self.number = base.number if base else None
         self.wanted, self.refusals = {}, []
 
+    def put_over(self, theirs):
+        """Puts what was changed in the file over what somebody else has made of the feature, a whole or None."""
+        self.base = theirs
+        self.feature = merged(self.shown, self.said, theirs.feature) if theirs else self.said
+
     def __str__(self):
-        layer = (self.feature or self.base.feature)["layer"]
+        layer = (self.said or self.shown)["layer"]
         return f"{layer} {self.number}" if self.number is not None else f"new feature of {self.table} (row {self.fid})"
+
+
+def merged(before, after, theirs):
+    """What one version changed of another, made of a third: what it left as it was is as in the third."""
+    if after is None:
+        return None
+    parts = {name: after[name] if after[name] != before[name] else theirs[name] for name in ("layer", *ZOOMS, "geometry")}
+    tags = {}
+    for tag in {**theirs["tags"], **after["tags"]}:
+        of = after if after["tags"].get(tag) != before["tags"].get(tag) else theirs
+        if tag in of["tags"]:
+            tags[tag] = of["tags"][tag]
+    return {**parts, "tags": tags}
 
 
 class Checkout:
@@ -164,12 +187,14 @@ class Checkout:
             self.columns = defaultdict(dict)
             for name, column, tag, form in self.file.execute("SELECT * FROM gpkg_vtserve_columns"):
                 self.columns[name][column] = tag, form
-            kept = self.file.execute("SELECT name, fid, id, pieces FROM gpkg_vtserve_features").fetchall()
+            kept = self.file.execute("SELECT name, fid, id, pieces, shown FROM gpkg_vtserve_features").fetchall()
         except sqlite3.DatabaseError as fault:
             raise Unusable(f"{path} isn't a file of `gis.py checkout`, or another program has written it anew: edit the file itself ({fault})") from fault
-        # What was checked out by table and row; and the ids that were given to new rows, which may not have been made.
-        self.base = {(name, fid): base_of(json.loads(pieces)) for name, fid, _, pieces in kept if pieces != NOTHING}
-        self.noted = {(name, fid): number for name, fid, number, pieces in kept if pieces == NOTHING}
+        # By table and row: what the map had, what the row shows of it, and the ids that were given to new rows, which may not have been made.
+        self.base = {(name, fid): base_of(json.loads(pieces)) for name, fid, _, pieces, _ in kept if pieces != NOTHING}
+        self.shown = {key: base.feature for key, base in self.base.items()}
+        self.shown.update({(name, fid): json.loads(shown) for name, fid, _, _, shown in kept if shown})
+        self.noted = {(name, fid): number for name, fid, number, pieces, _ in kept if pieces == NOTHING}
         self.unreadable = []
 
     def lock(self, path):
@@ -186,22 +211,22 @@ class Checkout:
         for table, column in geopackage.tables(self.file):
             for fid, blob, cells in geopackage.rows(self.file, table, column):
                 seen.add((table, fid))
-                base = self.base.get((table, fid))
+                shown = self.shown.get((table, fid))
                 try:
-                    feature = self.feature(table, base, blob, cells)
+                    said = self.feature(table, shown, blob, cells)
                 except geopackage.Unreadable as fault:
                     self.unreadable.append(f"{table}, row {fid}: {fault}")
                     continue
-                if base is None or feature != base.feature:
-                    yield Row(table, fid, base, feature)
+                if shown is None or said != shown:
+                    yield Row(table, fid, self.base.get((table, fid)), shown, said)
         for (table, fid), base in self.base.items():
             if (table, fid) not in seen:
-                yield Row(table, fid, base, None)
+                yield Row(table, fid, base, self.shown[table, fid], None)
 
-    def feature(self, table, base, blob, cells):
-        """The feature that a row says. Cells as they were checked out say what the map had."""
+    def feature(self, table, shown, blob, cells):
+        """The feature that a row says. Cells that are as they were say what the row showed."""
         layer, *zooms = self.layers.get(table) or [table, *self.common_zooms()]
-        was = base.feature if base else {"layer": layer, "minzoom": zooms[0], "maxzoom": zooms[1], "tags": {}, "geometry": None}
+        was = shown or {"layer": layer, "minzoom": zooms[0], "maxzoom": zooms[1], "tags": {}, "geometry": None}
         tags = {}
         for column, cell in cells.items():
             tag, form = self.columns[table].get(column, (column, None))
@@ -211,7 +236,7 @@ class Checkout:
                 tags[tag] = value
         made = {zoom: was[zoom] if cells.get(zoom) is None else cells[zoom] for zoom in ZOOMS}
         geometry = geopackage.geometry_of(blob)
-        if base and normal(geometry) == normal(was["geometry"]):
+        if shown and normal(geometry) == normal(was["geometry"]):
             geometry = was["geometry"]
         return {**was, **made, "geometry": geometry, "tags": tags}
 
@@ -222,17 +247,19 @@ class Checkout:
     def note(self, rows):
         """Notes the ids of new rows before they are sent."""
         with self.file:
-            remember(self.file, [(row.table, row.fid, row.number, {}) for row in rows])
+            remember(self.file, [(row.table, row.fid, row.number, {}, None) for row in rows])
 
-    def remember(self, rows):
+    def remember(self, row):
         """Remembers what was sent."""
         with self.file:
-            remember(self.file, [(row.table, row.fid, row.number, row.wanted) for row in rows if row.wanted])
-            gone = [(row.table, row.fid) for row in rows if not row.wanted]
-            self.file.executemany("DELETE FROM gpkg_vtserve_features WHERE name = ? AND fid = ?", gone)
+            if row.wanted:
+                shown = row.said if row.said != base_of(row.wanted).feature else None
+                remember(self.file, [(row.table, row.fid, row.number, row.wanted, shown)])
+            else:
+                self.file.execute("DELETE FROM gpkg_vtserve_features WHERE name = ? AND fid = ?", (row.table, row.fid))
 
 
 def base_of(pieces):
-    """The whole of features by their ids as texts."""
+    """The whole of features by their ids, which may be texts."""
     whole, *_ = wholes_of((int(number), feature) for number, feature in pieces.items())
     return whole

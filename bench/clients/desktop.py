@@ -154,14 +154,17 @@ class Desk:
 
     def changes(self):
         self.show("QGIS edits", run(self.folder, EDIT, self.file), ["edited"])
-        self.put(452, name="St Mary")
+        church = self.get(452)
+        church["geometry"]["points"][0][0] += 1000
+        curl(f"{self.url}/features/452", "-X", "PUT", body=json.dumps({**church, "maxzoom": 15, "tags": {"name": "St Mary", "spire": True}}))
         self.put(450, name="by others")
         before, land = self.get(134), self.get(101)
         status, lines = gis("checkin", self.file, "--dry-run")
         self.show("a trial sends nothing", (status, lines[-1]), (1, "0 new, 0 changed, 0 deleted, 1 conflicts, 1 refused; 9 would be sent"))
         status, lines = gis("checkin", self.file)
         self.show("what was changed is sent", (status, lines[-1]), (1, "3 new, 5 changed, 1 deleted, 1 conflicts, 1 refused"))
-        conflict = "conflict: place 452: yours: name: 'Church' -> 'Old Church'; on the map now: name: 'Church' -> 'St Mary'"
+        conflict = "conflict: place 452: yours: name: 'Church' -> 'Old Church'; on the map now: (maxzoom): 16 -> 15, " \
+            "name: 'Church' -> 'St Mary', spire: None -> True, its shape"
         self.show("a conflict is told with both changes", [line for line in lines if line.startswith("conflict")], [conflict])
         self.show("and so is what can't be read", [line for line in lines if line.startswith("refused")], ["refused: well, row 2: it has no geometry"])
         others = [line.split(":")[1].strip() for line in lines if line.startswith("changed by others")]
@@ -170,7 +173,7 @@ class Desk:
         moved = [b - a for a, b in zip(before["geometry"]["polygons"][0][0][0], self.get(134)["geometry"]["polygons"][0][0][0])]
         self.show("a shape, moved by 10 and -5 metres", moved, [round(10 / 40075016.685578488 * 2 ** 32), round(-5 / 40075016.685578488 * 2 ** 32)])
         self.show("a deletion", self.get(135), None)
-        self.show("what somebody else made stays", self.get(452)["tags"], {"name": "St Mary"})
+        self.show("what somebody else made stays", self.get(452)["tags"], {"name": "St Mary", "spire": True})
         self.show("a new column is a new tag", self.get(453)["tags"], {"height": "12.5", "name": "School"})
         made = [self.get(number) for number in range(456, 460)]
         names = [feature and (feature["layer"], feature["tags"].get("name"), feature["tags"].get("house")) for feature in made]
@@ -187,7 +190,9 @@ class Desk:
         wanted = (1, "0 new, 0 changed, 0 deleted, 1 conflicts, 1 refused", edit)
         self.show("again it sends nothing, and tells what is left", (status, lines[-1], self.edits()), wanted)
         gis("checkin", self.file, "--mine", "452")
-        self.show("the author's word puts it over the other's", self.get(452)["tags"], {"name": "Old Church"})
+        wanted = {**church, "maxzoom": 15, "tags": {"name": "Old Church", "spire": True}}
+        self.show("the author's word puts what he changed over the other's, and keeps the rest", self.get(452), wanted)
+        self.show("after which the file has nothing to send", gis("checkin", self.file)[1][-1], "0 new, 0 changed, 0 deleted, 0 conflicts, 1 refused")
 
     def interrupted(self):
         """A checkin of 600 new features that is killed several times."""
