@@ -21,8 +21,8 @@ Of a server without it the ids have to be known:
 `save --wholes` is for other programs: a feature that the import cut is one again, the union of its pieces, without the lines of its
 outline. Such a file is no backup: `load` refuses it, and `import_features.py` puts it into a map.
 
-`load` with --publish frees the journal by a publication whenever it is full; it puts up to 64 features in a request, and with --no-batches
-one. It ends with 1 if a request is refused, both end with 3 if the server doesn't answer; `save` leaves FILE as it was then, and what it got
+`load` replaces nothing of a map that has other features of these ids, unless --overwrite says so. With --publish it frees the journal by a
+publication whenever it is full; it puts up to 64 features in a request, and with --no-batches one. It ends with 1 if a request is refused, both end with 3 if the server doesn't answer; `save` leaves FILE as it was then, and what it got
 in FILE.part. Needs no package.
 """
 import argparse
@@ -32,7 +32,7 @@ import sys
 
 from archive_ids import ids_in
 from disk_file import Damaged, moment_of
-from edits import MOST_CHANGES, put
+from edits import MOST_CHANGES, NOTHING, encoded, put
 from geojson import feature_of, geojson_of
 from map_client import Client, NoAnswer, Stopped, ranges
 from wholes import wholes_of
@@ -129,14 +129,34 @@ def saved_in(path):
     raise Refused(f"{path} was saved with --wholes: put it into a map by import_features.py, which cuts large features again")
 
 
+def changes_for(rows, there, overwrites):
+    """The checked edits that put the features of a file into a map that has others, which they don't replace unless that is wanted."""
+    made, differing, others = [], 0, set(there)
+    for number, feature in rows:
+        was, there[number] = there.get(number), encoded(feature)
+        if was != there[number]:
+            differing += number in others
+            made.append(put(number, feature)._replace(was=was or NOTHING))
+        others.discard(number)
+    if differing and not overwrites:
+        raise Refused(f"{differing:,} of these features are others in the map: nothing was put (--overwrite replaces them)")
+    return made
+
+
 def load(words):
     """Puts the features of the file back."""
     rows = saved_in(words.file)
     client = Client(words.url, words.publish, 1 if words.no_batches else MOST_CHANGES)
-    for change, refusal in client.make(put(number, feature) for number, feature in rows):
+    if client.status() is None:
+        print("note: the server tells nothing of itself (start it with --admin): what it has of these features is replaced", flush=True)
+        changes = [put(number, feature) for number, feature in rows]
+    else:
+        changes = changes_for(rows, {number: encoded(feature) for number, feature in client.features()}, words.overwrite)
+    for change, refusal in client.make(changes):
         if refusal:
             raise Refused(f"feature {change.number}: {refusal}")
-    print(f"{len(rows)} features put")
+    same = len(rows) - len(changes)
+    print(f"{len(changes)} features put" + (f", {same} were there already" if same else ""))
 
 
 def main():
@@ -149,6 +169,7 @@ def main():
     source.add_argument("--numbers", help="save: the ids to ask for, as in 1-3000,5000")
     source.add_argument("--archive", action="store_true", help="save: publish, and take the ids from the archive")
     parser.add_argument("--wholes", action="store_true", help="save: features that the import cut as one, for other programs")
+    parser.add_argument("--overwrite", action="store_true", help="load: replace features of the map that have other content")
     parser.add_argument("--publish", action="store_true", help="load: publish by steps when the journal is full")
     parser.add_argument("--no-batches", action="store_true", help="load: put each feature in a request of its own")
     words = parser.parse_args()

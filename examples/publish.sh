@@ -113,11 +113,12 @@ put() {
 
 # Puts the archive into the object store. Nothing is deleted there: old archives have readers.
 store() {
-    local name
-    name=map-$(date -u +%Y%m%dT%H%M%SZ).pmtiles
+    local name sum
     folder=$(mktemp -d)
     trap 'rm -rf "$folder"' EXIT
     curl --silent --show-error --fail --max-time 3600 --output "$folder/archive" "$url/map.pmtiles" || return 1
+    sum=$(sha256sum "$folder/archive")
+    name=map-$(date -u +%Y%m%dT%H%M%SZ)-${sum:0:8}.pmtiles
     printf '{"archive":"%s"}\n' "$name" > "$folder/newest.json"
     put "$folder/archive" "$name" application/vnd.pmtiles 'public, max-age=31536000, immutable' || return 1
     put "$folder/newest.json" newest.json application/json no-cache || return 1
