@@ -131,13 +131,9 @@ def saved_in(path):
 
 def changes_for(rows, there, overwrites):
     """The checked edits that put the features of a file into a map that has others, which they don't replace unless that is wanted."""
-    made, differing, others = [], 0, set(there)
-    for number, feature in rows:
-        was, there[number] = there.get(number), encoded(feature)
-        if was != there[number]:
-            differing += number in others
-            made.append(put(number, feature)._replace(was=was or NOTHING))
-        others.discard(number)
+    made = [put(number, feature)._replace(was=there.get(number, NOTHING)) for number, feature in rows]
+    made = [change for change in made if change.was != change.body]
+    differing = sum(change.was != NOTHING for change in made)
     if differing and not overwrites:
         raise Refused(f"{differing:,} of these features are others in the map: nothing was put (--overwrite replaces them)")
     return made
@@ -145,7 +141,8 @@ def changes_for(rows, there, overwrites):
 
 def load(words):
     """Puts the features of the file back."""
-    rows = saved_in(words.file)
+    # Of an id that the file has twice, the last feature counts.
+    rows = list(dict(saved_in(words.file)).items())
     client = Client(words.url, words.publish, 1 if words.no_batches else MOST_CHANGES)
     if client.status() is None:
         print("note: the server tells nothing of itself (start it with --admin): what it has of these features is replaced", flush=True)

@@ -145,13 +145,13 @@ def imports_in_batches(cases, folder):
         twice = written(folder, "twice.geojson", [rows[0], rows[1], {**rows[0], "layer": "later"}])
         refused = (1, ["1 of these features are others in the map: nothing was put (--overwrite replaces them)"])
         cases.show("batches: load replaces nothing", tool([*BACKUP, "load", twice], server.url), refused)
-        cases.show("batches: load --overwrite", tool([*BACKUP, "load", twice, "--overwrite"], server.url), (0, ["1 features put, 2 were there already"]))
+        cases.show("batches: load --overwrite", tool([*BACKUP, "load", twice, "--overwrite"], server.url), (0, ["1 features put, 1 were there already"]))
         found = ((shown(server, 1) or {}).get("layer"), edit_count(server))
         cases.show("batches: load of an id that is there twice: the later one", found, ("later", 3 + 1))
     with Server(folder, "loaded_twice", 4096) as server:
         tool([*BACKUP, "load", twice], server.url)
         found = ((shown(server, 1) or {}).get("layer"), edit_count(server))
-        cases.show("batches: load of an id that is there twice: the later one, in an edit of its own", found, ("later", 2))
+        cases.show("batches: load into an empty map of an id that is there twice", found, ("later", 1))
 
 
 def limits(cases, folder):
