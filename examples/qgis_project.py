@@ -1,16 +1,22 @@
 #!/usr/bin/env python3
 """Writes a QGIS project with the tiles of a running vtserve as its only layer, with a style for areas, lines and points.
 
-    python3 examples/qgis_project.py map.qgs --url http://127.0.0.1:8000 --maxzoom 14 --centre 7.5,54.5
+    python3 examples/qgis_project.py map.qgs --url http://127.0.0.1:8000
 
-Open the file with QGIS 3.14 or later. --maxzoom is the greatest zoom that the features have: QGIS enlarges the tiles of that zoom for
-greater ones. Areas have no outlines, which would show where the import cut them: it has put their outlines as lines of a layer of their
-own. --outlines draws outlines of areas. Needs no package.
+Open the file with QGIS 3.14 or later. It opens where the published map is, or at --centre. --maxzoom is the greatest zoom that the features
+have, which the server tells: QGIS enlarges the tiles of that zoom for greater ones. Areas have no outlines, which would show where the import
+cut them: it has put their outlines as lines of a layer of their own. --outlines draws outlines of areas. Needs no package.
 """
 import argparse
+import json
 import math
+import sys
+import urllib.error
 import urllib.parse
+import urllib.request
 from xml.sax.saxutils import escape
+
+from protobuf import varint
 
 EARTH = 20037508.342789244
 PROJECT = """<!DOCTYPE qgis PUBLIC 'http://mrcc.com/qgis.dtd' 'SYSTEM'>
@@ -82,31 +88,89 @@ def styled(outlines):
     return made
 
 
+def content_of(url, **fields):
+    """The content of a reply, or None if there is none (404)."""
+    try:
+        with urllib.request.urlopen(urllib.request.Request(url, headers=fields), timeout=60) as reply:
+            return reply.read()
+    except urllib.error.HTTPError as fault:
+        if fault.code == 404:
+            return None
+        sys.exit(f"{url}: {fault}")
+    except OSError as fault:
+        sys.exit(f"{url}: {fault}")
+
+
+def greatest_zoom(url):
+    """The greatest zoom that the features have."""
+    return max((layer["maxzoom"] for layer in json.loads(content_of(url + "/map/metadata") or b'{"vector_layers":[]}')["vector_layers"]), default=0)
+
+
+def tile_of(number):
+    """Zoom, column and row of a tile of an archive: PMTiles numbers the tiles of each zoom along a Hilbert curve, zoom after zoom."""
+    zoom = 0
+    while number >= 4 ** zoom:
+        number, zoom = number - 4 ** zoom, zoom + 1
+    column, row, side = 0, 0, 1
+    while side < 2 ** zoom:
+        right = number // 2 % 2
+        down = (number + right) % 2
+        if not down:
+            column, row = (side - 1 - row, side - 1 - column) if right else (row, column)
+        column, row, side, number = column + side * right, row + side * down, side * 2, number // 4
+    return zoom, column, row
+
+
+def published(url):
+    """West, south, east and north, in Web Mercator, of the tiles of the greatest zoom in the archive's root directory; the world if there is none."""
+    content = content_of(url + "/map.pmtiles", Range="bytes=0-16383")
+    if content is None:
+        return -EARTH, -EARTH, EARTH, EARTH
+    # After a header of 127 bytes the directory: the number of its entries, then each one's id as the distance from the one before.
+    left, at = varint(content, 127)
+    number, tiles = 0, []
+    for _ in range(left):
+        step, at = varint(content, at)
+        number += step
+        tiles.append(tile_of(number))
+    zoom = tiles[-1][0]
+    columns, rows = zip(*(tile[1:] for tile in tiles if tile[0] == zoom))
+    side = 2 * EARTH / 2 ** zoom
+    return min(columns) * side - EARTH, EARTH - (max(rows) + 1) * side, (max(columns) + 1) * side - EARTH, EARTH - min(rows) * side
+
+
+def box_at(centre, metres):
+    """West, south, east and north, in Web Mercator, of a square round a longitude and latitude."""
+    longitude, latitude = (float(part) for part in centre.split(","))
+    east = longitude / 180 * EARTH
+    north = math.asinh(math.tan(math.radians(latitude))) / math.pi * EARTH
+    return east - metres / 2, north - metres / 2, east + metres / 2, north + metres / 2
+
+
 def main():
     parser = argparse.ArgumentParser(description="Writes a QGIS project with the tiles of a running vtserve.")
     parser.add_argument("file", help="the .qgs file that is written")
     parser.add_argument("--url", default="http://127.0.0.1:8000", help="the server, as QGIS reaches it (http://127.0.0.1:8000)")
     parser.add_argument("--name", default="vtserve", help="the name of the layer in QGIS (vtserve)")
-    parser.add_argument("--maxzoom", type=int, default=14, help="the greatest zoom of the features (14)")
+    parser.add_argument("--maxzoom", type=int, help="the greatest zoom of the features (as the server tells it)")
     parser.add_argument("--outlines", action="store_true", help="draw outlines of areas")
-    parser.add_argument("--centre", default="7.5,54.5", help="longitude and latitude that the map opens at (7.5,54.5)")
-    parser.add_argument("--metres", type=float, default=5000, help="how wide and high the map opens, in metres of Web Mercator (5000)")
+    parser.add_argument("--centre", help="longitude and latitude that the map opens at, as in 7.5,54.5 (where the published map is)")
+    parser.add_argument("--metres", type=float, default=5000, help="--centre: how wide and high the map opens, in metres of Web Mercator (5000)")
     words = parser.parse_args()
-    longitude, latitude = (float(part) for part in words.centre.split(","))
-    east = longitude / 180 * EARTH
-    north = math.asinh(math.tan(math.radians(latitude))) / math.pi * EARTH
-    half = words.metres / 2
-    tiles = urllib.parse.quote(words.url.rstrip("/") + "/map/", safe=":/") + "{z}/{x}/{y}.mvt"
-    source = f"type=xyz&url={tiles}&zmin=0&zmax={words.maxzoom}"
+    url = words.url.rstrip("/")
+    maxzoom = greatest_zoom(url) if words.maxzoom is None else words.maxzoom
+    west, south, east, north = box_at(words.centre, words.metres) if words.centre else published(url)
+    tiles = urllib.parse.quote(url + "/map/", safe=":/") + "{z}/{x}/{y}.mvt"
+    source = f"type=xyz&url={tiles}&zmin=0&zmax={maxzoom}"
     project = PROJECT.format(
         name=escape(words.name, {'"': "&quot;"}),
         source=escape(source),
         styles=styled(words.outlines),
         system=SYSTEM,
-        west=east - half,
-        east=east + half,
-        south=north - half,
-        north=north + half,
+        west=west,
+        east=east,
+        south=south,
+        north=north,
     )
     with open(words.file, "w", encoding="utf-8") as file:
         file.write(project)
