@@ -150,6 +150,7 @@ class People:
         self.conflict()
         self.new_feature()
         self.deletion()
+        self.lost_reply()
         self.large_feature()
         self.view_only(nginx)
         self.elsewhere(nginx)
@@ -256,6 +257,21 @@ class People:
         self.saved(self.one)
         self.show("but by a second word", self.get(457), None)
 
+    def lost_reply(self):
+        """An edit whose reply doesn't arrive."""
+        self.edit(self.one, 453)
+        self.write(self.one, "name", "Old School")
+        self.one.value("""(() => { const asked = window.fetch; let first = true; window.fetch = async (url, words) => {
+            const reply = await asked(url, words);
+            if (first && words?.method === "POST") { first = false; throw new TypeError("lost"); }
+            return reply; }; })()""")
+        before = json.loads(curl(f"{self.server.url}/admin/status")[2])["edits"]
+        self.one.press("Save")
+        told = self.saved(self.one)
+        after = json.loads(curl(f"{self.server.url}/admin/status")[2])["edits"]
+        self.show("an edit whose reply was lost is sent again", told, f"feature 453 saved, edit {before + 1}")
+        self.show("and made once", (after - before, self.get(453)["tags"]), (1, {"name": "Old School"}))
+
     def large_feature(self):
         self.one.value("location.hash = '#15/54.5/7.5'")
         self.drawn(self.one)
@@ -317,7 +333,7 @@ class People:
             self.drawn(made)
             self.show("a machine that may not edit is told", made.text("#told"), "view only: this machine may not edit the map")
             made.click(*self.place(made, 453))
-            self.show("and sees tags, without buttons", made.text("#panel").split("\n"), ["place 453", "name\tSchool"])
+            self.show("and sees tags, without buttons", made.text("#panel").split("\n"), ["place 453", "name\tOld School"])
 
     def elsewhere(self, nginx):
         """An editor whose address isn't among those that nginx keeps tiles of each edit for, as one with a password from elsewhere."""
