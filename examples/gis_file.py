@@ -119,7 +119,7 @@ def tables_of(wholes):
 
 
 def write(path, wholes, told):
-    """Writes a file with these features, and what is told of it. Returns the number of its tables. An older file is replaced at the end."""
+    """Writes a file with these features, and notes about it. Returns the number of its tables. An older file is replaced at the end."""
     part = path + ".part"
     if os.path.exists(part):
         os.remove(part)

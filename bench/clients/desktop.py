@@ -165,7 +165,7 @@ class Desk:
         self.show("what was changed is sent", (status, lines[-1]), (1, "3 new, 5 changed, 1 deleted, 1 conflicts, 1 refused"))
         conflict = "conflict: place 452: yours: name: 'Church' -> 'Old Church'; on the map now: (maxzoom): 16 -> 15, " \
             "name: 'Church' -> 'St Mary', spire: None -> True, its shape"
-        self.show("a conflict is told with both changes", [line for line in lines if line.startswith("conflict")], [conflict])
+        self.show("a conflict is reported with both changes", [line for line in lines if line.startswith("conflict")], [conflict])
         self.show("and so is what can't be read", [line for line in lines if line.startswith("refused")], ["refused: well, row 2: it has no geometry"])
         others = [line.split(":")[1].strip() for line in lines if line.startswith("changed by others")]
         self.show("what others changed elsewhere is listed", others, ["building 450"])

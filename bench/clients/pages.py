@@ -1,4 +1,4 @@
-"""The part `page` of run.py: a real Chromium with the page of examples/page, by mouse and keyboard, behind nginx with docs/nginx.conf.
+"""The part `page` of run.py: a real Chromium with the page of examples/page, by mouse and keyboard, through nginx with docs/nginx.conf.
 
 Two people edit one feature, a new feature's id is taken by somebody else, the server is away when somebody saves, a large feature is one,
 and a machine that may not edit sees the map. Pictures are kept in the folder that PICTURES names, if it does. What MapLibre would draw is
@@ -201,7 +201,7 @@ class People:
 
     def conflict(self):
         self.two.wait("document.getElementById('told').className === 'fault'", 10)
-        self.show("the other one is told at once", self.two.text("#told"), "somebody else has just changed what you edit: when you save, you see both")
+        self.show("the other one reads of it at once", self.two.text("#told"), "somebody else has just changed what you edit: when you save, you see both")
         self.write(self.two, "name", "Rathaus")
         self.two.press("Add a tag")
         self.write(self.two, "floors", "3")
@@ -331,7 +331,7 @@ class People:
             made = self.browser.open(f"{front.url}/pages/#16/54.5/7.5")
             made.wait("document.getElementById('told').textContent")
             self.drawn(made)
-            self.show("a machine that may not edit is told", made.text("#told"), "view only: this machine may not edit the map")
+            self.show("a machine that may not edit reads why", made.text("#told"), "view only: this machine may not edit the map")
             made.click(*self.place(made, 453))
             self.show("and sees tags, without buttons", made.text("#panel").split("\n"), ["place 453", "name\tOld School"])
 

@@ -16,7 +16,7 @@ export class Editor {
     // its `pieces` if it is cut, earlier geometries (`undo`), whether it `isDrawn` just now, and `theirs` in a conflict.
     draft = null;
 
-    /** `saved(edit)` is told of each edit. */
+    /** `saved(edit)` is called after each edit. */
     constructor(view, server, layers, saved) {
         Object.assign(this, { view, server, layers, saved });
     }

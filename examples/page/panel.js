@@ -1,4 +1,4 @@
-// The elements of the page, its panel, and what is told at its foot.
+// The elements of the page, its panel, and the line at its foot.
 export const byId = id => document.getElementById(id);
 const panel = byId("panel");
 

@@ -10,7 +10,7 @@ const CACHED = 12;
 const clamped = (value, least, greatest) => Math.min(Math.max(value, least), greatest);
 
 export class View {
-    /** `hooks`: what a click does (`select`), what a drag moves (`grab`), what is drawn above (`over`), and who is told of a fault (`failed`). */
+    /** `hooks`: what a click does (`select`), what a drag moves (`grab`), what is drawn above (`over`), and what reports a fault (`failed`). */
     constructor(canvas, server, style, hooks) {
         Object.assign(this, { canvas, server, style, hooks, context: canvas.getContext("2d"), centre: [WORLD / 2, WORLD / 2], zoom: 1 });
         // The tiles by their names: the `edit` of which each is, its `layers`, what is `drawn` of them, and the request that `loads` it.
