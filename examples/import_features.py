@@ -147,7 +147,9 @@ def obstacles(words, client, status, changes):
         return []
     changes.look(client, status)
     found = list(changes.obstacles())
-    layers = {layer["id"] for layer in client.found("/map/metadata")["vector_layers"]} & changes.layers
+    # A proxy's copy of the layers may be older than the last edit: this asks for one that isn't (docs/nginx.conf).
+    known = client.found(f"/map/metadata?edit={status['edits']}")["vector_layers"]
+    layers = {layer["id"] for layer in known} & changes.layers
     if not words.anyway:
         if words.delete_missing and not changes.plan.ids_to_put:
             found.append("the file has no features: all of the layer would be deleted (--anyway does it)")

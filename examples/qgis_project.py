@@ -11,6 +11,7 @@ import argparse
 import json
 import math
 import sys
+import time
 import urllib.error
 import urllib.parse
 import urllib.request
@@ -102,8 +103,9 @@ def content_of(url, **fields):
 
 
 def greatest_zoom(url):
-    """The greatest zoom that the features have."""
-    return max((layer["maxzoom"] for layer in json.loads(content_of(url + "/map/metadata") or b'{"vector_layers":[]}')["vector_layers"]), default=0)
+    """The greatest zoom that the features have. The time keeps nginx from sending an older copy (`?edit=` in docs/nginx.conf)."""
+    content = content_of(f"{url}/map/metadata?edit={int(time.time())}") or b'{"vector_layers":[]}'
+    return max((layer["maxzoom"] for layer in json.loads(content)["vector_layers"]), default=0)
 
 
 def tile_of(number):

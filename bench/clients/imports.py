@@ -447,7 +447,7 @@ def interrupted(cases, folder):
         status, lines = imported(path, whole.url, *words)
         total = int(lines[-1].split()[0])
         child = subprocess.Popen([*TOOL, path, "--url", server.url, *words, "--no-batches"], stdout=subprocess.PIPE, text=True)
-        while shown(server, 20) is None and child.poll() is None:
+        while shown(server, 1) is None and child.poll() is None:
             time.sleep(0.01)
         child.send_signal(signal.SIGINT)
         last = child.communicate(timeout=60)[0].splitlines()[-1]
