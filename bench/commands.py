@@ -191,7 +191,8 @@ def fails(cases, folder):
     # Where a read of 64 sectors fails, the sector is read alone. So all reads from the second one on fail.
     cases.show("pipe where a read fails", failing("pread64", path, "2+", ["pipe", path], GET), refusal(b"Device"))
     told = error(b"Device") + error(b"Broken") + EMPTY
-    cases.show("PUT where its write fails, PUT, GET", failing("pwrite64", path, 1, ["pipe", path], put(7) + put(7) + GET), (0, told, b""))
+    cases.show("PUT where its write fails, PUT, GET", failing("pwrite64", path, 1, ["pipe", path], put(7) + put(7) + GET),
+               (0, told, b"vtserve: Device: write: Input/output error (os error 5)\n"))
     cases.show("another process: PUT", vtserve(["pipe", path], put(7)), (0, edit(1), b""))
     large = os.path.join(folder, "large")
     cases.show("format of 256 sectors", vtserve(["format", large, "--sectors", "256"]), (0, b"formatted 256 sectors\n", b""))
@@ -248,6 +249,9 @@ def asked(at, calls, words, requests):
         return re.findall(r"^(\w+)\(", told.read(), re.MULTILINE)
 
 
+NO_LOCKS = b"vtserve: the file system has no locks: nothing keeps another process from this disk\n"
+
+
 def opens(cases, folder):
     """A disk's file is opened once, locked, and read from its medium again; a fault on the way refuses it."""
     path = os.path.join(folder, "alone")
@@ -262,10 +266,34 @@ def opens(cases, folder):
     cases.show("a disk is opened once, locked, synced and dropped from the cache", calls[:4], ["openat", "flock", "fdatasync", "fadvise64"])
     cases.show("it isn't opened again", calls.count("openat"), 1)
     for name in ["EOPNOTSUPP", "ENOSYS"]:
-        cases.show(f"pipe where a lock is {name}", failing("flock", path, 1, ["pipe", path], GET, name), (0, EMPTY, b""))
+        cases.show(f"pipe where a lock is {name}", failing("flock", path, 1, ["pipe", path], GET, name), (0, EMPTY, NO_LOCKS))
     for name in ["EBADF", "EIO", "ENOLCK", "EAGAIN", "EINVAL"]:
         cases.show(f"pipe where a lock is {name}", failing("flock", path, 1, ["pipe", path], GET, name), refusal(b"File"))
     cases.show("pipe where it stays in the cache", failing("fadvise64", path, 1, ["pipe", path], GET), refusal(b"Device"))
+
+
+def replace(path):
+    """Another file gets the path of a file."""
+    shutil.copy(path, path + ".other")
+    os.replace(path + ".other", path)
+
+
+def loses(cases, folder):
+    """A disk file that is removed, replaced or cut while it is open takes no further edit, and reads go on."""
+    ways = [("removed", os.remove), ("replaced", replace), ("cut", lambda path: os.truncate(path, 512 * 63))]
+    for name, lose in ways:
+        path = os.path.join(folder, name)
+        vtserve(["format", path, "--sectors", "64"])
+        child = subprocess.Popen([PROGRAM, "pipe", path], stdin=subprocess.PIPE, stdout=subprocess.PIPE, stderr=subprocess.PIPE)
+        child.stdin.write(put(7))
+        child.stdin.flush()
+        first = child.stdout.read(len(edit(1)))
+        lose(path)
+        out, told = child.communicate(put(8) + PUBLISH + GET, timeout=60)
+        wanted = edit(1) + error(b"Device") + error(b"Broken") + reply(TEXT, TILE)
+        cases.show(f"PUT to a disk file that was {name}, a publication, a tile", first + out, wanted)
+        cases.show("that is told", (child.returncode, told), (0, b"vtserve: Device: the disk file was %s\n" % name.encode()))
+    cases.show("PUT to a disk file that wasn't", vtserve(["pipe", os.path.join(folder, "replaced")], put(8)), (0, edit(2), b""))
 
 
 def unusual_files(folder):
@@ -701,6 +729,9 @@ def told_more(cases, folder, disk):
     """With `-v` the line of an error goes on with the path, and with the system's word where it is known. `disk` has an archive."""
     absent, goal = os.path.join(folder, "absent"), os.path.join(folder, "nowhere", "goal")
     is_missing = b": No such file or directory (os error 2)"
+    short = os.path.join(folder, "short.pmtiles")
+    with open(short, "wb") as file:
+        file.write(b"PMTiles")
     with socket.socket() as taken:
         taken.bind(("127.0.0.1", 0))
         taken.listen()
@@ -716,6 +747,7 @@ def told_more(cases, folder, disk):
             (["export", disk, goal], b"File: " + goal.encode() + is_missing),
             (["export", disk, disk], b"File: " + disk.encode()),
             (["format", disk, "--sectors", "64"], b"File: " + disk.encode()),
+            (["show", short], b"Short: " + short.encode()),
             (["demo", "63"], b"TooSmall"),
         ]
         for line, told in rows:
@@ -752,6 +784,7 @@ def main():
         runs_out(cases, folder)
         fails(cases, folder)
         opens(cases, folder)
+        loses(cases, folder)
         refuses_unusual_files(cases, folder)
         after_a_failed_sync(cases, folder)
         exports(cases, folder)

@@ -2,7 +2,7 @@
 
 use crate::fault::CommandFault;
 use crate::regular::open_regular;
-use crate::{Told, ended, refused};
+use crate::{Told, ended, refused, refused_file};
 use archive_commands::{Verdict, show, verify};
 use generations::StoreFault;
 use std::fs::OpenOptions;
@@ -38,7 +38,7 @@ pub(crate) fn show_file(rt: &HostRuntime, path: &str, told: Told) -> anyhow::Res
     };
     match show(archive.as_slice(), &mut rt.stdout()) {
         Ok(()) => Ok(ExitCode::SUCCESS),
-        Err(fault) => refused(rt, fault),
+        Err(fault) => refused_file(rt, fault, path, told),
     }
 }
 
@@ -50,7 +50,7 @@ pub(crate) fn verify_file(rt: &HostRuntime, path: &str, told: Told) -> anyhow::R
     };
     let verdict = Verdict::of(verify(rt.alloc(), archive.as_slice()));
     if let Verdict::Unjudged(fault) = verdict {
-        return refused(rt, fault);
+        return refused_file(rt, fault, path, told);
     }
     match println!(rt; "{verdict}") {
         Ok(()) => Ok(ExitCode::from(verdict.status())),

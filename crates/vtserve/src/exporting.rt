@@ -145,6 +145,7 @@ pub(crate) fn export_file<S: Start>(
     let OpenedFile {
         file,
         bytes,
+        identity: _,
         held: _held,
     } = opened_file(rt, path)?;
     export(rt, &mut FileDisk::new(file, bytes, start), path, goal)

@@ -1,6 +1,7 @@
 //! The commands over a disk in a file.
 
 use crate::fault::CommandFault;
+use crate::place::{Identity, OpenPath, identity_of};
 use crate::regular::open_regular;
 use crate::serving::{Peers, serve};
 use crate::watching::{Watch, Watched};
@@ -43,6 +44,8 @@ fn closed_streams(rt: &HostRuntime) -> io::Result<[File; 3]> {
 pub(crate) struct OpenedFile {
     pub(crate) file: SystemFile<File>,
     pub(crate) bytes: u64,
+    /// Which file it is.
+    pub(crate) identity: Identity,
     /// What is to be kept as long as the file is.
     pub(crate) held: Held,
 }
@@ -53,11 +56,17 @@ pub(crate) struct Held {
     _streams: [File; 3],
 }
 
-/// Keeps other processes from using an open file. A system without locks isn't held to it; any other fault refuses the file.
-fn lock(file: &File) -> Result<(), CommandFault> {
+/// Keeps other processes from using an open file. A file system without locks isn't held to it, and that is told; any other fault refuses
+/// the file.
+fn lock(rt: &HostRuntime, file: &File) -> Result<(), CommandFault> {
     match file.try_lock() {
         Ok(()) => Ok(()),
-        Err(TryLockError::Error(error)) if error.kind() == ErrorKind::Unsupported => Ok(()),
+        Err(TryLockError::Error(error)) if error.kind() == ErrorKind::Unsupported => {
+            let _ = eprintln!(rt;
+                "vtserve: the file system has no locks: nothing keeps another process from this disk"
+            );
+            Ok(())
+        }
         Err(TryLockError::Error(error)) => Err(CommandFault::File(Some(error))),
         Err(TryLockError::WouldBlock) => Err(CommandFault::File(None)),
     }
@@ -74,19 +83,19 @@ fn settle(file: &File) -> Result<(), CommandFault> {
     }
 }
 
-/// Opens a regular file to read and to write it, unless another process uses it, and has it read from its medium: the file, and its
-/// length in bytes. It is opened once, so that the file that is locked is the one that is used.
-fn opened_alone(rt: &HostRuntime, path: &str) -> Result<(File, u64), CommandFault> {
+/// Opens a regular file to read and to write it, unless another process uses it, and has it read from its medium: the file, its
+/// length in bytes, and which file it is. It is opened once, so that the file that is locked is the one that is used.
+fn opened_alone(rt: &HostRuntime, path: &str) -> Result<(File, u64, Identity), CommandFault> {
     let mut how = OpenOptions::new();
     how.read(true).write(true);
     let file = match open_regular(rt, path, &how) {
         Ok(file) => file,
         Err(error) => return Err(CommandFault::File(Some(error))),
     };
-    lock(&file)?;
+    lock(rt, &file)?;
     settle(&file)?;
     match file.metadata() {
-        Ok(metadata) => Ok((file, metadata.len())),
+        Ok(metadata) => Ok((file, metadata.len(), identity_of(&metadata))),
         Err(error) => Err(CommandFault::File(Some(error))),
     }
 }
@@ -97,10 +106,11 @@ pub(crate) fn opened_file(rt: &HostRuntime, path: &str) -> Result<OpenedFile, Co
         Ok(streams) => streams,
         Err(error) => return Err(CommandFault::File(Some(error))),
     };
-    let (file, bytes) = opened_alone(rt, path)?;
+    let (file, bytes, identity) = opened_alone(rt, path)?;
     Ok(OpenedFile {
         file: SystemFile::new(file),
         bytes,
+        identity,
         held: Held { _streams: streams },
     })
 }
@@ -117,11 +127,19 @@ pub(crate) fn serve_file<S: Start>(
     let OpenedFile {
         file,
         bytes,
+        identity,
         held: _held,
     } = opened_file(rt, path)?;
     let watch = Cell::new(Watch::Off);
+    let place = OpenPath {
+        rt,
+        path,
+        identity,
+        bytes,
+    };
     let file = Watched {
         file,
+        place,
         told: rt.stderr(),
         watch: &watch,
     };
@@ -140,6 +158,7 @@ pub(crate) fn upgrade_file<S: Start>(
     let OpenedFile {
         file,
         bytes,
+        identity: _,
         held: _held,
     } = opened_file(rt, path)?;
     let mut disk = FileDisk::new(file, bytes, start);

@@ -7,6 +7,7 @@ mod exporting;
 mod fault;
 mod files;
 mod listening;
+mod place;
 mod regular;
 mod serving;
 mod watching;
@@ -56,6 +57,22 @@ fn refused_with(rt: &HostRuntime, fault: &CommandFault, path: &str) -> anyhow::R
         None => eprintln!(rt; "vtserve: {name}{behind}{path}")?,
     }
     Ok(ExitCode::from(1))
+}
+
+/// Prints the name of a fault of the file at a path.
+fn refused_file(
+    rt: &impl Eprint,
+    name: impl Display + Drop,
+    path: &str,
+    told: Told,
+) -> anyhow::Result<ExitCode> {
+    match told {
+        Told::Name => refused(rt, name),
+        Told::Cause => {
+            eprintln!(rt; "vtserve: {name}: {path}")?;
+            Ok(ExitCode::from(1))
+        }
+    }
 }
 
 /// The status of a command over this path, and its fault on standard error.

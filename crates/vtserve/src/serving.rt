@@ -36,7 +36,10 @@ pub(crate) fn serve<D: Sectors + Drop>(
 ) -> Result<(), CommandFault> {
     let mut map = map;
     match peers {
-        Peers::Streams => serve_streams(rt, &mut map),
+        Peers::Streams => {
+            watch.set(Watch::On);
+            serve_streams(rt, &mut map)
+        }
         Peers::Port(asked) => serve_connections(rt, asked, &mut map, watch),
     }
 }

@@ -1,5 +1,6 @@
 //! A disk file that fails, and what follows.
 
+use crate::place::Place;
 use http_listen::{Kept, Waits};
 use sector_disk::{SECTOR_BYTES, SectorFile};
 use std::cell::Cell;
@@ -18,16 +19,31 @@ pub(crate) enum Watch {
     Failed,
 }
 
-/// A file whose first write or sync that fails is told of, while it is watched.
+/// A file whose first write or sync that fails is told of, while it is watched. Nothing is written to a file that was removed, replaced or
+/// cut since it was opened: such a write fails.
 #[derive(Drop)]
-pub(crate) struct Watched<'a, F, W> {
+pub(crate) struct Watched<'a, F, W, P> {
     pub(crate) file: F,
+    /// Where the file was opened.
+    pub(crate) place: P,
     /// Where it is told.
     pub(crate) told: W,
     pub(crate) watch: &'a Cell<Watch>,
 }
 
-impl<F, W: Write> Watched<'_, F, W> {
+impl<F, W: Write, P: Place> Watched<'_, F, W, P> {
+    /// Refuses to write to a file that was lost. The first time that is told of.
+    fn in_place(&mut self) -> io::Result<()> {
+        let Some(loss) = self.place.loss() else {
+            return Ok(());
+        };
+        if self.watch.get() == Watch::On {
+            self.watch.set(Watch::Failed);
+            let _ = writeln!(self.told, "vtserve: Device: {loss}");
+        }
+        Err(ErrorKind::NotFound.into())
+    }
+
     /// What a call came to. The first one that failed is told of.
     fn seen(&mut self, call: &str, outcome: io::Result<()>) -> io::Result<()> {
         if let Err(error) = &outcome {
@@ -40,7 +56,7 @@ impl<F, W: Write> Watched<'_, F, W> {
     }
 }
 
-impl<F: SectorFile, W: Write> SectorFile for Watched<'_, F, W> {
+impl<F: SectorFile, W: Write, P: Place> SectorFile for Watched<'_, F, W, P> {
     fn read_at(&mut self, into: &mut [u8; SECTOR_BYTES], offset: u64) -> io::Result<()> {
         self.file.read_at(into, offset)
     }
@@ -50,6 +66,7 @@ impl<F: SectorFile, W: Write> SectorFile for Watched<'_, F, W> {
     }
 
     fn write_at(&mut self, from: &[[u8; SECTOR_BYTES]], offset: u64) -> io::Result<()> {
+        self.in_place()?;
         let outcome = self.file.write_at(from, offset);
         self.seen("write", outcome)
     }
