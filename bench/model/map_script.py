@@ -209,6 +209,8 @@ def text_lines():
 # ---- edits as JSON, and the records of edits
 
 POINT_JSON = '{"layer":"p","minzoom":0,"maxzoom":2,"geometry":{"points":[[0,0]]},"tags":{}}'
+# How it is shown: members in the order of their names.
+POINT_SHOWN = '{"geometry":{"points":[[0,0]]},"layer":"p","maxzoom":2,"minzoom":0,"tags":{}}'
 # The same without a name, with a bad geometry, and without a member.
 NAMELESS, SHAPELESS, BROKEN = POINT_JSON.replace('"p"', '""'), POINT_JSON.replace("[[0,0]]", "[]"), POINT_JSON.replace(',"tags":{}', "")
 
@@ -223,6 +225,37 @@ def delete_json(number):
 
 def changes_json(*changes):
     return f'changes {{"changes":[{",".join(changes)}]}}'
+
+
+def checked_json(*changes):
+    return f'checked {{"changes":[{",".join(changes)}]}}'
+
+
+def seen_json(change, feature="null"):
+    """A change, and the feature that its author saw."""
+    return f'{change[:-1]},"was":{feature}}}'
+
+
+def checked_lines():
+    yield "# Edits as JSON, with what their author saw of each number: the text of the edit, and what was seen."
+    yield (checked_json(seen_json(put_json(7)), seen_json(delete_json(9), POINT_JSON)),
+           "02" "01070000000000000001700002010100000000000000000000" "020900000000000000 null " + POINT_SHOWN)
+    yield checked_json(f'{{"was":{POINT_JSON},"put":8,"feature":{POINT_JSON}}}'), "01" f"01080000000000000001700002010100000000000000000000 {POINT_SHOWN}"
+    yield checked_json(seen_json(put_json(7), POINT_JSON.replace("{}", '{"b":1,"a":[]}'.replace("[]", "true"))))
+    yield checked_json(*(seen_json(delete_json(number)) for number in range(64)))
+    yield "# E1, of the members of any change, of its feature, and of what was seen."
+    for change in [put_json(7), delete_json(7), seen_json(put_json(7), "7"), seen_json(delete_json(7), BROKEN), seen_json(put_json(7, BROKEN)),
+                   seen_json(delete_json(7))[:-1] + ',"more":1}']:
+        yield checked_json(change), "E1 Member"
+    yield checked_json(seen_json(delete_json(1)), delete_json(2)), "E1 Member"
+    yield checked_json(seen_json(delete_json(7)), seen_json(delete_json(7), BROKEN)), "E1 Member"
+    yield "# E10 and E11, then the faults of the changes, and then those of what was seen."
+    yield from [(checked_json(), "E10 Batch"), (checked_json(*(seen_json(delete_json(number)) for number in range(65))), "E10 Batch")]
+    yield checked_json(seen_json(delete_json(7), NAMELESS), seen_json(delete_json(7))), "E11 Twice"
+    yield checked_json(seen_json(put_json(2**63), NAMELESS)), "E2 Number"
+    yield checked_json(seen_json(put_json(1), NAMELESS), seen_json(put_json(2, SHAPELESS)))
+    yield checked_json(seen_json(put_json(1), SHAPELESS), seen_json(put_json(2), NAMELESS))
+    yield checked_json(seen_json(put_json(1)), seen_json(put_json(2), NAMELESS))
 
 
 def changes_lines():
@@ -753,8 +786,8 @@ def area_lines():
 
 
 PARTS = [
-    json_lines, limit_lines, changes_lines, record_lines, text_lines, cut_lines, tag_lines, reach_lines, map_lines, margin_lines, any_map_lines,
-    batch_lines, kept_lines,
+    json_lines, limit_lines, changes_lines, checked_lines, record_lines, text_lines, cut_lines, tag_lines, reach_lines, map_lines, margin_lines,
+    any_map_lines, batch_lines, kept_lines,
     grid_lines, cache_lines, snapshot_lines, metadata_lines, area_lines, *map_indexes.PARTS, map_hostile.lines]
 
 

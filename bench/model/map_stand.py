@@ -125,6 +125,26 @@ def changes(rest):
     return edit_text(features.changes_of(expanded(rest))).hex()
 
 
+def seen_text(number, feature):
+    if feature is None:
+        return "null"
+    try:
+        features.check(number, feature)
+    except features.Fault as fault:
+        return str(fault)
+    return features.compact(feature)
+
+
+def checked_changes(rest):
+    made, seen = features.checked_of(expanded(rest))
+    try:
+        features.check_batch(made)
+        told = edit_text(made).hex()
+    except features.Fault as fault:
+        told = str(fault)
+    return " ".join([told, *(seen_text(change.number, feature) for change, feature in zip(made, seen))])
+
+
 def record(rest):
     version, _, text = rest.partition(" ")
     found = texts.read_record(int(version), bytes.fromhex(expanded(text)))
@@ -135,7 +155,7 @@ def record(rest):
 
 ALONE = {
     "json": json, "text": text, "reach": reach, "covers": covers, "sizes": sizes, "lines": lines, "polygons": polygons,
-    "keys": keys, "negative": negative, "deleted": deleted, "batch": batch, "changes": changes,
+    "keys": keys, "negative": negative, "deleted": deleted, "batch": batch, "changes": changes, "checked": checked_changes,
     "record": record}
 
 

@@ -1,9 +1,9 @@
 //! Lines about one feature.
 use crate::limits::batch_text;
 use crate::lines::Line;
-use edit_json::{batch_from_json, feature_from_json, feature_to_json};
+use edit_json::{batch_from_json, checked_from_json, feature_from_json, feature_to_json};
 use edit_text::encode_change;
-use feature_model::{Change, EditFault, Feature, MAX_ZOOM, check, copy};
+use feature_model::{Change, EditFault, Feature, MAX_ZOOM, Seen, check, copy};
 use script_bytes::{expanded, number_in, parted};
 use serde_json::Value;
 use std::alloc::{AllocError, Global};
@@ -83,6 +83,36 @@ fn changes(alloc: Global, text: &str) -> Result<String, AllocError> {
     }
 }
 
+/// What an author saw of a number, as JSON.
+fn seen_text(alloc: Global, seen: &Seen) -> Result<String, AllocError> {
+    match &seen.feature {
+        Some(feature) => shown(alloc, seen.id, feature),
+        None => String::from_str(alloc, "null"),
+    }
+}
+
+/// The text of an edit of these changes, and what its author saw of each number.
+fn checked_text(alloc: Global, changes: Vec<Change>, seen: &[Seen]) -> Result<String, AllocError> {
+    let mut told = batch_text(alloc, changes)?;
+    for one in seen {
+        told.push(' ')?;
+        told.push_str(seen_text(alloc, one)?.as_str())?;
+    }
+    Ok(told)
+}
+
+/// The same of a JSON text.
+fn checked(alloc: Global, text: &str) -> Result<String, AllocError> {
+    let value = match value_in(alloc, text) {
+        Ok(value) => value,
+        Err(refusal) => return refusal.to_string(alloc),
+    };
+    match checked_from_json(alloc, &value) {
+        Ok((changes, seen)) => checked_text(alloc, changes, &seen),
+        Err(fault) => fault.to_string(alloc),
+    }
+}
+
 /// The text that gives a number a feature.
 fn put_text(alloc: Global, id: u64, feature: Feature) -> Result<String, AllocError> {
     if let Err(fault) = check(id, &feature) {
@@ -144,6 +174,7 @@ pub(crate) fn answer(alloc: Global, line: Line<'_>) -> Option<Result<String, All
     match line.word {
         "json" => Some(json(alloc, line.rest)),
         "changes" => Some(changes(alloc, line.rest)),
+        "checked" => Some(checked(alloc, line.rest)),
         "text" => Some(text(alloc, line.rest)),
         "reach" => Some(reach(alloc, line.rest)),
         "covers" => Some(cover(alloc, line.rest)),

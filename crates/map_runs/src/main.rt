@@ -20,6 +20,7 @@
 //! | `deleted ID` | the texts of the change and of the edit that take a feature away |
 //! | `batch 7+ 9- ..` | the text of an edit that gives numbers a point at the world's corner (+) and takes features away (-) |
 //! | `changes CHANGES` | the text of an edit of changes as JSON |
+//! | `checked CHANGES` | the same of changes with what their author saw, and that of each number |
 //! | `record VERSION TEXT` | the text of a record's edit, written again by this version, and as an edit's |
 //!
 //! A map that keeps tiles (`map LAST`: the empty one, whose last edit has this number):

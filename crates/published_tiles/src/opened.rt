@@ -61,11 +61,7 @@ impl Opened {
     }
 
     /// The content of a tile id.
-    fn tile<B: Bytes>(
-        &mut self,
-        source: &mut B,
-        id: u64,
-    ) -> Result<Option<Vec<u8>>, ArchiveFault>
+    fn tile<B: Bytes>(&mut self, source: &mut B, id: u64) -> Result<Option<Vec<u8>>, ArchiveFault>
         requires { self.old.archive.len ≡ B.count source.old }
         ensures source { Keeps B.count B.holds B.fails B.unchanged source.old source.new }
         ensures archive { self.new.archive ≡ self.old.archive }
