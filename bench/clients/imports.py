@@ -440,7 +440,7 @@ def too_many(cases, folder):
 def interrupted(cases, folder):
     """An import that is interrupted, and run again, beside one that isn't."""
     corners = [(0, 0), (0.02, 0), (0.02, 0.02), (0, 0.02), (0, 0)]
-    rows = [row("Polygon", [[[at / 5 + x, 10 + y] for x, y in corners]], name=str(at)) for at in range(400)]
+    rows = [row("Polygon", [[[at % 400 / 5 + x, 10 + at // 400 + y] for x, y in corners]], name=str(at)) for at in range(1200)]
     path = written(folder, "interrupted.geojson", rows)
     words = ["--layer", "p", "--minzoom", "12", "--publish", "--first", "1"]
     with Server(folder, "whole_import", 16384) as whole, Server(folder, "cut_import", 16384) as server:
