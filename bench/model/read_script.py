@@ -16,7 +16,7 @@ from map_script import LINE, POLYGONS
 from read_stand import METADATA, Stand
 from wire import number, part, varint
 
-sys.path.append(str(Path(__file__).resolve().parents[1] / "archives"))
+sys.path.append(str(Path(__file__).resolve().parents[1] / "tests" / "archives"))
 import foreign_archives
 
 CRATE = "read_runs"

@@ -1,0 +1,68 @@
+#!/usr/bin/env python3
+"""Tries the must-fail edits that the gate leaves out: those under bench/mutants/CRATE/, beside those in crates/CRATE/must-fail/.
+
+    python3 bench/mutants/try.py [--here] [CRATE ..]
+
+With no names it tries those of every crate. It works on a scratch clone of the last commit, or with --here on a copy of the working
+tree without out/, and leaves the repository as it is. There it runs `rt must-fail`, and it ends with that command's status.
+
+What it costs: `rt must-fail` begins with what `rt check` kept on this machine, so check the crate first; otherwise each crate below
+it is proved too. Then it checks the crate once more, and each edit takes 8 to 90 s of processor time, most of it a search for a proof
+that fails: 6 processor minutes for the 32 of sector_disk, some 150 for all crates. On the same machine a second run tries only what
+has changed. The scratch copy takes up to 5 GB in the system's folder for temporary files, and is removed at the end.
+"""
+import argparse
+import shutil
+import subprocess
+import sys
+import tempfile
+from pathlib import Path
+
+EDITS = Path(__file__).resolve().parent
+ROOT = EDITS.parent.parent
+
+
+def crates_with_edits():
+    """The names of the folders beside this script."""
+    return sorted(folder.name for folder in EDITS.iterdir() if folder.is_dir())
+
+
+def copy_repository(target, working_tree):
+    """Puts the last commit into a folder, or the working tree as it is."""
+    if working_tree:
+        shutil.copytree(ROOT, target, symlinks=True, ignore=shutil.ignore_patterns("out", ".git", "__pycache__"))
+    else:
+        subprocess.run(["git", "clone", "-q", ROOT, target], check=True)
+
+
+def add_edits(target, crate):
+    """Puts the edits of a crate beside those that it has, and says how many it has then."""
+    folder = target / "crates" / crate / "must-fail"
+    folder.mkdir(exist_ok=True)
+    for edit in sorted((target / "bench" / "mutants" / crate).glob("*.edit")):
+        if (folder / edit.name).exists():
+            sys.exit(f"{crate}: must-fail/ has an edit {edit.name} already")
+        shutil.copy(edit, folder)
+    return len(list(folder.glob("*.edit")))
+
+
+def main():
+    known = crates_with_edits()
+    parser = argparse.ArgumentParser(description=__doc__, formatter_class=argparse.RawDescriptionHelpFormatter)
+    parser.add_argument("--here", action="store_true", help="try the working tree, and not the last commit")
+    parser.add_argument("crates", nargs="*", metavar="CRATE", help="a folder of bench/mutants; all of them if none is named")
+    words = parser.parse_args()
+    unknown = [name for name in words.crates if name not in known]
+    if unknown:
+        parser.error(f"no folder in bench/mutants: {' '.join(unknown)}")
+    names = words.crates or known
+    with tempfile.TemporaryDirectory(prefix="edits-") as scratch:
+        target = Path(scratch) / "copy"
+        copy_repository(target, words.here)
+        for name in names:
+            print(f"{name}: {add_edits(target, name)} edits", flush=True)
+        return subprocess.run(["rt", "must-fail", *names], cwd=target).returncode
+
+
+if __name__ == "__main__":
+    sys.exit(main())

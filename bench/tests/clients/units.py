@@ -1,0 +1,115 @@
+"""The part `units` of bench/tests/clients/run.py: the units of systemd in docs/, judged by systemd-analyze, and the system calls of `serve`.
+
+The units aren't run: that needs a machine whose first process is systemd.
+"""
+import os
+import re
+import shutil
+import subprocess
+
+from stand import EXAMPLES, PROGRAM, SYSTEM_PYTHON, TOP, Server, curl, feature, free_port, status_of
+
+# The greatest exposure of each unit, by systemd-analyze.
+EXPOSURE = {
+    "vtserve.service": 1.5,
+    "vtserve-nginx.service": 3.5,
+    "vtserve-publish.service": 1.5,
+    "vtserve-watch.service": 1.5,
+    "vtserve-backup.service": 1.0,
+}
+# What the units with timers run, of examples/.
+TASKS = {
+    "vtserve-publish.service": ["bash", "publish.sh", "URL", "--record", "record"],
+    "vtserve-watch.service": [SYSTEM_PYTHON, "watch.py", "URL", "--state", "state", "--record", "record", "--metrics", "metrics"],
+    "vtserve-backup.service": [SYSTEM_PYTHON, "map_backup.py", "save", "map.jsonl", "--disk", "DISK"],
+}
+
+
+def unit(name):
+    """The path of a unit."""
+    return os.path.join(TOP, "docs", name)
+
+
+def judged(cases):
+    """What systemd-analyze says of the units."""
+    for name, most in EXPOSURE.items():
+        timer = [unit(name.replace(".service", ".timer"))] if name in TASKS else []
+        child = subprocess.run(["systemd-analyze", "verify", unit(name), *timer], capture_output=True, text=True)
+        # The commands of the units may not be installed here.
+        faults = [line for line in child.stderr.splitlines() if "is not executable: No such file" not in line]
+        cases.show(f"units: systemd-analyze verify {name}", faults, [])
+        child = subprocess.run(["systemd-analyze", "--no-pager", "security", "--offline=true", unit(name)], capture_output=True, text=True)
+        found = re.search(r"Overall exposure level for \S+: ([\d.]+)", child.stdout)
+        cases.show(f"units: systemd-analyze security {name}: at most {most}", found is not None and float(found[1]) <= most, True)
+
+
+def filtered(name):
+    """The system calls that a unit allows: those of the sets that it names, less those of the sets after `~`."""
+    listed = subprocess.run(["systemd-analyze", "--no-pager", "syscall-filter"], capture_output=True, text=True, check=True).stdout
+    sets, current = {}, None
+    for line in listed.splitlines():
+        word = line.strip().split(" ")[0]
+        if line.startswith("@"):
+            current = sets.setdefault(word, [])
+        elif current is not None and word and not word.startswith("#"):
+            current.append(word)
+
+    def members(word):
+        return {call for part in sets.get(word, []) for call in members(part)} if word.startswith("@") else {word}
+
+    allowed = set()
+    with open(unit(name), encoding="utf-8") as file:
+        for line in file:
+            if line.startswith("SystemCallFilter="):
+                words = line.strip().removeprefix("SystemCallFilter=")
+                found = {call for word in words.removeprefix("~").split() for call in members(word)}
+                allowed = allowed - found if words.startswith("~") else allowed | found
+    return allowed
+
+
+def session(folder):
+    """The system calls of a process of `serve` that serves each kind of request, and the lines of its trace."""
+    trace, disk, port = os.path.join(folder, "trace"), os.path.join(folder, "traced.disk"), free_port()
+    subprocess.run([PROGRAM, "format", disk, "--sectors", "4096"], check=True, capture_output=True)
+    words = ["strace", "-f", "-o", trace, PROGRAM, "serve", disk, "--port", str(port), "--connections", "7"]
+    url = f"http://127.0.0.1:{port}"
+    with subprocess.Popen(words, stdout=subprocess.PIPE, stderr=subprocess.DEVNULL) as child:
+        child.stdout.readline()
+        replies = [curl(url + "/features/7", "-X", "PUT", body=feature()), curl(url + "/publish", "-X", "POST")]
+        replies += [curl(url + path) for path in ("/map/0/0/0.mvt", "/map/metadata", "/map.pmtiles", "/features/7")]
+        replies.append(curl(url + "/features/7", "-X", "DELETE"))
+        child.wait(60)
+    with open(trace, encoding="utf-8", errors="replace") as file:
+        lines = file.read().splitlines()
+    calls = {found[1] for line in lines if (found := re.match(r"\d+ +(\w+)\(", line))}
+    return [status_of(reply) for reply in replies], calls, lines
+
+
+def tasks(cases, folder):
+    """Runs what the units with timers run, and shows the system calls that they don't allow."""
+    with Server(folder, "timed", 4096) as server:
+        for name, (program, script, *words) in TASKS.items():
+            trace = os.path.join(folder, name)
+            words = [{"URL": server.url, "DISK": server.disk}.get(word, word) for word in words]
+            ran = subprocess.run(["strace", "-f", "-o", trace, program, os.path.join(EXAMPLES, script), *words], cwd=folder, capture_output=True)
+            with open(trace, encoding="utf-8", errors="replace") as file:
+                calls = {found[1] for line in file if (found := re.match(r"\d+ +(\w+)\(", line))}
+            cases.show(f"units: what {name} runs, and system calls that it doesn't allow", (ran.returncode, sorted(calls - filtered(name))), (0, []))
+
+
+def units(cases, folder):
+    """The units, and whether the filter of system calls has all that the process needs."""
+    if not shutil.which("systemd-analyze"):
+        cases.say("no systemd-analyze: no unit is judged")
+        return
+    judged(cases)
+    if not shutil.which("strace"):
+        cases.say("no strace: the filter of system calls isn't tried")
+        return
+    tasks(cases, folder)
+    statuses, calls, lines = session(folder)
+    cases.show("units: a session under strace", statuses, [200] * 7)
+    cases.show("units: system calls of serve that its unit doesn't allow", sorted(calls - filtered("vtserve.service")), [])
+    mixed = [line for line in lines if "PROT_WRITE|PROT_EXEC" in line]
+    sockets = [line for line in lines if " socket(" in line and "AF_INET," not in line]
+    cases.show("units: memory that is writable and executable, and sockets of other families", (mixed, sockets), ([], []))
