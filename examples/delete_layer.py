@@ -16,17 +16,18 @@ It prints how many features of each layer are deleted. It ends with 1 if some ar
 it was interrupted. Needs no package.
 """
 import argparse
-import sys
 from collections import Counter
+from itertools import chain
 
 from edits import DELETES_OF_A_SECTOR, batches, checked, delete
+from ending import run
 from map_client import Client, NoAnswer, Stopped, ranges
 
 
 def found_in(client, layers, numbers):
     """The features of these layers, by their ids: of the whole map, or of these ids."""
     if numbers is not None:
-        there = ((number, client.feature(number)) for number in ranges(numbers))
+        there = ((number, client.feature(number)) for number in chain.from_iterable(numbers))
     elif client.status() is not None:
         there = client.features()
     else:
@@ -71,7 +72,7 @@ def main():
     parser = argparse.ArgumentParser(description="Deletes the features of layers from the map of a running vtserve.")
     parser.add_argument("layers", nargs="+", metavar="LAYER", help="the name of a layer")
     parser.add_argument("--url", default="http://127.0.0.1:8080", help="the server (http://127.0.0.1:8080)")
-    parser.add_argument("--numbers", help="the ids to ask for, as in 1-3000,5000, instead of the whole list")
+    parser.add_argument("--numbers", type=ranges, help="the ids to ask for, as in 1-3000,5000, instead of the whole list")
     parser.add_argument("--no-batches", action="store_true", help="delete each feature in a request of its own")
     words = parser.parse_args()
     client, found, deleted, end = None, {}, Counter(), 1
@@ -95,4 +96,4 @@ def main():
 
 
 if __name__ == "__main__":
-    sys.exit(main())
+    run(main)

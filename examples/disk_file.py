@@ -145,6 +145,8 @@ def applied(features, version, text):
 
 def moment_of(path):
     """The map of one moment. Raises `OSError`, or `Damaged` if the file isn't as docs/FORMATS.md has it."""
+    if not os.path.isfile(path):
+        raise OSError(f"{path} is no file" if os.path.exists(path) else f"there is no file {path}")
     file, passed, fault = os.open(path, os.O_RDONLY), 0, None
     try:
         disk = Disk(file)

@@ -4,17 +4,20 @@
     /usr/bin/python3 examples/draw_map.py map.png --url http://127.0.0.1:8080 --zoom 15 --centre 7.5,54.5 --size 768x512
 
 Each tile is 256 pixels wide. Layers are drawn in the order of STYLES (those of examples/town.py), then all others. Needs Pillow
-(Debian: `python3-pil`).
+(Debian: `python3-pil`). It ends with 1 if the server doesn't answer, or has no such tiles.
 """
 import argparse
-import http.client
 import math
 import struct
 import sys
-import urllib.parse
 
-from PIL import Image, ImageDraw, ImageFont
+try:
+    from PIL import Image, ImageDraw, ImageFont
+except ImportError:
+    sys.exit("Pillow is needed: install python3-pil, and run this by /usr/bin/python3")
 
+from ending import run
+from map_client import Client, NoAnswer, Stopped, word
 from protobuf import fields, varint
 
 SHARPER = 4
@@ -191,39 +194,67 @@ def asked():
     parser = argparse.ArgumentParser(description="Draws the map of a running vtserve into a PNG file.")
     parser.add_argument("file", help="the PNG file that is written")
     parser.add_argument("--url", default="http://127.0.0.1:8080", help="the server (http://127.0.0.1:8080)")
-    parser.add_argument("--zoom", type=int, default=15, help="the zoom of the tiles (15)")
-    parser.add_argument("--centre", default="7.5,54.5", help="longitude and latitude of the centre (7.5,54.5)")
-    parser.add_argument("--size", default="768x512", help="pixels (768x512)")
+    parser.add_argument("--zoom", type=int, choices=range(20), default=15, metavar="Z", help="the zoom of the tiles, 0 to 19 (15)")
+    parser.add_argument("--centre", type=centre, default="7.5,54.5", help="longitude and latitude of the centre (7.5,54.5)")
+    parser.add_argument("--size", type=size, default="768x512", help="pixels (768x512)")
     return parser.parse_args()
+
+
+def centre(text):
+    """Longitude and latitude."""
+    longitude, latitude = map(float, text.split(","))
+    if not (-180 <= longitude <= 180 and -85.06 <= latitude <= 85.06):
+        raise ValueError
+    return longitude, latitude
+
+
+def size(text):
+    """Width and height in pixels."""
+    width, height = map(int, text.split("x"))
+    if not (0 < width <= 8192 and 0 < height <= 8192):
+        raise ValueError
+    return width, height
+
+
+def tiles_within(first, count, zoom):
+    """The columns or rows of tiles of the world that have some of these pixels."""
+    return range(max(first // 256, 0), min((first + count - 1) // 256 + 1, 2 ** zoom))
+
+
+def tiles_of(client, zoom, columns, rows):
+    """The tiles that aren't empty, by column and row."""
+    tiles = {}
+    for column, row in ((column, row) for column in columns for row in rows):
+        status, content = client.ask("GET", f"/map/{zoom}/{column}/{row}.mvt")
+        if status not in (200, 204):
+            client.stop_at(status, content)
+            raise Stopped(f"tile {zoom}/{column}/{row}: {status} {word(content)}")
+        if content:
+            tiles[column, row] = decoded(content)
+    return tiles
 
 
 def main():
     words = asked()
-    longitude, latitude = (float(part) for part in words.centre.split(","))
-    size = [int(part) for part in words.size.split("x")]
+    (longitude, latitude), (width, height) = words.centre, words.size
     pixels = 256 * 2 ** words.zoom
-    left = round((longitude + 180) / 360 * pixels) - size[0] // 2
-    top = round((0.5 - math.asinh(math.tan(math.radians(latitude))) / (2 * math.pi)) * pixels) - size[1] // 2
-    url = urllib.parse.urlsplit(words.url)
-    tiles = {}
-    connection = http.client.HTTPConnection(url.netloc, timeout=60)
-    for column in range(left // 256, (left + size[0] - 1) // 256 + 1):
-        for row in range(top // 256, (top + size[1] - 1) // 256 + 1):
-            connection.request("GET", f"{url.path.rstrip('/')}/map/{words.zoom}/{column}/{row}.mvt")
-            reply = connection.getresponse()
-            content = reply.read()
-            if reply.status not in (200, 204):
-                sys.exit(f"tile {words.zoom}/{column}/{row}: {reply.status} {content.decode(errors='replace').strip()}")
-            if content:
-                tiles[column, row] = decoded(content)
+    left = round((longitude + 180) / 360 * pixels) - width // 2
+    top = round((0.5 - math.asinh(math.tan(math.radians(latitude))) / (2 * math.pi)) * pixels) - height // 2
+    columns, rows = tiles_within(left, width, words.zoom), tiles_within(top, height, words.zoom)
+    try:
+        tiles = tiles_of(Client(words.url), words.zoom, columns, rows)
+    except (NoAnswer, Stopped) as fault:
+        sys.exit(str(fault))
+    except (LookupError, ValueError, struct.error):
+        sys.exit(f"what answers at {words.url} sends no tiles: is --url right?")
     names = [*STYLES, *sorted({name for layers in tiles.values() for name in layers} - set(STYLES))]
-    picture = Picture(words.zoom, left, top, size)
+    picture = Picture(words.zoom, left, top, words.size)
     for name in names:
         for (column, row), layers in tiles.items():
             picture.draw(style_of(name), column, row, layers.get(name, []))
-    picture.finished().save(words.file, optimize=True)
+    picture.finished().save(words.file, "PNG", optimize=True)
     print(f"{len(tiles)} tiles, {sum(len(features) for layers in tiles.values() for features in layers.values())} features drawn")
 
 
 if __name__ == "__main__":
-    main()
+    run(main)

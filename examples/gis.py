@@ -16,7 +16,7 @@ are cut for that (needs GDAL's Python module: run it by /usr/bin/python3). What 
 the rest. --dry-run sends nothing and lists.
 
 The server needs --admin. It ends with 1 if there are conflicts or refusals, with 2 if the file or the command is wrong, with 3 if the
-server doesn't answer.
+server doesn't answer, with 130 if it is interrupted.
 """
 import argparse
 import os
@@ -26,6 +26,7 @@ from collections import Counter
 
 import geopackage
 from edits import checked, delete, put
+from ending import regular, run
 from gis_file import ZOOMS, Checkout, Unusable, write
 from map_client import Client, NoAnswer, Stopped
 from wholes import OUTLINE, PIECE, WHOLE, wholes_of
@@ -73,7 +74,7 @@ class Choice:
 
 def checkout(words, client):
     """Writes the file."""
-    if os.path.exists(words.file) and not words.force:
+    if os.path.exists(regular(words.file)) and not words.force:
         raise Unusable(f"{words.file} exists: check it in, and give --force to write it anew")
     status = needed(client.status())
     choice = Choice(words.layer, words.bbox)
@@ -312,7 +313,10 @@ def main():
     except (NoAnswer, Stopped) as fault:
         print(fault, file=sys.stderr)
         return 3
+    except KeyboardInterrupt:
+        print("interrupted: run it again: nothing is made twice", file=sys.stderr)
+        return 130
 
 
 if __name__ == "__main__":
-    sys.exit(main())
+    run(main)

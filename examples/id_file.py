@@ -15,14 +15,16 @@ class IdFile:
         self.file = open(path, "a+", encoding="utf-8")
         fcntl.flock(self.file, fcntl.LOCK_EX | fcntl.LOCK_NB)
         self.file.seek(0)
-        text = self.file.read()
-        # A line that a killed import left unfinished is of no feature that was sent.
-        whole = text[:text.rfind("\n") + 1]
-        self.file.truncate(len(whole.encode()))
         try:
+            text = self.file.read()
+            if not text.startswith('["'[:len(text)]):
+                raise ValueError("it has something else")
+            # A line that a killed import left unfinished is of no feature that was sent.
+            whole = text[:text.rfind("\n") + 1]
             self.numbers = {(layer, name): number for layer, name, number in map(json.loads, whole.split("\n")[:-1])}
         except (ValueError, TypeError) as fault:
             raise OSError(f"{path} is no file of ids: {fault}") from fault
+        self.file.truncate(len(whole.encode()))
         self.first = max(self.numbers.values(), default=0) + 1
         # The layers that the file has, and the new ids.
         self.layers, self.new = {layer for layer, _ in self.numbers}, []

@@ -45,6 +45,7 @@ import sys
 import time
 
 from edits import MOST_CHANGES
+from ending import run
 from file_features import Reader, Unreadable
 from id_file import IdFile
 from import_changes import Changes
@@ -226,6 +227,8 @@ def work(words, client):
         plan.ids.save()
     try:
         send(client, changes)
+        tell_disk(client)
+        tell_place(words, client, plan)
     except NoAnswer as fault:
         print(f"feature {client.last}: {fault}")
         print(f"{changes.so_far()}, then the server didn't answer: {again(words, plan)}")
@@ -237,8 +240,9 @@ def work(words, client):
     except KeyboardInterrupt:
         print(f"{changes.so_far()}, then it was interrupted: {again(words, plan)}")
         return 130
-    tell_disk(client)
-    tell_place(words, client, plan)
+    except OSError as fault:
+        print(f"standard output: {fault}: {changes.so_far()}: {again(words, plan)}", file=sys.stderr)
+        return 1
     print(changes.told())
     return 1 if changes.failed() else 0
 
@@ -271,4 +275,4 @@ def main():
 
 
 if __name__ == "__main__":
-    sys.exit(main())
+    run(main)

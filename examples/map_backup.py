@@ -22,17 +22,20 @@ Of a server without it the ids have to be known:
 outline. Such a file is no backup: `load` refuses it, and `import_features.py` puts it into a map.
 
 `load` replaces nothing of a map that has other features of these ids, unless --overwrite says so. With --publish it frees the journal by a
-publication whenever it is full; it puts up to 64 features in a request, and with --no-batches one. It ends with 1 if a request is refused, both end with 3 if the server doesn't answer; `save` leaves FILE as it was then, and what it got
-in FILE.part. Needs no package.
+publication whenever it is full; it puts up to 64 features in a request, and with --no-batches one. It ends with 1 if a request is refused.
+Both end with 3 if the server doesn't answer, and with 130 if they are interrupted. `save` leaves FILE as it was then, and what it got in
+FILE.part. Needs no package.
 """
 import argparse
 import json
 import os
 import sys
+from itertools import chain
 
 from archive_ids import ids_in
 from disk_file import Damaged, moment_of
 from edits import MOST_CHANGES, NOTHING, encoded, put
+from ending import regular, run
 from geojson import feature_of, geojson_of
 from map_client import Client, NoAnswer, Stopped, ranges
 from wholes import wholes_of
@@ -63,7 +66,7 @@ def wanted(words, client):
     """Each id that is asked for, with its feature or None."""
     if words.numbers is None and not words.archive:
         return listed(client)
-    numbers = ids_of_archive(client) if words.archive else ranges(words.numbers)
+    numbers = ids_of_archive(client) if words.archive else chain.from_iterable(words.numbers)
     return ((number, client.feature(number)) for number in numbers)
 
 
@@ -81,7 +84,7 @@ def row_of(number, feature, lines):
 def written(path, features, start):
     """Writes the file, which has what it had until all features are there. Returns how many they are."""
     saved, lines = 0, is_lines(path)
-    with open(path + ".part", "w", encoding="utf-8") as file:
+    with open(regular(path) + ".part", "w", encoding="utf-8") as file:
         file.write("" if lines else start)
         for number, feature in features:
             file.write(("" if lines else ",\n" if saved else "\n") + row_of(number, feature, lines) + ("\n" if lines else ""))
@@ -163,7 +166,7 @@ def main():
     parser.add_argument("--url", default="http://127.0.0.1:8080", help="the server (http://127.0.0.1:8080)")
     source = parser.add_mutually_exclusive_group()
     source.add_argument("--disk", metavar="FILE", help="save: read this disk file, which may be served meanwhile")
-    source.add_argument("--numbers", help="save: the ids to ask for, as in 1-3000,5000")
+    source.add_argument("--numbers", type=ranges, help="save: the ids to ask for, as in 1-3000,5000")
     source.add_argument("--archive", action="store_true", help="save: publish, and take the ids from the archive")
     parser.add_argument("--wholes", action="store_true", help="save: features that the import cut as one, for other programs")
     parser.add_argument("--overwrite", action="store_true", help="load: replace features of the map that have other content")
@@ -178,8 +181,11 @@ def main():
     except (Refused, Stopped, Damaged, OSError) as fault:
         print(fault, file=sys.stderr)
         return 1
+    except KeyboardInterrupt:
+        print(f"interrupted: {f'{words.file} is as it was' if words.task == 'save' else 'run the same command again'}", file=sys.stderr)
+        return 130
     return 0
 
 
 if __name__ == "__main__":
-    sys.exit(main())
+    run(main)

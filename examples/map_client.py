@@ -95,14 +95,14 @@ class Client:
 
     # ---- requests
 
-    def ask(self, method, path, body=b""):
+    def ask(self, method, path, body=b"", fields=None):
         """The status and the content of the reply to one request. If the server has closed the kept connection, it is sent again."""
-        kind_of_body = {"Content-Type": "application/json"} if body else {}
+        fields = fields or ({"Content-Type": "application/json"} if body else {})
         for is_kept in (True, False) if self.connection else (False,):
             try:
                 if not is_kept:
                     self.connect()
-                self.connection.request(method, self.url.path.rstrip("/") + path, body, kind_of_body)
+                self.connection.request(method, self.url.path.rstrip("/") + path, body, fields)
                 reply = self.connection.getresponse()
                 return reply.status, reply.read()
             except (OSError, http.client.HTTPException) as fault:
@@ -336,7 +336,6 @@ def refusal(status, content, length):
 
 
 def ranges(text):
-    """The numbers of `1-3000,5000`."""
-    for part in text.split(","):
-        first, _, last = part.partition("-")
-        yield from range(int(first), int(last or first) + 1)
+    """The ranges of ids of `1-3000,5000`."""
+    parts = [part.partition("-") for part in text.split(",")]
+    return [range(int(first), int(last or first) + 1) for first, _, last in parts]

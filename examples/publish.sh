@@ -23,6 +23,10 @@ while [ $# -gt 0 ]; do
     esac
     shift
 done
+if [ -n "$record" ] && [ -e "$record" ] && [ ! -f "$record" ]; then
+    echo "$record is no regular file" >&2
+    exit 2
+fi
 answer='^\{"left":([0-9]+)\}
 200$'
 

@@ -5,18 +5,18 @@
 
 Open the file with QGIS 3.14 or later. It opens where the published map is, or at --centre. --maxzoom is the greatest zoom that the features
 have, which the server tells: QGIS enlarges the tiles of that zoom for greater ones. Areas have no outlines, which would show where the import
-cut them: it has put their outlines as lines of a layer of their own. --outlines draws outlines of areas. Needs no package.
+cut them: it has put their outlines as lines of a layer of their own. --outlines draws outlines of areas. It ends with 1 if the server doesn't answer.
+Needs no package.
 """
 import argparse
-import json
 import math
 import sys
 import time
-import urllib.error
 import urllib.parse
-import urllib.request
 from xml.sax.saxutils import escape
 
+from ending import run
+from map_client import Client, NoAnswer, Stopped
 from protobuf import varint
 
 EARTH = 20037508.342789244
@@ -89,23 +89,10 @@ def styled(outlines):
     return made
 
 
-def content_of(url, **fields):
-    """The content of a reply, or None if there is none (404)."""
-    try:
-        with urllib.request.urlopen(urllib.request.Request(url, headers=fields), timeout=60) as reply:
-            return reply.read()
-    except urllib.error.HTTPError as fault:
-        if fault.code == 404:
-            return None
-        sys.exit(f"{url}: {fault}")
-    except OSError as fault:
-        sys.exit(f"{url}: {fault}")
-
-
-def greatest_zoom(url):
+def greatest_zoom(client):
     """The greatest zoom that the features have. The time keeps nginx from sending an older copy (`?edit=` in docs/nginx.conf)."""
-    content = content_of(f"{url}/map/metadata?edit={int(time.time())}") or b'{"vector_layers":[]}'
-    return max((layer["maxzoom"] for layer in json.loads(content)["vector_layers"]), default=0)
+    metadata = client.found(f"/map/metadata?edit={int(time.time())}") or {"vector_layers": []}
+    return max((layer["maxzoom"] for layer in metadata["vector_layers"]), default=0)
 
 
 def tile_of(number):
@@ -123,10 +110,10 @@ def tile_of(number):
     return zoom, column, row
 
 
-def published(url):
+def published(client):
     """West, south, east and north, in Web Mercator, of the tiles of the greatest zoom in the archive's root directory; the world if there is none."""
-    content = content_of(url + "/map.pmtiles", Range="bytes=0-16383")
-    if content is None:
+    status, content = client.ask("GET", "/map.pmtiles", fields={"Range": "bytes=0-16383"})
+    if status not in (200, 206):
         return -EARTH, -EARTH, EARTH, EARTH
     # After a header of 127 bytes the directory: the number of its entries, then each one's id as the distance from the one before.
     left, at = varint(content, 127)
@@ -141,9 +128,17 @@ def published(url):
     return min(columns) * side - EARTH, EARTH - (max(rows) + 1) * side, (max(columns) + 1) * side - EARTH, EARTH - min(rows) * side
 
 
+def place(text):
+    """A longitude and latitude."""
+    longitude, latitude = map(float, text.split(","))
+    if not (-180 <= longitude <= 180 and -85.06 <= latitude <= 85.06):
+        raise ValueError
+    return longitude, latitude
+
+
 def box_at(centre, metres):
     """West, south, east and north, in Web Mercator, of a square round a longitude and latitude."""
-    longitude, latitude = (float(part) for part in centre.split(","))
+    longitude, latitude = centre
     east = longitude / 180 * EARTH
     north = math.asinh(math.tan(math.radians(latitude))) / math.pi * EARTH
     return east - metres / 2, north - metres / 2, east + metres / 2, north + metres / 2
@@ -156,12 +151,18 @@ def main():
     parser.add_argument("--name", default="vtserve", help="the name of the layer in QGIS (vtserve)")
     parser.add_argument("--maxzoom", type=int, help="the greatest zoom of the features (as the server tells it)")
     parser.add_argument("--outlines", action="store_true", help="draw outlines of areas")
-    parser.add_argument("--centre", help="longitude and latitude that the map opens at, as in 7.5,54.5 (where the published map is)")
+    parser.add_argument("--centre", type=place, help="longitude and latitude that the map opens at, as in 7.5,54.5 (where the published map is)")
     parser.add_argument("--metres", type=float, default=5000, help="--centre: how wide and high the map opens, in metres of Web Mercator (5000)")
     words = parser.parse_args()
     url = words.url.rstrip("/")
-    maxzoom = greatest_zoom(url) if words.maxzoom is None else words.maxzoom
-    west, south, east, north = box_at(words.centre, words.metres) if words.centre else published(url)
+    try:
+        client = Client(url)
+        maxzoom = greatest_zoom(client) if words.maxzoom is None else words.maxzoom
+        west, south, east, north = box_at(words.centre, words.metres) if words.centre else published(client)
+    except (NoAnswer, Stopped) as fault:
+        sys.exit(str(fault))
+    except (LookupError, TypeError):
+        sys.exit(f"what answers at {url} is no vtserve: is --url right?")
     tiles = urllib.parse.quote(url + "/map/", safe=":/") + "{z}/{x}/{y}.mvt"
     source = f"type=xyz&url={tiles}&zmin=0&zmax={maxzoom}"
     project = PROJECT.format(
@@ -180,4 +181,4 @@ def main():
 
 
 if __name__ == "__main__":
-    main()
+    run(main)

@@ -10,6 +10,8 @@ import json
 import math
 import random
 
+from ending import run
+
 LONGITUDE, LATITUDE = 7.5, 54.5
 METRES = 111320.0
 CHANCE = random.Random(9)
@@ -136,4 +138,4 @@ def main():
 
 
 if __name__ == "__main__":
-    main()
+    run(main)

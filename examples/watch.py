@@ -12,12 +12,14 @@ publish.sh --record keeps: whether the last publication was refused, and when it
 textfile collector of node_exporter. Needs no package.
 """
 import argparse
+import http.client
 import json
 import os
-import sys
 import time
 import urllib.error
 import urllib.request
+
+from ending import regular, run
 
 SECTOR, DAY = 512, 24 * 3600
 # Edits of less than this share of the journal say nothing of how fast it fills.
@@ -60,14 +62,22 @@ def status_of(url):
     try:
         with urllib.request.urlopen(url, timeout=60) as reply:
             status = json.load(reply)
-        if not {"journal", "area", "left", "generation"} <= set(status):
+        if not isinstance(status, dict) or not {"journal", "area", "left", "generation"} <= set(status):
             raise ValueError("this isn't what a vtserve tells of itself")
         return status
     except urllib.error.HTTPError as error:
         level, text = FAULTS.get(error.code, (NOW, "it isn't the reply of a vtserve"))
         raise Unseen(level, f"{url}: {error.code}: {text}") from error
-    except (OSError, ValueError) as error:
-        raise Unseen(NOW, f"{url}: {error}") from error
+    except (OSError, ValueError, http.client.HTTPException) as error:
+        raise Unseen(NOW, f"{url}: {getattr(error, 'reason', None) or error}") from error
+
+
+def replace(path, text):
+    """Replaces the content of a file at once."""
+    with open(regular(path) + ".new", "w", encoding="utf-8") as file:
+        file.write(text)
+    os.chmod(path + ".new", 0o644)
+    os.replace(path + ".new", path)
 
 
 def next_area(status):
@@ -111,15 +121,16 @@ def speed(status, path, now, every):
             seen = json.load(file)
     except (OSError, ValueError):
         seen = {}
-    if not {"generation", "interval", "time", "used"} <= set(seen):
+    if not isinstance(seen, dict) or not {"generation", "interval", "time", "used"} <= set(seen):
         seen = {"generation": None, "interval": None, "time": None}
     used, free = status["journal"]["used"], status["journal"]["places"] - status["journal"]["used"]
     if seen["generation"] != status["generation"]:
         interval = now - seen["time"] if seen["generation"] is not None else None
         seen = {"generation": status["generation"], "interval": interval, "time": now, "used": used}
-        with open(path + ".new", "w", encoding="utf-8") as file:
-            json.dump(seen, file)
-        os.replace(path + ".new", path)
+        try:
+            replace(path, json.dumps(seen))
+        except OSError as fault:
+            yield UNKNOWN, f"--state {path}: {fault}"
     elif (used - seen["used"]) * MANY > status["journal"]["places"]:
         hours = free * (now - seen["time"]) / (used - seen["used"]) / 3600
         between = every if every is not None else (seen["interval"] or DAY) / 3600
@@ -162,12 +173,10 @@ def metrics(path, status, result):
             "area_next_sectors": next_area(status),
             "area_sectors": area["sectors"],
         }
-    with open(path + ".new", "w", encoding="utf-8") as file:
-        for name, kind, text in METRICS:
-            if name in values:
-                file.write(f"# HELP vtserve_{name} {text}\n# TYPE vtserve_{name} {kind}\nvtserve_{name} {values[name]}\n")
-    os.chmod(path + ".new", 0o644)
-    os.replace(path + ".new", path)
+    replace(path, "".join(
+        f"# HELP vtserve_{name} {text}\n# TYPE vtserve_{name} {kind}\nvtserve_{name} {values[name]}\n"
+        for name, kind, text in METRICS if name in values
+    ))
 
 
 def tasks(words, url, now):
@@ -199,9 +208,13 @@ def main():
     if not found:
         print(f"{status['features']:,} features, edit {status['edits']:,}, generation {status['generation']:,}: nothing to do")
     if words.metrics:
-        metrics(words.metrics, status, result)
+        try:
+            metrics(words.metrics, status, result)
+        except OSError as fault:
+            print(f"--metrics {words.metrics}: {fault}")
+            return NOW if result == NOW else UNKNOWN
     return result
 
 
 if __name__ == "__main__":
-    sys.exit(main())
+    run(main, UNKNOWN)
