@@ -3,7 +3,8 @@
     python3 bench/speed/beside.py FOLDER FIRST [SECOND]
 
 Each is run with FOLDER as its one word. A printed line such as `NAME: 12 ns` is a figure. Behind a median stand the least and
-the greatest. Where both programs print a figure, the ratio of the first to the second is the median of the rounds' ratios.
+the greatest. Where both programs print a figure, the ratio is that of the second to the first, the median of the rounds' ratios: above 1
+the first one takes less.
 """
 import re
 import statistics
@@ -28,7 +29,7 @@ def main(folder, *programs):
         each = [[run[name][0] for run in runs if name in run] for runs in rounds]
         line = f"{name}: {told([values[0] for values in each], unit)}"
         if len(each[0]) > 1:
-            ratios = [values[0] / max(values[1], 1) for values in each]
+            ratios = [values[1] / max(values[0], 1) for values in each]
             ratio = f"{statistics.median(ratios):.2f} ({min(ratios):.2f} to {max(ratios):.2f})"
             line += f"; the other program {told([values[1] for values in each], unit)}; ratio {ratio}"
         print(line)

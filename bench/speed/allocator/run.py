@@ -5,8 +5,9 @@ the C library and with one that is preloaded.
     python3 bench/speed/allocator/run.py [PROGRAM [LIBRARY]]    LIBRARY is /usr/lib/x86_64-linux-gnu/libtcmalloc_minimal.so.4 unless given
                                                           (Debian: libtcmalloc-minimal4; time)
 
-Processor time of whole processes of `pipe`, by turns, five rounds: the median with the least and the greatest, and the ratio of the
-rounds, above 1 where the library is faster. Memory is the peak of an opening, less that of a disk without features, for each feature.
+Processor time of whole processes of `pipe`, by turns, five rounds: the median with the least and the greatest. The ratio is the time
+without the library divided by that with it, so above 1 the library is faster. Memory is the peak of an opening, less that of a disk
+without features, for each feature.
 """
 import json
 import os

@@ -5,6 +5,7 @@
 set -euo pipefail
 here="$(cd "$(dirname "$0")" && pwd)"
 work="$(mktemp -d)"
+trap 'rm -rf "$work"' EXIT
 mkdir -p "$work/archives"
 python3 "$here/../../tools/scratch.py" "$work" archive_bench pm_archive pm_build anyhow
 cp "$here/main.rt.txt" "$work/crates/archive_bench/src/main.rt"

@@ -7,7 +7,7 @@ writes and syncs of its sectors; and how long an import of 3,000 points takes, i
 Disk files are in FOLDER, or in a scratch folder of this clone: on a file system that syncs, not on tmpfs. Requests are sent on one kept
 connection, by turns with bare writes into files that were formatted as the disk was, at the same sectors. The server has one processor, the
 client another one. Rounds are repeated: a figure is the median of the rounds' medians, with the least and the greatest, and a ratio the
-median of the rounds' ratios. Of the time of a request some 20 us are the client's and the connection's. The imports, by
+median of the rounds' ratios, the other time divided by vtserve's. Of the time of a request some 20 us are the client's and the connection's. The imports, by
 examples/import_features.py, need GDAL for /usr/bin/python3, and are left out without it.
 
 It ends with 1 if a ratio isn't as wanted. Run it while the machine has no other work.
@@ -37,7 +37,7 @@ SECTOR, DISK = 512, 65536
 # The first sector of the journal.
 JOURNAL = 3
 ROUNDS, TURNS = 9, 40
-MIN_CHANGES, MAX_TIME = 20, 1.3
+MIN_CHANGES, MIN_RATIO = 20, 0.77
 IMPORTS, POINTS = 3, 3000
 
 
@@ -174,17 +174,17 @@ def edits_a_second(folder):
     rounds, count = measured(folder)
     rate, times = 1 / statistics.median(rounds["alone"]), edits.MOST_CHANGES
     print(f"a change alone: {told(rounds['alone'])}, {rate:,.0f} a second; a write and a sync of its sector {told(rounds['bare'])}; "
-        f"ratio {ratio(rounds['alone'], rounds['bare'])[1]}", flush=True)
+        f"ratio {ratio(rounds['bare'], rounds['alone'])[1]}", flush=True)
     rate = times / statistics.median(rounds["batch"])
-    beside, said = ratio(rounds["batch"], rounds["ordered"])
+    beside, said = ratio(rounds["ordered"], rounds["batch"])
     print(f"a batch of {times} changes: {told(rounds['batch'])}, {rate:,.0f} changes a second; bare writes and syncs of its {count} sectors, "
         f"two of each, {told(rounds['ordered'])}; ratio {said}", flush=True)
-    print(f"the same beside one write and one sync of them: {told(rounds['at once'])}; ratio {ratio(rounds['batch'], rounds['at once'])[1]}", flush=True)
+    print(f"the same beside one write and one sync of them: {told(rounds['at once'])}; ratio {ratio(rounds['at once'], rounds['batch'])[1]}", flush=True)
     more, more_said = ratio([times * took for took in rounds["alone"]], rounds["batch"])
     print(f"changes a second in batches, relative to those alone: {more_said}")
     rows = [
         (more >= MIN_CHANGES, f"at least {MIN_CHANGES} times the changes a second"),
-        (beside <= MAX_TIME, f"a batch at most {MAX_TIME} times the bare writes and syncs"),
+        (beside >= MIN_RATIO, f"the bare writes and syncs at least {MIN_RATIO} of a batch's time"),
     ]
     for is_met, wanted in rows:
         print(f"wanted: {wanted}: {'met' if is_met else 'MISSED'}", flush=True)
@@ -221,7 +221,7 @@ def imports(folder):
                     sys.exit(f"import {name}:\n{child.stdout}{child.stderr}")
     for name, values in times.items():
         print(f"an import of {POINTS:,} points {name}: {statistics.median(values):.2f} s ({min(values):.2f} to {max(values):.2f})")
-    print(f"ratio {ratio(times['one by one'], times['in batches'])[1]}", flush=True)
+    print(f"the second divided by the first: {ratio(times['one by one'], times['in batches'])[1]}", flush=True)
 
 
 def file_system(folder):

@@ -169,11 +169,13 @@ def main(program):
         pairs = [(server.time(path), peer.time(query)) for _ in range(ROUNDS)]
         ratios = [second / first for first, second in pairs]
         print(f"a tile of a city at zoom {ZOOM}, {sum(mine.values())} features, cut again after an edit in it: {told([pair[0] for pair in pairs])}; "
-            f"PostGIS {told([pair[1] for pair in pairs])}; PostGIS takes {statistics.median(ratios):.1f} times as long ({min(ratios):.1f} to "
+            f"PostGIS {told([pair[1] for pair in pairs])}; ratio {statistics.median(ratios):.1f} ({min(ratios):.1f} to "
             f"{max(ratios):.1f})")
     finally:
         peer.end()
         server.child.kill()
+        shutil.rmtree(folder)
+        shutil.rmtree(peer.folder, ignore_errors=True)
 
 
 main(*sys.argv[1:])

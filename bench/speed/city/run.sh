@@ -5,6 +5,7 @@
 set -euo pipefail
 here="$(cd "$(dirname "$0")" && pwd)"
 work="$(mktemp -d)"
+trap 'rm -rf "$work"' EXIT
 mkdir -p "$work/archive"
 python3 "$here/../../tools/scratch.py" "$work" city_bench feature_store feature_model edit_text pm_archive pm_build anyhow
 cp "$here/main.rt.txt" "$work/crates/city_bench/src/main.rt"

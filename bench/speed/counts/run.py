@@ -165,7 +165,7 @@ def main():
             for name, unit, count in part(disks):
                 line = f"{name}: {count:.0f} instructions for each {unit}"
                 if name in old:
-                    line += f"; {old[name]} at {REVISION}; ratio {count / old[name]:.3f}"
+                    line += f"; {old[name]} at {REVISION}, {count / old[name]:.3f} times as many"
                     rose += [name] * (count > RISE * old[name])
                 print(line, flush=True)
     for name in rose:

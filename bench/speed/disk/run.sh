@@ -3,6 +3,7 @@
 set -euo pipefail
 here="$(cd "$(dirname "$0")" && pwd)"
 work="$(mktemp -d)"
+trap 'rm -rf "$work"' EXIT
 python3 "$here/../../tools/scratch.py" "$work" disk_bench sector_disk anyhow
 cp "$here/main.rt.txt" "$work/crates/disk_bench/src/main.rt"
 cd "$work/crates/disk_bench"

@@ -3,6 +3,7 @@
 set -euo pipefail
 here="$(cd "$(dirname "$0")" && pwd)"
 work="$(mktemp -d)"
+trap 'rm -rf "$work"' EXIT
 python3 "$here/../../tools/scratch.py" "$work" index_bench box_index feature_model anyhow
 cp "$here/main.rt.txt" "$work/crates/index_bench/src/main.rt"
 cd "$work/crates/index_bench"

@@ -8,7 +8,8 @@ ranges, connections of one request; durable edits of 1, 3 and 39 sectors beside 
 
 Each server has one connection, which is kept, and all share one processor; the client (client.cpp, g++) asks two of them by turns from
 another one, in rounds. A figure is the median of the rounds' medians, with the least and the greatest; the ratio is that of the rounds'
-ratios, and above 1 vtserve is the slower one. Disks and files lie in a scratch folder in FOLDER, or in the system's. A PART is one of
+ratios, the peer's time divided by vtserve's, so above 1 vtserve is faster. Disks and files lie in a scratch folder in FOLDER, or in the
+system's. A PART is one of
 tiles, edits, turn, city, walk, growth and archive; without any, all run. Needs nginx (Debian: nginx-light).
 """
 import http.client
@@ -218,7 +219,7 @@ def show(name, client, words, peer):
 
 def tell(name, rounds, peer):
     """Prints what rounds of pairs of nanoseconds told."""
-    ratios = [first / second for first, second in rounds]
+    ratios = [second / first for first, second in rounds]
     ratio = f"{statistics.median(ratios):.2f} ({min(ratios):.2f} to {max(ratios):.2f})"
     first, second = [told([pair[at] for pair in rounds]) for at in (0, 1)]
     print(f"{name}: {first}; {peer} {second}; ratio {ratio}", flush=True)
@@ -449,7 +450,7 @@ def growth(folder, client, nginx):
     before = [server.processor() for server in servers]
     show("a tile that is kept, of 100,000 features", client, ["get", ROUNDS, 4000, large.port, path, small.port, path], "of 1,000")
     spent = [server.processor() - was for server, was in zip(servers, before)]
-    print(f"processor time of the same: {spent[1]:.2f} s and {spent[0]:.2f} s, ratio {spent[1] / spent[0]:.2f}", flush=True)
+    print(f"processor time of the same: {spent[1]:.2f} s and {spent[0]:.2f} s, ratio {spent[0] / spent[1]:.2f}", flush=True)
     small.end()
     large.end()
 

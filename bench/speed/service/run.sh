@@ -5,6 +5,7 @@
 set -euo pipefail
 here="$(cd "$(dirname "$0")" && pwd)"
 work="$(mktemp -d)"
+trap 'rm -rf "$work"' EXIT
 mkdir -p "$work/disks"
 folder="$(cd "${1:-$work/disks}" && pwd)"
 python3 "$here/../../tools/scratch.py" "$work" service_bench sector_disk feature_model tile_service anyhow

@@ -1,0 +1,169 @@
+#!/usr/bin/env python3
+"""Finds the lemmas that state something of a definition.
+
+    python3 bench/tools/lemmas.py NAME..       prints each lemma whose statement names one of these definitions, with its file and line
+    python3 bench/tools/lemmas.py --write      writes docs/LEMMAS.md: for each file of definitions the lemma files of its crate that speak of it
+    python3 bench/tools/lemmas.py --check      ends with 1 if that page isn't what --write writes
+
+A definition is a name that a file of crates/CRATE/specs/ declares. A lemma file is a file of crates/CRATE/proofs/ that is no proof of
+a function (Answers.antt, Invariants.antt, Proof.antt) and no list of modules (Lib.antt). Names are resolved by the `use` lines.
+"""
+import argparse
+import re
+import sys
+from pathlib import Path
+
+ROOT = Path(__file__).resolve().parents[2]
+CRATES = ROOT / "crates"
+PAGE = ROOT / "docs" / "LEMMAS.md"
+MOST = 8
+NO_LEMMAS = {"Answers.antt", "Invariants.antt", "Proof.antt", "Lib.antt"}
+DEFINED = re.compile(r"^ *(?:(?:abbrev|unfoldable) pub|pub record|pub data) ([^\s:({]+)", re.M)
+LOCAL = re.compile(r"^ *(?:abbrev|unfoldable|record|data|use|module|mutual|pub (?:record|data|mod)|mod)\b")
+STATED = re.compile(r"^( *)(?:pub )?([A-Za-z_][\w'≢≡-]*) : ")
+WORD = re.compile(r"[A-Za-z_][\w'-]*(?:\.[A-Za-z_][\w'-]*)*")
+HEAD = """# Lemma files by definition
+
+For whoever mends a proof. A row is a file of definitions, `specs/FILE.antt` of its crate, and the files of the same crate's `proofs/` with the most lemmas that name one of these definitions. [PROOFS.md](PROOFS.md) says how to get from an open goal to here; `python3 bench/tools/lemmas.py NAME` lists the lemmas about one definition, in all crates. This page is written by `python3 bench/tools/lemmas.py --write`.
+"""
+
+
+def crates():
+    """The crates of crates.txt that have definitions or lemmas, lowest first."""
+    lines = [line for line in (ROOT / "crates.txt").read_text().splitlines() if line and not line.startswith("#")]
+    return [line.split(":")[0] for line in lines]
+
+
+def module_of(path, folder):
+    return ".".join(path.relative_to(folder).with_suffix("").parts)
+
+
+def definitions(crate):
+    """The files of a crate's specs/: the module's name, what its first line says, and the names that it declares."""
+    folder = CRATES / crate / "specs"
+    for path in sorted(folder.rglob("*.antt")):
+        text = path.read_text()
+        if path.name != "Lib.antt":
+            yield module_of(path, folder), subject(text), set(DEFINED.findall(text))
+
+
+def subject(text):
+    """What the comment in a file's first line says."""
+    first = text.split("\n", 1)[0]
+    return first[3:].strip() if first.startswith("-- ") else ""
+
+
+def lemma_files(crate):
+    folder = CRATES / crate / "proofs"
+    return [(path, module_of(path, folder)) for path in sorted(folder.rglob("*.antt")) if path.name not in NO_LEMMAS]
+
+
+def imported(text):
+    """What the names of a file mean: each name, and each other name of a module, with the crate and the module of specs/."""
+    names = {}
+    for crate, module, listed, other in re.findall(r"^use Rattle\.(\w+)\.specs\.([\w.]+?)(?:\.\{([^}]*)\}| as (\w+))", text, re.M):
+        for name in re.split(r",\s*", listed):
+            names[name.split(" as ")[-1]] = (crate, module, name.split(" as ")[0])
+        if other:
+            names[other + "."] = (crate, module, None)
+    return names
+
+
+def indented(line):
+    return len(line) - len(line.lstrip(" "))
+
+
+def statements(text):
+    """The lemmas of a file: line, name and statement. What a module above one takes belongs to its statement."""
+    lines, modules, at = text.split("\n"), [], 0
+    while at < len(lines):
+        line = lines[at]
+        if line.strip():
+            modules = [(depth, head) for depth, head in modules if depth < indented(line)]
+        begun, part = at, [line]
+        if line.lstrip().startswith("module ") or STATED.match(line):
+            while at + 1 < len(lines) and lines[at + 1].strip() and indented(lines[at + 1]) > indented(line) and not part[-1].endswith("where"):
+                at += 1
+                part.append(lines[at])
+        whole, stated = " ".join(piece.strip() for piece in part), STATED.match(line)
+        if line.lstrip().startswith("module "):
+            modules.append((indented(line), whole))
+        elif stated and not LOCAL.match(line) and len(stated[1]) == 2 * len(modules):
+            yield begun + 1, stated[2], " ".join([head for _, head in modules] + [whole])
+        at += 1
+
+
+def named(statement, names):
+    """The definitions that a statement names, each with its crate and module."""
+    for word in WORD.findall(statement):
+        first, _, rest = word.partition(".")
+        if first in names:
+            yield names[first]
+        elif rest and first + "." in names:
+            crate, module, _ = names[first + "."]
+            yield crate, module, rest.split(".")[0]
+
+
+def spoken_of(crate):
+    """Each lemma of a crate: its file, its module, line, name, and the definitions that it names."""
+    for path, module in lemma_files(crate):
+        text = path.read_text()
+        names = imported(text)
+        for line, name, statement in statements(text):
+            yield path, module, line, name, set(named(statement, names))
+
+
+def table(crate):
+    """The rows of a crate."""
+    counts = {}
+    for _, module, _, _, found in spoken_of(crate):
+        for other in {where for owner, where, _ in found if owner == crate}:
+            counts.setdefault(other, {}).setdefault(module, 0)
+            counts[other][module] += 1
+    for module, says, _ in definitions(crate):
+        files = sorted(counts.get(module, {}).items(), key=lambda item: (-item[1], item[0]))
+        listed = ", ".join(f"`{name}`" for name, _ in files[:MOST]) + (f", and {len(files) - MOST} more" if len(files) > MOST else "")
+        yield f"| `{module}` | {says} | {listed} |"
+
+
+def page():
+    """The text of docs/LEMMAS.md."""
+    parts = [HEAD]
+    for crate in crates():
+        rows = list(table(crate))
+        if rows and lemma_files(crate):
+            parts.append(f"\n## {crate}\n\n| Definitions | What they define | Lemma files |\n|---|---|---|\n" + "\n".join(rows) + "\n")
+    return "".join(parts)
+
+
+def about(names):
+    """Prints the lemmas about definitions of these names, and returns how many there are."""
+    count = 0
+    for crate in crates():
+        for path, _, line, name, found in spoken_of(crate):
+            if any(word in names for _, _, word in found):
+                print(f"{path.relative_to(ROOT)}:{line}: {name}")
+                count += 1
+    return count
+
+
+def main():
+    parser = argparse.ArgumentParser(description=__doc__, formatter_class=argparse.RawDescriptionHelpFormatter)
+    parser.add_argument("names", nargs="*", metavar="NAME")
+    parser.add_argument("--write", action="store_true")
+    parser.add_argument("--check", action="store_true")
+    words = parser.parse_args()
+    if words.write:
+        PAGE.write_text(page())
+    elif words.check:
+        same = PAGE.read_text() == page()
+        print("docs/LEMMAS.md is as it is written" if same else "docs/LEMMAS.md is older than the crates: python3 bench/tools/lemmas.py --write")
+        return 0 if same else 1
+    elif about(words.names) == 0:
+        print("no lemma names " + " ".join(words.names))
+        return 1
+    return 0
+
+
+if __name__ == "__main__":
+    sys.exit(main())
