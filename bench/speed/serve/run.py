@@ -9,8 +9,7 @@ ranges, connections of one request; durable edits of 1, 3 and 39 sectors beside 
 Each server has one connection, which is kept, and all share one processor; the client (client.cpp, g++) asks two of them by turns from
 another one, in rounds. A figure is the median of the rounds' medians, with the least and the greatest; the ratio is that of the rounds'
 ratios, the peer's time divided by vtserve's, so above 1 vtserve is faster. Disks and files lie in a scratch folder in FOLDER, or in the
-system's. A PART is one of
-tiles, edits, turn, city, walk, growth and archive; without any, all run. Needs nginx (Debian: nginx-light).
+system's. A PART is one of tiles, edits, turn, city, walk, growth and archive; without any, all run. Needs nginx (Debian: nginx-light).
 """
 import http.client
 import json
