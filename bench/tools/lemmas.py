@@ -1,7 +1,7 @@
 #!/usr/bin/env python3
-"""Finds the lemmas that state something of a definition.
+"""Finds a lemma by its name, and the lemmas that state something of a definition.
 
-    python3 bench/tools/lemmas.py NAME..       prints each lemma whose statement names one of these definitions, with its file and line
+    python3 bench/tools/lemmas.py NAME..       prints each lemma of this name, and each whose statement names this definition, with file and line
     python3 bench/tools/lemmas.py --write      writes docs/LEMMAS.md: for each file of definitions the lemma files of its crate that speak of it
     python3 bench/tools/lemmas.py --check      ends with 1 if that page isn't what --write writes
 
@@ -24,7 +24,7 @@ STATED = re.compile(r"^( *)(?:pub )?([A-Za-z_][\w'≢≡-]*) : ")
 WORD = re.compile(r"[A-Za-z_][\w'-]*(?:\.[A-Za-z_][\w'-]*)*")
 HEAD = """# Lemma files by definition
 
-For whoever mends a proof. A row is a file of definitions, `specs/FILE.antt` of its crate, and the files of the same crate's `proofs/` with the most lemmas that name one of these definitions. [PROOFS.md](PROOFS.md) says how to get from an open goal to here; `python3 bench/tools/lemmas.py NAME` lists the lemmas about one definition, in all crates. This page is written by `python3 bench/tools/lemmas.py --write`.
+For whoever mends a proof. A row is a file of definitions, `specs/FILE.antt` of its crate, and the files of the same crate's `proofs/` with the most lemmas that name one of these definitions; files of definitions that no lemma names are left out. [PROOFS.md](PROOFS.md) says how to get from an open goal to here; `python3 bench/tools/lemmas.py NAME` lists the lemmas about one definition, in all crates. This page is written by `python3 bench/tools/lemmas.py --write`.
 """
 
 
@@ -122,6 +122,8 @@ def table(crate):
             counts[other][module] += 1
     for module, says, _ in definitions(crate):
         files = sorted(counts.get(module, {}).items(), key=lambda item: (-item[1], item[0]))
+        if not files:
+            continue
         listed = ", ".join(f"`{name}`" for name, _ in files[:MOST]) + (f", and {len(files) - MOST} more" if len(files) > MOST else "")
         yield f"| `{module}` | {says} | {listed} |"
 
@@ -137,11 +139,11 @@ def page():
 
 
 def about(names):
-    """Prints the lemmas about definitions of these names, and returns how many there are."""
+    """Prints the lemmas of these names and those about definitions of these names, and returns how many there are."""
     count = 0
     for crate in crates():
         for path, _, line, name, found in spoken_of(crate):
-            if any(word in names for _, _, word in found):
+            if name in names or any(word in names for _, _, word in found):
                 print(f"{path.relative_to(ROOT)}:{line}: {name}")
                 count += 1
     return count
@@ -160,7 +162,7 @@ def main():
         print("docs/LEMMAS.md is as it is written" if same else "docs/LEMMAS.md is older than the crates: python3 bench/tools/lemmas.py --write")
         return 0 if same else 1
     elif about(words.names) == 0:
-        print("no lemma names " + " ".join(words.names))
+        print("no lemma has or names " + " ".join(words.names))
         return 1
     return 0
 
