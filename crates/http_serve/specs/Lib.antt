@@ -7,6 +7,7 @@ pub mod Parts
 pub mod Reads
 pub mod Reply
 pub mod Requests
+pub mod Scans
 pub mod Search
 pub mod Sent
 pub mod Served

@@ -16,7 +16,7 @@ pub(crate) const MAX_HEAD: usize = 8_192;
 /// Maximum number of fields in a head.
 pub(crate) const MAX_FIELDS: usize = 32;
 /// Maximum length of a request in bytes.
-pub(crate) const MAX_REQUEST: usize = MAX_HEAD + MAX_BODY as usize;
+pub const MAX_REQUEST: usize = MAX_HEAD + MAX_BODY as usize;
 
 /// Where the parts of a request are.
 #[derive(Clone, Copy, Debug)]

@@ -11,13 +11,16 @@ mod lines;
 mod positions;
 mod refusals;
 mod replies;
+mod scans;
 mod searches;
 mod sessions;
 mod writes;
 
 pub use connection::{End, MAX_READS, ServeFault, Served, serve_with};
+pub use frames::MAX_REQUEST;
 pub use handlers::{ContentFault, Handler, PART_SIZE, Request};
 pub use inputs::READ_SPACE;
 pub use replies::{Content, ContentRange, MAX_WORD, Reply};
+pub use scans::{Scan, Scanned};
 pub use sessions::Buffers;
 pub use status_phrase::Status;
