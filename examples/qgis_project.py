@@ -1,12 +1,13 @@
 #!/usr/bin/env python3
-"""Writes a QGIS project with the tiles of a running vtserve as its only layer, with a style for areas, lines and points.
+"""Writes a QGIS project with the tiles of a running vtserve as its only layer, with the colours of the page and a colour for each layer more.
 
     python3 examples/qgis_project.py map.qgs --url http://127.0.0.1:8000
 
 Open the file with QGIS 3.14 or later. It opens where the published map is, or at --centre. --maxzoom is the greatest zoom that the features
-have, which the server tells: QGIS enlarges the tiles of that zoom for greater ones. Areas have no outlines, which would show where the import
-cut them: it has put their outlines as lines of a layer of their own. --outlines draws outlines of areas. It ends with 1 if the server doesn't answer.
-Needs no package.
+have, which the server tells: QGIS enlarges the tiles of that zoom for greater ones. The colours are those of page/style.json; layers that it
+doesn't name get one each (qgis_styles.py). Pieces of areas that the import cut have no outlines, which would show the cuts: it has put them
+as lines of a layer of their own. --outlines draws outlines of the pieces too. With --maxzoom and --centre the server needn't answer; then all
+layers look the same. It ends with 1 if the server doesn't answer. Needs no package.
 """
 import argparse
 import math
@@ -18,6 +19,7 @@ from xml.sax.saxutils import escape
 from ending import run
 from map_client import Client, NoAnswer, Stopped
 from protobuf import varint
+from qgis_styles import background, styled
 
 EARTH = 20037508.342789244
 PROJECT = """<!DOCTYPE qgis PUBLIC 'http://mrcc.com/qgis.dtd' 'SYSTEM'>
@@ -50,6 +52,11 @@ PROJECT = """<!DOCTYPE qgis PUBLIC 'http://mrcc.com/qgis.dtd' 'SYSTEM'>
   <layerorder><layer id="vtserve_tiles"/></layerorder>
   <properties>
     <SpatialRefSys><ProjectionsEnabled type="int">1</ProjectionsEnabled></SpatialRefSys>
+    <Gui>
+      <CanvasColorRedPart type="int">{red}</CanvasColorRedPart>
+      <CanvasColorGreenPart type="int">{green}</CanvasColorGreenPart>
+      <CanvasColorBluePart type="int">{blue}</CanvasColorBluePart>
+    </Gui>
   </properties>
 </qgis>
 """
@@ -59,40 +66,22 @@ SYSTEM = (
     "<srsid>3857</srsid><srid>3857</srid><authid>EPSG:3857</authid><description>WGS 84 / Pseudo-Mercator</description>"
     "<projectionacronym>merc</projectionacronym><ellipsoidacronym>EPSG:7030</ellipsoidacronym><geographicflag>false</geographicflag></spatialrefsys>"
 )
-STYLE = """
-          <style name="{name}" geometry="{geometry}" layer="" enabled="1" min-zoom="-1" max-zoom="-1" expression="geometry_type($geometry)='{kind}'">
-            <symbols>
-              <symbol type="{symbol}" name="0" alpha="1" clip_to_extent="1" force_rhr="0">
-                <layer class="{drawn}" enabled="1" pass="0" locked="0">
-                  <Option type="Map">{options}
-                  </Option>
-                </layer>
-              </symbol>
-            </symbols>
-          </style>"""
-AREAS = {"color": "195,223,176,120", "outline_color": "90,120,70,255", "outline_width": "0.1", "outline_style": "no"}
-STYLES = [
-    ("Areas", 2, "Polygon", "fill", "SimpleFill", AREAS),
-    ("Lines", 1, "Line", "line", "SimpleLine", {"line_color": "176,128,58,255", "line_width": "0.6", "capstyle": "round", "joinstyle": "round"}),
-    ("Points", 0, "Point", "marker", "SimpleMarker", {"name": "circle", "color": "176,58,46,255", "outline_color": "255,255,255,255", "size": "2.5"}),
-]
-
-
-def styled(outlines):
-    """The style of areas, with outlines or without, of lines and of points of every layer of the tiles."""
-    made = ""
-    for name, geometry, kind, symbol, drawn, values in STYLES:
-        if outlines and "outline_style" in values:
-            values = {**values, "outline_style": "solid"}
-        options = "".join(f'\n                    <Option type="QString" name="{key}" value="{value}"/>' for key, value in values.items())
-        made += STYLE.format(name=name, geometry=geometry, kind=kind, symbol=symbol, drawn=drawn, options=options)
-    return made
-
-
-def greatest_zoom(client):
-    """The greatest zoom that the features have. The time keeps nginx from sending an older copy (`?edit=` in docs/nginx.conf)."""
+def layers_of(client):
+    """The names of the map's layers, and the greatest zoom that each has. The time keeps nginx from sending an older copy (`?edit=` in
+    docs/nginx.conf)."""
     metadata = client.found(f"/map/metadata?edit={int(time.time())}") or {"vector_layers": []}
-    return max((layer["maxzoom"] for layer in metadata["vector_layers"]), default=0)
+    return {layer["id"]: layer["maxzoom"] for layer in metadata["vector_layers"]}
+
+
+def looked_at(client, words):
+    """The layers with their greatest zooms, and the box of the map, as far as the command line doesn't say them."""
+    try:
+        layers = layers_of(client)
+    except (NoAnswer, Stopped):
+        if words.maxzoom is None or words.centre is None:
+            raise
+        layers = {}
+    return layers, box_at(words.centre, words.metres) if words.centre else published(client)
 
 
 def tile_of(number):
@@ -150,30 +139,33 @@ def main():
     parser.add_argument("--url", default="http://127.0.0.1:8000", help="the server, as QGIS reaches it (http://127.0.0.1:8000)")
     parser.add_argument("--name", default="vtserve", help="the name of the layer in QGIS (vtserve)")
     parser.add_argument("--maxzoom", type=int, help="the greatest zoom of the features (as the server tells it)")
-    parser.add_argument("--outlines", action="store_true", help="draw outlines of areas")
+    parser.add_argument("--outlines", action="store_true", help="draw outlines of the pieces of areas that the import cut")
     parser.add_argument("--centre", type=place, help="longitude and latitude that the map opens at, as in 7.5,54.5 (where the published map is)")
     parser.add_argument("--metres", type=float, default=5000, help="--centre: how wide and high the map opens, in metres of Web Mercator (5000)")
     words = parser.parse_args()
     url = words.url.rstrip("/")
     try:
-        client = Client(url)
-        maxzoom = greatest_zoom(client) if words.maxzoom is None else words.maxzoom
-        west, south, east, north = box_at(words.centre, words.metres) if words.centre else published(client)
+        layers, (west, south, east, north) = looked_at(Client(url), words)
     except (NoAnswer, Stopped) as fault:
         sys.exit(str(fault))
     except (LookupError, TypeError):
         sys.exit(f"what answers at {url} is no vtserve: is --url right?")
+    maxzoom = max(layers.values(), default=0) if words.maxzoom is None else words.maxzoom
+    red, green, blue = background()
     tiles = urllib.parse.quote(url + "/map/", safe=":/") + "{z}/{x}/{y}.mvt"
     source = f"type=xyz&url={tiles}&zmin=0&zmax={maxzoom}"
     project = PROJECT.format(
         name=escape(words.name, {'"': "&quot;"}),
         source=escape(source),
-        styles=styled(words.outlines),
+        styles=styled(layers, words.outlines),
         system=SYSTEM,
         west=west,
         east=east,
         south=south,
         north=north,
+        red=red,
+        green=green,
+        blue=blue,
     )
     with open(words.file, "w", encoding="utf-8") as file:
         file.write(project)
