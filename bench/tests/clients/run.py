@@ -26,6 +26,7 @@ from admin import admin
 from batches import batches
 from direct import direct
 from editors import editors
+from endings import endings
 from imports import disk_full, imports, kills, large
 from desktop import desktop
 from operation import operation
@@ -655,6 +656,7 @@ def main():
         "admin": admin,
         "batches": batches,
         "editors": editors,
+        "endings": endings,
         "steps": steps,
         "disk-full": disk_full,
         "kills": kills,
