@@ -24,6 +24,8 @@ from ending import regular, run
 SECTOR, DAY = 512, 24 * 3600
 # Edits of less than this share of the journal say nothing of how fast it fills.
 MANY = 20
+# What a first publication takes for each sector of the journal, if nothing is known: a town takes five times, large areas more.
+FIRST = 10
 SOON, NOW, UNKNOWN = 1, 2, 3
 LARGER = "move the map to a larger disk (docs/DEPLOYING.md): once it is full, nothing can be published, and when the journal is full too, nothing can be edited"
 IN_FRONT = "the proxy in front of the server answers, but the server doesn't: systemctl status vtserve"
@@ -91,7 +93,8 @@ def fullness(status, most):
     """What is full, or will be."""
     journal, area = status["journal"], status["area"]
     if status["broken"]:
-        yield NOW, "the disk failed: edits are refused until the server is started again (docs/DEPLOYING.md, After 500 Device)"
+        yield NOW, ("the disk failed, or its file was removed, replaced or cut (the log says which): edits are refused until the server is started "
+                    "again (docs/DEPLOYING.md, After 500 Device)")
     if journal["used"] == journal["places"]:
         yield NOW, "the journal is full: no edit is taken until the map is published (examples/publish.sh)"
     for used, whole, name, what in [
@@ -100,7 +103,9 @@ def fullness(status, most):
     ]:
         if used * 100 >= whole * most:
             yield SOON, f"{used:,} of the {whole:,} sectors of {name} are used: {what}"
-    if next_area(status) > area["sectors"] > area["used"]:
+    if status["generation"] == 0 and FIRST * journal["used"] > area["sectors"]:
+        yield SOON, "nothing was published yet: whether a publication fits isn't known before the first one. Publish (examples/publish.sh)"
+    elif next_area(status) > area["sectors"] > area["used"]:
         yield SOON, f"the next publication may not fit: about {next_area(status):,} sectors, an area has {area['sectors']:,}. Publish now, and {LARGER}"
 
 
