@@ -101,7 +101,7 @@ class Styles:
         """Adds what a rule draws of a layer."""
         if "area" in rule:
             self.areas(layer, rule, conditions)
-        width = rule.get("width", 2) / 2
+        width = 0.6 * rule.get("width", 2)
         if "casing" in rule:
             self.lines(layer, rule["casing"], width + 2, conditions)
         if "line" in rule:
@@ -114,7 +114,7 @@ def own_rule(place):
     """The rule of a layer that the page's rules don't name: the colour of its place among these."""
     colour = COLOURS[place % len(COLOURS)]
     red, green, blue, _ = numbers(colour)
-    return {"area": f"rgba({red}, {green}, {blue}, {SEEN_THROUGH / 255:.2f})", "edge": colour, "line": colour, "point": colour, "width": 4}
+    return {"area": f"rgba({red}, {green}, {blue}, {SEEN_THROUGH / 255:.2f})", "edge": colour, "line": colour, "point": colour, "width": 3.5}
 
 
 def styled(layers, outlines):
