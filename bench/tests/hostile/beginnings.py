@@ -1,13 +1,13 @@
 #!/usr/bin/env python3
 """What the beginning of a publication takes of a map that its disk has no room for: time, memory, and whether the map serves on.
 
-    python3 bench/tests/hostile/beginnings.py [--program PROGRAM] [--rows 1,2,6,40,400] [--memory MB] [--seconds S] [--cgroup]
+    python3 bench/tests/hostile/beginnings.py [--program PROGRAM] [--rows 1,2,6,40,400] [--memory MB] [--seconds S]
 
 PROGRAM is crates/vtserve/out/vtserve. Each row is a `serve` of its own, whose address space is limited to 512 MB (`ulimit -v`), on a disk with
 areas of 20 MB, with so many polygons of 2,600 points (61 KB of JSON) at zoom 8, each a third of the world wide: each is whole in 22,016 tiles,
 which take 290 MB. POST /publish/begin is sent twice; then a tile, a feature and an edit are asked for. Memory is the process's resident set
-(/proc): before the first beginning, the greatest during both, and after each. With --cgroup the limit is one of the resident set, by a memory
-cgroup (version 1, as root): for a build with a sanitizer, which reserves addresses.
+(/proc): before the first beginning, the greatest during both, and after each. A build with a sanitizer, as `rt try` makes it, reserves
+addresses: for such a one give --memory 0 and `ASAN_OPTIONS=soft_rss_limit_mb=512:allocator_may_return_null=1:quarantine_size_mb=1`.
 
 Wanted: each beginning is answered within S seconds (20), as `{"left":N}`, `AreaFull need N free M` with N above M, `TooManyTiles` or `Memory`,
 and the map serves on. Anything else ends the script with 1.
@@ -27,7 +27,6 @@ import time
 
 TOP = pathlib.Path(__file__).resolve().parents[3]
 SECTORS, POINTS, WORLD = 110000, 2600, 2**32
-GROUP = "/sys/fs/cgroup/memory/vtserve-beginnings"
 ANSWERS = re.compile(r'200 \{"left":\d+\}|507 AreaFull need (\d+) free (\d+)|507 TooManyTiles|503 Memory')
 
 
@@ -49,19 +48,11 @@ class Served:
             probe.bind(("127.0.0.1", 0))
             port = probe.getsockname()[1]
         command = [words.program, "serve", disk, "--port", str(port), "--connections", "100", "--admin"]
-        self.limit, self.cgroup = words.memory << 20, words.cgroup
-        self.child = subprocess.Popen(command, stdout=subprocess.PIPE, stderr=subprocess.DEVNULL, preexec_fn=self.limited)
+        limited = words.memory and (lambda: resource.setrlimit(resource.RLIMIT_AS, (words.memory << 20,) * 2))
+        self.child = subprocess.Popen(command, stdout=subprocess.PIPE, stderr=subprocess.DEVNULL, preexec_fn=limited or None)
         if not self.child.stdout.readline():
-            sys.exit(f"the program doesn't start within {words.memory} MB: has it a sanitizer (--cgroup)?")
+            sys.exit(f"the program doesn't start within {words.memory} MB: has it a sanitizer (--memory 0)?")
         self.connection = http.client.HTTPConnection("127.0.0.1", port, timeout=words.seconds * 10)
-
-    def limited(self):
-        if self.cgroup:
-            os.makedirs(GROUP, exist_ok=True)
-            pathlib.Path(GROUP, "memory.limit_in_bytes").write_text(str(self.limit))
-            pathlib.Path(GROUP, "cgroup.procs").write_text(str(os.getpid()))
-        else:
-            resource.setrlimit(resource.RLIMIT_AS, (self.limit, self.limit))
 
     def ask(self, method, path, body=None):
         """Status and content of a reply, as text, and the seconds that it took."""
@@ -91,8 +82,6 @@ class Served:
         self.child.kill()
         self.child.wait()
         self.child.stdout.close()
-        if self.cgroup:
-            os.rmdir(GROUP)
 
 
 def is_wanted(said, seconds, most):
@@ -148,9 +137,8 @@ def options():
     parser = argparse.ArgumentParser(description="Publications that don't fit, begun under a limit of memory.")
     parser.add_argument("--program", default=str(TOP / "crates" / "vtserve" / "out" / "vtserve"))
     parser.add_argument("--rows", type=lambda text: [int(part) for part in text.split(",")], default=[1, 2, 6, 40, 400])
-    parser.add_argument("--memory", type=int, default=512, metavar="MB")
+    parser.add_argument("--memory", type=int, default=512, metavar="MB", help="the limit of the address space (512); 0: none")
     parser.add_argument("--seconds", type=float, default=20)
-    parser.add_argument("--cgroup", action="store_true")
     return parser.parse_args()
 
 
