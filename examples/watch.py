@@ -122,7 +122,7 @@ def left(status, url, wait):
 def speed(status, path, now, every):
     """Whether the journal fills before the next publication, at the speed since the last one. Keeps in a file what was seen."""
     try:
-        with open(path, encoding="utf-8") as file:
+        with open(regular(path), encoding="utf-8") as file:
             seen = json.load(file)
     except (OSError, ValueError):
         seen = {}
