@@ -85,7 +85,10 @@ class Styles:
         ))
 
     def areas(self, layer, rule, conditions):
-        self.add(layer, AREA, conditions, color=comma(rule["area"]), outline_style="no")
+        colour = comma(rule["area"])
+        # A thin line of the same colour hides where pieces meet; of a colour that one sees through it would show it.
+        line = {"outline_color": colour, "outline_width": "0.7", "outline_width_unit": "Pixel"} if colour.endswith(",255") else {"outline_style": "no"}
+        self.add(layer, AREA, conditions, color=colour, **line)
         if "edge" in rule:
             seen = conditions if self.outlines else [*conditions, WHOLE]
             self.add(layer, AREA, seen, style="no", outline_color=comma(rule["edge"]), outline_width="1", outline_width_unit="Pixel")
