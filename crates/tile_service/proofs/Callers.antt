@@ -14,13 +14,13 @@ use Rattle.feature_model.specs.Data.{FeatureData}
 use Rattle.feature_store.specs.Store.{feature_at, feature_from}
 use Rattle.map_metadata.specs.Metadata.{IsMetadata}
 use Rattle.serde_json.specs.Data.{Data}
-use Rattle.tile_service.specs.Machine.{ServiceState, OrMemory, Happening, Call, edit, begin, step, cancel, tile, look, look_from, metadata, read}
-use Rattle.tile_service.specs.Machine.{IfTold, AnswersEdit, AnswersBegin, AnswersStep, AnswersCancel, Happens, Runs}
+use Rattle.tile_service.specs.Machine.{ServiceState, OrMemory, Happening, Call, edit, begin, step, cancel, check, tile, look, look_from, metadata, read}
+use Rattle.tile_service.specs.Machine.{IfTold, AnswersEdit, AnswersBegin, AnswersStep, AnswersCancel, AnswersCheck, Happens, Runs}
 use Rattle.tile_service.specs.Runs.{IsDoubtful, happening_at, all_edits, way_of, Way, Progress, starts, progress_of, NoneInDoubt, Reaches}
 use Rattle.tile_service.specs.Runs.{begin_and_steps, IsTrusted, ChangesOnly, Takes, TakesEdit, TakesAll, TakesRun}
 use Rattle.tile_service.specs.Service.{PublicationView, ServiceView, Known, Publishes, IsUp, state_of, known_after}
 use Rattle.tile_service.specs.Service.{ShowsArchive, KeepsArchive, ReadsFrom, EventLeaves, shown_archive, stored_after}
-use Rattle.tile_service.specs.Stored.{Stored, Keeps, last_of}
+use Rattle.tile_service.specs.Stored.{Stored, Holds, Keeps, last_of}
 use Rattle.tile_service.specs.declared.fault.ServiceFault.{ServiceFault}
 use Rattle.tile_service.specs.declared.fault.ServiceFault.TheVariants.{Device}
 use Rattle.tile_service.proofs.Archives.{archive_there, archive_is_shown, shown_is_seen}
@@ -28,8 +28,9 @@ use Rattle.tile_service.proofs.Fits.{RunLeaves, IsHere, doubt_breaks, run_starts
 use Rattle.tile_service.proofs.Progress.{Within, IsSince, has_start, has_last, progress_on, progress_edits, way_seen, way_after}
 use Rattle.tile_service.proofs.Shown.{keeps_on}
 use Rattle.tile_service.proofs.Whole.{steps_more}
-use Rattle.tile_service.proofs.Runs.{no_known, clash, is_false, doubt_breaks_it, IsQuiet, broken_stays, broken_halts, kept_for}
-use Rattle.tile_service.proofs.Runs.{after_step, after_edit, broken_refuses, edit_version, step_version, happens_less, runs_less, runs_on, writes_nothing}
+use Rattle.tile_service.proofs.Runs.{no_known, clash, is_false, doubt_breaks_it, IsQuiet, broken_stays, broken_halts, broken_refuses}
+use Rattle.tile_service.proofs.Runs.{broken_unchecked, after_step, after_edit, after_check, kept_for, edit_version, step_version, check_version}
+use Rattle.tile_service.proofs.Runs.{happens_less, runs_less, runs_on, writes_nothing}
 
 -- The image that is seen of a disk has the archive that the service continues from.
 pub archive_shown : {D : Type 0} (count : ℕ) (history : History) (stored : Stored) (service : ServiceView D) → IsUp count history stored service
@@ -319,6 +320,33 @@ module _ {D : Type 0} (sectors : D → ℕ) (honest : D → Type 0) (history : D
     any_moment = leaves;
     after = λ stored is_honest up not. after_step (λ (s : Stored). IsUp (sectors new.disk) (history new.disk) s new) old.size stored old.publication
         outcome (up_after stored is_honest up)
+        (kept_for (λ (s : ServiceView D). IsUp (sectors s.disk) (history s.disk) stored s) old new outcome same up) not;
+  }
+
+  -- a check of the disk, by what the call says
+  pub check_step : (old new : ServiceView D) (outcome : Result (Unit {0}) ServiceFault)
+      → ((known : Known) → AnswersCheck (state_of known old) outcome (state_of known new))
+      → new.size ≡ old.size → MayWrite sectors honest old.disk new.disk
+      → IfErr outcome (λ fault. fault ≢ Device → new ≡ old)
+      → ((stored : Stored) → honest new.disk → IsUp (sectors old.disk) (history old.disk) stored old
+      → LeavesOnly (history old.disk) (history new.disk) (Holds (sectors old.disk) old.size stored))
+      → ((stored : Stored) → honest new.disk → IsUp (sectors old.disk) (history old.disk) stored old
+      → OnOk outcome (IsUp (sectors new.disk) (history new.disk) stored new))
+      → KeepsArchive honest history old new
+      → Takes sectors honest history old (check outcome) new
+  check_step old new outcome machine size asked same leaves up_after shows = record {
+    machine = machine;
+    archive = λ archive shown honest. tt;
+    keeps_archive = λ other. shows;
+    doubt = doubt_breaks_it (Unit {0}) (state_of no_known old) (state_of no_known new) (check outcome) (machine no_known);
+    size = size;
+    version = check_version (state_of no_known old) (state_of no_known new) outcome (machine no_known);
+    asked = asked;
+    changes = tt;
+    untouched = λ broken is. broken_unchecked (state_of no_known old) (state_of no_known new) outcome (machine no_known)
+        (kept_for (λ (s : ServiceView D). s.disk ≡ old.disk) old new outcome same refl) broken;
+    any_moment = leaves;
+    after = λ stored is_honest up not. after_check (IsUp (sectors new.disk) (history new.disk) stored new) outcome (up_after stored is_honest up)
         (kept_for (λ (s : ServiceView D). IsUp (sectors s.disk) (history s.disk) stored s) old new outcome same up) not;
   }
 

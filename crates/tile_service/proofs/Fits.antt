@@ -10,7 +10,7 @@ use Rattle.sector_disk.specs.Moments.{Follows, LeavesOnly}
 use Rattle.sector_disk.proofs.History.{left_before}
 use Rattle.sector_disk.proofs.Moments.{since_now, only_now, is_later, follows_itself}
 use Rattle.edit_text.specs.Recorded.{RecordedEdit}
-use Rattle.tile_service.specs.Machine.{no_memory, Happening, Call, edit, step, look}
+use Rattle.tile_service.specs.Machine.{no_memory, Happening, Call, edit, step, check, look}
 use Rattle.tile_service.specs.Runs.{edits_by, IsDoubtful, happening_at, all_edits, published_by, IsInDoubt}
 use Rattle.tile_service.specs.Runs.{Way, way_of, Progress, starts, progress_after, progress_of}
 use Rattle.tile_service.specs.Runs.{IsStepInDoubt, fitting, Fits, ImageFits, NoneInDoubt, RunFits, Reaches}
@@ -309,6 +309,7 @@ IsStill event = (edits_by event ≡ []) × ((p : Progress) → progress_after p 
 doubt_still : (event : Happening) → IsDoubtful event → IsStill event
 doubt_still (edit call e (Err Device)) doubt = (refl, λ p. refl)
 doubt_still (step (Err Device)) doubt = (refl, λ p. refl)
+doubt_still (check (Err Device)) doubt = (refl, λ p. refl)
 doubt_still event doubt = absurd doubt
 
 -- what is stored with an event in doubt

@@ -4,6 +4,7 @@ mod AreaWrites
 mod Batches
 mod Bytes
 pub mod Callers
+mod Checks
 pub mod Contents
 mod Counted
 mod Earlier

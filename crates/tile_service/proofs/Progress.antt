@@ -6,7 +6,7 @@ use Rattle.std.proofs.lemmas.List.{take-append-le, take_all, take_at, append-nil
 use Rattle.edit_text.specs.Recorded.{RecordedEdit}
 use Rattle.feature_store.specs.Store.{FeatureMap}
 use Rattle.tile_service.specs.After.{after}
-use Rattle.tile_service.specs.Machine.{Publication, ServiceState, Happening, edit, begin, step, cancel, tile, look, look_from, metadata, read}
+use Rattle.tile_service.specs.Machine.{Publication, ServiceState, Happening, edit, begin, step, cancel, check, tile, look, look_from, metadata, read}
 use Rattle.tile_service.specs.Machine.{Happens, HasPublication, GoesOn}
 use Rattle.tile_service.specs.Publishing.{published}
 use Rattle.tile_service.specs.Runs.{edits_by, IsDoubtful, acknowledged, all_edits, Way, way_of, Progress, starts, stepped, progress_after, progress_of, fitting}
@@ -317,6 +317,10 @@ module _ (last : ℕ) (old new : ServiceState) (p : Progress) (is : way_in last 
   way_after trusted (cancel (Err Device)) goes edits not = absurd goes.1
   way_after trusted (cancel (Err Broken)) goes edits not = same_way goes.1
   way_after trusted (cancel (Err fault)) goes edits not = same_way goes.2
+  way_after trusted (check (Ok done)) goes edits not = same_way goes.1
+  way_after trusted (check (Err Device)) goes edits not = absurd (not tt)
+  way_after trusted (check (Err Broken)) goes edits not = same_way goes.1
+  way_after trusted (check (Err fault)) goes edits not = same_way goes.2
   way_after trusted (tile z x y outcome) goes edits not = same_way goes.1
   way_after trusted (look id outcome) goes edits not = same_way goes.1
   way_after trusted (look_from id outcome) goes edits not = same_way goes.1

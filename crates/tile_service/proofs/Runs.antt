@@ -7,8 +7,8 @@ use Rattle.sector_disk.specs.Disk.{History, Image, HasFailed}
 use Rattle.sector_disk.specs.Moments.{LeavesOnly}
 use Rattle.sector_disk.proofs.History.{started}
 use Rattle.edit_text.specs.Recorded.{RecordedEdit}
-use Rattle.tile_service.specs.Machine.{ServiceState, got, no_memory, Happening, Call, edit, begin, step, cancel, tile, look, look_from, metadata, read}
-use Rattle.tile_service.specs.Machine.{Refuses, AnswersEdit, AnswersStep, Happens, Runs}
+use Rattle.tile_service.specs.Machine.{ServiceState, got, no_memory, Happening, Call, edit, begin, step, cancel, check, tile, look, look_from, metadata, read}
+use Rattle.tile_service.specs.Machine.{Refuses, AnswersEdit, AnswersStep, AnswersCheck, Happens, Runs}
 use Rattle.tile_service.specs.Runs.{Progress, edits_by, IsDoubtful, progress_after}
 use Rattle.tile_service.specs.Service.{PublicationView, Known, CountsDevice, TellsDevice, EventLeaves, stored_after}
 use Rattle.tile_service.specs.Stored.{Stored, Holds, Keeps, with_edit}
@@ -24,6 +24,7 @@ no_known = record { archive = record { bytes = []; features = [] }; publishing =
 pub doubtful_or_not : (h : Happening) → IsDoubtful h ⊎ (IsDoubtful h → ⊥)
 doubtful_or_not (edit call e (Err Device)) = inl tt
 doubtful_or_not (step (Err Device)) = inl tt
+doubtful_or_not (check (Err Device)) = inl tt
 doubtful_or_not h = inr (λ is. is)
 
 abbrev is_device : ServiceFault → Bool
@@ -37,6 +38,7 @@ broken_is_no_device fault broken device = false≢true (ap is_device (sym broken
 pub doubt_breaks_it : (trusted : Type 0) (old new : ServiceState) (h : Happening) → Happens trusted old h new → IsDoubtful h → new.broken ≡ true
 doubt_breaks_it trusted old new (edit call e (Err Device)) goes doubt = ap (λ (s : ServiceState). s.broken) goes.2
 doubt_breaks_it trusted old new (step (Err Device)) goes doubt = ap (λ (s : ServiceState). s.broken) goes.2
+doubt_breaks_it trusted old new (check (Err Device)) goes doubt = ap (λ (s : ServiceState). s.broken) goes.2
 doubt_breaks_it trusted old new h goes doubt = absurd doubt
 
 -- ---- refusals
@@ -109,6 +111,12 @@ broken_stays trusted old new (step (Err fault)) goes broken = let is = refuses_b
 broken_stays trusted old new (cancel (Ok done)) goes broken = absurd (clash old.broken goes.0.unbroken broken)
 broken_stays trusted old new (cancel (Err fault)) goes broken = let is = refuses_broken _ old new fault goes broken in
     (is.1, record { edits_nothing = refl; publishes_nothing = λ p. refl; no_doubt = λ doubt. doubt })
+broken_stays trusted old new (check (Ok done)) goes broken = absurd (clash old.broken goes.0 broken)
+broken_stays trusted old new (check (Err fault)) goes broken = let is = refuses_broken _ old new fault goes broken in (
+  is.1,
+  subst (λ (f : ServiceFault). IsQuiet (check (Err f))) (sym is.0)
+      (record { edits_nothing = refl; publishes_nothing = λ p. refl; no_doubt = λ doubt. doubt }),
+)
 broken_stays trusted old new (tile z x y outcome) goes broken =
     (goes.1, record { edits_nothing = refl; publishes_nothing = λ p. refl; no_doubt = λ doubt. doubt })
 broken_stays trusted old new (look id outcome) goes broken =
@@ -132,6 +140,12 @@ pub broken_halts : {X : Type 0} (old new : ServiceState) (outcome : Result ℕ S
 broken_halts old new (Ok left) goes kept broken = absurd (clash old.broken goes.0.unbroken broken)
 broken_halts old new (Err fault) goes kept broken = kept (broken_is_no_device fault (refuses_broken _ old new fault goes broken).0)
 
+-- and a check
+pub broken_unchecked : {X : Type 0} (old new : ServiceState) (outcome : Result (Unit {0}) ServiceFault) → AnswersCheck old outcome new
+    → IfErr outcome (λ fault. fault ≢ Device → X) → old.broken ≡ true → X
+broken_unchecked old new (Ok done) goes kept broken = absurd (clash old.broken goes.0 broken)
+broken_unchecked old new (Err fault) goes kept broken = kept (broken_is_no_device fault (refuses_broken _ old new fault goes broken).0)
+
 -- ---- the version of the disk
 
 refused_version : (is_there : Type 0) (old new : ServiceState) (fault : ServiceFault) → Refuses is_there old fault new → new.version ≡ old.version
@@ -150,6 +164,11 @@ pub step_version : (old new : ServiceState) (outcome : Result ℕ ServiceFault) 
 step_version old new (Ok left) (way, inl w) = ap (λ (s : ServiceState). s.version) w.2
 step_version old new (Ok left) (way, inr w) = ap (λ (s : ServiceState). s.version) w.2
 step_version old new (Err fault) goes = refused_version _ old new fault goes
+
+-- and no check of the disk
+pub check_version : (old new : ServiceState) (outcome : Result (Unit {0}) ServiceFault) → AnswersCheck old outcome new → new.version ≡ old.version
+check_version old new (Ok done) goes = ap (λ (s : ServiceState). s.version) goes.1
+check_version old new (Err fault) goes = refused_version _ old new fault goes
 
 -- ---- calls of the disk that failed
 
@@ -199,7 +218,7 @@ runs_on trusted old between new (first ∷ hs) h run goes = (run.0, run.1, runs_
 -- ---- what is stored afterwards
 
 -- what is the same after a refusal has what it had
-pub kept_for : {A : Type 0} (P : A → Type 0) (old new : A) (outcome : Result ℕ ServiceFault) → IfErr outcome (λ fault. fault ≢ Device → new ≡ old)
+pub kept_for : {A T : Type 0} (P : A → Type 0) (old new : A) (outcome : Result T ServiceFault) → IfErr outcome (λ fault. fault ≢ Device → new ≡ old)
     → P old → IfErr outcome (λ fault. fault ≢ Device → P new)
 kept_for P old new (Ok told) same holds = tt
 kept_for P old new (Err fault) same holds = λ not. subst P (sym (same not)) holds
@@ -219,6 +238,12 @@ pub after_step : (P : Stored → Type 0) (n : ℕ) (stored : Stored) (publicatio
 after_step P n stored publication (Ok left) done kept not = done
 after_step P n stored publication (Err fault) done kept not =
     kept (λ device. not (subst (λ (f : ServiceFault). IsDoubtful (step (Err f))) (sym device) tt))
+
+-- after a check of the disk that found nothing, or was refused for another fault than the disk's
+pub after_check : (P : Type 0) (outcome : Result (Unit {0}) ServiceFault) → OnOk outcome P → IfErr outcome (λ fault. fault ≢ Device → P)
+    → (IsDoubtful (check outcome) → ⊥) → P
+after_check P (Ok done) up kept not = up
+after_check P (Err fault) up kept not = kept (λ device. not (subst (λ (f : ServiceFault). IsDoubtful (check (Err f))) (sym device) tt))
 
 leaves_stored : (sectors n : ℕ) (stored : Stored) (publication : Option PublicationView) (h : Happening) (image : Image)
     → Holds sectors n stored image → EventLeaves sectors n stored publication h image

@@ -79,6 +79,8 @@ pub data Happening : Type 0 where
   step : Result ℕ ServiceFault → Happening
   -- it is cancelled
   cancel : Result (Unit {0}) ServiceFault → Happening
+  -- the disk is asked to keep what was written
+  check : Result (Unit {0}) ServiceFault → Happening
   -- the tile of a zoom, a column and a row: its bytes, or None if it is empty
   tile : ℕ → ℕ → ℕ → OrMemory (Option (List ℕ)) → Happening
   -- the feature of an id
@@ -254,6 +256,13 @@ abbrev pub StepFault : ServiceState → ServiceFault → Type 0
 StepFault s Device = HasPublication s
 StepFault s fault = CancelFault s fault
 
+-- ---- a check of the disk
+
+-- its fault
+abbrev pub CheckFault : ServiceState → ServiceFault → Type 0
+CheckFault s Device = Unit {0}
+CheckFault s fault = ⊥
+
 -- ---- the state after each
 
 -- after an edit with this outcome
@@ -276,6 +285,11 @@ abbrev pub AnswersCancel : ServiceState → Result (Unit {0}) ServiceFault → S
 AnswersCancel old (Ok done) new = HasPublication old × (new ≡ record old { publication = None })
 AnswersCancel old (Err fault) new = Refuses (CancelFault old fault) old fault new
 
+-- after a check of the disk
+abbrev pub AnswersCheck : ServiceState → Result (Unit {0}) ServiceFault → ServiceState → Type 0
+AnswersCheck old (Ok done) new = (old.broken ≡ false) × (new ≡ old)
+AnswersCheck old (Err fault) new = Refuses (CheckFault old fault) old fault new
+
 -- the result is this, if there is one
 abbrev pub IfTold : {A : Type 0} → OrMemory A → (A → Type 0) → Type 0
 IfTold (got a) Is = Is a
@@ -288,6 +302,7 @@ Happens trusted old (edit call e outcome) new = AnswersEdit old call e outcome n
 Happens trusted old (begin outcome) new = AnswersBegin old outcome new
 Happens trusted old (step outcome) new = AnswersStep old outcome new
 Happens trusted old (cancel outcome) new = AnswersCancel old outcome new
+Happens trusted old (check outcome) new = AnswersCheck old outcome new
 Happens trusted old (tile z x y outcome) new = IfTold outcome (λ content. trusted → IsTileContent (layers old.features z x y) content) × (new ≡ old)
 Happens trusted old (look id outcome) new = IfTold outcome (λ f. f ≡ feature_at old.features id) × (new ≡ old)
 Happens trusted old (look_from id outcome) new = IfTold outcome (λ f. f ≡ feature_from old.features id) × (new ≡ old)

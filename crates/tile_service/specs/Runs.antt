@@ -13,7 +13,8 @@ use Rattle.tile_service.specs.declared.fault.ServiceFault.{ServiceFault}
 use Rattle.tile_service.specs.declared.fault.ServiceFault.TheVariants.{Device}
 use Rattle.tile_service.specs.declared.publishing.TheConstants.{STEP_SECTORS}
 use Rattle.tile_service.specs.declared.publishing_whole.Published.{Published}
-use Rattle.tile_service.specs.Machine.{no_memory, Happening, Call, edit, begin, step, cancel, tile, look, look_from, metadata, read, places_for, Happens, Runs}
+use Rattle.tile_service.specs.Machine.{no_memory, Happening, Call, edit, begin, step, cancel, check, tile, look, look_from, metadata, read}
+use Rattle.tile_service.specs.Machine.{places_for, Happens, Runs}
 use Rattle.tile_service.specs.Service.{PublicationView, ServiceView, Known, IsUp, state_of, known_after, left_of}
 use Rattle.tile_service.specs.Service.{ShowsArchive, KeepsArchive, ReadsFrom, EventLeaves, TellsDevice, stored_after}
 use Rattle.tile_service.specs.Stored.{Stored, Holds, with_edit}
@@ -34,6 +35,7 @@ acknowledged (happening ∷ happenings) = edits_by happening ++ acknowledged hap
 abbrev pub IsDoubtful : Happening → Type 0
 IsDoubtful (edit call e (Err Device)) = Unit {0}
 IsDoubtful (step (Err Device)) = Unit {0}
+IsDoubtful (check (Err Device)) = Unit {0}
 IsDoubtful happening = ⊥
 
 -- the happening with this index

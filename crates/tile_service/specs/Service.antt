@@ -3,6 +3,7 @@ use Rattle.std.specs.Prelude.{◌≡◌, ◌≢◌, ◌⊎◌, ◌<◌, ◌≤�
 use Rattle.std.specs.Prelude.{Option, Some, None, IfSome, option_map, Result, Ok, Err, MatchResult, Vec}
 use Rattle.std.proofs.Common.{Global}
 use Rattle.sector_disk.specs.Disk.{History, Image, seen, HasFailed}
+use Rattle.sector_disk.specs.Disk.History.{synced}
 use Rattle.sector_disk.specs.declared.disk.TheConstants.{SECTOR_BYTES}
 use Rattle.sector_bytes.specs.Bytes.{bytes_from}
 use Rattle.sector_bytes.specs.Source.{AreItsBytes}
@@ -292,3 +293,7 @@ CountsDevice fault old new = ((fault ≡ Device) × HasFailed old new) ⊎ ((fau
 -- The fault of a result says whether a call of the disk has failed, and success says that none has.
 abbrev pub TellsDevice : {T : Type 0} → Result T ServiceFault → (old new : ℕ) → Type 0
 TellsDevice result old new = MatchResult result (λ _. new ≡ old) (λ fault. CountsDevice fault old new)
+
+-- The call synced the disk. If it failed, that was done or not.
+abbrev pub SyncsDisk : Result (Unit {0}) ServiceFault → (old new : History) → Type 0
+SyncsDisk result old new = MatchResult result (λ _. new ≡ synced old) (λ _. (new ≡ old) ⊎ (new ≡ synced old))

@@ -2,6 +2,7 @@
 //! again with a prefix of the edits, all acknowledged ones included.
 #![tactic(auto)]
 
+mod checking;
 mod comparing;
 mod editing;
 mod event;

@@ -1,4 +1,4 @@
-use Rattle.std.proofs.Common.{refl, sym, ◌∙◌}
+use Rattle.std.proofs.Common.{sym, ◌∙◌}
 use Rattle.std.proofs.lemmas.Bool.{false≢true}
 use Rattle.tile_service.proofs.Unchanged.{same_step, same_all, first_is}
 use Rattle.tile_service.proofs.comparing.first_changed.Goals as goal
