@@ -51,13 +51,6 @@ module _ {D : Type 0} (count : ℕ) (history : History) (stored : Stored) (servi
       begins : first ≡ stored_at
       begins = is ∙ (λ i. area_start service.size (up.generation_is i) + sectors_of (up.snapshot_len_is i))
 
-  -- What is read of the sectors after the snapshot is the archive that is stored.
-  pub archive_is_read : (first at n : ℕ) (into : List ℕ) → first ≡ area_start service.size service.generation + sectors_of service.snapshot_len
-      → at + n ≤ service.archive_len → into ≡ slice_range (bytes_from (seen history) first (sectors_of (at + n))) at (at + n)
-      → into ≡ slice_range stored.archive at (at + n)
-  archive_is_read first at n into is within read =
-      read ∙ stands_read (seen history) first at n stored.archive (archive_stands first is) (omega (arith, within, up.archive_len_is))
-
   -- The service continues on a disk that keeps what is stored, with another publication of that, and whatever it caches.
   pub up_moved : (disk : D) (publication : Option PublicationView) (lookup : PublishedView) (kept : CacheView) (sectors : ℕ) (later : History)
       → Keeps sectors service.size stored later → IfSome publication (Publishes service.size stored later)

@@ -64,6 +64,7 @@ refuses_edit sectors honest history failures old new call e fault same other =
       touches = refl;
       cached = refl;
       keeps_archive = record { generation = refl; snapshot_len = refl; archive_len = refl; shows = λ archive shown is_honest. shown };
+      keeps_areas = λ generation is_honest at inside. refl;
       any_moment = λ stored is_honest up. started (history old.disk) _ (λ image may. inl (up.keeps image may));
       acknowledged = λ stored is_honest up. tt;
       refused = λ stored is_honest up not. up;

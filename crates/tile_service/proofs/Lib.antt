@@ -29,6 +29,7 @@ mod Shared
 mod Shown
 mod Steps
 mod Tellings
+pub mod Tickets
 mod Unchanged
 mod Upgraded
 mod Whole

@@ -10,8 +10,8 @@ use Rattle.generations.specs.Areas.{journal_sectors, area_sectors, area_start, s
 use Rattle.edit_journal.specs.Appends.{IsFree, ReadsAsBefore}
 use Rattle.edit_journal.specs.Ring.{Ring}
 use Rattle.published_tiles.specs.declared.place.ArchivePlace.{ArchivePlace}
-use Rattle.tile_service.specs.Publishing.{IsBeside}
-use Rattle.tile_service.specs.Service.{PublicationView, ServiceView, KeepsArchive, archive_of}
+use Rattle.tile_service.specs.Publishing.{IsInArea, IsBeside}
+use Rattle.tile_service.specs.Service.{PublicationView, ServiceView, KeepsArchive, KeepsArea, IsPlaceIn, HasArchive, archive_of}
 use Rattle.tile_service.specs.Stored.{journal_ring}
 use Rattle.tile_service.specs.Tiles.{archive_place}
 use Rattle.tile_service.specs.declared.fault.ServiceFault.{ServiceFault}
@@ -60,6 +60,42 @@ module _ (n generation snapshot_len archive_len : ℕ) (fits : sectors_of snapsh
   pub root_shown : (root : ℕ) → root < 3 → ((at : ℕ) → (at ≡ root → ⊥) → new at ≡ old at) → IsRead old → IsRead new
   root_shown root low others = area_shown (λ at from to. others at (λ is. omega (arith, from, is, low)))
 
+-- ---- the area of any generation
+
+-- An archive stays in its place where the area of its generation is read as before.
+pub place_shown : (n : ℕ) (place : ArchivePlace) → IsPlaceIn n place → (archive : List ℕ) (old new : History)
+    → ((at : ℕ) → IsInArea n place.generation at → seen new at ≡ seen old at) → HasArchive old place archive → HasArchive new place archive
+place_shown n place inside archive old new same shown = record {
+  length_is = shown.length_is;
+  stands = λ index. ⊎_elim
+      (λ (lt : index < sectors_of place.len).
+      ap (λ (sector : List ℕ). take (length (sector_piece archive index)) sector)
+      (same (place.first + index) (omega (arith, inside.from), omega (arith, lt, inside.to))) ∙ shown.stands index)
+      (λ (past : sectors_of place.len ≤ index).
+      subst (λ (piece : List ℕ). take (length piece) (seen new (place.first + index)) ≡ piece)
+      (sym (no_piece_behind archive index (subst (λ (l : ℕ). sectors_of l ≤ index) (sym shown.length_is) past))) refl)
+      (cases_lt index (sectors_of place.len));
+}
+
+module _ (n generation : ℕ) (old new : Image) where
+  -- writes into the area of the next generation leave it,
+  pub beside_area : (next : ℕ) → next ≡ suc generation → IsBeside n next old new → (at : ℕ) → IsInArea n generation at → new at ≡ old at
+  beside_area next is beside at inside = beside at (λ other. areas_apart n generation at (at - area_start n generation)
+      (subst (λ (g : ℕ). IsInArea n g at) is other) (omega (arith, inside.0, inside.1)) (omega (arith, inside.0)))
+
+  -- so does an append to the journal, done or failed,
+  pub append_area : (ring : Ring) → ring ≡ journal_ring n → (place used : ℕ) → ReadsAsBefore ring place used old new
+      → (at : ℕ) → IsInArea n generation at → new at ≡ old at
+  append_area ring ring_is place used reads at inside =
+      subst (λ (r : Ring). ReadsAsBefore r place used old new) ring_is reads at in_journal
+    where
+      in_journal : IsFree (journal_ring n) place used at → ⊥
+      in_journal free = omega (arith, inside.0, free.3, mod_below (place + free.0) (journal_sectors n) (omega (arith, free.2)))
+
+  -- and the write of a root
+  pub root_area : (root : ℕ) → root < 3 → ((at : ℕ) → (at ≡ root → ⊥) → new at ≡ old at) → (at : ℕ) → IsInArea n generation at → new at ≡ old at
+  root_area root low others at inside = others at (λ is. omega (arith, inside.0, is, low))
+
 -- ---- of a service
 
 module _ {D : Type 0} (honest : D → Type 0) (history : D → History) where
@@ -98,6 +134,18 @@ module _ {D : Type 0} (honest : D → Type 0) (history : D → History) where
     where
       same_place : archive_of new ≡ archive_of old
       same_place = λ i. archive_place (size i) (generation i) (snapshot_len i) (archive_len i)
+
+  -- the area of a generation that stays from one service to another, and to a third
+  pub area_on : (generation : ℕ) (old middle new : ServiceView D) → middle.size ≡ old.size → KeepsArea honest history generation old middle
+      → (honest new.disk → honest middle.disk) → KeepsArea honest history generation middle new → KeepsArea honest history generation old new
+  area_on generation old middle new size first stays second is_honest at inside =
+      second is_honest at (subst (λ (n : ℕ). IsInArea n generation at) (sym size) inside) ∙ first (stays is_honest) at inside
+
+  -- with it stays the archive in a place there
+  pub place_on : (place : ArchivePlace) (old new : ServiceView D) → IsPlaceIn old.size place → KeepsArea honest history place.generation old new
+      → (archive : List ℕ) → HasArchive (history old.disk) place archive → honest new.disk → HasArchive (history new.disk) place archive
+  place_on place old new inside keeps archive has is_honest =
+      place_shown old.size place inside archive (history old.disk) (history new.disk) (keeps is_honest) has
 
   -- what stays shown from one service to another, and to a third
   pub keeps_on : (old middle new : ServiceView D) → KeepsArchive honest history old middle → (honest new.disk → honest middle.disk)

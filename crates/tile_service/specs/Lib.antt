@@ -9,5 +9,6 @@ pub mod Runs
 pub mod Seen
 pub mod Service
 pub mod Stored
+pub mod Tickets
 pub mod Tiles
 pub mod Inside

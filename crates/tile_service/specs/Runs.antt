@@ -16,7 +16,7 @@ use Rattle.tile_service.specs.declared.publishing_whole.Published.{Published}
 use Rattle.tile_service.specs.Machine.{no_memory, Happening, Call, edit, begin, step, cancel, check, tile, look, look_from, metadata, read}
 use Rattle.tile_service.specs.Machine.{places_for, Happens, Runs}
 use Rattle.tile_service.specs.Service.{PublicationView, ServiceView, Known, IsUp, state_of, known_after, left_of}
-use Rattle.tile_service.specs.Service.{ShowsArchive, KeepsArchive, ReadsFrom, EventLeaves, TellsDevice, stored_after}
+use Rattle.tile_service.specs.Service.{ShowsArchive, KeepsArchive, KeepsArea, ReadsFrom, EventLeaves, TellsDevice, stored_after}
 use Rattle.tile_service.specs.Stored.{Stored, Holds, with_edit}
 
 -- ---- the edits of a run
@@ -260,6 +260,8 @@ module _ {D : Type 0} (sectors : D → ℕ) (honest : D → Type 0) (history : D
     pub cached : new.kept ≡ old.kept
     -- the archive is unchanged
     pub keeps_archive : KeepsArchive honest history old new
+    -- and so are the areas of all generations
+    pub keeps_areas : (generation : ℕ) → KeepsArea honest history generation old new
     -- a crash during the call leaves what was stored, or that with the edit
     pub any_moment : (stored : Stored) → honest new.disk → IsUp (sectors old.disk) (history old.disk) stored old
         → LeavesOnly (history old.disk) (history new.disk) (EventLeaves (sectors old.disk) old.size stored old.publication (edit call e outcome))

@@ -31,7 +31,7 @@ use Rattle.tile_service.specs.declared.fault.ServiceFault.TheVariants.{NumbersSp
 use Rattle.tile_service.specs.declared.publishing.TheConstants.{STEP_SECTORS}
 use Rattle.tile_service.specs.declared.status.Status.{Status}
 use Rattle.tile_service.specs.Machine.{ArchiveState, Publication, ServiceState, OrMemory, got, no_memory, Happening, edit, begin, step, read}
-use Rattle.tile_service.specs.Publishing.{map_at, published, IsUnderWay}
+use Rattle.tile_service.specs.Publishing.{map_at, published, IsInArea, IsUnderWay}
 use Rattle.tile_service.specs.Stored.{Stored, Holds, Keeps, map_of, last_of, stored_records, with_edit, journal_ring}
 use Rattle.tile_service.specs.Tiles.{WereMaps, archive_place}
 
@@ -222,6 +222,20 @@ pub record KeepsArchive {D : Type 0} (honest : D → Type 0) (history : D → Hi
   pub snapshot_len : new.snapshot_len ≡ old.snapshot_len
   pub archive_len : new.archive_len ≡ old.archive_len
   pub shows : (archive : List ℕ) → ShowsArchive (history old.disk) old archive → honest new.disk → ShowsArchive (history new.disk) new archive
+
+-- The area of a generation is unchanged: an honest disk still gives what it gave of each of its sectors.
+abbrev pub KeepsArea : {D : Type 0} (honest : D → Type 0) (history : D → History) (generation : ℕ) → (old new : ServiceView D) → Type 0
+KeepsArea honest history generation old new =
+    honest new.disk → (at : ℕ) → IsInArea old.size generation at → seen (history new.disk) at ≡ seen (history old.disk) at
+
+-- The place of an archive is in the area of its generation.
+pub record IsPlaceIn (n : ℕ) (place : ArchivePlace) : Type 0 where
+  pub from : area_start n place.generation ≤ place.first
+  pub to : place.first + sectors_of place.len ≤ area_start n place.generation + area_sectors n
+
+-- The archive that a history has in a place.
+abbrev pub HasArchive : History → ArchivePlace → List ℕ → Type 0
+HasArchive history place archive = AreItsBytes place.first place.len archive (seen history)
 
 -- bytes that were read are those of this archive
 abbrev pub ReadsFrom : List ℕ → Happening → Type 0

@@ -1,7 +1,7 @@
 //! The last published archive.
 ghost use Rattle.std.specs.Prelude.{◌≡◌, ◌≤◌, ◌+◌, ℕ, List, length, slice_range, IfErr, OnOk};
 ghost use Rattle.sector_disk.specs.Asked.{OnlyReads};
-ghost use Rattle.tile_service.specs.Service.{IsUp, ShowsArchive, TellsDevice, archive_of};
+ghost use Rattle.tile_service.specs.Service.{IsUp, ShowsArchive, TellsDevice, HasArchive, IsPlaceIn, archive_of};
 ghost use Rattle.tile_service.specs.Stored.{Stored};
 ghost use Rattle.tile_service.specs.declared.fault.ServiceFault.TheVariants.{Device};
 
@@ -20,13 +20,45 @@ impl<D: Sectors + Drop> Service<D> {
     }
 
     /// Where the published archive is.
-    pub(crate) fn archive(&self) -> ArchivePlace
-        ensures { result ≡ archive_of self.now }
+    pub fn archive(&self) -> ArchivePlace
+        ensures is { result ≡ archive_of self.now }
+        ensures place { IsPlaceIn self.now.size result }
     {
         ArchivePlace {
             generation: self.root.generation,
             first: self.layout.archive_start(self.root),
             len: self.root.archive_len,
+        }
+    }
+
+    /// Reads bytes of the archive in a place from an offset, to fill `into`. The place is one that `archive` returned, now or before: the
+    /// archive before the published one can be read until the next step of a publication. It allocates nothing and writes nothing. After
+    /// an error the content of `into` is undefined, and the service continues as before.
+    ///
+    /// # Errors
+    ///
+    /// `Device`.
+    pub fn archive_read_at(
+        &mut self,
+        place: ArchivePlace,
+        at: u64,
+        into: &mut [u8],
+    ) -> Result<(), ServiceFault>
+        requires place { IsPlaceIn self.old.size place }
+        requires within { at + length into.old ≤ place.len }
+        ensures same { self.new ≡ record self.old { disk = self.new.disk } }
+        ensures disk { OnlyReads D.sectors D.honest D.history self.old.disk self.new.disk }
+        ensures failed { TellsDevice result (D.faults self.old.disk) (D.faults self.new.disk) }
+        ensures fault { IfErr result (λ fault. fault ≡ Device) }
+        ensures length { length into.new ≡ length into.old }
+        ensures shown { (archive : List ℕ) → HasArchive (D.history self.old.disk) place archive → D.honest self.new.disk
+            → OnOk result (into.new ≡ slice_range archive at (at + length into.old)) }
+        ensures up { (stored : Stored) → IsUp (D.sectors self.old.disk) (D.history self.old.disk) stored self.old → D.honest self.new.disk
+            → IsUp (D.sectors self.new.disk) (D.history self.new.disk) stored self.new }
+    {
+        match read_bytes(&mut self.disk, place.first, at, into) {
+            Ok(()) => Ok(()),
+            Err(DiskFault) => Err(ServiceFault::Device),
         }
     }
 
@@ -51,10 +83,7 @@ impl<D: Sectors + Drop> Service<D> {
         ensures up { (stored : Stored) → IsUp (D.sectors self.old.disk) (D.history self.old.disk) stored self.old → D.honest self.new.disk
             → IsUp (D.sectors self.new.disk) (D.history self.new.disk) stored self.new }
     {
-        let first = self.archive().first;
-        match read_bytes(&mut self.disk, first, at, into) {
-            Ok(()) => Ok(()),
-            Err(DiskFault) => Err(ServiceFault::Device),
-        }
+        let place = self.archive();
+        self.archive_read_at(place, at, into)
     }
 }

@@ -2,7 +2,7 @@
 ghost use Rattle.std.specs.Prelude.{◌≡◌, ◌≢◌, ◌⊎◌, IfErr, OnOk, OnErr, None};
 ghost use Rattle.sector_disk.specs.Asked.{MayWrite};
 ghost use Rattle.tile_service.specs.Runs.{TakesPublication};
-ghost use Rattle.tile_service.specs.Service.{KeepsArchive, TellsDevice};
+ghost use Rattle.tile_service.specs.Service.{KeepsArchive, KeepsArea, TellsDevice};
 ghost use Rattle.tile_service.specs.declared.fault.ServiceFault.TheVariants.{Broken, Busy, Device};
 
 use crate::fault::ServiceFault;
@@ -58,6 +58,8 @@ impl<D: Sectors + Drop> Service<D> {
         ensures refused { IfErr result (λ fault. fault ≢ Device → self.new ≡ self.old) }
         // On failure the archive that it serves is unchanged, after `Device` too.
         ensures archive { OnErr result (KeepsArchive D.honest D.history self.old self.new) }
+        // Whatever it returns, the area of the generation from before it is unchanged.
+        ensures area { KeepsArea D.honest D.history self.old.generation self.old self.new }
         ensures given_up { IfErr result (λ fault. (fault ≡ Broken) ⊎ (fault ≡ Busy) ⊎ (self.new.publication ≡ None)) }
     {
         let edits = self.journal.last;

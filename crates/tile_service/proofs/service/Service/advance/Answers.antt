@@ -3,7 +3,7 @@ use Rattle.area_content.specs.Content.{sectors_taken}
 use Rattle.tile_service.specs.Inside.{publication_view, service_view}
 use Rattle.tile_service.specs.Service.{ServiceView, PublicationView, IsUp, with_publication}
 use Rattle.tile_service.specs.declared.fault.ServiceFault.TheVariants.{Device}
-use Rattle.tile_service.proofs.Shown.{beside_keeps, install_keeps}
+use Rattle.tile_service.proofs.Shown.{beside_keeps, install_keeps, beside_area}
 use Rattle.tile_service.proofs.PublishSteps.{up_further, step_leaves, last_step_leaves, up_after_step, up_after_last, step_told, last_step_told}
 use Rattle.tile_service.proofs.service.Service.advance.Goals as goal
 
@@ -94,3 +94,17 @@ pub returns-clause-archive : goal.returns-clause-archive
 returns-clause-archive g c other =
     beside_keeps g.D.Sectors.honest g.D.Sectors.history _ _ (sym c.self.view_is) c.write_sectors.new.disk _ c.self.inside.broken
     (c.self.inside.root.generation + 1) c.self.invariant.area (omega arith) c.write_sectors.ensures.beside
+
+pub returns-in-Err-clause-area : goal.returns-in-Err-clause-area
+returns-in-Err-clause-area g c = rw (← c.self.view_is) (λ honest. beside_area c.self.inside.layout.sectors c.self.inside.root.generation _ _
+    (c.self.inside.root.generation + 1) (omega arith) (c.write_sectors.ensures.beside honest))
+
+pub returns-clause-area : goal.returns-clause-area
+returns-clause-area g c = rw (← c.self.view_is) (λ honest. beside_area c.self.inside.layout.sectors c.self.inside.root.generation _ _
+    (c.self.inside.root.generation + 1) (omega arith) (c.write_sectors.ensures.beside honest))
+
+pub returns-then-left-le-STEP_SECTORS-clause-area : goal.returns-then-left-le-STEP_SECTORS-clause-area
+returns-then-left-le-STEP_SECTORS-clause-area g c = rw (← c.self.view_is) (λ honest at inside.
+    c.install_now.ensures.area c.self.inside.root.generation honest at inside
+    ∙ beside_area c.self.inside.layout.sectors c.self.inside.root.generation _ _
+    (c.self.inside.root.generation + 1) (omega arith) (c.write_sectors.ensures.beside (c.install_now.ensures.disk.was_honest honest)) at inside)

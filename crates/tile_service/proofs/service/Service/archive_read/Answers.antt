@@ -1,37 +1,10 @@
-use Rattle.std.proofs.Common.{◌≡◌, ◌+◌, length, slice_range, OnOk, sym, ap, ◌∙◌, subst, arith}
+use Rattle.std.proofs.Common.{sym, subst}
 use Rattle.published_tiles.specs.declared.place.ArchivePlace.{ArchivePlace}
-use Rattle.tile_service.specs.Service.{archive_of}
-use Rattle.tile_service.proofs.Archives.{shown_is_read, archive_is_read, up_unwritten}
+use Rattle.tile_service.specs.Service.{HasArchive}
+use Rattle.tile_service.proofs.Archives.{archive_there}
 use Rattle.tile_service.proofs.service.Service.archive_read.Goals as goal
-use Rattle.tile_service.proofs.service.Service.archive_read.Goals.{in-Ok, in-Err}
-
-pub returns-clause-shown : goal.returns-clause-shown
-returns-clause-shown g c = rw (← c.self.view_is) (λ archive shows honest.
-    let is = shown_is_read (g.D.Sectors.history c.self.inside.disk) _ _ archive shows
-    _ c.args.at (length c.args.into.now) c.read_bytes.new.into
-    (ap (λ (p : ArchivePlace). p.first) (c.archive-first.ensures ∙ ap (λ s. archive_of s) (sym c.self.view_is)))
-    (omega (arith, c.requires.within, ap (λ s. s.archive_len) c.self.view_is)) in
-    elim c.match-read_bytes.branch [
-      | in-Ok w ↦ subst (λ result. OnOk result (c.read_bytes.new.into ≡ slice_range archive c.args.at (c.args.at + length c.args.into.now)))
-          (sym w.result-is) (is (w.in-Ok.ensures.read honest))
-      | in-Err w ↦ subst (λ result. OnOk result (c.read_bytes.new.into ≡ slice_range archive c.args.at (c.args.at + length c.args.into.now)))
-          (sym w.result-is) tt
-    ])
 
 pub returns-clause-read : goal.returns-clause-read
-returns-clause-read g c = rw (← c.self.view_is) (λ stored up honest.
-    let is = archive_is_read (g.D.Sectors.sectors c.self.inside.disk) (g.D.Sectors.history c.self.inside.disk) stored _ up
-    _ c.args.at (length c.args.into.now) c.read_bytes.new.into
-    (ap (λ (p : ArchivePlace). p.first) (c.archive-first.ensures ∙ ap (λ s. archive_of s) (sym c.self.view_is)))
-    (omega (arith, c.requires.within, ap (λ s. s.archive_len) c.self.view_is)) in
-    elim c.match-read_bytes.branch [
-      | in-Ok w ↦ subst (λ result. OnOk result (c.read_bytes.new.into ≡ slice_range stored.archive c.args.at (c.args.at + length c.args.into.now)))
-          (sym w.result-is) (is (w.in-Ok.ensures.read honest))
-      | in-Err w ↦ subst (λ result. OnOk result (c.read_bytes.new.into ≡ slice_range stored.archive c.args.at (c.args.at + length c.args.into.now)))
-          (sym w.result-is) tt
-    ])
-
-pub returns-clause-up : goal.returns-clause-up
-returns-clause-up g c = rw (← c.self.view_is) (λ stored up honest.
-    up_unwritten (g.D.Sectors.sectors c.self.inside.disk) (g.D.Sectors.history c.self.inside.disk) stored _ up
-    c.read_bytes.new.disk _ _ c.read_bytes.ensures.disk.same_count (c.read_bytes.ensures.disk.same_history honest))
+returns-clause-read g c stored up = c.archive_read_at.ensures.shown stored.archive
+    (subst (λ (p : ArchivePlace). HasArchive (g.D.Sectors.history c.args.self.now.disk) p stored.archive) (sym c.archive-place.ensures.is)
+    (archive_there (g.D.Sectors.sectors c.args.self.now.disk) (g.D.Sectors.history c.args.self.now.disk) stored c.args.self.now up))

@@ -12,7 +12,7 @@ use Rattle.tile_service.proofs.service.Service.archived_tile.Goals as goal
 
 pub returns-clause-tile : goal.returns-clause-tile
 returns-clause-tile g c = rw (← c.self.view_is) (λ stored up honest.
-    let place = c.archive-archive.ensures ∙ ap (λ s. archive_of s) (sym c.self.view_is) in
+    let place = c.archive-archive.ensures.is ∙ ap (λ s. archive_of s) (sym c.self.view_is) in
     let there = archive_there (g.D.Sectors.sectors c.self.inside.disk) (g.D.Sectors.history c.self.inside.disk) stored _ up in
     let is_map = archive_of_map (g.D.Sectors.sectors c.self.inside.disk) (g.D.Sectors.history c.self.inside.disk) stored _ up in
     shared_outcome (IsTileContent (layers stored.snapshot_map c.args.at.z c.args.at.x c.args.at.y)) c.tile.result c.share.result c.share.ensures
@@ -24,7 +24,7 @@ returns-clause-tile g c = rw (← c.self.view_is) (λ stored up honest.
 
 pub returns-clause-up : goal.returns-clause-up
 returns-clause-up g c = rw (← c.self.view_is) (λ stored up honest.
-    let place = c.archive-archive.ensures ∙ ap (λ s. archive_of s) (sym c.self.view_is) in
+    let place = c.archive-archive.ensures.is ∙ ap (λ s. archive_of s) (sym c.self.view_is) in
     let there = archive_there (g.D.Sectors.sectors c.self.inside.disk) (g.D.Sectors.history c.self.inside.disk) stored _ up in
     up_read (g.D.Sectors.sectors c.self.inside.disk) (g.D.Sectors.history c.self.inside.disk) stored _ up c.tile.new.disk c.tile.new.self
     c.self.inside.map.kept _ _ c.tile.ensures.disk.same_count (c.tile.ensures.disk.same_history honest)

@@ -12,7 +12,7 @@ use Rattle.tile_service.specs.declared.fault.ServiceFault.TheVariants.{Broken, N
 use Rattle.tile_service.proofs.Earlier.{since_on, now_on, right_on}
 use Rattle.tile_service.proofs.Edits.{up_is_at, refuses_edit, append_any_moment, refused_any_moment, up_with_edit}
 use Rattle.tile_service.proofs.Going.{service_on}
-use Rattle.tile_service.proofs.Shown.{append_keeps}
+use Rattle.tile_service.proofs.Shown.{append_keeps, append_area}
 use Rattle.tile_service.proofs.Steps.{delete_recorded, text_length, short_after_edit}
 use Rattle.tile_service.proofs.service.Service.delete.Goals as goal
 
@@ -65,6 +65,8 @@ returns-in-Ok-clause-takes g c = rw (← c.self.view_is) (record {
   keeps_archive = append_keeps g.D.Sectors.honest g.D.Sectors.history _ _ refl refl refl refl c.self.invariant.area
       (ring_of c.self.inside.journal) c.self.invariant.ring c.self.inside.journal.place c.self.inside.journal.used c.append.new.disk refl
       c.append.ensures.reads;
+  keeps_areas = λ generation honest. append_area c.self.inside.layout.sectors generation _ _ (ring_of c.self.inside.journal) c.self.invariant.ring
+      c.self.inside.journal.place c.self.inside.journal.used (c.append.ensures.reads honest);
   any_moment = (λ stored honest up.
       let version = c.self.inside.version in
       let fits : NumberFits c.args.id = search rules in
@@ -106,6 +108,8 @@ returns-in-Err-clause-takes g c = rw (← c.self.view_is) (record {
       c.self.invariant.area
       (ring_of c.self.inside.journal) c.self.invariant.ring c.self.inside.journal.place c.self.inside.journal.used c.append.new.disk
       (ap (λ s. s.disk) c.fail.ensures.same) c.append.ensures.reads;
+  keeps_areas = rw (ap (λ s. s.disk) c.fail.ensures.same) (λ generation honest. append_area c.self.inside.layout.sectors generation _ _
+      (ring_of c.self.inside.journal) c.self.invariant.ring c.self.inside.journal.place c.self.inside.journal.used (c.append.ensures.reads honest));
   any_moment = rw (ap (λ s. s.disk) c.fail.ensures.same) (λ stored honest up.
       let version = c.self.inside.version in
       let fits : NumberFits c.args.id = search rules in

@@ -1,9 +1,10 @@
-use Rattle.std.proofs.Common.{◌+◌, length, refl, sym, ◌∙◌, ap, subst}
+use Rattle.std.proofs.Common.{◌+◌, ◌%◌, length, refl, sym, ◌∙◌, ap, subst, arith}
 use Rattle.edit_journal.specs.Releases.{IsBehind}
 use Rattle.edit_journal.specs.declared.journal.Journal.{Journal}
 use Rattle.generations.specs.declared.root.Root.{Root}
 use Rattle.tile_service.specs.Inside.{service_view}
 use Rattle.tile_service.specs.Service.{ServiceView, PublicationView}
+use Rattle.tile_service.proofs.Shown.{root_area}
 use Rattle.tile_service.proofs.PublishSteps.{next_root_is, installing_leaves, up_installed}
 use Rattle.tile_service.proofs.service.Service.install_now.Goals as goal
 
@@ -60,3 +61,11 @@ returns-clause-any_moment g c = rw (← c.self.view_is) (λ stored honest up.
     (ap (λ p. p.start.place) c.publication.view_is) (c.snapshot_len.ensures ∙ ap (λ p. length p.content.snapshot) c.publication.view_is)
     (c.archive_len.ensures ∙ ap (λ p. length p.content.archive) c.publication.view_is) in
     installing_leaves _ _ stored service c.args.publication up c.requires.written root is _ (c.install.ensures.any_moment honest))
+
+pub returns-in-Ok-clause-area : goal.returns-in-Ok-clause-area
+returns-in-Ok-clause-area g c = rw (← c.self.view_is) (λ generation honest. root_area c.self.inside.layout.sectors generation _ _
+    (1 + (c.self.inside.root.generation + 1) % 2) (omega arith) (c.install.ensures.others honest))
+
+pub returns-clause-area : goal.returns-clause-area
+returns-clause-area g c = rw (← c.self.view_is) (λ generation honest. root_area c.self.inside.layout.sectors generation _ _
+    (1 + (c.self.inside.root.generation + 1) % 2) (omega arith) (c.install.ensures.others honest))

@@ -1,12 +1,13 @@
 use Rattle.std.proofs.Common.{◌≡◌, inr, ℕ, [], ◌∷◌, ◌++◌, Result, Ok, Err, refl, ◌∙◌, ap, subst, arith}
+use Rattle.sector_disk.specs.Disk.{seen}
 use Rattle.tile_service.specs.Machine.{begin, step}
 use Rattle.std.proofs.lemmas.List.Elements.{All-nil}
 use Rattle.tile_service.specs.Runs.{begin_and_steps, IsUnfinished, Takes}
 use Rattle.tile_service.specs.declared.fault.ServiceFault.{ServiceFault}
-use Rattle.tile_service.specs.Service.{state_of, known_after}
+use Rattle.tile_service.specs.Service.{state_of, known_after, KeepsArea}
 use Rattle.tile_service.proofs.Callers.{begin_step, step_step, run_begins, run_on, one_step_more, takes_run}
 use Rattle.tile_service.proofs.Runs.{no_known}
-use Rattle.tile_service.proofs.Shown.{keeps_on}
+use Rattle.tile_service.proofs.Shown.{keeps_on, area_on}
 use Rattle.tile_service.proofs.Whole.{Stands, begun_stands, on_stands, falls, only_device, device_gives_up, begin_counts, none_seen, begin_given_up}
 use Rattle.tile_service.proofs.Whole.{begin_no_step, left_not_done, refused_not_done, one_more_unfinished}
 use Rattle.tile_service.proofs.service.Service.publish.Goals as goal
@@ -27,6 +28,8 @@ loop-rest-init g c =
       edits = ap (λ s. s.journal.last) c.self.view_is;
       faults = ap (λ s. g.D.Sectors.faults s.disk) call.same;
       archive = λ some. goes.keeps_archive (begin_no_step _ _);
+      size = ap (λ s. s.size) call.same;
+      area = λ honest at inside. ap (λ s. seen (g.D.Sectors.history s.disk) at) call.same;
       run = ([], run, (new, goes, refl), All-nil IsUnfinished);
     })
 
@@ -56,6 +59,10 @@ loop-rest-preserved g c =
       archive = λ some. keeps_on g.D.Sectors.honest g.D.Sectors.history c.args.self.now old new
           (inv.archive (λ none. omega (arith, c.loop-rest-test.true, none))) call.disk.was_honest
           (call.archive (left_not_done c.in-Ok-publish_step.told some));
+      size = call.size ∙ inv.size;
+      area = area_on g.D.Sectors.honest g.D.Sectors.history c.args.self.now.generation c.args.self.now old new inv.size inv.area call.disk.was_honest
+          (subst (λ (n : ℕ). KeepsArea g.D.Sectors.honest g.D.Sectors.history n old new)
+          (inv.archive (λ none. omega (arith, c.loop-rest-test.true, none))).generation call.area);
       run = (inv.run.0 ++ Ok rest ∷ [], more.0, more.1, one_more_unfinished inv.run.0 rest inv.run.3 (omega (arith, c.loop-rest-test.true)));
     }
 
@@ -98,6 +105,22 @@ returns-in-Err-clause-archive g c =
     let goes = begin_step g.D.Sectors.sectors g.D.Sectors.honest g.D.Sectors.history c.args.self.now c.publish_begin.new.self (Err c.in-Err.refusal)
     call.machine call.same call.up in
     goes.keeps_archive (begin_no_step _ _)
+
+pub returns-in-Err-clause-area : goal.returns-in-Err-clause-area
+returns-in-Err-clause-area g c honest at inside = ap (λ s. seen (g.D.Sectors.history s.disk) at) c.in-Err.ensures.same
+
+pub returns-in-Err-publish_step-clause-area : goal.returns-in-Err-publish_step-clause-area
+returns-in-Err-publish_step-clause-area g c =
+    let inv = c.loop-rest.invariant in
+    let old = c.loop-rest.self in
+    let new = c.publish_step.new.self in
+    area_on g.D.Sectors.honest g.D.Sectors.history c.args.self.now.generation c.args.self.now old new inv.size inv.area
+    c.in-Err-publish_step.ensures.disk.was_honest
+    (subst (λ (n : ℕ). KeepsArea g.D.Sectors.honest g.D.Sectors.history n old new)
+    (inv.archive (λ none. omega (arith, c.loop-rest-test.true, none))).generation c.in-Err-publish_step.ensures.area)
+
+pub returns-clause-area : goal.returns-clause-area
+returns-clause-area g c = c.loop-rest.invariant.area
 
 pub returns-in-Err-publish_step-clause-run : goal.returns-in-Err-publish_step-clause-run
 returns-in-Err-publish_step-clause-run g c =

@@ -2,7 +2,7 @@ use Rattle.std.proofs.Common.{◌≡◌, ℕ, List, [], ◌∷◌, ◌++◌, Res
 use Rattle.std.specs.Prelude.{All}
 use Rattle.tile_service.specs.Runs.{begin_and_steps, IsUnfinished, TakesAll}
 use Rattle.tile_service.specs.declared.fault.ServiceFault.{ServiceFault}
-use Rattle.tile_service.specs.Service.{Known, state_of, KeepsArchive}
+use Rattle.tile_service.specs.Service.{Known, state_of, KeepsArchive, KeepsArea}
 use Rattle.tile_service.proofs.Callers.{HasRun}
 use Rattle.tile_service.proofs.Whole.{Stands}
 use Rattle.tile_service.proofs.service.Service.publish.Given as goal
@@ -13,6 +13,8 @@ invariant-loop-rest g l = record {
   edits : l.edits ≡ l.fn.self.journal.last;
   faults : g.D.Sectors.faults l.self.disk ≡ g.D.Sectors.faults l.fn.self.disk;
   archive : (l.rest ≡ 0 → ⊥) → KeepsArchive g.D.Sectors.honest g.D.Sectors.history l.fn.self l.self;
+  size : l.self.size ≡ l.fn.self.size;
+  area : KeepsArea g.D.Sectors.honest g.D.Sectors.history l.fn.self.generation l.fn.self l.self;
   run : (before : List (Result ℕ ServiceFault)) × HasRun g.D.Sectors.sectors g.D.Sectors.honest g.D.Sectors.history l.fn.self
       (begin_and_steps (before ++ Ok l.rest ∷ [])) l.self
       × TakesAll g.D.Sectors.sectors g.D.Sectors.honest g.D.Sectors.history l.fn.self (begin_and_steps (before ++ Ok l.rest ∷ [])) l.self

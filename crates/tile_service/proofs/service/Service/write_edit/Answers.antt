@@ -13,7 +13,7 @@ use Rattle.tile_service.specs.declared.fault.ServiceFault.TheVariants.{Memory}
 use Rattle.tile_service.proofs.Earlier.{since_on, now_on, right_on}
 use Rattle.tile_service.proofs.Edits.{up_is_at, refuses_edit, append_any_moment, refused_any_moment, up_with_edit}
 use Rattle.tile_service.proofs.Going.{service_on}
-use Rattle.tile_service.proofs.Shown.{append_keeps}
+use Rattle.tile_service.proofs.Shown.{append_keeps, append_area}
 use Rattle.tile_service.proofs.Steps.{text_length, short_after_edit, short_enough}
 use Rattle.tile_service.proofs.service.Service.write_edit.Goals as goal
 
@@ -70,6 +70,8 @@ returns-in-Ok-append-clause-takes g c = rw (← c.self.view_is) (λ call. record
   keeps_archive = append_keeps g.D.Sectors.honest g.D.Sectors.history _ _ refl refl refl refl c.self.invariant.area
       (ring_of c.self.inside.journal) c.self.invariant.ring c.self.inside.journal.place c.self.inside.journal.used c.append.new.disk refl
       c.append.ensures.reads;
+  keeps_areas = λ generation honest. append_area c.self.inside.layout.sectors generation _ _ (ring_of c.self.inside.journal) c.self.invariant.ring
+      c.self.inside.journal.place c.self.inside.journal.used (c.append.ensures.reads honest);
   any_moment = (λ stored honest up.
       let version = c.self.inside.version in
       let recorded : IsRecorded (recorded_in version (edit_data c.args.requested)) =
@@ -114,6 +116,8 @@ returns-in-Err-append-clause-takes g c = rw (← c.self.view_is) (λ call. recor
       c.self.invariant.area
       (ring_of c.self.inside.journal) c.self.invariant.ring c.self.inside.journal.place c.self.inside.journal.used c.append.new.disk
       (ap (λ s. s.disk) c.fail.ensures.same) c.append.ensures.reads;
+  keeps_areas = rw (ap (λ s. s.disk) c.fail.ensures.same) (λ generation honest. append_area c.self.inside.layout.sectors generation _ _
+      (ring_of c.self.inside.journal) c.self.invariant.ring c.self.inside.journal.place c.self.inside.journal.used (c.append.ensures.reads honest));
   any_moment = rw (ap (λ s. s.disk) c.fail.ensures.same) (λ stored honest up.
       let version = c.self.inside.version in
       let recorded : IsRecorded (recorded_in version (edit_data c.args.requested)) =
