@@ -7,6 +7,7 @@ It reads the tables' cells. `crate::Type::function` (`clause`, ..) is a function
 of `crate` a lemma in its proofs/, `.._tests` (`name`, ..) tests of that crate, `.._runs` (lines `word`, ..) lines of its script that begin
 with the word. It prints what it doesn't find, and ends with 1 then.
 """
+import functools
 import re
 import sys
 from pathlib import Path
@@ -24,6 +25,7 @@ def fields_of(crate, record):
     return [field for body in bodies for field in re.findall(r"^ +pub (\w+) :", body, re.M)]
 
 
+@functools.cache
 def functions_of(crate):
     """The names of a crate's functions, each with the clauses of all functions of that name. A clause that is a record counts as its fields too."""
     found = {}
@@ -42,18 +44,21 @@ def functions_of(crate):
     return found
 
 
+@functools.cache
 def lemmas_of(crate):
     """The names of a crate's public lemmas."""
     texts = [proof.read_text() for proof in (CRATES / crate / "proofs").rglob("*.antt")]
     return {name for text in texts for name in re.findall(r"^ *pub ([\w-]+) :", text, re.M)}
 
 
+@functools.cache
 def tests_of(crate):
     """The names of a crate's tests."""
     texts = [source.read_text() for source in (CRATES / crate / "src").rglob("*.rt")]
     return {name for text in texts for name in re.findall(r"#\[test\]\s*(?:#\[[^\n]*\]\s*)*(?:pub )?fn (\w+)", text)}
 
 
+@functools.cache
 def words_of(crate):
     """The words with which lines of a script begin, each call of a line that has several."""
     lines = (CRATES / crate / "stdin").read_text().splitlines()
