@@ -1,0 +1,4 @@
+mod Growing
+mod Opened
+mod Outside
+mod Steps

@@ -1,0 +1,91 @@
+//! Sectors of one disk, copied to another.
+ghost use Rattle.std.specs.Prelude.{◌≡◌, ◌≤◌, ◌<◌, ◌+◌, OnOk, IfErr};
+ghost use Rattle.disk_copy.specs.Copies.{Copies, IsIn, IsUsed, ring_in};
+ghost use Rattle.disk_copy.specs.Faults.{TellsCopy, IsOutside};
+ghost use Rattle.sector_disk.specs.Asked.{MayWrite, OnlyReads};
+ghost use Rattle.sector_disk.specs.Disk.{seen};
+ghost use Rattle.sector_disk.specs.Disk.History.{wrote};
+
+use crate::fault::CopyFault;
+use generations::{JOURNAL_START, Layout, StoreFault};
+use sector_disk::{DiskFault, SECTOR_BYTES, Sectors};
+
+/// Copies a sector to the same place of the other disk.
+pub(crate) fn copy_sector<D: Sectors, E: Sectors>(
+    disk: &mut D,
+    at: u64,
+    into: &mut E,
+) -> Result<(), CopyFault>
+    requires on_disk { at < D.sectors disk.old }
+    requires fits { at < E.sectors into.old }
+    ensures disk { OnlyReads D.sectors D.honest D.history disk.old disk.new }
+    ensures into { MayWrite E.sectors E.honest into.old into.new }
+    ensures failed { TellsCopy result (D.faults disk.old) (D.faults disk.new) (E.faults into.old) (E.faults into.new) }
+    ensures outside { IfErr result IsOutside }
+    ensures copied { D.honest disk.new → E.honest into.new
+        → OnOk result (E.history into.new ≡ wrote at (seen (D.history disk.old) at) (E.history into.old)) }
+{
+    let mut sector = [0; SECTOR_BYTES];
+    match disk.read(at, &mut sector) {
+        Ok(()) => {}
+        Err(DiskFault) => return Err(CopyFault::Store(StoreFault::Device)),
+    }
+    match into.write(at, &sector) {
+        Ok(()) => Ok(()),
+        Err(DiskFault) => Err(CopyFault::Write),
+    }
+}
+
+/// Copies `count` sectors from sector `first` on.
+pub(crate) fn copy_sectors<D: Sectors, E: Sectors>(
+    disk: &mut D,
+    first: u64,
+    count: u64,
+    into: &mut E,
+) -> Result<(), CopyFault>
+    requires on_disk { first + count ≤ D.sectors disk.old }
+    requires fits { first + count ≤ E.sectors into.old }
+    ensures disk { OnlyReads D.sectors D.honest D.history disk.old disk.new }
+    ensures into { MayWrite E.sectors E.honest into.old into.new }
+    ensures failed { TellsCopy result (D.faults disk.old) (D.faults disk.new) (E.faults into.old) (E.faults into.new) }
+    ensures outside { IfErr result IsOutside }
+    ensures copied { D.honest disk.new → E.honest into.new → OnOk result
+        (Copies (IsIn first count) (seen (D.history disk.old)) (seen (E.history into.old)) (seen (E.history into.new))) }
+{
+    let _sectors = disk.count();
+    let mut done = 0;
+    while done < count {
+        copy_sector(disk, first + done, into)?;
+        done += 1;
+    }
+    Ok(())
+}
+
+/// Copies the sectors of `used` places of the journal, from a place on.
+pub(crate) fn copy_places<D: Sectors, E: Sectors>(
+    disk: &mut D,
+    layout: Layout,
+    place: u64,
+    used: u64,
+    into: &mut E,
+) -> Result<(), CopyFault>
+    requires place { place < layout.journal }
+    requires used { used ≤ layout.journal }
+    requires on_disk { layout.sectors ≤ D.sectors disk.old }
+    requires fits { layout.sectors ≤ E.sectors into.old }
+    ensures disk { OnlyReads D.sectors D.honest D.history disk.old disk.new }
+    ensures into { MayWrite E.sectors E.honest into.old into.new }
+    ensures failed { TellsCopy result (D.faults disk.old) (D.faults disk.new) (E.faults into.old) (E.faults into.new) }
+    ensures outside { IfErr result IsOutside }
+    ensures copied { D.honest disk.new → E.honest into.new → OnOk result
+        (Copies (IsUsed (ring_in layout.sectors) place used)
+        (seen (D.history disk.old)) (seen (E.history into.old)) (seen (E.history into.new))) }
+{
+    let mut done = 0;
+    while done < used {
+        let at = JOURNAL_START + (place + done) % layout.journal;
+        copy_sector(disk, at, into)?;
+        done += 1;
+    }
+    Ok(())
+}
