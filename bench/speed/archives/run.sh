@@ -7,7 +7,7 @@ here="$(cd "$(dirname "$0")" && pwd)"
 work="$(mktemp -d)"
 trap 'rm -rf "$work"' EXIT
 mkdir -p "$work/archives"
-python3 "$here/../../tools/scratch.py" "$work" archive_bench pm_archive pm_build anyhow
+python3 "$here/../../tools/scratch.py" "$work" archive_bench pm_archive pm_metadata pm_verify pm_build anyhow
 cp "$here/main.rt.txt" "$work/crates/archive_bench/src/main.rt"
 g++ -O2 -std=c++17 -o "$work/peer" "$here/peer.cpp"
 cd "$work/crates/archive_bench"

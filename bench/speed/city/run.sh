@@ -7,7 +7,7 @@ here="$(cd "$(dirname "$0")" && pwd)"
 work="$(mktemp -d)"
 trap 'rm -rf "$work"' EXIT
 mkdir -p "$work/archive"
-python3 "$here/../../tools/scratch.py" "$work" city_bench feature_store feature_model edit_text pm_archive pm_build anyhow
+python3 "$here/../../tools/scratch.py" "$work" city_bench feature_store feature_model edit_text pm_archive pm_metadata pm_verify pm_build anyhow
 cp "$here/main.rt.txt" "$work/crates/city_bench/src/main.rt"
 cp "$here/../city_features.rt.txt" "$work/crates/city_bench/src/city_features.rt"
 g++ -O2 -std=c++17 -o "$work/peer" "$here/peer.cpp"

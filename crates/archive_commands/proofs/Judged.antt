@@ -3,13 +3,13 @@ use Rattle.std.proofs.Common.{◌≡◌, ℕ, List, Result, Ok, Err, MatchResult
 use Rattle.pm_header.specs.declared.header.Header.{Header}
 use Rattle.pm_directory.specs.declared.entry.DirectoryEntry.{DirectoryEntry}
 use Rattle.pm_directory.specs.Directory.{IsDirectory}
-use Rattle.pm_archive.specs.declared.report.Report.{Report}
+use Rattle.pm_verify.specs.declared.report.Report.{Report}
 use Rattle.pm_archive.specs.declared.fault.ArchiveFault.{ArchiveFault}
 use Rattle.pm_archive.specs.declared.fault.ArchiveFault.TheVariants.{Read, Memory}
 use Rattle.pm_archive.specs.Answers.{IsOutside, UnlessOutside}
 use Rattle.pm_archive.specs.Sections.{HasSections, section_bytes}
 use Rattle.pm_archive.specs.Reading.{OpeningHas}
-use Rattle.pm_archive.specs.Verified.{IsSound, VerifyingHas}
+use Rattle.pm_verify.specs.Verified.{IsSound, VerifyingHas}
 use Rattle.archive_commands.specs.Faults.{FirstFault, of_opening, of_archive}
 
 abbrev judged : ArchiveFault → Result Report ArchiveFault

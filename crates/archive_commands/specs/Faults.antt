@@ -6,7 +6,7 @@ use Rattle.pm_directory.specs.Directory.{IsDirectory}
 use Rattle.pm_archive.specs.declared.fault.ArchiveFault.{ArchiveFault}
 use Rattle.pm_archive.specs.Sections.{HasSections, section_bytes}
 use Rattle.pm_archive.specs.Reading.{OpeningHas}
-use Rattle.pm_archive.specs.Verified.{VerifyingHas}
+use Rattle.pm_verify.specs.Verified.{VerifyingHas}
 
 -- the first fault of the bytes: one that prevents opening them, or one of the archive that is opened
 pub data FirstFault (bytes : List ℕ) (d : ArchiveFault) : Type 0 where

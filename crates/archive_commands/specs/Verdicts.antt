@@ -1,6 +1,6 @@
 -- The verdict on an archive.
 use Rattle.std.specs.Prelude.{ℕ, Result, Ok, Err}
-use Rattle.pm_archive.specs.declared.report.Report.{Report}
+use Rattle.pm_verify.specs.declared.report.Report.{Report}
 use Rattle.pm_archive.specs.declared.fault.ArchiveFault.{ArchiveFault}
 use Rattle.pm_archive.specs.declared.fault.ArchiveFault.TheVariants.{Read, Memory}
 use Rattle.archive_commands.specs.declared.verdict.Verdict.{Verdict}

@@ -3,7 +3,8 @@
 ghost use Rattle.std.specs.Prelude.{◌≡◌};
 ghost use Rattle.archive_commands.specs.Verdicts.{status_of, verdict_of};
 
-use pm_archive::{ArchiveFault, Report};
+use pm_archive::ArchiveFault;
+use pm_verify::Report;
 use std::fmt;
 
 /// The result of a verification, as it is printed.

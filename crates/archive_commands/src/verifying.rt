@@ -3,12 +3,13 @@
 ghost use Rattle.std.specs.Prelude.{◌≡◌, ◌≢◌, IfOk, IfErr, MatchResult};
 ghost use Rattle.pm_header.specs.declared.header.Header.{Header};
 ghost use Rattle.pm_archive.specs.Sections.{HasSections};
-ghost use Rattle.pm_archive.specs.declared.report.Report.{Report};
-ghost use Rattle.pm_archive.specs.Verified.{IsSound};
+ghost use Rattle.pm_verify.specs.declared.report.Report.{Report};
+ghost use Rattle.pm_verify.specs.Verified.{IsSound};
 ghost use Rattle.pm_archive.specs.Answers.{UnlessOutside};
 ghost use Rattle.archive_commands.specs.Faults.{FirstFault};
 
-use pm_archive::{Archive, ArchiveFault, Report};
+use pm_archive::{Archive, ArchiveFault};
+use pm_verify::Report;
 use std::alloc::Global;
 
 /// Verifies an archive: its counts if it is sound, otherwise its first fault.
@@ -27,5 +28,5 @@ pub fn verify(alloc: Global, archive: &[u8]) -> Result<Report, ArchiveFault>
         Ok(archive) => archive,
         Err((_, fault)) => return Err(fault),
     };
-    archive.verify()
+    pm_verify::verify(alloc, &mut archive)
 }

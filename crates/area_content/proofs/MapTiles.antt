@@ -21,7 +21,7 @@ use Rattle.mvt_layer.specs.Reads.{ReadsAs}
 use Rattle.mvt_layer.specs.Tile.{LayerView}
 use Rattle.mvt_write.specs.Written.{written}
 use Rattle.pb_wire.specs.Varint.{varint, shortest_in}
-use Rattle.pm_archive.specs.Archive.{IsArchiveOf}
+use Rattle.pm_metadata.specs.Archive.{IsArchiveOf}
 use Rattle.pm_build.specs.Built.{tile_content}
 use Rattle.pm_build.specs.Building.{CanAdd, AreFew}
 use Rattle.pm_build.specs.Tiles.{Tile}

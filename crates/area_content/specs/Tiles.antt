@@ -4,7 +4,7 @@ use Rattle.feature_store.specs.Content.{IsTileContent}
 use Rattle.feature_store.specs.Layers.{layers}
 use Rattle.feature_store.specs.Store.{FeatureMap}
 use Rattle.hilbert_id.specs.Curve.{IsTileId}
-use Rattle.pm_archive.specs.Archive.{IsArchiveOf}
+use Rattle.pm_metadata.specs.Archive.{IsArchiveOf}
 
 -- the contents of tile ids are the tiles of the map, and no other id has one
 pub record AreTilesOf (m : FeatureMap) (content : ℕ → Option (List ℕ)) : Type 0 where

@@ -3,7 +3,7 @@ ghost use Rattle.std.specs.Prelude.{◌≡◌, ◌<◌, ◌≤◌, ◌^◌, ℕ,
 ghost use Rattle.hilbert_id.specs.declared.number.TheConstants.{TILE_IDS};
 ghost use Rattle.feature_store.specs.Store.{FeatureMap, IsMap};
 ghost use Rattle.feature_store.specs.Tiles.{AreTiles};
-ghost use Rattle.pm_archive.specs.Archive.{IsMetadata};
+ghost use Rattle.pm_metadata.specs.Archive.{IsMetadata};
 ghost use Rattle.area_content.specs.Faults.{AreAdded, IsShort, IsBounded, IsContentFault, told_as};
 ghost use Rattle.area_content.specs.Tiles.{IsArchiveOfMap};
 

@@ -1,7 +1,7 @@
 //! The content of an area for a map.
 ghost use Rattle.std.specs.Prelude.{◌≡◌, ◌<◌, ◌≤◌, ◌^◌, ℕ, length, IfOk, IfErr};
 ghost use Rattle.feature_store.specs.Store.{FeatureMap, snapshot};
-ghost use Rattle.pm_archive.specs.Archive.{IsMetadata};
+ghost use Rattle.pm_metadata.specs.Archive.{IsMetadata};
 ghost use Rattle.area_content.specs.Content.{sectors_taken};
 ghost use Rattle.area_content.specs.Faults.{IsBuiltFor, IsContentFault};
 

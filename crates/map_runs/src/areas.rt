@@ -3,7 +3,7 @@ use crate::lines::Line;
 use area_content::{AreaContent, content_of};
 use feature_store::Store;
 use map_metadata::metadata_text;
-use pm_archive::is_metadata;
+use pm_metadata::is_metadata;
 use std::alloc::{AllocError, Global};
 
 /// One above the most sectors of an area.

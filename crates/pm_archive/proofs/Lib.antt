@@ -1,4 +1,3 @@
-pub mod CountedLaws
 pub mod CountedListed
 pub mod KeepsLaws
 pub mod LimitNumbers
@@ -9,7 +8,4 @@ pub mod ListedSteps
 pub mod LookedLaws
 pub mod LookedSteps
 pub mod LookupLaws
-pub mod MetadataLaws
 pub mod OpenedLaws
-pub mod VerifiedFaults
-pub mod VerifiedLaws

@@ -9,7 +9,7 @@ use Rattle.pm_directory.specs.Directory.{IsDirectory}
 use Rattle.pm_archive.specs.declared.limits.TheConstants.{MAX_LEAF_LEVELS}
 use Rattle.pm_archive.specs.Sections.{HasSections, section_bytes}
 use Rattle.pm_archive.specs.Entries.{HasEntries, entry_of}
-use Rattle.pm_archive.specs.Archive.{IsArchiveOf, content_of}
+use Rattle.pm_archive.specs.Archive.{HasContents, content_of}
 use Rattle.pm_archive.specs.Looked.{leading_of, reached_at, content_at, looked_at}
 use Rattle.pm_archive.specs.Lookup.{LeafView, IsLeafOf, AreCachedOf}
 use Rattle.pm_archive.proofs.ListedClauses.{has_each}
@@ -25,11 +25,11 @@ looked_below bytes h root tiles id dir has =
     (reaches bytes h id MAX_LEAF_LEVELS 0 TILE_IDS root tiles dir.ascending lists) (content_found bytes h id MAX_LEAF_LEVELS TILE_IDS root tiles lists)
 
 pub looked_content : (bytes : List ℕ) (h : Header) (root : List DirectoryEntry) (content : ℕ → Option (List ℕ)) (id : ℕ) → HasSections bytes h
-    → IsDirectory (section_bytes h.root bytes) root → IsArchiveOf bytes content → looked_at bytes h root id ≡ Ok (content id)
+    → IsDirectory (section_bytes h.root bytes) root → HasContents bytes content → looked_at bytes h root id ≡ Ok (content id)
 looked_content bytes h root content id has dir archive =
-    let same = one_header bytes archive.0 h archive.2.sections.header has.header in
-    let entries = subst (λ (g : Header). HasEntries bytes g archive.1) same archive.2.entries in
-    let told : content_of bytes h archive.1 id ≡ content id = ap (λ (g : Header). content_of bytes g archive.1 id) (sym same) ∙ sym (archive.3 id) in
+    let same = one_header bytes archive.0 h archive.2.header has.header in
+    let entries = subst (λ (g : Header). HasEntries bytes g archive.1) same archive.3 in
+    let told : content_of bytes h archive.1 id ≡ content id = ap (λ (g : Header). content_of bytes g archive.1 id) (sym same) ∙ sym (archive.4 id) in
     looked_below bytes h root archive.1 id dir entries ∙ ap (λ (c : Option (List ℕ)). Ok c) told
 
 -- if no leaf directory is cached, each cached one is the one that its entry names

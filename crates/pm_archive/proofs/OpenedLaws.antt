@@ -1,5 +1,5 @@
 -- The header and the root directory of an archive are those of its bytes, and bytes that have them have no fault.
-use Rattle.std.proofs.Common.{rules, refl, ◌≡◌, ◌≢◌, true, OnOk, ℕ, ◌+◌, ◌-◌, ◌<◌, ◌≤◌, List, length, take, drop, slice_range, slice_index, Result, Ok, Err}
+use Rattle.std.proofs.Common.{refl, ◌≡◌, ◌≢◌, true, OnOk, ℕ, ◌+◌, ◌-◌, ◌<◌, ◌≤◌, List, length, take, drop, slice_range, slice_index, Result, Ok, Err}
 use Rattle.std.proofs.Common.{inl, inr, sym, ap, subst, ◌∙◌, arith, lit≤, lit<}
 use Rattle.std.specs.Int.{w32, w64, from_le_bytes, cast_signed}
 use Rattle.std.specs.Result.{is_ok}

@@ -7,5 +7,3 @@ pub mod Lookup
 pub mod Reading
 pub mod Sections
 pub mod Source
-pub mod Verified
-pub mod VerifiedPieces

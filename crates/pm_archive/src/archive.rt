@@ -1,20 +1,18 @@
 //! Open archives.
 
-ghost use Rattle.std.specs.Prelude.{◌≡◌, ◌<◌, ℕ, List, Option, slice_get, IfOk, IfErr, MatchResult, option_map};
+ghost use Rattle.std.specs.Prelude.{◌≡◌, ◌<◌, ℕ, List, length, Option, Err, slice_get, IfOk, IfErr, MatchResult, option_map};
 ghost use Rattle.reader.specs.Reading.{GivesUnless};
 ghost use Rattle.std.specs.List.{AllByRecursion};
 ghost use Rattle.pm_header.specs.declared.header.Header.{Header};
 ghost use Rattle.pm_directory.specs.declared.entry.DirectoryEntry.{DirectoryEntry};
 ghost use Rattle.pm_directory.specs.Directory.{IsAscending, IsDirectory, IsEntry};
-ghost use Rattle.pm_archive.specs.declared.report.Report.{Report};
 ghost use Rattle.byte_source.specs.Source.{Keeps};
 ghost use Rattle.pm_archive.specs.Source.{ArchiveView};
 ghost use Rattle.pm_archive.specs.Sections.{HasSections, section_bytes};
-ghost use Rattle.pm_archive.specs.Entries.{HasEntries, LiesInside};
+ghost use Rattle.pm_archive.specs.Entries.{HasEntries, LiesIn, LiesInside};
 ghost use Rattle.pm_archive.specs.Archive.{content_of};
-ghost use Rattle.pm_archive.specs.Reading.{ArePlaced, OpeningHas, list_at};
+ghost use Rattle.pm_archive.specs.Reading.{ArePlaced, OpeningHas, content_of_tile, list_at};
 ghost use Rattle.pm_archive.specs.Looked.{leading_of, looked_at};
-ghost use Rattle.pm_archive.specs.Verified.{IsSound, VerifyingHas};
 ghost use Rattle.pm_archive.specs.Answers.{IsOutside, UnlessOutside};
 
 use crate::fault::ArchiveFault;
@@ -22,8 +20,7 @@ use crate::leaves::Leaves;
 use crate::listing::entries_below;
 use crate::looking::content_below;
 use crate::opening::header_and_root;
-use crate::report::Report;
-use crate::verifying::verdict_below;
+use crate::reading::{bytes_at, content_of};
 use byte_source::Bytes;
 use pm_directory::DirectoryEntry;
 use pm_header::Header;
@@ -86,9 +83,31 @@ impl<B: Bytes + Drop> Archive<B> {
 
     /// The header.
     pub fn header(&self) -> Header
-        ensures { result ≡ self.now.header }
+        ensures header { result ≡ self.now.header }
+        ensures found { (bytes : List ℕ) → B.holds self.now.source bytes
+            → HasSections bytes self.now.header × IsDirectory (section_bytes self.now.header.root bytes) self.now.root }
     {
         self.header
+    }
+
+    /// The bytes of the metadata. Whether they are a JSON object isn't checked (`pm_metadata::is_metadata`).
+    ///
+    /// # Errors
+    ///
+    /// `Read` if a read of the source fails. `Memory` only if the metadata has a byte or more.
+    pub fn metadata(&mut self) -> Result<Vec<u8>, ArchiveFault>
+        ensures header { self.new.header ≡ self.old.header }
+        ensures root { self.new.root ≡ self.old.root }
+        ensures source { Keeps B.count B.holds B.fails B.unchanged self.old.source self.new.source }
+        ensures bytes { (bytes : List ℕ) → B.holds self.new.source bytes → IfOk result (λ v. v.items ≡ section_bytes self.old.header.metadata bytes) }
+        ensures len { IfOk result (λ v. length v.items ≡ self.old.header.metadata.length) }
+        ensures fault { IfErr result IsOutside }
+        ensures read { result ≡ Err ArchiveFault.Read → B.fails self.old.source }
+        ensures memory { result ≡ Err ArchiveFault.Memory → 0 < self.old.header.metadata.length }
+    {
+        let alloc = *self.root.allocator();
+        let section = self.header.metadata;
+        bytes_at(alloc, &mut self.source, section.offset, section.length)
     }
 
     /// The tile entries of all directories, in ascending order.
@@ -142,25 +161,21 @@ impl<B: Bytes + Drop> Archive<B> {
         )
     }
 
-    /// Verifies the archive: its metadata, its directories, the counts of its header, and, if the tiles are uncompressed Mapbox
-    /// vector tiles, each of them. Returns its true counts.
+    /// The content of a tile entry, such as `list` returns.
     ///
     /// # Errors
     ///
-    /// `Metadata`, then those of `list`, then `Count` (addressed, entries, contents), then `Tile`, the first that applies. `Read` if a
-    /// read of the source fails. `Memory` only if the metadata has a byte or more.
-    pub fn verify(&mut self) -> Result<Report, ArchiveFault>
+    /// `Place` if its bytes aren't inside the section of the contents. `Read` if a read of the source fails. `Memory` only if they are.
+    pub fn content(&mut self, entry: DirectoryEntry) -> Result<Vec<u8>, ArchiveFault>
         ensures header { self.new.header ≡ self.old.header }
         ensures root { self.new.root ≡ self.old.root }
         ensures source { Keeps B.count B.holds B.fails B.unchanged self.old.source self.new.source }
-        ensures found { (bytes : List ℕ) → B.holds self.new.source bytes → IfOk result (IsSound bytes) }
-        ensures only { (bytes : List ℕ) (report : Report) → B.holds self.new.source bytes → IsSound bytes report
-            → MatchResult result (λ told. told ≡ report) IsOutside }
-        ensures fault { (bytes : List ℕ) → B.holds self.new.source bytes → IfErr result (UnlessOutside (VerifyingHas bytes self.old.header self.old.root)) }
+        ensures first { (bytes : List ℕ) → B.holds self.new.source bytes
+            → GivesUnless IsOutside (λ v. v.items) result (content_of_tile bytes self.old.header entry) }
         ensures read { result ≡ Err ArchiveFault.Read → B.fails self.old.source }
-        ensures memory { result ≡ Err ArchiveFault.Memory → 0 < self.old.header.metadata.length }
+        ensures memory { result ≡ Err ArchiveFault.Memory → LiesIn self.old.header.tiles entry }
     {
         let alloc = *self.root.allocator();
-        verdict_below(alloc, &mut self.source, &self.header, &self.root)
+        content_of(alloc, &mut self.source, &self.header, entry)
     }
 }

@@ -7,7 +7,7 @@ ghost use Rattle.pm_directory.specs.declared.entry.DirectoryEntry.{DirectoryEntr
 ghost use Rattle.pm_directory.specs.Directory.{IsAscending, IsDirectory};
 ghost use Rattle.byte_source.specs.Source.{Keeps};
 ghost use Rattle.pm_archive.specs.Sections.{HasSections, section_bytes};
-ghost use Rattle.pm_archive.specs.Archive.{IsArchiveOf};
+ghost use Rattle.pm_archive.specs.Archive.{HasContents};
 ghost use Rattle.pm_archive.specs.Reading.{ArePlaced, OpeningHas};
 ghost use Rattle.pm_archive.specs.Looked.{looked_at};
 ghost use Rattle.pm_archive.specs.Lookup.{LookupView, IsLookupOf, IsSmall};
@@ -75,7 +75,7 @@ impl Lookup {
     ///
     /// # Errors
     ///
-    /// `Directory`, `Depth`, `Place`, the first on the way; none of them if the source is an archive. `Read` if a read of the source
+    /// `Directory`, `Depth`, `Place`, the first on the way; none of them if all directories of the source are valid. `Read` if a read of the source
     /// fails. `Memory`. After an error the cache is still that of the source.
     pub fn tile<B: Bytes>(
         &mut self,
@@ -90,7 +90,7 @@ impl Lookup {
         ensures still { (bytes : List ℕ) → B.holds source.new bytes → IsLookupOf bytes self.old → IsLookupOf bytes self.new }
         ensures room { IsSmall self.new.leaves }
         ensures content { (bytes : List ℕ) (content : ℕ → Option (List ℕ)) → B.holds source.new bytes → IsLookupOf bytes self.old
-            → IsArchiveOf bytes content → MatchResult result (λ found. option_map (λ v. v.items) found ≡ content id) IsOutside }
+            → HasContents bytes content → MatchResult result (λ found. option_map (λ v. v.items) found ≡ content id) IsOutside }
         ensures first { (bytes : List ℕ) → B.holds source.new bytes → IsLookupOf bytes self.old
             → GivesUnless IsOutside (option_map (λ v. v.items)) result (looked_at bytes self.old.header self.old.root id) }
         ensures read { result ≡ Err ArchiveFault.Read → B.fails source.old }

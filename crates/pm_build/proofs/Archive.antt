@@ -10,7 +10,7 @@ use Rattle.pm_header.specs.declared.compression.TheConstants.{NOT_COMPRESSED}
 use Rattle.pm_header.specs.Layout.{IsHeader}
 use Rattle.pm_directory.specs.declared.entry.DirectoryEntry.{DirectoryEntry}
 use Rattle.pm_archive.specs.Sections.{section_bytes, HasSections}
-use Rattle.pm_archive.specs.Archive.{IsMetadata, HasCounts, IsArchive, IsArchiveOf}
+use Rattle.pm_metadata.specs.Archive.{IsMetadata, HasCounts, IsArchive, IsArchiveOf}
 use Rattle.pm_build.specs.Tiles.{Tile}
 use Rattle.pm_build.specs.Runs.{TileRun}
 use Rattle.pm_build.specs.Placed.{ArePlaced, EachNames}

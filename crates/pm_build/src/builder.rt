@@ -5,7 +5,7 @@ ghost use Rattle.std.specs.List.{AllByRecursion, concat};
 ghost use Rattle.pm_build.specs.Building.{CanAdd, AreTooMany, AreFew};
 ghost use Rattle.pm_build.specs.Runs.{TileRun, AreLongestRuns};
 ghost use Rattle.pm_build.specs.Placed.{AreDifferent};
-ghost use Rattle.pm_archive.specs.Archive.{IsArchiveOf, IsMetadata};
+ghost use Rattle.pm_metadata.specs.Archive.{IsArchiveOf, IsMetadata};
 ghost use Rattle.pm_build.specs.Built.{tile_content};
 ghost use Rattle.pm_build.specs.Laid.{AreLaidOut};
 

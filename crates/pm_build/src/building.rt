@@ -6,7 +6,7 @@ ghost use Rattle.pm_build.specs.Tiles.{AreTiles};
 ghost use Rattle.pm_build.specs.Runs.{AreLongestRuns, tiles_in};
 ghost use Rattle.pm_build.specs.Joined.{run_views};
 ghost use Rattle.pm_build.specs.Placed.{AreDifferent, ArePlaced};
-ghost use Rattle.pm_archive.specs.Archive.{IsArchiveOf, IsMetadata};
+ghost use Rattle.pm_metadata.specs.Archive.{IsArchiveOf, IsMetadata};
 ghost use Rattle.pm_build.specs.Built.{tile_content};
 ghost use Rattle.pm_build.specs.Laid.{AreJoined, AreLaidOut, AreZooms, header_for, joined_contents, lengths_of};
 

@@ -2,7 +2,7 @@
 ghost use Rattle.std.specs.Prelude.{◌≡◌, ◌↔◌, ◌≤◌, ◌+◌, ℕ, List, Option, IfOk, IfErr, IsTrue, MatchResult, option_map};
 ghost use Rattle.generations.specs.Areas.{sectors_of};
 ghost use Rattle.pm_archive.specs.Answers.{IsOutside};
-ghost use Rattle.pm_archive.specs.Archive.{IsArchiveOf};
+ghost use Rattle.pm_archive.specs.Archive.{HasContents};
 ghost use Rattle.pm_archive.specs.Lookup.{IsLookupOf};
 ghost use Rattle.byte_source.specs.Source.{Keeps};
 ghost use Rattle.sector_bytes.specs.Counts.{NeverFalls};
@@ -52,7 +52,7 @@ impl Opened {
         ensures source { Keeps B.count B.holds B.fails B.unchanged source.old source.new }
         ensures archive { IfOk result (λ o. o.archive ≡ archive) }
         ensures found { (bytes : List ℕ) → B.holds source.new bytes → IfOk result (λ o. IsLookupOf bytes o.lookup) }
-        ensures fault { (bytes : List ℕ) (content : ℕ → Option (List ℕ)) → B.holds source.new bytes → IsArchiveOf bytes content → IfErr result IsOutside }
+        ensures fault { (bytes : List ℕ) (content : ℕ → Option (List ℕ)) → B.holds source.new bytes → HasContents bytes content → IfErr result IsOutside }
     {
         match Lookup::open(alloc, source) {
             Ok(lookup) => Ok(Opened { archive, lookup }),
@@ -67,7 +67,7 @@ impl Opened {
         ensures archive { self.new.archive ≡ self.old.archive }
         ensures still { (bytes : List ℕ) → B.holds source.new bytes → IsLookupOf bytes self.old.lookup → IsLookupOf bytes self.new.lookup }
         ensures content { (bytes : List ℕ) (content : ℕ → Option (List ℕ)) → B.holds source.new bytes → IsLookupOf bytes self.old.lookup
-            → IsArchiveOf bytes content → MatchResult result (λ found. option_map (λ v. v.items) found ≡ content id) IsOutside }
+            → HasContents bytes content → MatchResult result (λ found. option_map (λ v. v.items) found ≡ content id) IsOutside }
     {
         self.lookup.tile(source, id)
     }
@@ -86,7 +86,7 @@ fn look_up<B: Bytes>(
     ensures still { (bytes : List ℕ) → B.holds source.new bytes → IsOpenedOf archive bytes opened.old → IsOpenedOf archive bytes opened.new }
     ensures up_to { (last : ℕ) → IsOpenedUpTo last opened.old → archive.generation ≤ last → IsOpenedUpTo last opened.new }
     ensures content { (bytes : List ℕ) (content : ℕ → Option (List ℕ)) → B.holds source.new bytes → IsOpenedOf archive bytes opened.old
-        → IsArchiveOf bytes content → MatchResult result (λ found. option_map (λ v. v.items) found ≡ content id) IsOutside }
+        → HasContents bytes content → MatchResult result (λ found. option_map (λ v. v.items) found ≡ content id) IsOutside }
 {
     if let Some(kept) = opened {
         if kept.is_of(archive) {
@@ -115,7 +115,7 @@ pub(crate) fn read_tile<D: Sectors>(
     ensures up_to { (last : ℕ) → IsOpenedUpTo last opened.old → archive.generation ≤ last → IsOpenedUpTo last opened.new }
     ensures content { (bytes : List ℕ) (content : ℕ → Option (List ℕ)) → D.honest disk.new
         → AreItsBytes archive.first archive.len bytes (seen (D.history disk.old)) → IsOpenedOf archive bytes opened.old
-        → IsArchiveOf bytes content → MatchResult result (λ found. option_map (λ v. v.items) found ≡ content id) IsOutside }
+        → HasContents bytes content → MatchResult result (λ found. option_map (λ v. v.items) found ≡ content id) IsOutside }
 {
     let mut source = SectorBytes::new(disk, archive.first, archive.len);
     let content = look_up(alloc, &mut source, archive, opened, id);

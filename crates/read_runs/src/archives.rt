@@ -1,8 +1,9 @@
 //! Lines about the bytes of archives.
 use archive_commands::{Verdict, show, verify};
-use pm_archive::{Archive, ArchiveFault, Lookup, is_metadata};
+use pm_archive::{Archive, ArchiveFault, Lookup};
 use pm_directory::{find, read_directory};
 use pm_header::{HEADER_BYTES, Header};
+use pm_metadata::is_metadata;
 use script_bytes::number_in;
 use std::alloc::{AllocError, Global};
 

@@ -1,8 +1,8 @@
 //! Lines about archives that are built.
 use crate::lines::{Line, place};
 use archive_commands::{Verdict, verify};
-use pm_archive::is_metadata;
 use pm_build::{ArchiveBuilder, BuildFault};
+use pm_metadata::is_metadata;
 use script_bytes::{number_in, parted};
 use std::alloc::{AllocError, Global};
 

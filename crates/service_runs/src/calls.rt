@@ -90,7 +90,7 @@ fn archive(alloc: Global, service: &mut Served) -> Result<Option<String>, AllocE
 fn verified(alloc: Global, bytes: &[u8]) -> Result<Option<String>, AllocError> {
     let archive = Archive::open(alloc, bytes);
     match archive {
-        Ok(mut archive) => outcome_text(alloc, archive.verify()),
+        Ok(mut archive) => outcome_text(alloc, pm_verify::verify(alloc, &mut archive)),
         Err(fault) => outcome_text(alloc, fault),
     }
 }

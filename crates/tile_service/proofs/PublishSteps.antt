@@ -23,7 +23,7 @@ use Rattle.cached_map.specs.Cached.{AreReadRight}
 use Rattle.edit_text.specs.Recorded.{RecordedEdit}
 use Rattle.feature_store.specs.Store.{FeatureMap, IsMap, snapshot}
 use Rattle.map_metadata.specs.Metadata.{IsMetadata}
-use Rattle.pm_archive.specs.Archive.{IsMetadata as IsMetadataText}
+use Rattle.pm_metadata.specs.Archive.{IsMetadata as IsMetadataText}
 use Rattle.published_tiles.specs.Published.{PublishedView, ArePublished}
 use Rattle.published_tiles.proofs.PublishedLaws.{published_next}
 use Rattle.serde_json.specs.Data.{Data}

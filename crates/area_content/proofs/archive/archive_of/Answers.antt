@@ -1,7 +1,7 @@
 use Rattle.std.proofs.Common.{◌≡◌, ◌≢◌, true, [], length, sym, ◌∙◌}
 use Rattle.std.proofs.lemmas.Bool.{false≢true}
 use Rattle.std.proofs.lemmas.Result.{IfOk-weaker}
-use Rattle.pm_archive.specs.Archive.{IsArchiveOf}
+use Rattle.pm_metadata.specs.Archive.{IsArchiveOf}
 use Rattle.pm_build.specs.Built.{tile_content}
 use Rattle.area_content.specs.Tiles.{IsArchiveOfMap}
 use Rattle.area_content.proofs.Bounds.{none_bounded, some_bounded}

@@ -2,7 +2,7 @@ use Rattle.std.proofs.Common.{◌≡◌, ℕ, List, Ok, Option, MatchResult, opt
 use Rattle.reader.specs.Reading.{GivesUnless}
 use Rattle.reader.proofs.Steps.{gives_found}
 use Rattle.pm_directory.specs.declared.entry.DirectoryEntry.{DirectoryEntry}
-use Rattle.pm_archive.specs.Archive.{IsArchiveOf}
+use Rattle.pm_archive.specs.Archive.{HasContents}
 use Rattle.pm_archive.specs.Answers.{IsOutside}
 use Rattle.pm_archive.specs.Looked.{looked_at}
 use Rattle.pm_archive.specs.Lookup.{LookupView, IsLookupOf}
@@ -13,7 +13,7 @@ use Rattle.pm_archive.proofs.lookup.Lookup.tile.Goals as goal
 pub returns-clause-content : goal.returns-clause-content
 returns-clause-content g c =
     subst (λ (l : LookupView). (bytes : List ℕ) (content : ℕ → Option (List ℕ)) → g.B.Bytes.holds c.content_below.new.source bytes → IsLookupOf bytes l
-    → IsArchiveOf bytes content → MatchResult c.content_below.result (λ found. option_map (λ v. v.items) found ≡ content c.args.id) IsOutside) c.self.view_is
+    → HasContents bytes content → MatchResult c.content_below.result (λ found. option_map (λ v. v.items) found ≡ content c.args.id) IsOutside) c.self.view_is
     (λ bytes content holds of archive.
     let root = c.deref.ensures.value in
     gives_found IsOutside inside_or_outside (option_map (λ v. v.items)) c.content_below.result

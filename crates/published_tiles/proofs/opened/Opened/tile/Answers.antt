@@ -1,6 +1,6 @@
 use Rattle.std.proofs.Common.{◌≡◌, ℕ, List, Option, MatchResult, option_map, subst}
 use Rattle.pm_archive.specs.Answers.{IsOutside}
-use Rattle.pm_archive.specs.Archive.{IsArchiveOf}
+use Rattle.pm_archive.specs.Archive.{HasContents}
 use Rattle.pm_archive.specs.Lookup.{IsLookupOf}
 use Rattle.published_tiles.specs.Opened.{OpenedView}
 use Rattle.published_tiles.proofs.opened.Opened.tile.Goals as goal
@@ -8,5 +8,5 @@ use Rattle.published_tiles.proofs.opened.Opened.tile.Goals as goal
 pub returns-clause-content : goal.returns-clause-content
 returns-clause-content g c =
     subst (λ (o : OpenedView). (bytes : List ℕ) (content : ℕ → Option (List ℕ)) → g.B.Bytes.holds c.tile.new.source bytes → IsLookupOf bytes o.lookup
-    → IsArchiveOf bytes content → MatchResult c.tile.result (λ found. option_map (λ v. v.items) found ≡ content c.args.id) IsOutside) c.self.view_is
+    → HasContents bytes content → MatchResult c.tile.result (λ found. option_map (λ v. v.items) found ≡ content c.args.id) IsOutside) c.self.view_is
     c.tile.ensures.content

@@ -1,6 +1,0 @@
-use Rattle.std.proofs.Common.{◌∙◌}
-use Rattle.pm_archive.proofs.CountedLaws.{contents_counted}
-use Rattle.pm_archive.proofs.counting.contents.Goals as goal
-
-pub returns : goal.returns
-returns c = c.len.ensures.len ∙ contents_counted c.args.tiles.now c.in_ok-spans.spans c.in_ok-spans.ensures

@@ -1,0 +1,4 @@
+pub mod CountedLaws
+pub mod VerifiedClauses
+pub mod VerifiedFaults
+pub mod VerifiedLaws
