@@ -2,8 +2,11 @@
 """Tries the must-fail edits that the gate leaves out: those under bench/mutants/CRATE/, beside those in crates/CRATE/must-fail/.
 
     python3 bench/mutants/try.py [--here] [CRATE ..]
+    python3 bench/mutants/try.py --fits [CRATE ..]
 
-With no names it tries those of every crate. It works on a scratch clone of the last commit, or with --here on a copy of the working
+With --fits it only looks whether each edit, of both folders, still applies to the working tree: whether each `old:` text is in its file
+once. Run it after every change of the code; it takes a second, and nothing is proved. Otherwise, with no names, it tries those of every
+crate. It works on a scratch clone of the last commit, or with --here on a copy of the working
 tree without out/, and leaves the repository as it is. There it runs `rt must-fail`, and it ends with that command's status.
 
 What it costs: `rt must-fail` begins with what `rt check` kept on this machine, so check the crate first; otherwise each crate below
@@ -46,16 +49,53 @@ def add_edits(target, crate):
     return len(list(folder.glob("*.edit")))
 
 
+def why_not(edit, crate):
+    """Why an edit doesn't apply to the files of its crate, or None if it does."""
+    path, old, texts = None, None, {}
+    for line in edit.read_text().splitlines():
+        word, _, rest = line.partition(":")
+        rest = rest.removeprefix(" ")
+        if word == "file":
+            path = crate / rest.strip()
+        elif word == "old":
+            old = rest
+        elif word == "new":
+            if path not in texts and not path.is_file():
+                return f"there is no {path.relative_to(crate)}"
+            text = texts.get(path) or path.read_text()
+            if text.count(old) != 1:
+                return f"{text.count(old)} times in {path.relative_to(crate)}: {old.strip()}"
+            texts[path] = text.replace(old, rest)
+    return None if texts else "it changes nothing"
+
+
+def misfits(names):
+    """Prints the edits of these crates that don't apply, and returns how many."""
+    count = 0
+    for name in names:
+        crate = ROOT / "crates" / name
+        for edit in sorted([*(EDITS / name).glob("*.edit"), *(crate / "must-fail").glob("*.edit")]):
+            why = why_not(edit, crate)
+            if why:
+                count += 1
+                print(f"{edit.relative_to(ROOT)}: {why}")
+    print(f"{count} edits don't apply")
+    return count
+
+
 def main():
     known = crates_with_edits()
     parser = argparse.ArgumentParser(description=__doc__, formatter_class=argparse.RawDescriptionHelpFormatter)
     parser.add_argument("--here", action="store_true", help="try the working tree, and not the last commit")
+    parser.add_argument("--fits", action="store_true", help="only see that each edit applies to the working tree")
     parser.add_argument("crates", nargs="*", metavar="CRATE", help="a folder of bench/mutants; all of them if none is named")
     words = parser.parse_args()
     unknown = [name for name in words.crates if name not in known]
     if unknown:
         parser.error(f"no folder in bench/mutants: {' '.join(unknown)}")
     names = words.crates or known
+    if words.fits:
+        return 1 if misfits(words.crates or sorted(folder.name for folder in (ROOT / "crates").iterdir())) else 0
     with tempfile.TemporaryDirectory(prefix="edits-") as scratch:
         target = Path(scratch) / "copy"
         copy_repository(target, words.here)
