@@ -21,6 +21,7 @@ import subprocess
 import sys
 import tempfile
 import threading
+import time
 
 HERE = os.path.dirname(os.path.abspath(__file__))
 sys.path.append(os.path.join(HERE, "..", "model"))
@@ -187,6 +188,10 @@ def fails(cases, folder):
         cases.show("the file is taken away", os.path.exists(path), False)
     cases.show("the same command again, where each read would fail", failing("pread64", path, "1+", make), (0, b"formatted 64 sectors\n", b""))
     cases.show("pipe where its first sync fails", failing("fdatasync", path, 1, ["pipe", path], GET), refusal(b"Device"))
+    word = b"Device: " + path.encode() + b": Input/output error (os error 5)"
+    for words, call, number in [(["pipe", path], "fdatasync", 1), (["pipe", path], "fdatasync", 2), (["pipe", path], "pread64", "2+"),
+                                (["upgrade", path], "fdatasync", 2), (["export", path, path + "x"], "pread64", "1+")]:
+        cases.show(f"{words[0]} -v where {call} {number} fails", failing(call, path, number, [*words, "-v"], GET), refusal(word))
     cases.show("pipe where its second sync fails", failing("fdatasync", path, 2, ["pipe", path], GET), refusal(b"Device"))
     # Where a read of 64 sectors fails, the sector is read alone. So all reads from the second one on fail.
     cases.show("pipe where a read fails", failing("pread64", path, "2+", ["pipe", path], GET), refusal(b"Device"))
@@ -294,6 +299,25 @@ def loses(cases, folder):
         cases.show(f"PUT to a disk file that was {name}, a publication, a tile", first + out, wanted)
         cases.show("that is told", (child.returncode, told), (0, b"vtserve: Device: the disk file was %s\n" % name.encode()))
     cases.show("PUT to a disk file that wasn't", vtserve(["pipe", os.path.join(folder, "replaced")], put(8)), (0, edit(2), b""))
+
+
+def lost_while_served(folder):
+    """What a process does that serves, with --stop-when-broken, a disk file that was removed, where only reads come: its output after that, and
+    whether it ended between 50 and 75 seconds later."""
+    path = os.path.join(folder, "lost")
+    vtserve(["format", path, "--sectors", "64"])
+    serving = Serving(path, 4294967295, "--stop-when-broken")
+    read = serving.ask(GET) == EMPTY
+    os.remove(path)
+    start = time.monotonic()
+    while serving.child.poll() is None and time.monotonic() < start + 90:
+        with contextlib.suppress(OSError):
+            serving.ask(GET)
+        time.sleep(1)
+    seconds = time.monotonic() - start
+    serving.child.kill()
+    status, _, told = serving.end()
+    return read, status, b"vtserve: Device: the disk file was removed\n" in told, 50 <= seconds <= 75 or seconds
 
 
 def unusual_files(folder):
@@ -569,11 +593,11 @@ def stopped_upgrades(cases, folder):
 class Serving:
     """A process that serves so many connections of a port."""
 
-    def __init__(self, disk, connections):
+    def __init__(self, disk, connections, *more):
         with socket.socket() as free:
             free.bind(("127.0.0.1", 0))
             self.port = free.getsockname()[1]
-        words = [PROGRAM, "serve", disk, "--port", str(self.port), "--connections", str(connections)]
+        words = [PROGRAM, "serve", disk, "--port", str(self.port), "--connections", str(connections), *more]
         self.child = subprocess.Popen(words, stdout=subprocess.PIPE, stderr=subprocess.PIPE)
         self.line = self.child.stdout.readline()
 
@@ -675,7 +699,8 @@ def system(*words):
 
 
 def slow_peers(cases, folder):
-    """Peers that send or read little: each is given up, and the next one is served. They are served by processes side by side."""
+    """Peers that send or read little: each is given up, and the next one is served. They are served by processes side by side, with one whose disk
+    file is removed."""
     seen = {}
 
     def try_peer(act):
@@ -689,11 +714,16 @@ def slow_peers(cases, folder):
         status, _, log = serving.end()
         seen[act] = seconds, after, status, log
 
+    def lose():
+        seen["lost"] = lost_while_served(folder)
+
     threads = [threading.Thread(target=try_peer, args=(row[0],)) for row in SLOW_PEERS]
+    threads.append(threading.Thread(target=lose))
     for thread in threads:
         thread.start()
     for thread in threads:
         thread.join()
+    cases.show("a disk file that is removed is seen within a minute, and ends the process", seen.get("lost"), (True, 1, True, True))
     for act, line, least, most in SLOW_PEERS:
         seconds, after, status, log = seen.get(act, (0, b"", None, b""))
         name = act.__name__.replace("_", " ")
@@ -723,6 +753,10 @@ def words(cases, folder, disk):
         status, out, told = vtserve(line)
         cases.show(" ".join(word.replace(folder, "FOLDER") for word in line), (status, out, told != b""), (2, b"", True))
     cases.show("no file is made", os.path.exists(path), False)
+    for port, count, told in [("65536", "1", b"65536 is not in 1..=65535"), ("0", "1", b"0 is not in 1..=65535"),
+                              ("8080", "0", b"0 is not in 1..=4294967295"), ("8080", "4294967296", b"4294967296 is not in 1..=4294967295")]:
+        found = vtserve(["serve", disk, "--port", port, "--connections", count])
+        cases.show(f"--port {port} --connections {count} tells the range", (found[0], told in found[2] or found[2]), (2, True))
 
 
 def told_more(cases, folder, disk):
@@ -739,14 +773,15 @@ def told_more(cases, folder, disk):
         rows = [
             (["pipe", absent], b"File: " + absent.encode() + is_missing),
             (["serve", absent, "--port", port, "--connections", "1"], b"File: " + absent.encode() + is_missing),
-            (["serve", disk, "--port", port, "--connections", "1"], b"Listen: " + disk.encode() + b": Address already in use (os error 98)"),
+            (["serve", disk, "--port", port, "--connections", "1"], b"Listen: 127.0.0.1:" + port.encode() + b": Address already in use (os error 98)"),
             (["show", absent], b"File: " + absent.encode() + is_missing),
             (["verify", absent], b"File: " + absent.encode() + is_missing),
             (["upgrade", absent], b"File: " + absent.encode() + is_missing),
             (["export", absent, goal], b"File: " + absent.encode() + is_missing),
             (["export", disk, goal], b"File: " + goal.encode() + is_missing),
             (["export", disk, disk], b"File: " + disk.encode()),
-            (["format", disk, "--sectors", "64"], b"File: " + disk.encode()),
+            (["format", disk, "--sectors", "64"], b"File: " + disk.encode() + b": File exists (os error 17)"),
+            (["format", os.path.join(absent, "disk"), "--sectors", "64"], b"File: " + os.path.join(absent, "disk").encode() + is_missing),
             (["show", short], b"Short: " + short.encode()),
             (["demo", "63"], b"TooSmall"),
         ]

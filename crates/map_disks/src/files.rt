@@ -1,14 +1,15 @@
 //! Disks in new files: for every file system.
-ghost use Rattle.std.specs.Prelude.{◌≡◌, ◌<◌, ◌⊎◌, Err, IfErr, IfOk, IsOk};
+ghost use Rattle.std.specs.Prelude.{◌≡◌, ◌<◌, Err, IfErr, IfOk, IsOk};
 ghost use Rattle.sector_disk.specs.Asked.{MayWrite};
 ghost use Rattle.sector_disk.specs.Disk.{all_zeros};
 ghost use Rattle.sector_disk.specs.Disk.History.{begun};
 ghost use Rattle.generations.specs.Areas.{IsSize};
-ghost use Rattle.generations.specs.declared.fault.StoreFault.TheVariants.{TooSmall, Damaged, Device};
+ghost use Rattle.generations.specs.declared.fault.StoreFault.TheVariants.{TooSmall, Damaged};
 ghost use Rattle.generations.specs.declared.fault.What.TheVariants.{Size};
 ghost use Rattle.generations.specs.declared.sizes.TheConstants.{MIN_SECTORS, MAX_SECTORS};
 ghost use Rattle.tile_service.specs.Stored.{Keeps, first_state};
-ghost use Rattle.map_disks.specs.declared.fault.FileFault.TheVariants.{File, Store};
+ghost use Rattle.map_disks.specs.Faults.{IsOfFile};
+ghost use Rattle.map_disks.specs.declared.fault.FileFault.TheVariants.{Store};
 
 use crate::fault::FileFault;
 use generations::{MAX_SECTORS, MIN_SECTORS, StoreFault, What};
@@ -49,7 +50,7 @@ pub fn sync_folder<R: Files>(files: &R, path: &str) -> io::Result<()> {
 /// Has a disk hold the empty map, in a file whose name outlives a crash.
 fn settle<D: Sectors + Drop, R: Files>(files: &R, path: &str, disk: &mut D) -> Result<(), FileFault>
     ensures disk { MayWrite D.sectors D.honest disk.old disk.new }
-    ensures only { IsSize (D.sectors disk.old) → IfErr result (λ fault. (fault ≡ File) ⊎ (fault ≡ Store Device)) }
+    ensures only { IsSize (D.sectors disk.old) → IfErr result IsOfFile }
     ensures holds { D.honest disk.new → IfOk result (λ _. Keeps (D.sectors disk.old) (D.sectors disk.old) first_state (D.history disk.new)) }
 {
     match Service::format(disk) {
@@ -58,7 +59,16 @@ fn settle<D: Sectors + Drop, R: Files>(files: &R, path: &str, disk: &mut D) -> R
     }
     match sync_folder(files, path) {
         Ok(()) => Ok(()),
-        Err(_) => Err(FileFault::File),
+        Err(error) => Err(FileFault::File(error)),
+    }
+}
+
+/// What the system said as a file couldn't be made.
+fn cause_of(fault: sector_disk::FileFault) -> io::Error {
+    match fault {
+        sector_disk::FileFault::Open(error)
+        | sector_disk::FileFault::Create(error)
+        | sector_disk::FileFault::Grow(error) => error,
     }
 }
 
@@ -72,7 +82,7 @@ pub fn formatted_file<
     requires zeros { S.found ≡ begun all_zeros }
     ensures small { sectors < MIN_SECTORS → result ≡ Err (Store TooSmall) }
     ensures large { MAX_SECTORS < sectors → result ≡ Err (Store (Damaged Size)) }
-    ensures only { IsSize sectors → IfErr result (λ fault. (fault ≡ File) ⊎ (fault ≡ Store Device)) }
+    ensures only { IsSize sectors → IfErr result IsOfFile }
     ensures count { IfOk result (λ disk. ⟦<FileDisk<SystemFile<F>, S> as Sectors>⟧.sectors disk ≡ sectors) }
     ensures holds { IfOk result (λ disk. ⟦<FileDisk<SystemFile<F>, S> as Sectors>⟧.honest disk
         → Keeps sectors sectors first_state (⟦<FileDisk<SystemFile<F>, S> as Sectors>⟧.history disk)) }
@@ -81,8 +91,9 @@ pub fn formatted_file<
         Ok(()) => {}
         Err(fault) => return Err(FileFault::Store(fault)),
     }
-    let Ok(mut disk) = FileDisk::create(files, path, sectors, start) else {
-        return Err(FileFault::File);
+    let mut disk = match FileDisk::create(files, path, sectors, start) {
+        Ok(disk) => disk,
+        Err(fault) => return Err(FileFault::File(cause_of(fault))),
     };
     match settle(files, path, &mut disk) {
         Ok(()) => Ok(disk),

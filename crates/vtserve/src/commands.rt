@@ -115,7 +115,7 @@ fn port<'a>(alloc: Global) -> Arg<'a> {
         .long("port")
         .required(true)
         .action(ArgAction::Set)
-        .value_parser(clap::value_parser!(u16))
+        .value_parser(clap::value_parser!(u16).range(1..))
         .help("A port of 127.0.0.1, from 1 to 65535")
 }
 
@@ -125,7 +125,7 @@ fn connections<'a>(alloc: Global) -> Arg<'a> {
         .long("connections")
         .required(true)
         .action(ArgAction::Set)
-        .value_parser(clap::value_parser!(u32))
+        .value_parser(clap::value_parser!(u32).range(1..))
         .help("How many connections are served, from 1 to 4294967295")
 }
 

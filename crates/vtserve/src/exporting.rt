@@ -2,12 +2,14 @@
 ghost use Rattle.std.specs.Prelude.{◌≤◌, ◌+◌};
 ghost use Rattle.generations.specs.Areas.{sectors_of};
 
-use crate::fault::CommandFault;
+use crate::fault::{Cause, CommandFault};
 use crate::files::{OpenedFile, opened_file};
+use crate::noted::Noted;
 use archive_export::{ArchivePlace, CopyFault, copy_archive, find_archive};
 use generations::StoreFault;
 use map_disks::sync_folder;
 use sector_disk::{FileDisk, Sectors, Start};
+use std::cell::Cell;
 use std::fs::{self, File, OpenOptions, Permissions};
 use std::io::{self, ErrorKind};
 use std::os::unix::fs::{MetadataExt, OpenOptionsExt, PermissionsExt};
@@ -148,5 +150,13 @@ pub(crate) fn export_file<S: Start>(
         identity: _,
         held: _held,
     } = opened_file(rt, path)?;
-    export(rt, &mut FileDisk::new(file, bytes, start), path, goal)
+    let cause: Cell<Cause> = Cell::new(None);
+    let file = Noted {
+        file,
+        cause: &cause,
+    };
+    match export(rt, &mut FileDisk::new(file, bytes, start), path, goal) {
+        Err(CommandFault::Store(fault)) => Err(CommandFault::of_disk(fault, &cause)),
+        outcome => outcome,
+    }
 }

@@ -3,7 +3,8 @@
 use generations::StoreFault;
 use http_serve::ServeFault;
 use map_disks::FileFault;
-use std::io;
+use std::cell::Cell;
+use std::{fmt, io};
 
 /// What the system said, where it is known.
 pub(crate) type Cause = Option<io::Error>;
@@ -19,10 +20,12 @@ pub(crate) enum CommandFault {
     NoArchive,
     /// The disk isn't ready for a service, or can't be read.
     Store(StoreFault),
+    /// A call of the disk's file failed.
+    Device(Cause),
     /// What ended a connection.
     Connection(ServeFault),
     /// The port can't be listened on, or a connection can't be accepted.
-    Listen(Cause),
+    Listen { port: u16, cause: Cause },
     /// Standard output can't be written.
     Write(Cause),
     /// What standard error tells already.
@@ -32,13 +35,21 @@ pub(crate) enum CommandFault {
 impl From<FileFault> for CommandFault {
     fn from(fault: FileFault) -> CommandFault {
         match fault {
-            FileFault::File => CommandFault::File(None),
+            FileFault::File(error) => CommandFault::File(Some(error)),
             FileFault::Store(fault) => CommandFault::Store(fault),
         }
     }
 }
 
 impl CommandFault {
+    /// The fault of a disk, whose file noted this as a call of it failed.
+    pub(crate) fn of_disk(fault: StoreFault, cause: &Cell<Cause>) -> CommandFault {
+        match fault {
+            StoreFault::Device => CommandFault::Device(cause.take()),
+            _ => CommandFault::Store(fault),
+        }
+    }
+
     /// Its name, as standard error shows it.
     pub(crate) fn name(&self) -> &'static str {
         match self {
@@ -46,9 +57,19 @@ impl CommandFault {
             CommandFault::NoArchive => "NoArchive",
             CommandFault::Store(fault) => store_fault_name(*fault),
             CommandFault::Connection(fault) => serve_fault_name(*fault),
-            CommandFault::Listen(_) => "Listen",
+            CommandFault::Listen { .. } => "Listen",
             CommandFault::Write(_) => "Write",
-            CommandFault::Told => "Device",
+            CommandFault::Device(_) | CommandFault::Told => "Device",
+        }
+    }
+
+    /// What it is about, in a command over this path.
+    pub(crate) fn about<'a>(&self, path: &'a str) -> About<'a> {
+        match self {
+            CommandFault::Listen { port, .. } => About::Port(*port),
+            // `demo` has no path.
+            _ if path.is_empty() => About::Nothing,
+            _ => About::Path(path),
         }
     }
 
@@ -57,9 +78,31 @@ impl CommandFault {
         match self {
             CommandFault::File(cause)
             | CommandFault::Output(cause)
-            | CommandFault::Listen(cause)
+            | CommandFault::Device(cause)
+            | CommandFault::Listen { cause, .. }
             | CommandFault::Write(cause) => cause.as_ref(),
             _ => None,
+        }
+    }
+}
+
+/// What a fault is about.
+#[derive(Clone, Copy, Debug, PartialEq, Eq)]
+pub(crate) enum About<'a> {
+    /// The disk in memory.
+    Nothing,
+    /// The file at a path.
+    Path(&'a str),
+    /// A port of 127.0.0.1.
+    Port(u16),
+}
+
+impl fmt::Display for About<'_> {
+    fn fmt<W: fmt::Write>(&self, f: &mut fmt::Formatter<W>) -> fmt::Result {
+        match self {
+            About::Nothing => Ok(()),
+            About::Path(path) => write!(f, ": {path}"),
+            About::Port(port) => write!(f, ": 127.0.0.1:{port}"),
         }
     }
 }

@@ -1,11 +1,13 @@
 //! The commands over a disk in a file.
 
-use crate::fault::CommandFault;
+use crate::fault::{Cause, CommandFault};
+use crate::looks::Looks;
+use crate::noted::Noted;
 use crate::place::{Identity, OpenPath, identity_of};
 use crate::regular::open_regular;
 use crate::serving::{Peers, serve};
 use crate::watching::{Watch, Watched};
-use generations::{LAST_VERSION, StoreFault};
+use generations::LAST_VERSION;
 use map_disks::{formatted_file, opened_service};
 use sector_disk::{FileDisk, Start, SystemFile, Zeros};
 use std::cell::Cell;
@@ -75,11 +77,12 @@ fn lock(rt: &HostRuntime, file: &File) -> Result<(), CommandFault> {
 /// Syncs an open file, and has the system read it from its medium again. Where a sync of an earlier process failed, Linux takes what
 /// wasn't written for written, and gives it to readers until it forgets it.
 fn settle(file: &File) -> Result<(), CommandFault> {
-    let synced = file.sync_data().is_ok();
-    if synced && libc::posix_fadvise(file.as_raw_fd(), 0, 0, libc::POSIX_FADV_DONTNEED) == 0 {
-        Ok(())
-    } else {
-        Err(CommandFault::Store(StoreFault::Device))
+    if let Err(error) = file.sync_data() {
+        return Err(CommandFault::Device(Some(error)));
+    }
+    match libc::posix_fadvise(file.as_raw_fd(), 0, 0, libc::POSIX_FADV_DONTNEED) {
+        0 => Ok(()),
+        code => Err(CommandFault::Device(Some(io::Error::from_raw_os_error(code)))),
     }
 }
 
@@ -131,6 +134,7 @@ pub(crate) fn serve_file<S: Start>(
         held: _held,
     } = opened_file(rt, path)?;
     let watch = Cell::new(Watch::Off);
+    let cause: Cell<Cause> = Cell::new(None);
     let place = OpenPath {
         rt,
         path,
@@ -143,9 +147,13 @@ pub(crate) fn serve_file<S: Start>(
         told: rt.stderr(),
         watch: &watch,
     };
+    let file = Noted {
+        file,
+        cause: &cause,
+    };
     match opened_service(rt.alloc(), FileDisk::new(file, bytes, start), access) {
-        Ok(map) => serve(rt, map, peers, &watch),
-        Err((_, fault)) => Err(CommandFault::Store(fault)),
+        Ok(map) => serve(rt, map, peers, &Looks::new(Some(place), &watch)),
+        Err((_, fault)) => Err(CommandFault::of_disk(fault, &cause)),
     }
 }
 
@@ -161,10 +169,15 @@ pub(crate) fn upgrade_file<S: Start>(
         identity: _,
         held: _held,
     } = opened_file(rt, path)?;
+    let cause: Cell<Cause> = Cell::new(None);
+    let file = Noted {
+        file,
+        cause: &cause,
+    };
     let mut disk = FileDisk::new(file, bytes, start);
     match Service::upgrade(&mut disk) {
         Ok(()) => {}
-        Err(fault) => return Err(CommandFault::Store(fault)),
+        Err(fault) => return Err(CommandFault::of_disk(fault, &cause)),
     }
     match println!(rt; "version {LAST_VERSION}") {
         Ok(()) => Ok(()),

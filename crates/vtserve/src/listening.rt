@@ -6,14 +6,14 @@ ghost use Rattle.tile_service.specs.Machine.{Happening};
 ghost use Rattle.tile_service.specs.Runs.{TakesRun};
 
 use crate::fault::CommandFault;
-use crate::watching::{Halting, Watch};
+use crate::looks::Looks;
+use crate::watching::Halting;
 use clap::ArgMatches;
 use generations::StoreFault;
 use http_listen::ListenFault;
 use map_listen::serve_map_on;
 use map_replies::MapReplies;
 use sector_disk::Sectors;
-use std::cell::Cell;
 use std::io::{self, LineWriter, Write};
 use std::net::{Ipv4Addr, SocketAddr, TcpListener};
 
@@ -55,7 +55,7 @@ pub(crate) fn serve_connections<D: Sectors + Drop>(
     rt: &HostRuntime,
     asked: Listening,
     service: &mut MapReplies<D>,
-    watch: &Cell<Watch>,
+    looks: &Looks<'_>,
 ) -> Result<(), CommandFault>
     ensures all { OnOk result ((served : List Stretch) × (begun served ≡ asked.connections) × (run : List Happening)
         × Serves (Tells D.sectors D.honest D.history D.faults) (TellsCut D.sectors D.honest D.history D.faults)
@@ -67,7 +67,12 @@ pub(crate) fn serve_connections<D: Sectors + Drop>(
         SocketAddr::from((Ipv4Addr::LOCALHOST, asked.port)),
     ) {
         Ok(listener) => listener,
-        Err(error) => return Err(CommandFault::Listen(Some(error))),
+        Err(error) => {
+            return Err(CommandFault::Listen {
+                port: asked.port,
+                cause: Some(error),
+            });
+        }
     };
     // Each line of the log is one call of the system.
     let Ok(mut log) = LineWriter::new(rt.alloc(), rt.stderr()) else {
@@ -80,13 +85,16 @@ pub(crate) fn serve_connections<D: Sectors + Drop>(
     let listener = Halting {
         listener,
         halts: asked.stops,
-        watch,
+        looks,
     };
-    watch.set(Watch::On);
+    looks.begin();
     let connections = u64::from(asked.connections);
     match serve_map_on(rt, rt.alloc(), &listener, connections, service, &mut log) {
-        _ if asked.stops && watch.get() == Watch::Failed => Err(CommandFault::Told),
+        _ if asked.stops && looks.has_failed() => Err(CommandFault::Told),
         Ok(()) => Ok(()),
-        Err(ListenFault::Accept) => Err(CommandFault::Listen(None)),
+        Err(ListenFault::Accept) => Err(CommandFault::Listen {
+            port: asked.port,
+            cause: None,
+        }),
     }
 }

@@ -7,6 +7,8 @@ mod exporting;
 mod fault;
 mod files;
 mod listening;
+mod looks;
+mod noted;
 mod place;
 mod regular;
 mod serving;
@@ -21,6 +23,7 @@ use fault::CommandFault;
 use files::{format_file, serve_file, upgrade_file};
 use generations::StoreFault;
 use listening::listening_of;
+use looks::Looks;
 use map_disks::fresh_service;
 use sector_disk::Unknown;
 use serving::{Peers, serve};
@@ -47,14 +50,13 @@ pub(crate) enum Told {
     Cause,
 }
 
-/// The name of a fault, the path, and what the system said where it is known.
+/// The name of a fault, what it is about, and what the system said where it is known.
 fn refused_with(rt: &HostRuntime, fault: &CommandFault, path: &str) -> anyhow::Result<ExitCode> {
     let name = fault.name();
-    // `demo` has no path.
-    let behind = if path.is_empty() { "" } else { ": " };
+    let about = fault.about(path);
     match fault.cause() {
-        Some(cause) => eprintln!(rt; "vtserve: {name}{behind}{path}: {cause}")?,
-        None => eprintln!(rt; "vtserve: {name}{behind}{path}")?,
+        Some(cause) => eprintln!(rt; "vtserve: {name}{about}: {cause}")?,
+        None => eprintln!(rt; "vtserve: {name}{about}")?,
     }
     Ok(ExitCode::from(1))
 }
@@ -92,16 +94,26 @@ fn ended(
     }
 }
 
-/// Says that a port or a count is 0.
-fn out_of_range(rt: &HostRuntime) -> anyhow::Result<ExitCode> {
-    eprintln!(rt; "error: P and K are at least 1")?;
-    Ok(ExitCode::from(2))
+/// The same of a command that writes another file, at `goal`.
+fn ended_onto(
+    rt: &HostRuntime,
+    outcome: Result<(), CommandFault>,
+    path: &str,
+    goal: &str,
+    told: Told,
+) -> anyhow::Result<ExitCode> {
+    let about = match outcome {
+        Err(CommandFault::Output(_)) => goal,
+        _ => path,
+    };
+    ended(rt, outcome, about, told)
 }
 
 /// Serves one connection on standard input and output, over the empty map on a disk in memory.
 fn demo(rt: &HostRuntime, sectors: u64, access: Access) -> Result<(), CommandFault> {
+    let watch = Cell::new(Watch::Off);
     match fresh_service(rt.alloc(), sectors, access) {
-        Ok(map) => serve(rt, map, Peers::Streams, &Cell::new(Watch::Off)),
+        Ok(map) => serve(rt, map, Peers::Streams, &Looks::new(None, &watch)),
         Err(fault) => Err(CommandFault::Store(fault)),
     }
 }
@@ -136,12 +148,7 @@ fn run(rt: &HostRuntime, matches: &ArgMatches<'_>) -> anyhow::Result<ExitCode> {
         "demo" => ended(rt, demo(rt, sectors, access_in(words)), path, told),
         "export" => {
             let goal = words.get_str("OUTPUT").unwrap_or("");
-            let outcome = export_file(rt, path, goal, Unknown);
-            let about = match outcome {
-                Err(CommandFault::Output(_)) => goal,
-                _ => path,
-            };
-            ended(rt, outcome, about, told)
+            ended_onto(rt, export_file(rt, path, goal, Unknown), path, goal, told)
         }
         "format" => ended(rt, format_file(rt, path, sectors), path, told),
         "pipe" => {
@@ -153,7 +160,7 @@ fn run(rt: &HostRuntime, matches: &ArgMatches<'_>) -> anyhow::Result<ExitCode> {
                 let outcome = serve_file(rt, path, access_in(words), Peers::Port(asked), Unknown);
                 ended(rt, outcome, path, told)
             }
-            None => out_of_range(rt),
+            None => Ok(ExitCode::from(2)),
         },
         "show" => show_file(rt, path, told),
         "upgrade" => ended(rt, upgrade_file(rt, path, Unknown), path, told),

@@ -2,10 +2,9 @@
 
 use crate::fault::CommandFault;
 use crate::listening::{Listening, serve_connections};
-use crate::watching::Watch;
+use crate::looks::Looks;
 use map_replies::{MapReplies, serve_map};
 use sector_disk::Sectors;
-use std::cell::Cell;
 
 /// Where connections come from.
 #[derive(Clone, Copy, Debug, PartialEq, Eq)]
@@ -27,19 +26,19 @@ fn serve_streams<D: Sectors + Drop>(
     }
 }
 
-/// Serves a map, over a disk file that can be watched.
+/// Serves a map, over a disk file that is watched meanwhile.
 pub(crate) fn serve<D: Sectors + Drop>(
     rt: &HostRuntime,
     map: MapReplies<D>,
     peers: Peers,
-    watch: &Cell<Watch>,
+    looks: &Looks<'_>,
 ) -> Result<(), CommandFault> {
     let mut map = map;
     match peers {
         Peers::Streams => {
-            watch.set(Watch::On);
+            looks.begin();
             serve_streams(rt, &mut map)
         }
-        Peers::Port(asked) => serve_connections(rt, asked, &mut map, watch),
+        Peers::Port(asked) => serve_connections(rt, asked, &mut map, looks),
     }
 }

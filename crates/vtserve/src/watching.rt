@@ -1,9 +1,11 @@
 //! A disk file that fails, and what follows.
 
+use crate::looks::Looks;
 use crate::place::Place;
 use http_listen::{Kept, Waits};
 use sector_disk::{SECTOR_BYTES, SectorFile};
 use std::cell::Cell;
+use std::fmt::Display;
 use std::io::{self, ErrorKind, Write};
 use std::net::{OpenListener, SocketAddr};
 use std::time::Duration;
@@ -15,12 +17,20 @@ pub(crate) enum Watch {
     Off,
     /// No write or sync has failed since it is watched.
     On,
-    /// One has, and was told of: the service is broken.
+    /// One has, or the file was lost, and that was told of: nothing more is written.
     Failed,
 }
 
+/// Tells of a failure of a file that is watched. Only the first one is told of.
+pub(crate) fn tell_first<W: Write>(watch: &Cell<Watch>, told: &mut W, what: impl Display + Drop) {
+    if watch.get() == Watch::On {
+        watch.set(Watch::Failed);
+        let _ = writeln!(told, "vtserve: Device: {what}");
+    }
+}
+
 /// A file whose first write or sync that fails is told of, while it is watched. Nothing is written to a file that was removed, replaced or
-/// cut since it was opened: such a write fails.
+/// cut since it was opened: such a write or sync fails.
 #[derive(Drop)]
 pub(crate) struct Watched<'a, F, W, P> {
     pub(crate) file: F,
@@ -32,25 +42,22 @@ pub(crate) struct Watched<'a, F, W, P> {
 }
 
 impl<F, W: Write, P: Place> Watched<'_, F, W, P> {
-    /// Refuses to write to a file that was lost. The first time that is told of.
+    /// Refuses to write to a file that was lost. The first time that is told of. A file that was put back isn't written to either.
     fn in_place(&mut self) -> io::Result<()> {
+        if self.watch.get() == Watch::Failed {
+            return Err(ErrorKind::NotFound.into());
+        }
         let Some(loss) = self.place.loss() else {
             return Ok(());
         };
-        if self.watch.get() == Watch::On {
-            self.watch.set(Watch::Failed);
-            let _ = writeln!(self.told, "vtserve: Device: {loss}");
-        }
+        tell_first(self.watch, &mut self.told, loss);
         Err(ErrorKind::NotFound.into())
     }
 
     /// What a call came to. The first one that failed is told of.
     fn seen(&mut self, call: &str, outcome: io::Result<()>) -> io::Result<()> {
         if let Err(error) = &outcome {
-            if self.watch.get() == Watch::On {
-                self.watch.set(Watch::Failed);
-                let _ = writeln!(self.told, "vtserve: Device: {call}: {error}");
-            }
+            tell_first(self.watch, &mut self.told, format_args!("{call}: {error}"));
         }
         outcome
     }
@@ -72,28 +79,31 @@ impl<F: SectorFile, W: Write, P: Place> SectorFile for Watched<'_, F, W, P> {
     }
 
     fn sync_data(&mut self) -> io::Result<()> {
+        self.in_place()?;
         let outcome = self.file.sync_data();
         self.seen("sync", outcome)
     }
 }
 
-/// A listener that may accept no connection, and wait for none, once the disk file has failed.
+/// A listener that has the disk file looked at, and may accept no connection, and wait for none, once it has failed.
 #[derive(Drop)]
-pub(crate) struct Halting<'a, L> {
+pub(crate) struct Halting<'a, 'b, L> {
     pub(crate) listener: L,
     /// Whether it stops then.
     pub(crate) halts: bool,
-    pub(crate) watch: &'a Cell<Watch>,
+    /// What looks at the file while requests come.
+    pub(crate) looks: &'a Looks<'b>,
 }
 
-impl<L> Halting<'_, L> {
-    /// Whether it has stopped.
+impl<L> Halting<'_, '_, L> {
+    /// Has the file looked at, and says whether it has stopped.
     fn has_stopped(&self) -> bool {
-        self.halts && self.watch.get() == Watch::Failed
+        self.looks.look();
+        self.halts && self.looks.has_failed()
     }
 }
 
-impl<L: OpenListener> OpenListener for Halting<'_, L> {
+impl<L: OpenListener> OpenListener for Halting<'_, '_, L> {
     type Stream = L::Stream;
 
     fn accept(&self) -> io::Result<(L::Stream, SocketAddr)> {
@@ -104,7 +114,7 @@ impl<L: OpenListener> OpenListener for Halting<'_, L> {
     }
 }
 
-impl<L: Waits> Waits for Halting<'_, L> {
+impl<L: Waits> Waits for Halting<'_, '_, L> {
     fn wait(
         &self,
         accepts: bool,
