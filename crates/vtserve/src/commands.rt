@@ -24,12 +24,19 @@ enum Word {
     Archive,
     /// The path of an archive that is written.
     Output,
+    /// The path of a copy of a disk.
+    Copy,
 }
 
 /// A command: its name, its arguments and its help.
 type Row = (&'static str, &'static [Word], &'static str);
 
-const COMMANDS: [Row; 8] = [
+const COMMANDS: [Row; 9] = [
+    (
+        "copy",
+        &[Word::Disk, Word::Copy],
+        "Copies a disk file as of one moment, also while it is served; FILE must not exist",
+    ),
     (
         "demo",
         &[Word::Sectors, Word::Admin],
@@ -91,13 +98,13 @@ fn disk_path<'a>(alloc: Global) -> Arg<'a> {
     path(alloc, "A disk file").value_name("DISK")
 }
 
-/// The argument FILE of `export`. It has an id of its own, since `FILE` is that of DISK.
-fn output_path<'a>(alloc: Global) -> Arg<'a> {
+/// The argument FILE of `export` and of `copy`. It has an id of its own, since `FILE` is that of DISK.
+fn output_path<'a>(alloc: Global, help: &'a str) -> Arg<'a> {
     Arg::new(alloc, "OUTPUT")
         .value_name("FILE")
         .required(true)
         .action(ArgAction::Set)
-        .help("The PMTiles file to write; an existing regular file is replaced")
+        .help(help)
 }
 
 /// The number of sectors, by position.
@@ -166,7 +173,11 @@ fn arg_of<'a>(alloc: Global, word: Word) -> Arg<'a> {
         Word::Admin => admin(alloc),
         Word::Stops => stops(alloc),
         Word::Archive => path(alloc, "A tile archive (PMTiles 3)"),
-        Word::Output => output_path(alloc),
+        Word::Output => output_path(
+            alloc,
+            "The PMTiles file to write; an existing regular file is replaced",
+        ),
+        Word::Copy => output_path(alloc, "The disk file to create"),
     }
 }
 

@@ -43,7 +43,7 @@ fn copy_into<D: Sectors>(
 }
 
 /// Gives a file another name, which outlives a crash. A file that has this name is replaced.
-fn rename(rt: &HostRuntime, part: &str, goal: &str) -> Result<(), CommandFault> {
+pub(crate) fn rename(rt: &HostRuntime, part: &str, goal: &str) -> Result<(), CommandFault> {
     let renamed = match fs::rename(rt, part, goal) {
         Ok(()) => sync_folder(rt, goal),
         Err(error) => Err(error),

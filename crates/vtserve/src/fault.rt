@@ -18,6 +18,8 @@ pub(crate) enum CommandFault {
     Output(Cause),
     /// No archive was published.
     NoArchive,
+    /// Publications passed by each copy that was begun.
+    Busy,
     /// The disk isn't ready for a service, or can't be read.
     Store(StoreFault),
     /// A call of the disk's file failed.
@@ -55,6 +57,7 @@ impl CommandFault {
         match self {
             CommandFault::File(_) | CommandFault::Output(_) => "File",
             CommandFault::NoArchive => "NoArchive",
+            CommandFault::Busy => "Busy",
             CommandFault::Store(fault) => store_fault_name(*fault),
             CommandFault::Connection(fault) => serve_fault_name(*fault),
             CommandFault::Listen { .. } => "Listen",

@@ -14,6 +14,7 @@ use std::cell::Cell;
 use std::fs::{File, OpenOptions, TryLockError};
 use std::io::{self, ErrorKind};
 use std::os::fd::AsRawFd;
+use std::os::unix::fs::PermissionsExt;
 use tile_routes::Access;
 use tile_service::Service;
 
@@ -114,6 +115,39 @@ pub(crate) fn opened_file(rt: &HostRuntime, path: &str) -> Result<OpenedFile, Co
         file: SystemFile::new(file),
         bytes,
         identity,
+        held: Held { _streams: streams },
+    })
+}
+
+/// The file of a disk that another process may serve, for reading it.
+pub(crate) struct SharedDisk {
+    pub(crate) file: File,
+    pub(crate) bytes: u64,
+    /// The permissions of the file.
+    pub(crate) mode: u32,
+    /// What is to be kept as long as the file is.
+    pub(crate) held: Held,
+}
+
+/// Opens the file of a disk to read it, whether another process uses it or not.
+pub(crate) fn shared_disk(rt: &HostRuntime, path: &str) -> Result<SharedDisk, CommandFault> {
+    match open_shared(rt, path) {
+        Ok(disk) => Ok(disk),
+        Err(error) => Err(CommandFault::File(Some(error))),
+    }
+}
+
+/// Opens the file of a disk to read it.
+fn open_shared(rt: &HostRuntime, path: &str) -> io::Result<SharedDisk> {
+    let streams = closed_streams(rt)?;
+    let mut how = OpenOptions::new();
+    how.read(true);
+    let file = open_regular(rt, path, &how)?;
+    let metadata = file.metadata()?;
+    Ok(SharedDisk {
+        file,
+        bytes: metadata.len(),
+        mode: metadata.permissions().mode(),
         held: Held { _streams: streams },
     })
 }

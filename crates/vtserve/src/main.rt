@@ -3,6 +3,7 @@
 
 mod archives;
 mod commands;
+mod copying;
 mod exporting;
 mod fault;
 mod files;
@@ -18,6 +19,7 @@ use archives::{show_file, verify_file};
 use clap::ArgMatches;
 use clap::error::ErrorKind::OutOfMemory;
 use commands::command_line;
+use copying::copy_file;
 use exporting::export_file;
 use fault::CommandFault;
 use files::{format_file, serve_file, upgrade_file};
@@ -146,6 +148,10 @@ fn run(rt: &HostRuntime, matches: &ArgMatches<'_>) -> anyhow::Result<ExitCode> {
     let told = told_in(words);
     match name {
         "demo" => ended(rt, demo(rt, sectors, access_in(words)), path, told),
+        "copy" => {
+            let goal = words.get_str("OUTPUT").unwrap_or("");
+            ended_onto(rt, copy_file(rt, path, goal, Unknown), path, goal, told)
+        }
         "export" => {
             let goal = words.get_str("OUTPUT").unwrap_or("");
             ended_onto(rt, export_file(rt, path, goal, Unknown), path, goal, told)
