@@ -58,7 +58,7 @@ def sends_in_pieces(peer):
 
 # What a peer does, the line of its connection up to its end, and for how many seconds it is served.
 SLOW_PEERS = [
-    (drips_a_request, rb"connection 1: 0 requests, read", 60, 130),
+    (drips_a_request, rb"connection 1: 0 requests, read", 59, 70),
     (drips_behind_its_reply, rb"connection 1: 1 requests, asked", 58, 70),
     (reads_nothing, rb"connection 1: \d+ requests, write", 59, 80),
     (sends_in_pieces, rb"connection 1: 1 requests, closed", 2, 10),

@@ -11,7 +11,7 @@ use crate::paced::{Paced, PacedWriter, ROUND_MILLISECONDS};
 use crate::rooms::{Found, Room, time_of};
 use crate::stretches::StretchReader;
 use crate::waits::Waits;
-use http_serve::{Buffers, Handler, MAX_READS, ServeFault, Served, serve_with};
+use http_serve::{Buffers, End, Handler, MAX_READS, ServeFault, Served, serve_with};
 use std::alloc::Global;
 use std::io::{Read, Write};
 use std::net::OpenStream;
@@ -78,6 +78,29 @@ where
     }
 }
 
+/// Whether a connection may get bytes that nobody will read, though its peer hasn't read its last reply. After a fault there is no whole
+/// reply to be lost, and a peer that has closed its side sends no more.
+fn is_drained(outcome: Result<Served, ServeFault>) -> bool {
+    match outcome {
+        Ok(served) => served.end != End::Closed,
+        Err(_) => false,
+    }
+}
+
+/// Ends a connection, and drops what its peer still sends: where others wait, no longer than it sends without a pause.
+fn drain<S, C>(clock: &C, room: &mut Room<S>, mut stream: S)
+where
+    S: Read + OpenStream + Drop,
+    C: Clock,
+{
+    if room.is_empty() {
+        end_connection(clock, &mut stream);
+    } else {
+        end_at_once(clock, &mut stream);
+        room.linger(stream);
+    }
+}
+
 /// Keeps a connection that waits for its next request after a stretch. Otherwise it ends, with its line in the log.
 fn settle<S, W, C>(
     clock: &C,
@@ -95,7 +118,7 @@ where
     let Past {
         outcome,
         waits,
-        mut stream,
+        stream,
     } = past;
     match with_earlier(outcome, earlier) {
         Ok(Served { requests, .. }) if waits => {
@@ -110,11 +133,8 @@ where
         }
         whole => {
             let _ = write_line(log, number, whole);
-            if room.is_empty() {
-                end_connection(clock, &mut stream);
-            } else {
-                end_at_once(clock, &mut stream);
-                room.linger(stream);
+            if is_drained(whole) {
+                drain(clock, room, stream);
             }
         }
     }
@@ -153,20 +173,26 @@ where
 /// or at a fault `memory`, `read`, `write` or `device`: what `http_serve::serve_with` answered to its last stretch.
 ///
 /// One request is served at a time. Between two requests a connection is kept while others are served: so the connections are served in
-/// stretches, each of one connection, and each as `http_serve::serve_with` does. At most `MAX_KEPT` wait for their next request. Where
-/// more do, the one that waits longest is ended, and logged as `closed`; so is one that waits for 60 seconds, and one that waits where
-/// a connection can't be accepted. In the middle of a request a connection is waited for, and all others with it.
+/// stretches, each of one connection, and each as `http_serve::serve_with` does. While others are kept, a stretch has one read of a
+/// connection that has something. In the middle of a request a connection is waited for, and all others with it.
 ///
-/// A connection's fault ends that connection alone. A line that can't be written is left out.
+/// At most `MAX_KEPT` wait for their next request. Where so many do, or where a connection can't be accepted for want of descriptors
+/// or memory, room is made for it: of the streams that are only drained one is closed, or else the connection that waits longest is
+/// ended and logged as `closed`, if it has waited for a second and has sent nothing. If there is none, the new one waits in the
+/// listener's queue, and is accepted once one can be. A connection that waits for 60 seconds is ended as well.
+///
+/// A connection's fault ends that connection alone. An accept that fails for the one that it accepts is tried again, and a call that
+/// a signal interrupts. A line that can't be written is left out.
 ///
 /// A peer has 60 seconds to begin a request, as long again to its end, and as long for a reply and a second more for each
 /// 16,384 bytes of it, but never more than 60 seconds at once. The replies to requests that were read together count as one.
-/// A slower peer's connection is given up, as where a read or a write fails. What it sends after its last reply is dropped for
-/// 60 seconds at most, and where others are kept, as long as it sends without a pause of 10 ms.
+/// A slower peer's connection is given up, as where a read or a write fails: its stream is closed at once. What a peer sends after
+/// its last reply is dropped for 60 seconds at most, and where others are kept, as long as it sends without a pause of 10 ms.
 ///
 /// # Errors
 ///
-/// `Accept` where a connection couldn't be accepted while none is kept: then no more are served.
+/// `Accept` where a connection couldn't be accepted while none is kept and no stream could be closed for it, or 1,000 in a row failed:
+/// then no more are served. Where the listener fails otherwise, those that are kept are ended first.
 pub fn serve_on<L, H, W, C>(
     clock: &C,
     alloc: Global,

@@ -2,7 +2,7 @@
 
 use crate::paced::nanoseconds_since;
 use crate::paces::Pace;
-use std::io::Read;
+use std::io::{ErrorKind, Read};
 use std::net::{OpenStream, Shutdown};
 use std::time::{Clock, Duration};
 
@@ -18,7 +18,7 @@ const MAX_DROPPING_READS: u64 = 16_384;
 /// How many bytes are dropped at once.
 const PIECE: usize = 4_096;
 
-/// Makes one read. Whether more may come, and how much time is left then.
+/// Makes one read. If more may come: how many bytes came, and how much time is left. A read that a signal interrupts gives none.
 fn drop_piece<S: Read, C: Clock>(
     clock: &C,
     stream: &mut S,
@@ -26,12 +26,15 @@ fn drop_piece<S: Read, C: Clock>(
     pace: Pace,
 ) -> Option<(usize, Pace)> {
     let start = clock.monotonic().ok()?;
-    let count = stream.read(piece).ok()?;
+    let outcome = stream.read(piece);
     let pace = pace.waited(nanoseconds_since(clock, start).ok()?);
-    if count == 0 || pace.is_over() {
-        return None;
+    match outcome {
+        _ if pace.is_over() => None,
+        Ok(0) => None,
+        Ok(count) => Some((count, pace)),
+        Err(e) if e.kind() == ErrorKind::Interrupted => Some((0, pace)),
+        Err(_) => None,
     }
-    Some((count, pace))
 }
 
 /// Reads and drops what comes, up to the input's end, a read that fails, or the bounds on bytes, reads and time.

@@ -7,6 +7,7 @@ mod kept;
 mod lines;
 mod paced;
 mod paces;
+mod refusals;
 mod rooms;
 mod stretches;
 mod waits;

@@ -18,6 +18,14 @@ pub(crate) fn nanoseconds_since<C: Clock>(clock: &C, start: Duration) -> io::Res
     Ok(u64::try_from(passed.as_nanos()).unwrap_or(u64::MAX))
 }
 
+/// Whether a read or a write may be tried again: nothing moved in its round, or a signal interrupted it.
+pub(crate) fn is_passing(error: &io::Error) -> bool {
+    match error.kind() {
+        ErrorKind::Interrupted | ErrorKind::WouldBlock => true,
+        _ => false,
+    }
+}
+
 /// A stream that a reader and a writer share, and the time that its peer has left. Only what its calls take counts, and not what the
 /// making of a reply takes.
 #[derive(Drop)]
@@ -76,8 +84,8 @@ impl<S: Read, C: Clock> Paced<'_, S, C> {
         }
     }
 
-    /// The same, of which the peer's time is taken off. The error is `WouldBlock` where nothing came in a round, and `TimedOut` where
-    /// no time was left.
+    /// The same, of which the peer's time is taken off. The error is `WouldBlock` where nothing came in a round, `Interrupted` where a
+    /// signal ended it, and `TimedOut` where no time was left.
     pub(crate) fn read_round(&self, buf: &mut [u8]) -> io::Result<usize>
         ensures { ReadsAtMost result buf.new }
     {
@@ -106,7 +114,7 @@ impl<S: Write, C: Clock> Paced<'_, S, C> {
     }
 
     /// The same, of which the peer's time is taken off, and to which what it took is added. The error is `WouldBlock` where nothing
-    /// was taken in a round, and `TimedOut` where no time was left.
+    /// was taken in a round, `Interrupted` where a signal ended it, and `TimedOut` where no time was left.
     fn write_round(&self, buf: &[u8]) -> io::Result<usize>
         ensures { WritesAtMost result buf.now }
     {
@@ -132,7 +140,7 @@ impl<S: Write, C: Clock> Write for PacedWriter<'_, S, C> {
         self.0.pace.set(self.0.pace.get().writes());
         for _ in 0..MAX_ROUNDS {
             match self.0.write_round(buf) {
-                Err(e) if e.kind() == ErrorKind::WouldBlock => {}
+                Err(e) if is_passing(&e) => {}
                 Ok(count) => return Ok(count),
                 Err(e) => return Err(e),
             }

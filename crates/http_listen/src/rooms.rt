@@ -5,10 +5,11 @@ ghost use Rattle.http_listen.specs.declared.rooms.Found.TheVariants.{New};
 use crate::kept::Kept;
 use crate::lines::write_line;
 use crate::paces::WAIT_SECONDS;
+use crate::refusals::{Refusal, refusal_of};
 use crate::waits::{MAX_KEPT, Waits};
 use http_serve::{End, Served};
 use std::alloc::Global;
-use std::io::Write;
+use std::io::{ErrorKind, Write};
 use std::net::{OpenStream, Shutdown};
 use std::time::{Clock, Duration};
 
@@ -33,12 +34,17 @@ pub(crate) enum Found<S> {
     Over,
 }
 
-/// How many times a connection is asked for another request before others are looked for, while no other is kept, or while it alone has
-/// asked for a while.
+/// How many times a connection is asked for another request before others are looked for, while no other is kept.
 const ASKS_ALONE: u64 = 16;
 
-/// So many stretches in a row are of one connection where it alone has asked for a while.
-const IN_A_ROW: u64 = 8;
+/// How long a connection has waited at least, in seconds, before it is ended for another one.
+const LEAST_WAIT_SECONDS: u64 = 1;
+
+/// How many milliseconds one that comes is left in the listener's queue while it can't be accepted.
+const QUEUE_MILLISECONDS: u64 = 10;
+
+/// How many accepts and waits in a row may fail for a cause that passes.
+const MAX_FAILURES: u64 = 1_000;
 
 /// The connections that wait for their next request.
 #[derive(Drop)]
@@ -49,9 +55,10 @@ pub(crate) struct Room<S> {
     lingering: Vec<S>,
     /// Whether a connection can be accepted.
     comes: bool,
-    /// Which connection was served last, and how many stretches in a row are its own.
-    last: u64,
-    in_a_row: u64,
+    /// Whether one comes for which there is no room yet.
+    crowded: bool,
+    /// How many accepts and waits in a row have failed for a cause that passes.
+    failures: u64,
 }
 
 impl<S> Room<S> {
@@ -61,8 +68,8 @@ impl<S> Room<S> {
             kept: Vec::new(alloc),
             lingering: Vec::new(alloc),
             comes: false,
-            last: 0,
-            in_a_row: 0,
+            crowded: false,
+            failures: 0,
         }
     }
 
@@ -73,20 +80,20 @@ impl<S> Room<S> {
 
     /// How many times the connection that is served next is asked for another request. Where others wait, it was ready for one, if it
     /// was kept, and it isn't asked at all if it is new.
-    pub(crate) fn asks_for(&mut self, connection: &Kept<S>) -> u64 {
-        if connection.number == self.last {
-            self.in_a_row = self.in_a_row.saturating_add(1);
-        } else {
-            self.in_a_row = 0;
-        }
-        self.last = connection.number;
-        if self.kept.is_empty() || self.in_a_row >= IN_A_ROW {
+    pub(crate) fn asks_for(&self, connection: &Kept<S>) -> u64 {
+        if self.kept.is_empty() {
             ASKS_ALONE
         } else if connection.ready {
             1
         } else {
             0
         }
+    }
+
+    /// Counts a failure whose cause passes. Whether there were too many in a row.
+    fn fails_too_often(&mut self) -> bool {
+        self.failures = self.failures.saturating_add(1);
+        self.failures > MAX_FAILURES
     }
 
     /// Takes the first connection whose stream has something.
@@ -129,31 +136,96 @@ impl<S: OpenStream + Drop> Room<S> {
         }
     }
 
-    /// Keeps a connection, which waits from now on. Where too many wait, or memory runs out, one of them is ended.
+    /// Keeps a connection, which waits from now on. Where memory runs out, it is ended.
     pub(crate) fn keep<W: Write>(&mut self, kept: Kept<S>, log: &mut W) {
-        if self.kept.len() >= MAX_KEPT {
-            self.end_first(log);
-        }
         if let Err(refused) = self.kept.push(kept) {
             self.end(refused.value, log);
         }
     }
 
-    /// Accepts a connection. Where it can't be accepted, one that waits is ended for it.
-    fn accept<L: Waits<Stream = S>, W: Write>(&mut self, listener: &L, log: &mut W) -> Found<S> {
+    /// Ends the connection that waits longest, if it has waited for a second and has sent nothing by now. Whether it did.
+    fn end_idle<L: Waits<Stream = S>, W: Write, C: Clock>(
+        &mut self,
+        clock: &C,
+        listener: &L,
+        log: &mut W,
+    ) -> bool {
+        let Some(first) = self.kept.first() else {
+            return false;
+        };
+        let waited = time_of(clock).saturating_sub(first.since);
+        if waited < Duration::from_secs(LEAST_WAIT_SECONDS) {
+            return false;
+        }
+        let looked = listener.wait(false, &mut self.kept, Duration::ZERO);
+        if looked.is_err() || self.kept.first().is_some_and(|kept| kept.ready) {
+            return false;
+        }
+        self.end_first(log);
+        true
+    }
+
+    /// Ends a connection for one that comes, if one may be ended. Otherwise the new one stays in the listener's queue for a while.
+    fn give_way<L: Waits<Stream = S>, W: Write, C: Clock>(
+        &mut self,
+        clock: &C,
+        listener: &L,
+        log: &mut W,
+    ) {
+        self.comes = self.end_idle(clock, listener, log);
+        self.crowded = !self.comes;
+    }
+
+    /// What follows where a connection couldn't be accepted. Where descriptors ran out, what lingers is closed before any is ended.
+    fn refused<L: Waits<Stream = S>, W: Write, C: Clock>(
+        &mut self,
+        clock: &C,
+        listener: &L,
+        refusal: Refusal,
+        log: &mut W,
+    ) -> Found<S> {
+        if refusal == Refusal::Passing && !self.fails_too_often() {
+            return Found::Nothing;
+        }
+        if refusal == Refusal::Full && !self.lingering.is_empty() {
+            drop(self.lingering.remove(0));
+            self.comes = true;
+            return Found::Nothing;
+        }
+        if self.kept.is_empty() {
+            return Found::Over;
+        }
+        if refusal == Refusal::Full {
+            self.give_way(clock, listener, log);
+        } else {
+            self.end_first(log);
+        }
+        Found::Nothing
+    }
+
+    /// Accepts a connection, where fewer are kept than may be.
+    fn accept<L: Waits<Stream = S>, W: Write, C: Clock>(
+        &mut self,
+        clock: &C,
+        listener: &L,
+        log: &mut W,
+    ) -> Found<S> {
         self.comes = false;
+        if self.kept.len() >= MAX_KEPT {
+            self.give_way(clock, listener, log);
+            return Found::Nothing;
+        }
         match listener.accept() {
-            Ok((stream, _)) => Found::New(stream),
-            Err(_) if self.kept.is_empty() => Found::Over,
-            Err(_) => {
-                self.end_first(log);
-                Found::Nothing
+            Ok((stream, _)) => {
+                self.failures = 0;
+                Found::New(stream)
             }
+            Err(e) => self.refused(clock, listener, refusal_of(&e), log),
         }
     }
 
-    /// Waits for the streams that are kept, and for a new connection if one is to be accepted. One that has waited for too long and has
-    /// sent nothing by now is ended, and one where they can't be waited for.
+    /// Waits for the streams that are kept, and for a new connection if one is to be accepted and there may be room for it. One that has
+    /// waited for too long and has sent nothing by now is ended, and one where they can't be waited for.
     fn wait<L: Waits<Stream = S>, W: Write, C: Clock>(
         &mut self,
         clock: &C,
@@ -164,11 +236,21 @@ impl<S: OpenStream + Drop> Room<S> {
         let since = self.kept.first().map_or(Duration::ZERO, |kept| kept.since);
         let waited = time_of(clock).saturating_sub(since);
         let left = Duration::from_secs(WAIT_SECONDS).saturating_sub(waited);
-        let Ok(comes) = listener.wait(accepts, &mut self.kept, left) else {
-            self.end_first(log);
-            return;
+        let longest = if self.crowded {
+            left.min(Duration::from_millis(QUEUE_MILLISECONDS))
+        } else {
+            left
         };
-        self.comes = comes;
+        let accepts = accepts && !self.crowded;
+        self.crowded = false;
+        match listener.wait(accepts, &mut self.kept, longest) {
+            Ok(comes) => {
+                self.failures = 0;
+                self.comes = comes;
+            }
+            Err(e) if e.kind() == ErrorKind::Interrupted && !self.fails_too_often() => return,
+            Err(_) => return self.end_first(log),
+        }
         if left.is_zero() && self.kept.first().is_some_and(|kept| !kept.ready) {
             self.end_first(log);
         }
@@ -188,7 +270,7 @@ impl<S: OpenStream + Drop> Room<S> {
             return Found::Kept(kept);
         }
         if accepts && (self.comes || self.kept.is_empty()) {
-            return self.accept(listener, log);
+            return self.accept(clock, listener, log);
         }
         if self.kept.is_empty() {
             return Found::Over;

@@ -1,13 +1,13 @@
 //! A reader that ends between two requests.
 ghost use Rattle.std.specs.Io.{ReadsAtMost};
 
-use crate::paced::{MAX_ROUNDS, Paced};
+use crate::paced::{MAX_ROUNDS, Paced, is_passing};
 use http_serve::READ_SPACE;
 use std::io::{self, ErrorKind, Read};
 use std::time::Clock;
 
-/// The reader of a stretch of a connection: its input ends between two requests, once nothing comes in a round, or once it was asked so
-/// many times for another one.
+/// The reader of a stretch of a connection: its input ends between two requests, once nothing comes in a round or a signal ends it, or once
+/// it was asked so many times for another one.
 #[derive(Drop)]
 pub(crate) struct StretchReader<'a, S, C> {
     stream: &'a Paced<'a, S, C>,
@@ -43,7 +43,7 @@ impl<S: Read, C: Clock> StretchReader<'_, S, C> {
         };
         self.left = left;
         match self.stream.read_round(buf) {
-            Err(e) if e.kind() == ErrorKind::WouldBlock => {
+            Err(e) if is_passing(&e) => {
                 self.waits = true;
                 Ok(0)
             }
@@ -61,7 +61,7 @@ impl<S: Read, C: Clock> Read for StretchReader<'_, S, C> {
         }
         for _ in 0..MAX_ROUNDS {
             match self.stream.read_round(buf) {
-                Err(e) if e.kind() == ErrorKind::WouldBlock => {}
+                Err(e) if is_passing(&e) => {}
                 outcome => return outcome,
             }
         }

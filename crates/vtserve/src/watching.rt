@@ -85,7 +85,8 @@ impl<F: SectorFile, W: Write, P: Place> SectorFile for Watched<'_, F, W, P> {
     }
 }
 
-/// A listener that has the disk file looked at, and may accept no connection, and wait for none, once it has failed.
+/// A listener that has the disk file looked at, and may accept no connection, and wait for none, once it has failed. Its error is none that
+/// an accept is tried again after.
 #[derive(Drop)]
 pub(crate) struct Halting<'a, 'b, L> {
     pub(crate) listener: L,
@@ -108,7 +109,7 @@ impl<L: OpenListener> OpenListener for Halting<'_, '_, L> {
 
     fn accept(&self) -> io::Result<(L::Stream, SocketAddr)> {
         if self.has_stopped() {
-            return Err(ErrorKind::Interrupted.into());
+            return Err(ErrorKind::Other.into());
         }
         self.listener.accept()
     }
@@ -122,7 +123,7 @@ impl<L: Waits> Waits for Halting<'_, '_, L> {
         longest: Duration,
     ) -> io::Result<bool> {
         if self.has_stopped() {
-            return Err(ErrorKind::Interrupted.into());
+            return Err(ErrorKind::Other.into());
         }
         self.listener.wait(accepts, streams, longest)
     }

@@ -140,7 +140,7 @@ impl<'a> OpenListener for Listener<'a> {
     fn accept(&self) -> io::Result<(Stream<'a>, SocketAddr)> {
         let mut asked = self.asked.get();
         let Some(accepts) = asked.accepts.checked_sub(1) else {
-            return Err(ErrorKind::ConnectionAborted.into());
+            return Err(ErrorKind::Other.into());
         };
         asked.accepts = accepts;
         self.asked.set(asked);

@@ -1,4 +1,8 @@
 //! Connections that are kept while others are served, over a clock that waits move on.
+
+mod crowds;
+mod signals;
+
 use super::{Counter, GET};
 use http_listen::{Kept, ListenFault, MAX_KEPT, Waits, serve_on};
 use std::cell::Cell;
@@ -12,14 +16,17 @@ use std::time::{Clock, Duration};
 enum Round {
     Bytes(&'static str),
     Nothing,
+    /// A signal interrupts it.
+    Signal,
 }
 
-/// A stream that gives these rounds, and then its end.
+/// A stream that gives these rounds, and then its end. A signal interrupts each other write.
 #[derive(Clone, Copy)]
 struct Stream<'a> {
     /// Its number, from 1.
     number: usize,
     rounds: &'a [Round],
+    interrupted: bool,
 }
 
 impl Read for Stream<'_> {
@@ -35,12 +42,17 @@ impl Read for Stream<'_> {
                 Ok(count)
             }
             Round::Nothing => Err(ErrorKind::WouldBlock.into()),
+            Round::Signal => Err(ErrorKind::Interrupted.into()),
         }
     }
 }
 
 impl Write for Stream<'_> {
     fn write(&mut self, buf: &[u8]) -> io::Result<usize> {
+        self.interrupted = !self.interrupted;
+        if self.interrupted {
+            return Err(ErrorKind::Interrupted.into());
+        }
         Ok(buf.len())
     }
 
@@ -64,6 +76,10 @@ enum Waited {
     Ready(&'static [usize]),
     /// All of the time passes.
     Passes,
+    /// So many milliseconds pass, and then a connection comes, if one is to be accepted.
+    ComesAfter(u64),
+    /// A signal interrupts it.
+    Signal,
 }
 
 /// A clock that waits move on.
@@ -82,11 +98,19 @@ impl Clock for Watch<'_> {
     }
 }
 
+impl Watch<'_> {
+    fn move_on(&self, passed: Duration) {
+        self.now.set(self.now.get().saturating_add(passed));
+    }
+}
+
 /// A listener to which these streams connect.
 #[derive(Clone, Copy)]
 struct Listener<'a> {
-    /// Each: the rounds of its stream, or nothing where it can't be accepted.
+    /// Each: the rounds of its stream, or nothing where it can't be accepted. Behind the last one none can be.
     streams: &'a [Option<&'a [Round]>],
+    /// The number of the error where one can't be accepted.
+    failure: i32,
     waits: &'a [Waited],
     /// How many were accepted or refused, how many of them accepted, and how many waits there were.
     tried: &'a Cell<usize>,
@@ -101,13 +125,19 @@ impl<'a> OpenListener for Listener<'a> {
     fn accept(&self) -> io::Result<(Stream<'a>, SocketAddr)> {
         let tried = self.tried.get();
         self.tried.set(tried.saturating_add(1));
-        let Some(Some(rounds)) = self.streams.get(tried) else {
-            return Err(ErrorKind::ConnectionAborted.into());
+        let rounds = match self.streams.get(tried) {
+            Some(Some(rounds)) => *rounds,
+            Some(None) => return Err(io::Error::from_raw_os_error(self.failure)),
+            None => return Err(ErrorKind::Other.into()),
         };
         let number = self.given.get().saturating_add(1);
         self.given.set(number);
         Ok((
-            Stream { number, rounds },
+            Stream {
+                number,
+                rounds,
+                interrupted: false,
+            },
             SocketAddr::from((Ipv4Addr::LOCALHOST, 1)),
         ))
     }
@@ -137,11 +167,14 @@ impl Waits for Listener<'_> {
                 Ok(false)
             }
             Some(Waited::Passes) => {
-                self.watch
-                    .now
-                    .set(self.watch.now.get().saturating_add(longest));
+                self.watch.move_on(longest);
                 Ok(false)
             }
+            Some(Waited::ComesAfter(milliseconds)) => {
+                self.watch.move_on(Duration::from_millis(*milliseconds));
+                Ok(accepts)
+            }
+            Some(Waited::Signal) => Err(ErrorKind::Interrupted.into()),
             None => Err(ErrorKind::OutOfMemory.into()),
         }
     }
@@ -152,13 +185,26 @@ impl Waits for Listener<'_> {
 struct Outcome {
     ended: Result<(), ListenFault>,
     log: Vec<u8>,
-    /// How many seconds passed.
-    seconds: u64,
+    milliseconds: u128,
 }
 
-/// Serves so many connections of these streams, with these waits.
+/// Linux's error where a process has no descriptor left.
+const EMFILE: i32 = 24;
+
+/// Serves so many connections of these streams, with these waits. Where one can't be accepted, there is no descriptor.
 fn serve_all(
     rt: &HostRuntime,
+    connections: u64,
+    streams: &[Option<&[Round]>],
+    waits: &[Waited],
+) -> Outcome {
+    serve_failing(rt, EMFILE, connections, streams, waits)
+}
+
+/// The same, where one can't be accepted for this error of Linux.
+fn serve_failing(
+    rt: &HostRuntime,
+    failure: i32,
     connections: u64,
     streams: &[Option<&[Round]>],
     waits: &[Waited],
@@ -168,6 +214,7 @@ fn serve_all(
     let watch = Watch { now: &now };
     let listener = Listener {
         streams,
+        failure,
         waits,
         tried: &tried,
         given: &given,
@@ -187,7 +234,7 @@ fn serve_all(
     Outcome {
         ended,
         log,
-        seconds: now.get().as_secs().saturating_sub(1_000),
+        milliseconds: now.get().as_millis().saturating_sub(1_000_000),
     }
 }
 
@@ -221,7 +268,7 @@ fn kept_connections_take_turns(rt: HostRuntime) -> Result<(), Fail> {
     let outcome = serve_all(&rt, 2, &[Some(THREE), Some(TWO)], &waits);
     let lines = "connection 2: 2 requests, closed\nconnection 1: 3 requests, closed\n";
     assert_eq!(rt; outcome.log.as_slice(), lines.as_bytes());
-    assert_eq!(rt; (outcome.ended, outcome.seconds), (Ok(()), 0));
+    assert_eq!(rt; (outcome.ended, outcome.milliseconds), (Ok(()), 0));
     Ok(())
 }
 
@@ -248,13 +295,13 @@ fn a_busy_connection_gives_way(rt: HostRuntime) -> Result<(), Fail> {
     Ok(())
 }
 
-/// A connection that alone asks for a while, beside a silent one, is asked sixteen times before others are looked for.
+/// A connection that alone asks is asked once in its turn where another one is kept, however often it has asked.
 #[test]
-fn one_that_alone_asks_is_asked_more_often(rt: HostRuntime) -> Result<(), Fail> {
-    let mut waits = [Waited::Ready(&[2]); 9];
+fn one_that_alone_asks_takes_its_turns(rt: HostRuntime) -> Result<(), Fail> {
+    let mut waits = [Waited::Ready(&[2]); 21];
     waits[0] = Waited::Comes;
     let outcome = serve_all(&rt, 2, &[Some(SILENT), Some(MANY)], &waits);
-    let lines = "connection 1: 0 requests, closed\nconnection 2: 23 requests, closed\n";
+    let lines = "connection 1: 0 requests, closed\nconnection 2: 20 requests, closed\n";
     assert_eq!(rt; outcome.log.as_slice(), lines.as_bytes());
     assert_eq!(rt; outcome.ended, Ok(()));
     Ok(())
@@ -284,7 +331,7 @@ fn a_connection_is_kept_for_a_minute(rt: HostRuntime) -> Result<(), Fail> {
     let outcome = serve_all(&rt, 2, &[Some(silent.as_slice()), Some(ONE)], &waits);
     let lines = "connection 1: 1 requests, closed\nconnection 2: 1 requests, closed\n";
     assert_eq!(rt; outcome.log.as_slice(), lines.as_bytes());
-    assert_eq!(rt; (outcome.ended, outcome.seconds), (Ok(()), 60));
+    assert_eq!(rt; (outcome.ended, outcome.milliseconds), (Ok(()), 60_000));
     Ok(())
 }
 
@@ -296,39 +343,6 @@ fn a_request_that_came_in_time_is_answered(rt: HostRuntime) -> Result<(), Fail> 
     let outcome = serve_all(&rt, 2, &[Some(asks_again.as_slice()), Some(ONE)], &waits);
     let lines = "connection 1: 2 requests, closed\nconnection 2: 1 requests, closed\n";
     assert_eq!(rt; outcome.log.as_slice(), lines.as_bytes());
-    assert_eq!(rt; (outcome.ended, outcome.seconds), (Ok(()), 60));
-    Ok(())
-}
-
-/// Where a connection can't be accepted, the one that waits longest is ended for it, and where none waits, no more are served.
-#[test]
-fn a_connection_that_waits_makes_room(rt: HostRuntime) -> Result<(), Fail> {
-    let silent = [Round::Nothing];
-    let streams = [Some(silent.as_slice()), None, Some(ONE), None];
-    let outcome = serve_all(&rt, 3, &streams, &[Waited::Comes]);
-    let lines = "connection 1: 0 requests, closed\nconnection 2: 1 requests, closed\n";
-    assert_eq!(rt; outcome.log.as_slice(), lines.as_bytes());
-    assert_eq!(rt; outcome.ended, Err(ListenFault::Accept));
-    Ok(())
-}
-
-/// The line of the first connection that got a reply.
-fn first_replied(log: &[u8]) -> Option<&[u8]> {
-    log.split(|byte| *byte == b'\n')
-        .find(|line| !line.ends_with(b": 0 requests, closed"))
-}
-
-/// One more than are kept: the one that waits longest is ended, and not answered.
-#[test]
-fn so_many_are_kept(rt: HostRuntime) -> Result<(), Fail> {
-    let asks_later = [Round::Nothing, ASKS];
-    let mut streams = [Some(ONE); MAX_KEPT + 1];
-    streams[0] = Some(asks_later.as_slice());
-    let mut waits = [Waited::Comes; MAX_KEPT + 1];
-    waits[MAX_KEPT] = Waited::Ready(&[1, 2]);
-    let outcome = serve_all(&rt, MAX_KEPT as u64 + 1, &streams, &waits);
-    let line = b"connection 2: 1 requests, closed".as_slice();
-    assert_eq!(rt; first_replied(&outcome.log), Some(line));
-    assert_eq!(rt; outcome.ended, Ok(()));
+    assert_eq!(rt; (outcome.ended, outcome.milliseconds), (Ok(()), 60_000));
     Ok(())
 }
