@@ -780,6 +780,9 @@ def area_lines():
     yield from ["area 100", "area 3"]
     yield "# An archive of more sectors than the snapshot: an area that is too small by one sector, and one of a single sector."
     yield from ["map 0", put(7, drawn("lines", [[[0, 0], [LAST, LAST]]], 0, 2)), "area 3", "area 2", "area 1"]
+    yield "# Tiles of several sectors, for areas of each size: what is needed is that of the tiles up to the first that no longer fits."
+    yield from ["map 0", *[put(k, drawn("lines", [[[0, k << 28], [LAST, LAST - (k << 24)]]], 0, 2)) for k in range(15)]]
+    yield from [f"area {free}" for free in (0, 1, 2, 3, 5, 8, 9, 10, 11, 12, 13, 14, 15)]
 
 
 # ---- the whole

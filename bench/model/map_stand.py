@@ -9,7 +9,7 @@ import archives
 import features
 import texts
 import tiles
-from disk import Change, NoEdit, Record, edit_text, record_text, snapshot_of, snapshot_text, text_of, whole_sectors
+from disk import Change, NoEdit, Record, edit_text, first_tiles, record_text, snapshot_of, snapshot_text, text_of, whole_sectors
 from ids import is_tile
 from limits import MAX_ZOOM
 from rust_text import clipped, debug, option
@@ -302,8 +302,9 @@ class Map:
     def area(self, rest):
         free = int(rest)
         snapshot = snapshot_text(self.held)
-        shown_tiles = [*tiles.all_tiles(self.held)]
-        archive = archives.built(shown_tiles, features.metadata(self.held).encode()) if shown_tiles else b""
+        said = features.metadata(self.held).encode()
+        shown_tiles = first_tiles(tiles.all_tiles(self.held), free, snapshot, said)
+        archive = archives.built(shown_tiles, said) if shown_tiles else b""
         need = whole_sectors(len(snapshot)) + whole_sectors(len(archive))
         if need > free:
             return f"an area has {free} sectors, and {need} are needed"

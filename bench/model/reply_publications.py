@@ -239,7 +239,7 @@ def writers(script):
 
 def too_many_tiles(script):
     script.say("A feature of 262,144 tiles, more than an archive takes: no publication begins, and none goes on.")
-    script.disk(256)
+    script.disk(24000)
     wide = tiles.feature({"lines": [[[0, 0], [WORLD, 0]]]}, 18, 18)
     script.ask(put(7, wide), PUBLISH, BEGIN, STEP, CANCEL, GET_ARCHIVE)
     script.note("It is deleted, and the map is published.")

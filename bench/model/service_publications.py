@@ -228,11 +228,13 @@ def read_failures():
 
 
 def too_many():
-    yield from heading("Three lines across the world: 196,608 tiles of zoom 16, each unlike the next, are too many entries.")
+    yield from heading(
+        "Three lines across the world: 196,608 tiles of zoom 16, each unlike the next, are too many entries. A small area is full before.")
     rows = [f"put {number} l 16 16 lines 0,{y} {WORLD_END - 1},{y}" for number, y in ((1, 32768), (2, 1073774592), (3, 2147516416))]
-    yield from [*opened(), *rows, "begin", "step", looks(2)]
+    for sectors in (24000, 64):
+        yield from [*opened(sectors), *rows, "begin", "step", looks(2)]
     yield from heading("One line with the most tiles that a feature may cover has too many for an archive: 262,144 of zoom 18.")
-    yield from [*opened(), put(7), "publish", f"put 1 l 18 18 lines 0,0 {WORLD_END - 1},0", "begin", "archive", "delete 1", "publish"]
+    yield from [*opened(24000), put(7), "publish", f"put 1 l 18 18 lines 0,0 {WORLD_END - 1},0", "begin", "archive", "delete 1", "publish"]
 
 
 BLOCKS = [publications, between, steps, publication_stops, script_stops, forty_events, stop_choices, one_failure, read_failures, too_many]

@@ -2,3 +2,4 @@ mod Bounds
 pub mod Laws
 mod MapTiles
 mod Pieces
+mod Written

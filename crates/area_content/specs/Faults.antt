@@ -1,5 +1,5 @@
 -- Why a map has no content for an area.
-use Rattle.std.specs.Prelude.{◌≡◌, ◌<◌, ◌≤◌, ◌+◌, ◌*◌, ◌^◌, ◌⊎◌, ℕ, List, length, map, All, Contains, ⊤}
+use Rattle.std.specs.Prelude.{◌≡◌, ◌<◌, ◌≤◌, ◌+◌, ◌*◌, ◌^◌, ◌⊎◌, ℕ, List, [], ◌∷◌, ◌++◌, length, map, All, Contains, ⊤}
 use Rattle.std.specs.List.{AllByRecursion, concat}
 use Rattle.feature_store.specs.Store.{FeatureMap, snapshot}
 use Rattle.feature_store.specs.Tiles.{AreTiles, AreTilesBelow, IsNextTile}
@@ -8,6 +8,9 @@ use Rattle.pm_build.specs.declared.fault.BuildFault.{BuildFault}
 use Rattle.pm_build.specs.declared.fault.BuildFault.TheVariants as building
 use Rattle.pm_build.specs.declared.limit.TheConstants.{MAX_ENTRIES}
 use Rattle.pm_build.specs.Building.{AreFew, AreTooMany}
+use Rattle.pm_metadata.specs.Archive.{IsArchiveOf}
+use Rattle.pm_build.specs.Built.{tile_content}
+use Rattle.pm_build.specs.Different.{contents_of}
 use Rattle.pm_build.specs.Placed.{AreDifferent}
 use Rattle.pm_build.specs.Runs.{TileRun, AreLongestRuns}
 use Rattle.pm_build.specs.Tiles.{Tile}
@@ -24,16 +27,6 @@ pub record AreAdded (m : FeatureMap) (from : ℕ) (tiles : List Tile) : Type 0 w
   pub below : AreTilesBelow m from tiles
   pub short : All IsShort tiles
   pub few : AreFew tiles
-
--- The first tile of the map, by its id, that isn't short has this many bytes. Those before it need no more entries than an archive takes.
-pub record HasLongTile (m : FeatureMap) (size : ℕ) : Type 0 where
-  pub from : ℕ
-  pub before : List Tile
-  pub added : AreAdded m from before
-  pub long : Tile
-  pub next : IsNextTile m from long
-  pub above : 2 ^ 32 ≤ size
-  pub size_is : size ≡ length long.1
 
 -- The tiles of the map below some id are short, and need more entries than an archive takes. Then all of its tiles need more.
 pub record HasManyTiles (m : FeatureMap) : Type 0 where
@@ -63,20 +56,79 @@ pub record IsBuiltFor (m : FeatureMap) (metadata : ℕ) (archive : List ℕ) : T
   pub of_map : IsArchiveOfMap m archive
   pub bounded : IsBoundedFor m metadata archive
 
+-- ---- what fits
+
+-- the number of sectors that the snapshot of the map takes, and an archive of these tiles at least: a header, the metadata, and each
+-- different content once
+abbrev pub least_sectors : FeatureMap → (metadata : ℕ) → List Tile → ℕ
+least_sectors m metadata tiles = sectors_of (length (snapshot m)) + sectors_of (127 + metadata + length (concat (contents_of tiles)))
+
+-- there are no tiles, or the area has at least these sectors
+abbrev pub CanFit : FeatureMap → (metadata area : ℕ) → List Tile → Type 0
+CanFit m metadata area tiles = (tiles ≡ []) ⊎ (least_sectors m metadata tiles ≤ area)
+
+-- The first tile of the map, by its id, that isn't short has this many bytes. Those before it can fit, and need no more entries than an
+-- archive takes.
+pub record HasLongTile (m : FeatureMap) (metadata area size : ℕ) : Type 0 where
+  pub from : ℕ
+  pub before : List Tile
+  pub added : AreAdded m from before
+  pub can : CanFit m metadata area before
+  pub long : Tile
+  pub next : IsNextTile m from long
+  pub above : 2 ^ 32 ≤ size
+  pub size_is : size ≡ length long.1
+
+-- These are the tiles of the map, by ascending id, up to the first that no longer fits: with it they take more sectors than the area has,
+-- and those before it don't. All are short, and need no more entries than an archive takes.
+pub record NoLongerFit (m : FeatureMap) (metadata area : ℕ) (tiles : List Tile) : Type 0 where
+  pub before : List Tile
+  pub last : Tile
+  pub tiles_are : tiles ≡ before ++ last ∷ []
+  pub added : AreAdded m (last.0 + 1) tiles
+  pub can : CanFit m metadata area before
+  pub above : area < least_sectors m metadata tiles
+
+-- an archive of the tiles of the map up to the first that no longer fits, within its bound
+pub record IsCutFor (m : FeatureMap) (metadata area : ℕ) (archive : List ℕ) : Type 0 where
+  pub tiles : List Tile
+  pub cut : NoLongerFit m metadata area tiles
+  pub of_tiles : IsArchiveOf archive (tile_content tiles)
+  pub bounded : IsBounded tiles metadata archive
+
+-- an archive of all tiles of the map, of which each can fit
+pub record IsWholeFor (m : FeatureMap) (metadata area : ℕ) (archive : List ℕ) : Type 0 where
+  pub built : IsBuiltFor m metadata archive
+  pub tiles : List Tile
+  pub all : AreTiles m tiles
+  pub can : CanFit m metadata area tiles
+
+-- ---- what is written
+
+-- these are all tiles of the map, of which each is short and can fit, or those up to the first that no longer fits
+abbrev pub AreWritten : FeatureMap → (metadata area : ℕ) → List Tile → Type 0
+AreWritten m metadata area tiles = (AreTiles m tiles × All IsShort tiles × CanFit m metadata area tiles) ⊎ NoLongerFit m metadata area tiles
+
+-- the archive is that of all tiles, of which each can fit, or that of those up to the first that no longer fits, which is too long
+abbrev pub IsArchiveFor : FeatureMap → (metadata area : ℕ) → (archive : List ℕ) → Type 0
+IsArchiveFor m metadata area archive =
+    IsWholeFor m metadata area archive ⊎ (IsCutFor m metadata area archive × (area < sectors_of (length (snapshot m)) + sectors_of (length archive)))
+
 -- ---- faults
 
--- The map needs this many sectors: those of its first tile that isn't short, or, if each is short, those of its snapshot and of the
--- archive that is built from it.
-abbrev pub NeedsSectors : FeatureMap → (metadata need : ℕ) → Type 0
-NeedsSectors m metadata need =
-    ((size : ℕ) × HasLongTile m size × (need ≡ sectors_of size))
-    ⊎ ((archive : List ℕ) × IsBuiltFor m metadata archive × (need ≡ sectors_of (length (snapshot m)) + sectors_of (length archive)))
+-- The map needs this many sectors: those of its first tile that isn't short; or, up to the first tile that no longer fits, those of the
+-- snapshot and of the archive of the tiles up to that; or, if each tile can fit, those of the snapshot and of the archive of all tiles.
+abbrev pub NeedsSectors : FeatureMap → (metadata area need : ℕ) → Type 0
+NeedsSectors m metadata area need =
+    ((size : ℕ) × HasLongTile m metadata area size × (need ≡ sectors_of size))
+    ⊎ ((archive : List ℕ) × (IsCutFor m metadata area archive ⊎ IsWholeFor m metadata area archive)
+    × (need ≡ sectors_of (length (snapshot m)) + sectors_of (length archive)))
 
 -- the map needs more sectors than the area has, all of which are free
 pub record IsFull (m : FeatureMap) (metadata area need free : ℕ) : Type 0 where
   pub free_is : free ≡ area
   pub above : free < need
-  pub needed : NeedsSectors m metadata need
+  pub needed : NeedsSectors m metadata area need
 
 -- the fault applies to this map, with metadata of this many bytes and an area of this many sectors
 abbrev pub IsContentFault : FeatureMap → (metadata area : ℕ) → ContentFault → Type 0

@@ -1,16 +1,21 @@
 //! The archive of the tiles of a map.
-ghost use Rattle.std.specs.Prelude.{◌≡◌, ◌<◌, ◌≤◌, ◌^◌, ℕ, Ok, true, false, length, All, OnOk, IfOk, IfErr};
+ghost use Rattle.std.specs.Prelude.{◌≡◌, ◌≢◌, ◌<◌, ◌≤◌, ◌^◌, ◌+◌, ◌++◌, ◌∷◌, [], ℕ, Ok, true, false, length, OnOk, IfOk, IfErr};
+ghost use Rattle.std.specs.List.{concat};
 ghost use Rattle.hilbert_id.specs.declared.number.TheConstants.{TILE_IDS};
-ghost use Rattle.feature_store.specs.Store.{FeatureMap, IsMap};
+ghost use Rattle.feature_store.specs.Store.{FeatureMap, IsMap, snapshot};
 ghost use Rattle.feature_store.specs.Tiles.{AreTiles};
-ghost use Rattle.pm_metadata.specs.Archive.{IsMetadata};
-ghost use Rattle.area_content.specs.Faults.{AreAdded, IsShort, IsBounded, IsContentFault, told_as};
+ghost use Rattle.pm_metadata.specs.Archive.{IsArchiveOf, IsMetadata};
+ghost use Rattle.pm_build.specs.Built.{archive_bytes, tile_content};
+ghost use Rattle.pm_build.specs.Different.{contents_of};
+ghost use Rattle.pm_build.specs.Tiles.{Tile};
+ghost use Rattle.area_content.specs.Faults.{AreAdded, CanFit, AreWritten, IsBounded, IsContentFault, least_sectors, told_as};
 ghost use Rattle.area_content.specs.Tiles.{IsArchiveOfMap};
 
 use crate::content::sectors_for;
 use crate::fault::ContentFault;
 use feature_store::Tiles;
-use pm_build::{ArchiveBuilder, BuildFault};
+use pm_build::{ArchiveBuilder, BuildFault, BuiltArchive};
+use pm_header::HEADER_BYTES;
 use std::alloc::{AllocError, Global};
 
 /// The fault reported if a tile can't be added to an archive.
@@ -34,9 +39,10 @@ fn add_next(
     requires area { area < 2 ^ 23 }
     ensures map { tiles.new.features ≡ tiles.old.features }
     ensures added { result ≡ Ok true → AreAdded tiles.new.features tiles.new.from builder.new }
+    ensures grown { result ≡ Ok true → (t : Tile) × (builder.new ≡ builder.old ++ t ∷ []) × (tiles.new.from ≡ t.0 + 1) }
     ensures further { result ≡ Ok true → (tiles.old.from < tiles.new.from) × (tiles.new.from ≤ TILE_IDS) }
     ensures last { result ≡ Ok false → AreTiles tiles.old.features builder.old × (builder.new ≡ builder.old) }
-    ensures fault { (metadata : ℕ) → IfErr result (IsContentFault tiles.old.features metadata area) }
+    ensures fault { (metadata : ℕ) → CanFit tiles.old.features metadata area builder.old → IfErr result (IsContentFault tiles.old.features metadata area) }
 {
     let tile = match tiles.next() {
         Ok(Some(tile)) => tile,
@@ -49,23 +55,35 @@ fn add_next(
             free: area,
         });
     }
-    match builder.add(tile.0, tile.1) {
+    match builder.add(tile.0, &tile.1) {
         Ok(()) => Ok(true),
         Err(fault) => Err(to_content_fault(fault)),
     }
 }
 
-/// Adds the tiles of a map to its archive, one after the other.
+/// How many sectors a snapshot with this text takes, and an archive of the tiles that were added at least.
+fn least_sectors(builder: &ArchiveBuilder, text: &[u8], metadata: &[u8]) -> u64
+    ensures { (m : FeatureMap) → text.now ≡ snapshot m → result ≡ least_sectors m (length metadata.now) builder.now }
+{
+    let archive = HEADER_BYTES + metadata.len() + builder.content_len();
+    sectors_for(text.len()) + sectors_for(archive)
+}
+
+/// Adds the tiles of a map to its archive, one after the other, up to the first with which it no longer fits in an area of `area` sectors.
+/// `text` is the snapshot of the map.
 pub(crate) fn add_all(
     tiles: &mut Tiles<'_>,
     builder: &mut ArchiveBuilder,
+    text: &[u8],
+    metadata: &[u8],
     area: u64,
 ) -> Result<(), ContentFault>
-    requires added { AreAdded tiles.old.features tiles.old.from builder.old }
+    requires start { tiles.old.from ≡ 0 }
+    requires none { builder.old ≡ [] }
+    requires snapshot { text.now ≡ snapshot tiles.old.features }
     requires area { area < 2 ^ 23 }
-    ensures tiles { OnOk result (AreTiles tiles.old.features builder.new) }
-    ensures short { OnOk result (All IsShort builder.new) }
-    ensures fault { (metadata : ℕ) → IfErr result (IsContentFault tiles.old.features metadata area) }
+    ensures tiles { OnOk result (AreWritten tiles.old.features (length metadata.now) area builder.new) }
+    ensures fault { IfErr result (IsContentFault tiles.old.features (length metadata.now) area) }
 {
     loop {
         match add_next(tiles, builder, area) {
@@ -73,21 +91,29 @@ pub(crate) fn add_all(
             Ok(false) => return Ok(()),
             Err(fault) => return Err(fault),
         }
+        if least_sectors(builder, text, metadata) > area {
+            return Ok(());
+        }
     }
 }
 
 /// The archive of the tiles of a map, with this metadata. It is empty if there are no tiles.
 pub(crate) fn archive_of(
     alloc: Global,
-    builder: &ArchiveBuilder,
+    builder: ArchiveBuilder,
     metadata: &[u8],
-) -> Result<Vec<u8>, AllocError>
+) -> Result<BuiltArchive, AllocError>
     requires metadata { IsMetadata metadata.now }
-    ensures archive { (m : FeatureMap) → IsMap m → AreTiles m builder.now → IfOk result (λ bytes. IsArchiveOfMap m bytes.items) }
-    ensures bounded { IfOk result (λ bytes. IsBounded builder.now (length metadata.now) bytes.items) }
+    ensures archive { (m : FeatureMap) → IsMap m → AreTiles m builder → IfOk result (λ a. IsArchiveOfMap m (archive_bytes a)) }
+    ensures of_tiles { builder ≢ [] → IfOk result (λ a. IsArchiveOf (archive_bytes a) (tile_content builder)) }
+    ensures least { builder ≢ [] → IfOk result (λ a. 127 + length metadata.now + length (concat (contents_of builder)) ≤ length (archive_bytes a)) }
+    ensures bounded { IfOk result (λ a. IsBounded builder (length metadata.now) (archive_bytes a)) }
 {
     if builder.is_empty() {
-        return Ok(Vec::new(alloc));
+        return Ok(BuiltArchive {
+            front: Vec::new(alloc),
+            contents: Vec::new(alloc),
+        });
     }
     builder.finish(metadata)
 }

@@ -1,10 +1,12 @@
 //! The content of an area, sector by sector.
-ghost use Rattle.std.specs.Prelude.{◌≡◌, ◌<◌, ◌≤◌, ◌^◌, length};
+ghost use Rattle.std.specs.Prelude.{◌≡◌, ◌<◌, ◌≤◌, ◌^◌, ◌+◌, ◌++◌, length, take, drop};
 ghost use Rattle.generations.specs.Areas.{sectors_of};
 ghost use Rattle.area_content.specs.Content.{sectors_taken, padded, sector_at};
+ghost use Rattle.pm_build.specs.Built.{archive_bytes};
 ghost use Rattle.sector_bytes.specs.Bytes.{sector_piece};
 ghost use Rattle.sector_disk.specs.declared.disk.TheConstants.{SECTOR_BYTES};
 
+use pm_build::BuiltArchive;
 use sector_disk::SECTOR_BYTES;
 use std::marker::Model;
 
@@ -12,7 +14,7 @@ use std::marker::Model;
 #[derive(Debug, Drop)]
 pub struct AreaContent {
     snapshot: Vec<u8>,
-    archive: Vec<u8>,
+    archive: BuiltArchive,
 }
 
 impl Model for AreaContent {
@@ -33,14 +35,13 @@ pub(crate) fn sectors_for(bytes: usize) -> u64
     generations::sectors_for(bytes as u64)
 }
 
-/// The part of the bytes in the sector at `index`.
-fn piece(bytes: &[u8], index: u64) -> &[u8]
-    requires { index < sectors_of (length bytes.now) }
-    ensures piece { result.now ≡ sector_piece bytes.now index }
-    ensures short { length result.now ≤ SECTOR_BYTES }
+/// The bytes from `from` on, at most `most`.
+fn part(bytes: &[u8], from: usize, most: usize) -> &[u8]
+    ensures part { result.now ≡ take most (drop from bytes.now) }
+    ensures short { length result.now ≤ most }
 {
-    let behind = &bytes[SECTOR_BYTES * index as usize..];
-    &behind[..behind.len().min(SECTOR_BYTES)]
+    let behind = &bytes[from.min(bytes.len())..];
+    &behind[..behind.len().min(most)]
 }
 
 /// A sector of these bytes, padded with zeros.
@@ -53,11 +54,40 @@ fn padded(bytes: &[u8]) -> [u8; SECTOR_BYTES]
     sector
 }
 
+/// A sector of these bytes, one part after the other, padded with zeros.
+fn padded_parts(first: &[u8], second: &[u8]) -> [u8; SECTOR_BYTES]
+    requires { length first.now + length second.now ≤ SECTOR_BYTES }
+    ensures { result ≡ padded (first.now ++ second.now) }
+{
+    let mut sector = padded(first);
+    sector[first.len()..first.len() + second.len()].copy_from_slice(second);
+    sector
+}
+
+/// The length of an archive in bytes.
+fn archive_len(archive: &BuiltArchive) -> usize
+    ensures { result ≡ length (archive_bytes archive.now) }
+{
+    archive.front.len() + archive.contents.len()
+}
+
+/// The sector of an archive at `index`, padded with zeros. It may have bytes of both parts.
+fn archive_sector(archive: &BuiltArchive, index: u64) -> [u8; SECTOR_BYTES]
+    requires { index < sectors_of (length (archive_bytes archive.now)) }
+    ensures { result ≡ padded (sector_piece (archive_bytes archive.now) index) }
+{
+    let start = SECTOR_BYTES * index as usize;
+    let front = part(&archive.front, start, SECTOR_BYTES);
+    let behind = start.saturating_sub(archive.front.len());
+    let contents = part(&archive.contents, behind, SECTOR_BYTES - front.len());
+    padded_parts(front, contents)
+}
+
 impl AreaContent {
     /// The content of these bytes.
-    pub(crate) fn of(snapshot: Vec<u8>, archive: Vec<u8>) -> AreaContent
+    pub(crate) fn of(snapshot: Vec<u8>, archive: BuiltArchive) -> AreaContent
         ensures snapshot { result.snapshot ≡ snapshot.items }
-        ensures archive { result.archive ≡ archive.items }
+        ensures archive { result.archive ≡ archive_bytes archive }
     {
         AreaContent { snapshot, archive }
     }
@@ -73,14 +103,14 @@ impl AreaContent {
     pub fn archive_len(&self) -> u64
         ensures { result ≡ length self.now.archive }
     {
-        self.archive.len() as u64
+        archive_len(&self.archive) as u64
     }
 
     /// How many sectors both take.
     pub fn sectors(&self) -> u64
         ensures { result ≡ sectors_taken self.now }
     {
-        sectors_for(self.snapshot.len()) + sectors_for(self.archive.len())
+        sectors_for(self.snapshot.len()) + sectors_for(archive_len(&self.archive))
     }
 
     /// The bytes of a sector: first come those of the snapshot, then those of the archive. It reads no other bytes.
@@ -90,9 +120,10 @@ impl AreaContent {
     {
         let first = sectors_for(self.snapshot.len());
         if index < first {
-            padded(piece(&self.snapshot, index))
+            let start = SECTOR_BYTES * index as usize;
+            padded(part(&self.snapshot, start, SECTOR_BYTES))
         } else {
-            padded(piece(&self.archive, index - first))
+            archive_sector(&self.archive, index - first)
         }
     }
 }

@@ -1,15 +1,18 @@
 -- Tiles with one more after them, and their runs in a builder.
-use Rattle.std.proofs.Common.{◌≡◌, ◌↔◌, ℕ, zero, suc, ◌+◌, ◌<◌, ◌≤◌, List, [], ◌∷◌, ◌++◌, length, get_or, slice_set, All, refl, sym, ap, subst, ◌∙◌, arith}
+use Rattle.std.proofs.Common.{◌≡◌, ◌↔◌, ℕ, zero, suc, ◌+◌, ◌<◌, ◌≤◌, List, [], ◌∷◌, ◌++◌, length, get_or, slice_set, true, All, refl, sym, ap, subst, ◌∙◌, arith}
 use Rattle.std.specs.List.{AllByRecursion}
-use Rattle.std.proofs.lemmas.List.{length_push}
+use Rattle.std.proofs.lemmas.Bool.{false≢true}
+use Rattle.std.proofs.lemmas.List.{length_push, map_push}
 use Rattle.std.proofs.lemmas.List.Elements.{All-nil, All-cons, All-head, All-tail, All-weaker}
 use Rattle.hilbert_id.specs.declared.number.TheConstants.{TILE_IDS}
 use Rattle.pm_build.specs.Building.{CanAdd}
-use Rattle.pm_build.specs.Joined.{run_view, run_views, goes_on, one_more, runs_of, runs_end, goes_on_last, last_grown, with_tile}
+use Rattle.pm_build.specs.Different.{content_at, with_content}
+use Rattle.pm_build.specs.Joined.{ArePlaces, run_view, run_views, last_end, goes_on, run_of, one_more, runs_of, runs_end, goes_on_last, last_grown, with_tile}
 use Rattle.pm_build.specs.Runs.{TileRun, repeated, tiles_in, AreLongestRuns}
 use Rattle.pm_build.specs.Tiles.{Tile, IdsAscend, IsTile, AreTiles}
 use Rattle.pm_build.specs.declared.run.Run.{Run}
-use Rattle.pm_build.proofs.Joining.{HasCount, longest_from_runs_of, runs_of_from_longest, runs_push}
+use Rattle.pm_build.proofs.Different.{at_with, length_with, with_at}
+use Rattle.pm_build.proofs.Joining.{HasCount, follows, longest_from_runs_of, runs_of_from_longest, runs_push}
 use Rattle.pm_build.proofs.Pieces.{all_push}
 
 -- ---- tiles
@@ -92,15 +95,15 @@ can_add rs t are l = (to, from)
 
 -- ---- whether there are tiles
 
-pub none_in : (runs : List Run) → length runs ≡ 0 → tiles_in (run_views runs) ≡ []
-none_in [] e = refl
-none_in (r ∷ runs) e = absurd (omega (arith, e))
+pub none_in : (cs : List (List ℕ)) (runs : List Run) → length runs ≡ 0 → tiles_in (run_views cs runs) ≡ []
+none_in cs [] e = refl
+none_in cs (r ∷ runs) e = absurd (omega (arith, e))
 
-pub some_in : (runs : List Run) → AllByRecursion HasCount (run_views runs) → tiles_in (run_views runs) ≡ [] → length runs ≡ 0
-some_in [] h e = refl
-some_in (r ∷ runs) h e = absurd (by r.count refl h.0.0 e)
+pub some_in : (cs : List (List ℕ)) (runs : List Run) → AllByRecursion HasCount (run_views cs runs) → tiles_in (run_views cs runs) ≡ [] → length runs ≡ 0
+some_in cs [] h e = refl
+some_in cs (r ∷ runs) h e = absurd (by r.count refl h.0.0 e)
   where
-    by : (n : ℕ) → r.count ≡ n → 0 < n → repeated r.first n r.content.items ++ tiles_in (run_views runs) ≡ [] → ⊥
+    by : (n : ℕ) → r.count ≡ n → 0 < n → repeated r.first n (content_at cs r.place) ++ tiles_in (run_views cs runs) ≡ [] → ⊥
     by zero is some none = omega arith
     by (suc n) is some none = cc
 
@@ -136,25 +139,76 @@ longest_with rs t l =
 
 -- ---- the last of the runs in memory
 
-pub last_goes_on : (runs : List Run) (i : ℕ) (d : Run) (t : Tile) → length runs ≡ suc i
-    → goes_on_last (run_views runs) t ≡ goes_on (run_view (get_or runs i d)) t
-last_goes_on [] i d t e = absurd (omega (arith, e))
-last_goes_on (r ∷ []) zero d t e = refl
-last_goes_on (r ∷ []) (suc i) d t e = absurd (omega (arith, e))
-last_goes_on (r ∷ s ∷ runs) zero d t e = absurd (omega (arith, e))
-last_goes_on (r ∷ s ∷ runs) (suc i) d t e = last_goes_on (s ∷ runs) i d t (omega (arith, e))
+pub last_goes_on : (cs : List (List ℕ)) (runs : List Run) (i : ℕ) (d : Run) (t : Tile) → length runs ≡ suc i
+    → goes_on_last (run_views cs runs) t ≡ goes_on (run_view cs (get_or runs i d)) t
+last_goes_on cs [] i d t e = absurd (omega (arith, e))
+last_goes_on cs (r ∷ []) zero d t e = refl
+last_goes_on cs (r ∷ []) (suc i) d t e = absurd (omega (arith, e))
+last_goes_on cs (r ∷ s ∷ runs) zero d t e = absurd (omega (arith, e))
+last_goes_on cs (r ∷ s ∷ runs) (suc i) d t e = last_goes_on cs (s ∷ runs) i d t (omega (arith, e))
 
-pub last_end : (runs : List Run) (i : ℕ) (d : Run) → length runs ≡ suc i → runs_end (run_views runs) ≡ (get_or runs i d).first + (get_or runs i d).count
-last_end [] i d e = absurd (omega (arith, e))
-last_end (r ∷ []) zero d e = refl
-last_end (r ∷ []) (suc i) d e = absurd (omega (arith, e))
-last_end (r ∷ s ∷ runs) zero d e = absurd (omega (arith, e))
-last_end (r ∷ s ∷ runs) (suc i) d e = last_end (s ∷ runs) i d (omega (arith, e))
+pub last_end_at : (runs : List Run) (i : ℕ) (d : Run) → length runs ≡ suc i → last_end runs ≡ (get_or runs i d).first + (get_or runs i d).count
+last_end_at [] i d e = absurd (omega (arith, e))
+last_end_at (r ∷ []) zero d e = refl
+last_end_at (r ∷ []) (suc i) d e = absurd (omega (arith, e))
+last_end_at (r ∷ s ∷ runs) zero d e = absurd (omega (arith, e))
+last_end_at (r ∷ s ∷ runs) (suc i) d e = last_end_at (s ∷ runs) i d (omega (arith, e))
 
-pub last_set : (runs : List Run) (i : ℕ) (d new : Run) → length runs ≡ suc i → run_view new ≡ one_more (run_view (get_or runs i d))
-    → run_views (slice_set runs i new) ≡ last_grown (run_views runs)
-last_set [] i d new e grown = absurd (omega (arith, e))
-last_set (r ∷ []) zero d new e grown = ap (λ (s : TileRun). s ∷ []) grown
-last_set (r ∷ []) (suc i) d new e grown = absurd (omega (arith, e))
-last_set (r ∷ s ∷ runs) zero d new e grown = absurd (omega (arith, e))
-last_set (r ∷ s ∷ runs) (suc i) d new e grown = ap (λ (rs : List TileRun). run_view r ∷ rs) (last_set (s ∷ runs) i d new (omega (arith, e)) grown)
+pub views_end : (cs : List (List ℕ)) (runs : List Run) → runs_end (run_views cs runs) ≡ last_end runs
+views_end cs [] = refl
+views_end cs (r ∷ []) = refl
+views_end cs (r ∷ s ∷ runs) = views_end cs (s ∷ runs)
+
+pub last_set : (cs : List (List ℕ)) (runs : List Run) (i : ℕ) (d new : Run) → length runs ≡ suc i
+    → run_view cs new ≡ one_more (run_view cs (get_or runs i d)) → run_views cs (slice_set runs i new) ≡ last_grown (run_views cs runs)
+last_set cs [] i d new e grown = absurd (omega (arith, e))
+last_set cs (r ∷ []) zero d new e grown = ap (λ (s : TileRun). s ∷ []) grown
+last_set cs (r ∷ []) (suc i) d new e grown = absurd (omega (arith, e))
+last_set cs (r ∷ s ∷ runs) zero d new e grown = absurd (omega (arith, e))
+last_set cs (r ∷ s ∷ runs) (suc i) d new e grown = ap (λ (rs : List TileRun). run_view cs r ∷ rs) (last_set cs (s ∷ runs) i d new (omega (arith, e)) grown)
+
+-- ---- the places of the runs in memory
+
+pub place_at : (cs : List (List ℕ)) (runs : List Run) (i : ℕ) (d : Run) → i < length runs → ArePlaces cs runs → (get_or runs i d).place < length cs
+place_at cs [] i d lt h = absurd (omega (arith, lt))
+place_at cs (r ∷ runs) zero d lt h = h.0
+place_at cs (r ∷ runs) (suc i) d lt h = place_at cs runs i d (omega (arith, lt)) h.1
+
+pub places_set : (cs : List (List ℕ)) (runs : List Run) (i : ℕ) (new : Run) → new.place < length cs → ArePlaces cs runs → ArePlaces cs (slice_set runs i new)
+places_set cs [] i new lt h = tt
+places_set cs (r ∷ runs) zero new lt h = (lt, h.1)
+places_set cs (r ∷ runs) (suc i) new lt h = (h.0, places_set cs runs i new lt h.1)
+
+pub places_more : (cs ds : List (List ℕ)) (runs : List Run) → length cs ≤ length ds → ArePlaces cs runs → ArePlaces ds runs
+places_more cs ds [] le h = tt
+places_more cs ds (r ∷ runs) le h = ((let low = h.0 in omega (arith, le, low)), places_more cs ds runs le h.1)
+
+pub views_with : (cs : List (List ℕ)) (d : List ℕ) (runs : List Run) → ArePlaces cs runs → run_views (with_content cs d) runs ≡ run_views cs runs
+views_with cs d [] h = refl
+views_with cs d (r ∷ runs) h =
+    ap (λ (c : List ℕ). let v : TileRun = record { first = r.first; count = r.count; content = c } in v ∷ run_views (with_content cs d) runs)
+    (at_with cs d r.place h.0)
+    ∙ ap (λ (x : List TileRun). run_view cs r ∷ x) (views_with cs d runs h.1)
+
+-- with a run of one tile
+pub record IsBegun (cs : List (List ℕ)) (runs : List Run) (t : Tile) (ds : List (List ℕ)) (more : List Run) : Type 0 where
+  pub views_are : run_views ds more ≡ run_views cs runs ++ run_of t ∷ []
+  pub places : ArePlaces ds more
+
+pub begun : (cs ds : List (List ℕ)) (runs more : List Run) (r : Run) (t : Tile) → ds ≡ with_content cs t.1 → ArePlaces cs runs → r.place < length ds
+    → content_at ds r.place ≡ t.1 → r.first ≡ t.0 → r.count ≡ 1 → more ≡ runs ++ r ∷ [] → IsBegun cs runs t ds more
+begun cs ds runs more r t grown places lt at first count pushed =
+    let same : run_views ds runs ≡ run_views cs runs = ap (λ (x : List (List ℕ)). run_views x runs) grown ∙ views_with cs t.1 runs places in
+    let view : run_view ds r ≡ run_of t = λ i. record { first = first i; count = count i; content = at i } in
+    let longer : length cs ≤ length ds = omega (arith, length_with cs t.1, ap (λ (x : List (List ℕ)). length x) grown) in
+    record {
+      views_are = ap (λ (x : List Run). run_views ds x) pushed ∙ map_push (run_view ds) runs r ∙ ap (λ (x : List TileRun). x ++ run_view ds r ∷ []) same
+          ∙ ap (λ (v : TileRun). run_views cs runs ++ v ∷ []) view;
+      places = subst (λ (x : List Run). ArePlaces ds x) (sym pushed) (all_push (λ (x : Run). x.place < length ds) runs r (places_more cs ds runs longer places) lt);
+    }
+
+-- a tile that continues the last run has the content of that
+pub joined_there : (cs : List (List ℕ)) (runs : List Run) (t : Tile) → ArePlaces cs runs → goes_on_last (run_views cs runs) t ≡ true → cs ≡ with_content cs t.1
+joined_there cs [] t places on = absurd (false≢true on)
+joined_there cs (r ∷ []) t places on = with_at cs r.place t.1 places.0 (sym (follows (run_view cs r) t on).content_is)
+joined_there cs (r ∷ s ∷ runs) t places on = joined_there cs (s ∷ runs) t places.1 on

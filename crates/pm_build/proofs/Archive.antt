@@ -17,7 +17,7 @@ use Rattle.pm_build.specs.Placed.{ArePlaced, EachNames}
 use Rattle.pm_build.specs.declared.header.Counts.{Counts}
 use Rattle.pm_build.specs.Built.{tile_content}
 use Rattle.pm_build.specs.Leaves.{AreDirectories}
-use Rattle.pm_build.specs.Laid.{AreJoined, AreLaidOut, AreZooms, counts_of, header_for, lengths_of}
+use Rattle.pm_build.specs.Laid.{AreJoined, IsFront, AreLaidOut, AreZooms, counts_of, header_for, lengths_of}
 use Rattle.pm_build.proofs.Tiles.{have_tiles, lie_in, addressed_all, content_named}
 use Rattle.pm_build.proofs.Headers.{header_there}
 use Rattle.pm_build.proofs.Listed.{has_entries}
@@ -161,31 +161,59 @@ is_archive bytes root metadata leaves tiles es cs h low high e joined placed dir
     (laid root metadata leaves (concat cs) (counted tiles es cs) low high) in
     is_laid_archive bytes root metadata leaves tiles es cs h is joined placed directories early meta
 
+-- what is stored before the contents, with the contents after it
+front_joined : (front root metadata leaves contents : List ℕ) (h : Header) → IsFront front h root metadata leaves
+    → AreJoined (front ++ contents) h root metadata leaves contents
+front_joined front root metadata leaves contents h (head, header, whole, parts) = (
+  head,
+  header,
+  whole,
+  ap (λ (bs : List ℕ). bs ++ contents) parts ∙ append_assoc head (root ++ (metadata ++ leaves)) contents
+      ∙ ap (λ (bs : List ℕ). head ++ bs) (append_assoc root (metadata ++ leaves) contents ∙ ap (λ (bs : List ℕ). root ++ bs) (append_assoc metadata leaves contents)),
+)
+
 pub archive_joined : {E : Type 0} (r : Result (Vec ℕ Global) E) (root metadata leaves : List ℕ) (tiles : List Tile) (es : List DirectoryEntry)
     (cs : List (List ℕ)) (h : Header) (low high : ℕ) → h ≡ header_for (lengths_of root metadata leaves (concat cs)) (counted tiles es cs) low high
     → ArePlaced tiles es cs → AreDirectories root leaves es → length root ≤ 14850 → IsMetadata metadata
-    → IfOk r (λ v. AreJoined v.items h root metadata leaves (concat cs)) → IfOk r (λ v. IsArchiveOf v.items (tile_content tiles))
+    → IfOk r (λ v. IsFront v.items h root metadata leaves) → IfOk r (λ v. IsArchiveOf (v.items ++ concat cs) (tile_content tiles))
 archive_joined r root metadata leaves tiles es cs h low high e placed directories early meta =
-    IfOk-weaker r (λ v. AreJoined v.items h root metadata leaves (concat cs)) (λ v. IsArchiveOf v.items (tile_content tiles))
-    (λ v joined. is_archive v.items root metadata leaves tiles es cs h low high e joined placed directories early meta)
+    IfOk-weaker r (λ v. IsFront v.items h root metadata leaves) (λ v. IsArchiveOf (v.items ++ concat cs) (tile_content tiles))
+    (λ v front. is_archive (v.items ++ concat cs) root metadata leaves tiles es cs h low high e
+    (front_joined v.items root metadata leaves (concat cs) h front) placed directories early meta)
 
-joined_size : (bytes root metadata leaves contents : List ℕ) (h : Header) (n : ℕ) → length root + length leaves ≤ n
-    → AreJoined bytes h root metadata leaves contents → length bytes ≤ 127 + length metadata + n + length contents
-joined_size bytes root metadata leaves contents h n size (front, header, whole, parts) =
+front_size : (front root metadata leaves : List ℕ) (h : Header) (n : ℕ) → length root + length leaves ≤ n → IsFront front h root metadata leaves
+    → length front ≤ 127 + length metadata + n
+front_size front root metadata leaves h n size (head, header, whole, parts) =
     omega (
       arith,
       ap (λ (bs : List ℕ). length bs) parts,
-      length-append front (root ++ (metadata ++ (leaves ++ contents))),
-      length-append root (metadata ++ (leaves ++ contents)),
-      length-append metadata (leaves ++ contents),
-      length-append leaves contents,
+      length-append head (root ++ (metadata ++ leaves)),
+      length-append root (metadata ++ leaves),
+      length-append metadata leaves,
     )
 
-pub size_joined : {E : Type 0} (r : Result (Vec ℕ Global) E) (root metadata leaves contents : List ℕ) (h : Header) (n : ℕ) → length root + length leaves ≤ n
-    → IfOk r (λ v. AreJoined v.items h root metadata leaves contents) → IfOk r (λ v. length v.items ≤ 127 + length metadata + n + length contents)
-size_joined r root metadata leaves contents h n size =
-    IfOk-weaker r (λ v. AreJoined v.items h root metadata leaves contents) (λ v. length v.items ≤ 127 + length metadata + n + length contents)
-    (λ v joined. joined_size v.items root metadata leaves contents h n size joined)
+pub size_joined : {E : Type 0} (r : Result (Vec ℕ Global) E) (root metadata leaves : List ℕ) (h : Header) (n : ℕ) → length root + length leaves ≤ n
+    → IfOk r (λ v. IsFront v.items h root metadata leaves) → IfOk r (λ v. length v.items ≤ 127 + length metadata + n)
+size_joined r root metadata leaves h n size =
+    IfOk-weaker r (λ v. IsFront v.items h root metadata leaves) (λ v. length v.items ≤ 127 + length metadata + n)
+    (λ v front. front_size v.items root metadata leaves h n size front)
+
+front_long : (front root metadata leaves : List ℕ) (h : Header) → IsFront front h root metadata leaves → 127 + length metadata ≤ length front
+front_long front root metadata leaves h (head, header, whole, parts) =
+    omega (
+      arith,
+      whole,
+      ap (λ (bs : List ℕ). length bs) parts,
+      length-append head (root ++ (metadata ++ leaves)),
+      length-append root (metadata ++ leaves),
+      length-append metadata leaves,
+    )
+
+pub long_joined : {E : Type 0} (r : Result (Vec ℕ Global) E) (root metadata leaves : List ℕ) (h : Header)
+    → IfOk r (λ v. IsFront v.items h root metadata leaves) → IfOk r (λ v. 127 + length metadata ≤ length v.items)
+long_joined r root metadata leaves h =
+    IfOk-weaker r (λ v. IsFront v.items h root metadata leaves) (λ v. 127 + length metadata ≤ length v.items)
+    (λ v front. front_long v.items root metadata leaves h front)
 
 -- as many entries as runs
 named_count : (bytes : List ℕ) (rs : List TileRun) (es : List DirectoryEntry) → EachNames bytes rs es → length es ≡ length rs
@@ -219,7 +247,8 @@ are_laid_out bytes root metadata leaves tiles es cs h low high e zooms placed jo
 pub laid_out_joined : {E : Type 0} (r : Result (Vec ℕ Global) E) (root metadata leaves : List ℕ) (tiles : List Tile) (es : List DirectoryEntry)
     (cs : List (List ℕ)) (h : Header) (low high : ℕ) → h ≡ header_for (lengths_of root metadata leaves (concat cs)) (counted tiles es cs) low high
     → AreZooms tiles low high → ArePlaced tiles es cs
-    → IfOk r (λ v. AreJoined v.items h root metadata leaves (concat cs)) → IfOk r (λ v. AreLaidOut v.items tiles metadata)
+    → IfOk r (λ v. IsFront v.items h root metadata leaves) → IfOk r (λ v. AreLaidOut (v.items ++ concat cs) tiles metadata)
 laid_out_joined r root metadata leaves tiles es cs h low high e zooms placed =
-    IfOk-weaker r (λ v. AreJoined v.items h root metadata leaves (concat cs)) (λ v. AreLaidOut v.items tiles metadata)
-    (λ v joined. are_laid_out v.items root metadata leaves tiles es cs h low high e zooms placed joined)
+    IfOk-weaker r (λ v. IsFront v.items h root metadata leaves) (λ v. AreLaidOut (v.items ++ concat cs) tiles metadata)
+    (λ v front. are_laid_out (v.items ++ concat cs) root metadata leaves tiles es cs h low high e zooms placed
+    (front_joined v.items root metadata leaves (concat cs) h front))

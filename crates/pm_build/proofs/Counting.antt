@@ -14,7 +14,8 @@ use Rattle.std.proofs.lemmas.Slice.Eq.{bytes_eq-Decides}
 use Rattle.pm_directory.specs.Counts.{span_of, same_span, contents_of}
 use Rattle.pm_directory.specs.declared.entry.DirectoryEntry.{DirectoryEntry}
 use Rattle.pm_build.specs.Runs.{TileRun}
-use Rattle.pm_build.specs.Offsets.{offset_from, spans_from, EachPlaced, ArePlacedRuns}
+use Rattle.pm_build.specs.Different.{offset_from}
+use Rattle.pm_build.specs.Offsets.{spans_from, EachPlaced, ArePlacedRuns}
 
 -- ---- a content at its offset
 

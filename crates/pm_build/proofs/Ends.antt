@@ -3,6 +3,7 @@ use Rattle.std.proofs.Common.{◌≡◌, ℕ, zero, suc, ◌+◌, ◌-◌, ◌<�
 use Rattle.std.specs.List.{AllByRecursion, slice_get}
 use Rattle.std.proofs.lemmas.List.{length-append, append-nil}
 use Rattle.hilbert_id.specs.declared.number.TheConstants.{TILE_IDS}
+use Rattle.pm_build.specs.Different.{content_at}
 use Rattle.pm_build.specs.Joined.{run_views, runs_end}
 use Rattle.pm_build.specs.Runs.{TileRun, repeated, tiles_in}
 use Rattle.pm_build.specs.Tiles.{Tile, IsTile, AreTiles}
@@ -15,19 +16,19 @@ first_repeated first zero content ts some = absurd (omega arith)
 first_repeated first (suc more) content ts some = refl
 
 -- the first tile is the first one of the first run
-pub first_tile : (runs : List Run) (d : Run) → 0 < length runs → AllByRecursion HasCount (run_views runs)
-    → slice_get (tiles_in (run_views runs)) 0 ≡ Some ((get_or runs 0 d).first, (get_or runs 0 d).content.items)
-first_tile [] d some h = absurd (omega arith)
-first_tile (r ∷ runs) d some h = first_repeated r.first r.count r.content.items (tiles_in (run_views runs)) h.0.0
+pub first_tile : (cs : List (List ℕ)) (runs : List Run) (d : Run) → 0 < length runs → AllByRecursion HasCount (run_views cs runs)
+    → slice_get (tiles_in (run_views cs runs)) 0 ≡ Some ((get_or runs 0 d).first, content_at cs (get_or runs 0 d).place)
+first_tile cs [] d some h = absurd (omega arith)
+first_tile cs (r ∷ runs) d some h = first_repeated r.first r.count (content_at cs r.place) (tiles_in (run_views cs runs)) h.0.0
 
 low_repeated : (first count : ℕ) (content : List ℕ) (ts : List Tile) → 0 < count → AllByRecursion IsTile (repeated first count content ++ ts) → first < TILE_IDS
 low_repeated first zero content ts some h = absurd (omega arith)
 low_repeated first (suc more) content ts some h = h.0.0
 
-pub first_low : (runs : List Run) (d : Run) → 0 < length runs → AreTiles (tiles_in (run_views runs)) → AllByRecursion HasCount (run_views runs)
-    → (get_or runs 0 d).first < TILE_IDS
-first_low [] d some are h = absurd (omega arith)
-first_low (r ∷ runs) d some are h = low_repeated r.first r.count r.content.items (tiles_in (run_views runs)) h.0.0 are.1
+pub first_low : (cs : List (List ℕ)) (runs : List Run) (d : Run) → 0 < length runs → AreTiles (tiles_in (run_views cs runs))
+    → AllByRecursion HasCount (run_views cs runs) → (get_or runs 0 d).first < TILE_IDS
+first_low cs [] d some are h = absurd (omega arith)
+first_low cs (r ∷ runs) d some are h = low_repeated r.first r.count (content_at cs r.place) (tiles_in (run_views cs runs)) h.0.0 are.1
 
 last_repeated : (first more : ℕ) (content : List ℕ) → slice_get (repeated first (suc more) content) more ≡ Some (first + more, content)
 last_repeated first zero content = let e : first ≡ first + 0 = omega arith in ap (λ (n : ℕ). let t : Tile = (n, content) in Some t) e

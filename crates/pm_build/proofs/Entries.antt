@@ -1,18 +1,20 @@
 -- The entries of runs: what an archive wants of them.
-use Rattle.std.proofs.Common.{◌≡◌, ℕ, zero, suc, ◌+◌, ◌-◌, ◌<◌, ◌≤◌, ◌^◌, max, List, [], ◌∷◌, ◌++◌, length, map, take, drop, All, refl, sym, ap, subst, ◌∙◌}
+use Rattle.std.proofs.Common.{◌≡◌, ℕ, zero, suc, ◌+◌, ◌-◌, ◌<◌, ◌≤◌, ◌^◌, max, List, [], ◌∷◌, ◌++◌, length, map, take, drop, refl, sym, ap, subst, ◌∙◌}
 use Rattle.std.proofs.Common.{arith}
 use Rattle.std.specs.List.{AllByRecursion, Contains, concat, slice_range}
-use Rattle.std.proofs.lemmas.List.{length-append, take_at, drop_at}
+use Rattle.std.proofs.lemmas.List.{length-append, length-map, take_at, drop_at}
 use Rattle.std.proofs.lemmas.List.Elements.{All-contains, All-from_recursion}
 use Rattle.hilbert_id.specs.declared.number.TheConstants.{TILE_IDS}
 use Rattle.pm_directory.specs.Directory.{AscendFrom, IsEntry}
 use Rattle.pm_directory.specs.declared.entry.DirectoryEntry.{DirectoryEntry}
-use Rattle.pm_build.specs.declared.run.Run.{Run}
 use Rattle.pm_build.specs.Tiles.{Tile, IdsAscend, IsTile, AreTiles}
 use Rattle.pm_build.specs.Runs.{TileRun, repeated, tiles_in, AreLongestRuns}
-use Rattle.pm_build.specs.Joined.{run_views, runs_end}
+use Rattle.pm_build.specs.Joined.{runs_end}
 use Rattle.pm_build.specs.Placed.{Names, EachNames, ArePlaced}
+use Rattle.pm_build.specs.Different.{contents_of, with_contents}
 use Rattle.pm_build.specs.Offsets.{IsPlaced, EachPlaced, ArePlacedRuns}
+use Rattle.pm_build.proofs.Different.{contents_of_runs, used_all, count_all}
+use Rattle.pm_build.proofs.Tiles.{IsShort, short_used}
 use Rattle.pm_build.proofs.Joining.{HasCount}
 use Rattle.pm_build.proofs.Growing.{each_weaker}
 use Rattle.pm_build.proofs.Counting.{stands, as_many_spans}
@@ -154,16 +156,6 @@ are_placed tiles rs es cs t l h =
       counted = as_many_spans rs es cs h some;
     }
 
-lengths_of : (runs : List Run) → AllByRecursion IsRun (run_views runs) → AllByRecursion (λ (r : Run). length r.content.items < 2 ^ 32) runs
-lengths_of [] h = tt
-lengths_of (r ∷ runs) h = (h.0.length_fits, lengths_of runs h.1)
-
--- a run's content has a length that an entry can say
-pub lengths_fit : (tiles : List Tile) (runs : List Run) → AreTiles tiles → AreLongestRuns tiles (run_views runs)
-    → All (λ r. length r.content.items < 2 ^ 32) runs
-lengths_fit tiles runs t l =
-    All-from_recursion (λ (r : Run). length r.content.items < 2 ^ 32) runs (lengths_of runs (runs_in tiles (run_views runs) t l))
-
 end_of_runs : (rs : List TileRun) → AllByRecursion IsRun rs → runs_end rs ≤ TILE_IDS
 end_of_runs [] h = omega arith
 end_of_runs (r ∷ []) h = h.0.ids_fit
@@ -172,3 +164,23 @@ end_of_runs (r ∷ s ∷ rs) h = end_of_runs (s ∷ rs) h.1
 -- the id after the last run is at most that after the last tile of all
 pub end_low : (tiles : List Tile) (rs : List TileRun) → AreTiles tiles → AreLongestRuns tiles rs → runs_end rs ≤ TILE_IDS
 end_low tiles rs t l = end_of_runs rs (runs_in tiles rs t l)
+
+short_runs : (rs : List TileRun) → AllByRecursion IsRun rs → AllByRecursion IsShort (map (λ r. r.content) rs)
+short_runs [] h = tt
+short_runs (r ∷ rs) h = (h.0.length_fits, short_runs rs h.1)
+
+-- the different contents of the tiles have at most 2^49 bytes
+pub contents_low : (tiles : List Tile) (rs : List TileRun) → AreTiles tiles → AreLongestRuns tiles rs → length rs ≤ 131072
+    → length (concat (contents_of tiles)) ≤ 2 ^ 49
+contents_low tiles rs t l few =
+    let ds = map (λ (r : TileRun). r.content) rs in
+    let is : contents_of tiles ≡ with_contents [] ds = ap (λ (ts : List Tile). contents_of ts) (sym l.together) ∙ contents_of_runs rs l.each in
+    let low = short_used ds (with_contents [] ds) (short_runs rs (runs_in tiles rs t l)) (used_all ds) in
+    omega (
+      arith,
+      few,
+      low,
+      count_all [] ds,
+      length-map rs (λ (r : TileRun). r.content),
+      ap (λ (cs : List (List ℕ)). length (concat cs)) is,
+    )

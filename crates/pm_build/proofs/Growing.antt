@@ -1,20 +1,18 @@
 -- Runs as entries: one run more.
-use Rattle.std.proofs.Common.{◌≡◌, ◌≢◌, ℕ, ◌+◌, ◌^◌, ◌<◌, ◌≤◌, List, [], ◌∷◌, ◌++◌, length, map, take, get_or, max, ◌⊎◌, inl, inr}
-use Rattle.std.proofs.Common.{Option, Some, None, refl, sym, ap, subst, ◌∙◌, arith}
+use Rattle.std.proofs.Common.{◌≡◌, ℕ, ◌+◌, ◌<◌, ◌≤◌, List, [], ◌∷◌, ◌++◌, length, map, take, get_or, max, ◌⊎◌, inl, inr}
+use Rattle.std.proofs.Common.{Option, Some, None, refl, sym, ap, subst, ◌∙◌, append_assoc, arith}
 use Rattle.std.specs.List.{AllByRecursion, Contains, concat}
-use Rattle.std.specs.Str.{bytes_eq}
-use Rattle.std.proofs.lemmas.Bool.{true≢false}
-use Rattle.std.proofs.lemmas.List.{length-append, map_push, take_more}
+use Rattle.std.proofs.lemmas.List.{length-append, append-nil, map_push, take_more}
 use Rattle.std.proofs.lemmas.List.Elements.{Contains-append_left, Contains-push}
 use Rattle.pm_directory.specs.Counts.{span_of}
 use Rattle.pm_directory.specs.declared.entry.DirectoryEntry.{DirectoryEntry}
 use Rattle.pm_build.specs.declared.run.Run.{Run}
 use Rattle.pm_build.specs.Runs.{TileRun}
 use Rattle.pm_build.specs.Joined.{run_view, run_views}
-use Rattle.pm_build.specs.Placed.{AreDifferent}
 use Rattle.pm_build.specs.Clustered.{end_of, IsClustered}
-use Rattle.pm_build.specs.Offsets.{offset_from, with_content, spans_from, IsPlaced, EachPlaced, ArePlacedRuns}
-use Rattle.pm_build.proofs.Offsets.{push_kept, push_same, none_parts, same_bytes, concat_push, with_there, with_new}
+use Rattle.pm_build.specs.Different.{offset_from, with_content, with_contents}
+use Rattle.pm_build.specs.Offsets.{spans_from, IsPlaced, EachPlaced, ArePlacedRuns}
+use Rattle.pm_build.proofs.Different.{push_kept, push_same, concat_push, different_push, with_there, with_new, with_has, with_more, with_none, all_kept}
 use Rattle.pm_build.proofs.Counting.{stands}
 
 -- ---- facts of each element
@@ -44,13 +42,6 @@ placed_push cs [] [] r e h p = (p, tt)
 placed_push cs [] (x ∷ es) r e h p = absurd h
 placed_push cs (x ∷ rs) [] r e h p = absurd h
 placed_push cs (x ∷ rs) (y ∷ es) r e h p = (h.0, placed_push cs rs es r e h.1 p)
-
-different_push : (from : ℕ) (cs : List (List ℕ)) (d : List ℕ) → AreDifferent cs → offset_from from cs d ≡ None → AreDifferent (cs ++ d ∷ [])
-different_push from [] d h none = (tt, tt)
-different_push from (c ∷ cs) d h none =
-    let n = none_parts from c cs d none in
-    let other : d ≢ c = λ same. true≢false (sym (same_bytes d) ∙ ap (λ x. bytes_eq d x) same ∙ n.test) in
-    (each_push (λ x. x ≢ c) cs d h.0 other, different_push (from + length c) cs d h.1 n.rest)
 
 spans_push : (from : ℕ) (cs : List (List ℕ)) (d : List ℕ) → spans_from from (cs ++ d ∷ []) ≡ spans_from from cs ++ (from + length (concat cs), length d) ∷ []
 spans_push from [] d = let e : from ≡ from + 0 = omega arith in ap (λ (n : ℕ). let p : ℕ × ℕ = (n, length d) in p ∷ []) e
@@ -150,32 +141,50 @@ more_placed rs r es e old new h grown p = by (offset_from 0 old r.content) refl
         subst (λ (cs : List (List ℕ)). ArePlacedRuns (rs ++ r ∷ []) (es ++ e ∷ []) cs) (sym is)
         (more_there rs r es e old h (subst (λ (cs : List (List ℕ)). IsPlaced cs r e) is p))
 
+-- ---- all runs
+
+-- a run's entry is placed as soon as its content is among the contents
+earlier : (old rest cs : List (List ℕ)) (r : TileRun) (e : DirectoryEntry) → cs ≡ with_contents (with_content old r.content) rest → IsPlaced cs r e
+    → IsPlaced (with_content old r.content) r e
+earlier old rest cs r e is p =
+    let has = with_has old r.content in
+    let same : Some has.0 ≡ Some e.offset =
+    sym (all_kept (with_content old r.content) rest r.content has.0 has.1) ∙ ap (λ (x : List (List ℕ)). offset_from 0 x r.content) (sym is) ∙ p.offset_is in
+    record { id_is = p.id_is; run_is = p.run_is; length_is = p.length_is; offset_is = has.1 ∙ same; offset_fits = p.offset_fits }
+
+placed_from : (before rest : List TileRun) (bes res : List DirectoryEntry) (old cs : List (List ℕ)) → ArePlacedRuns before bes old → EachPlaced cs rest res
+    → cs ≡ with_contents old (map (λ r. r.content) rest) → ArePlacedRuns (before ++ rest) (bes ++ res) cs
+placed_from before [] bes [] old cs h each is =
+    subst (λ (x : List TileRun). ArePlacedRuns x (bes ++ []) cs) (sym (append-nil before))
+    (subst (λ (x : List DirectoryEntry). ArePlacedRuns before x cs) (sym (append-nil bes))
+    (subst (λ (x : List (List ℕ)). ArePlacedRuns before bes x) (sym (is ∙ with_none old)) h))
+placed_from before [] bes (e ∷ es) old cs h each is = absurd each
+placed_from before (r ∷ rs) bes [] old cs h each is = absurd each
+placed_from before (r ∷ rs) bes (e ∷ es) old cs h each is =
+    let new = with_content old r.content in
+    let left = map (λ x. x.content) rs in
+    let stays : cs ≡ with_contents new left = is ∙ with_more old r.content left in
+    let more = more_placed before r bes e old new h refl (earlier old left cs r e stays each.0) in
+    let on = placed_from (before ++ r ∷ []) rs (bes ++ e ∷ []) es new cs more each.1 stays in
+    subst (λ (x : List TileRun). ArePlacedRuns x (bes ++ e ∷ es) cs) (append_assoc before (r ∷ []) rs)
+    (subst (λ (x : List DirectoryEntry). ArePlacedRuns ((before ++ r ∷ []) ++ rs) x cs) (append_assoc bes (e ∷ []) es) on)
+
+none_placed : ArePlacedRuns [] [] []
+none_placed = record { each = tt; different = tt; used = tt; clustered = tt; ends = refl; reached = tt }
+
+pub placed_all : (rs : List TileRun) (es : List DirectoryEntry) (cs : List (List ℕ)) → EachPlaced cs rs es → cs ≡ with_contents [] (map (λ r. r.content) rs)
+    → ArePlacedRuns rs es cs
+placed_all rs es cs each is = placed_from [] rs [] es [] cs none_placed each is
+
 -- ---- the loop over the runs
 
-pub placed_more : (runs : List Run) (i : ℕ) (d : Run) (es more : List DirectoryEntry) (e : DirectoryEntry) (old new : List (List ℕ)) → i < length runs
-    → more ≡ es ++ e ∷ [] → ArePlacedRuns (run_views (take i runs)) es old
-    → new ≡ with_content old (get_or runs i d).content.items → IsPlaced new (run_view (get_or runs i d)) e
-    → ArePlacedRuns (run_views (take (i + 1) runs)) more new
-placed_more runs i d es more e old new lt pushed h grown p =
-    let views : run_views (take (i + 1) runs) ≡ run_views (take i runs) ++ run_view (get_or runs i d) ∷ [] =
-    ap run_views (take_more runs i d lt) ∙ map_push run_view (take i runs) (get_or runs i d) in
-    subst (λ (x : List TileRun). ArePlacedRuns x more new) (sym views)
-    (subst (λ (x : List DirectoryEntry). ArePlacedRuns (run_views (take i runs) ++ run_view (get_or runs i d) ∷ []) x new) (sym pushed)
-    (more_placed (run_views (take i runs)) (run_view (get_or runs i d)) es e old new h grown p))
-
--- the same of a run and the bytes of its content, as the loop has them
-pub placed_item : (runs : List Run) (i : ℕ) (run : Run) (es more : List DirectoryEntry) (e : DirectoryEntry) (old new : List (List ℕ)) (bytes : List ℕ)
-    → i < length runs → run ≡ get_or runs i run → more ≡ es ++ e ∷ [] → ArePlacedRuns (run_views (take i runs)) es old → bytes ≡ run.content.items
-    → new ≡ with_content old bytes → e.id ≡ run.first → e.run ≡ run.count → e.length ≡ length run.content.items → offset_from 0 new bytes ≡ Some e.offset
-    → e.offset < 2 ^ 64 → ArePlacedRuns (run_views (take (i + 1) runs)) more new
-placed_item runs i run es more e old new bytes lt at pushed h content grown id count size offset fits =
-    let placed : IsPlaced new (run_view run) e = record {
-      id_is = id;
-      run_is = count;
-      length_is = size;
-      offset_is = ap (λ (bs : List ℕ). offset_from 0 new bs) (sym content) ∙ offset;
-      offset_fits = fits;
-    } in
-    placed_more runs i run es more e old new lt pushed h
-    (grown ∙ ap (λ (bs : List ℕ). with_content old bs) content ∙ ap (λ (r : Run). with_content old r.content.items) at)
-    (subst (λ (r : Run). IsPlaced new (run_view r) e) at placed)
+pub each_more : (cs : List (List ℕ)) (runs : List Run) (i : ℕ) (d : Run) (es more : List DirectoryEntry) (e : DirectoryEntry) → i < length runs
+    → more ≡ es ++ e ∷ [] → EachPlaced cs (run_views cs (take i runs)) es → IsPlaced cs (run_view cs (get_or runs i d)) e
+    → EachPlaced cs (run_views cs (take (i + 1) runs)) more
+each_more cs runs i d es more e lt pushed h p =
+    let run = get_or runs i d in
+    let views : run_views cs (take (i + 1) runs) ≡ run_views cs (take i runs) ++ run_view cs run ∷ [] =
+    ap (λ (x : List Run). run_views cs x) (take_more runs i d lt) ∙ map_push (run_view cs) (take i runs) run in
+    subst (λ (x : List TileRun). EachPlaced cs x more) (sym views)
+    (subst (λ (x : List DirectoryEntry). EachPlaced cs (run_views cs (take i runs) ++ run_view cs run ∷ []) x) (sym pushed)
+    (placed_push cs (run_views cs (take i runs)) es (run_view cs run) e h p))

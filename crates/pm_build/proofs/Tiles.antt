@@ -22,7 +22,7 @@ use Rattle.pm_build.proofs.Pieces.{part_of_part}
 abbrev HasTiles : TileRun → Type 0
 HasTiles r = (0 < r.count) × (r.count < 2 ^ 32)
 
-abbrev IsShort : List ℕ → Type 0
+abbrev pub IsShort : List ℕ → Type 0
 IsShort c = length c < 2 ^ 32
 
 -- ---- what each entry has
@@ -67,7 +67,7 @@ short_contents bytes (r ∷ rs) (e ∷ es) named each =
     let fits = each.0.length_fits in
     (omega arith, short_contents bytes rs es named.1 each.1)
 
-short_used : (all cs : List (List ℕ)) → AllByRecursion IsShort all → AllByRecursion (λ c. Contains all c) cs → length (concat cs) ≤ 2 ^ 32 * length cs
+pub short_used : (all cs : List (List ℕ)) → AllByRecursion IsShort all → AllByRecursion (λ c. Contains all c) cs → length (concat cs) ≤ 2 ^ 32 * length cs
 short_used all [] short used = omega arith
 short_used all (c ∷ cs) short used =
     let this : length c < 2 ^ 32 = All-contains IsShort all c (All-from_recursion IsShort all short) used.0 in

@@ -1,16 +1,28 @@
 -- The longest runs as a function of the tiles.
-use Rattle.std.specs.Prelude.{ℕ, ◌+◌, ◌&&◌, Bool, false, cond, if◌then◌else◌, List, [], ◌∷◌, ◌++◌, map, nat_eq, nat_lt}
+use Rattle.std.specs.Prelude.{ℕ, ◌+◌, ◌<◌, ◌&&◌, Bool, false, cond, if◌then◌else◌, List, [], ◌∷◌, ◌++◌, length, map, nat_eq, nat_lt}
+use Rattle.std.specs.List.{AllByRecursion}
 use Rattle.std.specs.Str.{bytes_eq}
 use Rattle.pm_build.specs.declared.run.Run.{Run}
+use Rattle.pm_build.specs.Different.{content_at}
 use Rattle.pm_build.specs.Tiles.{Tile}
 use Rattle.pm_build.specs.Runs.{TileRun}
 
--- a run as contracts see it
-abbrev pub run_view : Run → TileRun
-run_view r = record { first = r.first; count = r.count; content = r.content.items }
+-- each run's place is that of one of these contents
+abbrev pub ArePlaces : List (List ℕ) → List Run → Type 0
+ArePlaces contents runs = AllByRecursion (λ r. r.place < length contents) runs
 
-abbrev pub run_views : List Run → List TileRun
-run_views rs = map run_view rs
+-- a run as contracts see it, by the different contents
+abbrev pub run_view : List (List ℕ) → Run → TileRun
+run_view contents r = record { first = r.first; count = r.count; content = content_at contents r.place }
+
+abbrev pub run_views : List (List ℕ) → List Run → List TileRun
+run_views contents runs = map (run_view contents) runs
+
+-- the id after the last tile of the runs, or 0
+abbrev pub last_end : List Run → ℕ
+last_end [] = 0
+last_end (r ∷ []) = r.first + r.count
+last_end (r ∷ s ∷ rs) = last_end (s ∷ rs)
 
 -- whether the tile continues the run
 abbrev pub goes_on : TileRun → Tile → Bool

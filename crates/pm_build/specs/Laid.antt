@@ -1,6 +1,5 @@
 -- The header of an archive whose sections are stored without gaps.
 use Rattle.std.specs.Prelude.{◌≡◌, ℕ, ◌+◌, ◌-◌, pos, negsuc, List, ◌++◌, length, map, Some, slice_get, Contains}
-use Rattle.std.specs.Borrow.{Bor}
 use Rattle.std.specs.List.{AllByRecursion, concat}
 use Rattle.hilbert_id.specs.Curve.{IsTileId}
 use Rattle.pm_header.specs.declared.header.Header.{Header}
@@ -50,10 +49,6 @@ header_for l n min_zoom max_zoom = record {
   centre_lat = pos 0;
 }
 
--- contents in memory, one after the other
-abbrev pub joined_contents : List (Bor (List ℕ)) → List ℕ
-joined_contents contents = concat (map (λ c. c.now) contents)
-
 -- the lengths of these sections
 abbrev pub lengths_of : List ℕ → List ℕ → List ℕ → List ℕ → Lengths
 lengths_of root metadata leaves contents = record { root = length root; metadata = length metadata; leaves = length leaves; tiles = length contents }
@@ -62,6 +57,10 @@ lengths_of root metadata leaves contents = record { root = length root; metadata
 abbrev pub AreJoined : List ℕ → Header → List ℕ → List ℕ → List ℕ → List ℕ → Type 0
 AreJoined bytes h root metadata leaves contents =
     (front : List ℕ) × IsHeader front h × (length front ≡ 127) × (bytes ≡ front ++ (root ++ (metadata ++ (leaves ++ contents))))
+
+-- the bytes are the header and the sections before the contents, one after the other
+abbrev pub IsFront : List ℕ → Header → List ℕ → List ℕ → List ℕ → Type 0
+IsFront bytes h root metadata leaves = (head : List ℕ) × IsHeader head h × (length head ≡ 127) × (bytes ≡ head ++ (root ++ (metadata ++ leaves)))
 
 -- what a header counts: the tiles, their longest runs, and their different contents
 abbrev pub counts_of : List Tile → List TileRun → List (List ℕ) → Counts

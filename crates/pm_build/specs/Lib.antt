@@ -1,6 +1,8 @@
 pub mod Building
 pub mod Built
 pub mod Clustered
+pub mod Different
+pub mod Hashing
 pub mod Joined
 pub mod Kept
 pub mod Laid
@@ -8,4 +10,5 @@ pub mod Leaves
 pub mod Offsets
 pub mod Placed
 pub mod Runs
+pub mod Storing
 pub mod Tiles

@@ -1,39 +1,17 @@
--- Contents one after the other, and the offset of each.
-use Rattle.std.specs.Prelude.{◌≡◌, ℕ, ◌+◌, ◌<◌, ◌^◌, ◌++◌, cond, List, [], ◌∷◌, length, map, Option, Some, None, is_some, ⊤, Contains}
+-- The entries of runs, by the offsets of their contents.
+use Rattle.std.specs.Prelude.{◌≡◌, ℕ, ◌+◌, ◌<◌, ◌^◌, List, [], ◌∷◌, length, map, Some, ⊤, Contains}
 use Rattle.std.specs.List.{AllByRecursion, concat}
-use Rattle.std.specs.Ordering.{nat_cmp}
-use Rattle.std.specs.Str.{bytes_eq}
-use Rattle.std.specs.Cmp.Lexicographic.{slice_cmp}
-use Rattle.std.specs.BTreeMap.{get_by}
 use Rattle.pm_directory.specs.Counts.{span_of}
 use Rattle.pm_directory.specs.declared.entry.DirectoryEntry.{DirectoryEntry}
-use Rattle.pm_build.specs.declared.contents.Contents.{Contents}
+use Rattle.pm_build.specs.Different.{offset_from}
 use Rattle.pm_build.specs.Runs.{TileRun}
 use Rattle.pm_build.specs.Placed.{AreDifferent}
 use Rattle.pm_build.specs.Clustered.{end_of, IsClustered}
-
--- the offset of the first content that is equal to this one, if there is one; the first of all begins at `from`
-unfoldable pub offset_from : ℕ → List (List ℕ) → List ℕ → Option ℕ
-offset_from from [] content = None
-offset_from from (c ∷ cs) content = cond (bytes_eq content c) (Some from) (offset_from (from + length c) cs content)
-
--- the contents with this one after them, unless it is among them
-unfoldable pub with_content : List (List ℕ) → List ℕ → List (List ℕ)
-with_content contents content = cond (is_some (offset_from 0 contents content)) contents (contents ++ content ∷ [])
 
 -- the offset and the length of each
 abbrev pub spans_from : ℕ → List (List ℕ) → List (ℕ × ℕ)
 spans_from from [] = []
 spans_from from (c ∷ cs) = (from, length c) ∷ spans_from (from + length c) cs
-
--- the contents that were placed
-abbrev pub contents_view : Contents → List (List ℕ)
-contents_view s = map (λ c. c.now) s.placed.items
-
--- the map and the end are those of the contents
-pub record IsKept (s : Contents) : Type 0 where
-  pub offsets : (content : List ℕ) → get_by (λ k. slice_cmp nat_cmp content k.now) s.offsets ≡ offset_from 0 (contents_view s) content
-  pub ends : s.end ≡ length (concat (contents_view s))
 
 -- the entry of a run
 pub record IsPlaced (contents : List (List ℕ)) (r : TileRun) (e : DirectoryEntry) : Type 0 where

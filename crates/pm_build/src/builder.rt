@@ -1,16 +1,19 @@
 //! Builds an archive from tiles.
 
-ghost use Rattle.std.specs.Prelude.{ℕ, ◌≡◌, ◌≢◌, ◌+◌, ◌*◌, ◌≤◌, ◌↔◌, List, [], ◌∷◌, ◌++◌, length, Err, OnOk, OnErr, IfOk, IsTrue, map, Contains};
+ghost use Rattle.std.specs.Prelude.{ℕ, ◌≡◌, ◌≢◌, ◌+◌, ◌*◌, ◌<◌, ◌≤◌, ◌^◌, ◌↔◌, List, [], ◌∷◌, ◌++◌, length, Err, OnOk, OnErr, IfOk, IsTrue, map, Contains};
 ghost use Rattle.std.specs.List.{AllByRecursion, concat};
 ghost use Rattle.pm_build.specs.Building.{CanAdd, AreTooMany, AreFew};
+ghost use Rattle.pm_build.specs.Different.{contents_of};
 ghost use Rattle.pm_build.specs.Runs.{TileRun, AreLongestRuns};
 ghost use Rattle.pm_build.specs.Placed.{AreDifferent};
 ghost use Rattle.pm_metadata.specs.Archive.{IsArchiveOf, IsMetadata};
-ghost use Rattle.pm_build.specs.Built.{tile_content};
+ghost use Rattle.pm_build.specs.Built.{tile_content, archive_bytes};
 ghost use Rattle.pm_build.specs.Laid.{AreLaidOut};
 
-use crate::building::archive_of_runs;
+use crate::building::front_of_runs;
+use crate::built::BuiltArchive;
 use crate::checks::is_tile;
+use crate::contents::Contents;
 use crate::fault::BuildFault;
 use crate::limit::MAX_ENTRIES;
 use crate::run::Run;
@@ -18,11 +21,13 @@ use crate::runs::{add_tile, end_of};
 use std::alloc::{AllocError, Global};
 use std::marker::Model;
 
-/// Builds an archive from tiles that are added in ascending order of their ids. A tile that follows the last run with an equal
-/// content is joined with it, and its bytes are freed.
+/// Builds an archive from tiles that are added in ascending order of their ids. It keeps each different content once, from the moment
+/// that a tile with it is added, and a record for each run of tiles and for each content.
 #[derive(Debug, Drop)]
 pub struct ArchiveBuilder {
     runs: Vec<Run>,
+    /// The different contents of the tiles, in the order of first use.
+    contents: Contents,
     /// The number of tiles that were added.
     addressed: u64,
     alloc: Global,
@@ -48,6 +53,7 @@ impl ArchiveBuilder {
     {
         ArchiveBuilder {
             runs: Vec::new(alloc),
+            contents: Contents::new(alloc),
             addressed: 0,
             alloc,
         }
@@ -68,20 +74,28 @@ impl ArchiveBuilder {
         is_tile(end_of(&self.runs), id, content)
     }
 
-    /// Adds a tile. It allocates memory only if the tile begins a run.
+    /// The number of bytes of the different contents of the tiles that were added. An archive of these tiles is longer.
+    pub fn content_len(&self) -> usize
+        ensures total { result ≡ length (concat (contents_of self.now)) }
+        ensures bounded { result ≤ 2 ^ 49 }
+    {
+        self.contents.total()
+    }
+
+    /// Adds a tile. The content is copied only if no tile before it has an equal one. It allocates memory only if the tile begins a run.
     ///
     /// # Errors
     ///
     /// `TooManyEntries` exactly if there are more than `MAX_ENTRIES` runs with this tile. `Memory` if an allocation fails. After an
     /// error nothing is added.
-    pub fn add(&mut self, id: u64, content: Vec<u8>) -> Result<(), BuildFault>
-        requires { CanAdd self.old (id, content.items) }
-        ensures added { OnOk result (self.new ≡ self.old ++ (id, content.items) ∷ []) }
+    pub fn add(&mut self, id: u64, content: &[u8]) -> Result<(), BuildFault>
+        requires { CanAdd self.old (id, content.now) }
+        ensures added { OnOk result (self.new ≡ self.old ++ (id, content.now) ∷ []) }
         ensures unchanged { OnErr result (self.new ≡ self.old) }
         ensures few { OnOk result (AreFew self.new) }
-        ensures many { (result ≡ Err BuildFault.TooManyEntries) ↔ AreTooMany (self.old ++ (id, content.items) ∷ []) }
+        ensures many { (result ≡ Err BuildFault.TooManyEntries) ↔ AreTooMany (self.old ++ (id, content.now) ∷ []) }
     {
-        match add_tile(&mut self.runs, id, content) {
+        match add_tile(&mut self.runs, &mut self.contents, id, content) {
             Ok(()) => {}
             Err(fault) => return Err(fault),
         }
@@ -90,7 +104,7 @@ impl ArchiveBuilder {
     }
 
     /// The archive of the tiles that were added, with this metadata, a JSON object: header, root directory, metadata, leaf directories
-    /// and contents, without gaps.
+    /// and contents, without gaps. The contents are not copied.
     ///
     /// Tiles of consecutive ids with equal contents share an entry, and equal contents are stored once. Up to 512 entries are stored in
     /// the root directory, more in leaf directories of 512 each. The header has the counts of tiles, entries and contents, the zooms of
@@ -99,15 +113,27 @@ impl ArchiveBuilder {
     /// # Errors
     ///
     /// An allocation failed.
-    pub fn finish(&self, metadata: &[u8]) -> Result<Vec<u8>, AllocError>
-        requires some { self.now ≢ [] }
+    pub fn finish(self, metadata: &[u8]) -> Result<BuiltArchive, AllocError>
+        requires some { self ≢ [] }
         requires metadata { IsMetadata metadata.now }
-        ensures archive { IfOk result (λ bytes. IsArchiveOf bytes.items (tile_content self.now)) }
-        ensures header { IfOk result (λ bytes. AreLaidOut bytes.items self.now metadata.now) }
-        ensures size { IfOk result (λ bytes. (runs : List TileRun) × (contents : List (List ℕ)) × AreLongestRuns self.now runs × (length runs ≤ MAX_ENTRIES)
+        ensures archive { IfOk result (λ a. IsArchiveOf (archive_bytes a) (tile_content self)) }
+        ensures header { IfOk result (λ a. AreLaidOut (archive_bytes a) self metadata.now) }
+        ensures size { IfOk result (λ a. (runs : List TileRun) × (contents : List (List ℕ)) × AreLongestRuns self runs × (length runs ≤ MAX_ENTRIES)
             × AreDifferent contents × AllByRecursion (λ c. Contains (map (λ r. r.content) runs) c) contents
-            × (length bytes.items ≤ 127 + length metadata.now + 64 * length runs + length (concat contents))) }
+            × (length (archive_bytes a) ≤ 127 + length metadata.now + 64 * length runs + length (concat contents))) }
+        ensures least { IfOk result (λ a. 127 + length metadata.now + length (concat (contents_of self)) ≤ length (archive_bytes a)) }
+        ensures contents { IfOk result (λ a. a.contents.items ≡ concat (contents_of self)) }
     {
-        archive_of_runs(self.alloc, &self.runs, self.addressed, metadata)
+        let front = front_of_runs(
+            self.alloc,
+            &self.runs,
+            self.addressed,
+            &self.contents,
+            metadata,
+        )?;
+        Ok(BuiltArchive {
+            front,
+            contents: self.contents.into_bytes(),
+        })
     }
 }

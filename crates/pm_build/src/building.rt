@@ -1,68 +1,52 @@
-//! Writes an archive of runs of tiles.
+//! Writes what is stored before the contents of an archive.
 
-ghost use Rattle.std.specs.Prelude.{◌≡◌, ℕ, ◌+◌, ◌*◌, ◌^◌, ◌<◌, ◌≤◌, List, length, IfOk, map, Contains};
-ghost use Rattle.std.specs.List.{AllByRecursion, concat};
+ghost use Rattle.std.specs.Prelude.{◌≡◌, ℕ, ◌+◌, ◌*◌, ◌^◌, ◌<◌, ◌≤◌, ◌++◌, [], List, length, IfOk, map};
+ghost use Rattle.std.specs.List.{concat};
 ghost use Rattle.pm_build.specs.Tiles.{AreTiles};
 ghost use Rattle.pm_build.specs.Runs.{AreLongestRuns, tiles_in};
-ghost use Rattle.pm_build.specs.Joined.{run_views};
-ghost use Rattle.pm_build.specs.Placed.{AreDifferent, ArePlaced};
+ghost use Rattle.pm_build.specs.Joined.{ArePlaces, run_views};
+ghost use Rattle.pm_build.specs.Different.{contents_of};
+ghost use Rattle.pm_build.specs.Placed.{ArePlaced};
 ghost use Rattle.pm_metadata.specs.Archive.{IsArchiveOf, IsMetadata};
 ghost use Rattle.pm_build.specs.Built.{tile_content};
-ghost use Rattle.pm_build.specs.Laid.{AreJoined, AreLaidOut, AreZooms, header_for, joined_contents, lengths_of};
+ghost use Rattle.pm_build.specs.Laid.{IsFront, AreLaidOut, AreZooms, header_for, lengths_of};
 
+use crate::contents::Contents;
 use crate::directories::{Directories, write_directories};
 use crate::header::{Counts, Lengths, header_of, zoom_of};
 use crate::limit::MAX_ENTRIES;
-use crate::placed::Placed;
-use crate::placing::place_runs;
+use crate::placing::entries_of;
 use crate::run::Run;
 use crate::runs::end_of;
+use pm_directory::DirectoryEntry;
 use pm_header::{HEADER_BYTES, Header};
 use std::alloc::{AllocError, Global};
 
-// The length of all contents in bytes.
-fn total(contents: &[&[u8]]) -> usize
-    requires { length (joined_contents contents.now) < 2 ^ 64 }
-    ensures { result ≡ length (joined_contents contents.now) }
-{
-    let mut total = 0;
-    for content in contents {
-        total += content.len();
-    }
-    total
-}
-
-// The header and the sections, one after the other.
+// The header and the sections before the contents, one after the other.
 fn joined(
     alloc: Global,
     header: &Header,
     directories: &Directories,
     metadata: &[u8],
-    contents: &[&[u8]],
 ) -> Result<Vec<u8>, AllocError>
-    requires { 127 + length directories.now.root.items + length metadata.now + length directories.now.leaves.items
-        + length (joined_contents contents.now) < 2 ^ 64 }
-    ensures { IfOk result
-        (λ bytes. AreJoined bytes.items header.now directories.now.root.items metadata.now directories.now.leaves.items (joined_contents contents.now)) }
+    requires { 127 + length directories.now.root.items + length metadata.now + length directories.now.leaves.items < 2 ^ 64 }
+    ensures { IfOk result (λ front. IsFront front.items header.now directories.now.root.items metadata.now directories.now.leaves.items) }
 {
     let sections = directories.root.len() + metadata.len() + directories.leaves.len();
-    let mut bytes = Vec::with_capacity(alloc, HEADER_BYTES + sections + total(contents))?;
-    bytes.extend_from_slice(&header.to_bytes())?;
-    bytes.extend_from_slice(&directories.root)?;
-    bytes.extend_from_slice(metadata)?;
-    bytes.extend_from_slice(&directories.leaves)?;
-    for content in contents {
-        bytes.extend_from_slice(content)?;
-    }
-    Ok(bytes)
+    let mut front = Vec::with_capacity(alloc, HEADER_BYTES + sections)?;
+    front.extend_from_slice(&header.to_bytes())?;
+    front.extend_from_slice(&directories.root)?;
+    front.extend_from_slice(metadata)?;
+    front.extend_from_slice(&directories.leaves)?;
+    Ok(front)
 }
 
 // The zooms of the first and of the last tile.
-fn zooms_of(runs: &[Run]) -> (u8, u8)
+fn zooms_of(runs: &[Run], contents: &Contents) -> (u8, u8)
     requires some { 0 < length runs.now }
-    requires tiles { AreTiles (tiles_in (run_views runs.now)) }
-    requires longest { AreLongestRuns (tiles_in (run_views runs.now)) (run_views runs.now) }
-    ensures { AreZooms (tiles_in (run_views runs.now)) result.0 result.1 }
+    requires tiles { AreTiles (tiles_in (run_views contents.now runs.now)) }
+    requires longest { AreLongestRuns (tiles_in (run_views contents.now runs.now)) (run_views contents.now runs.now) }
+    ensures { AreZooms (tiles_in (run_views contents.now runs.now)) result.0 result.1 }
 {
     let first = zoom_of(runs[0].first);
     let last = zoom_of(end_of(runs) - 1);
@@ -73,84 +57,86 @@ fn zooms_of(runs: &[Run]) -> (u8, u8)
 fn header_for_runs(
     runs: &[Run],
     addressed: u64,
-    placed: &Placed,
+    contents: &Contents,
     directories: &Directories,
     metadata: &[u8],
 ) -> Header
     requires some { 0 < length runs.now }
-    requires tiles { AreTiles (tiles_in (run_views runs.now)) }
-    requires longest { AreLongestRuns (tiles_in (run_views runs.now)) (run_views runs.now) }
-    requires addressed { addressed ≡ length (tiles_in (run_views runs.now)) }
-    requires fits { 127 + length directories.now.root.items + length metadata.now + length directories.now.leaves.items
-        + length (joined_contents placed.now.contents.items) < 2 ^ 64 }
-    ensures { (min_zoom max_zoom : ℕ) × AreZooms (tiles_in (run_views runs.now)) min_zoom max_zoom
-        × (result ≡ header_for
-        (lengths_of directories.now.root.items metadata.now directories.now.leaves.items (joined_contents placed.now.contents.items))
+    requires tiles { AreTiles (tiles_in (run_views contents.now runs.now)) }
+    requires longest { AreLongestRuns (tiles_in (run_views contents.now runs.now)) (run_views contents.now runs.now) }
+    requires addressed { addressed ≡ length (tiles_in (run_views contents.now runs.now)) }
+    requires fits { 127 + length directories.now.root.items + length metadata.now + length directories.now.leaves.items < 2 ^ 64 }
+    ensures { (min_zoom max_zoom : ℕ) × AreZooms (tiles_in (run_views contents.now runs.now)) min_zoom max_zoom
+        × (result ≡ header_for (lengths_of directories.now.root.items metadata.now directories.now.leaves.items (concat contents.now))
         record {
-          addressed = length (tiles_in (run_views runs.now));
-          entries = length placed.now.entries.items;
-          contents = length placed.now.contents.items;
+          addressed = length (tiles_in (run_views contents.now runs.now));
+          entries = length runs.now;
+          contents = length contents.now;
         } min_zoom max_zoom) }
 {
     let lengths = Lengths {
         root: directories.root.len() as u64,
         metadata: metadata.len() as u64,
         leaves: directories.leaves.len() as u64,
-        tiles: total(&placed.contents) as u64,
+        tiles: contents.total() as u64,
     };
     let counts = Counts {
         addressed,
-        entries: placed.entries.len() as u64,
-        contents: placed.contents.len() as u64,
+        entries: runs.len() as u64,
+        contents: contents.count() as u64,
     };
-    let (min_zoom, max_zoom) = zooms_of(runs);
+    let (min_zoom, max_zoom) = zooms_of(runs, contents);
     header_of(lengths, counts, min_zoom, max_zoom)
 }
 
-// The archive of these runs, by their entries and contents.
-fn archive_of(
+// What is stored before the contents, by the entries of the runs.
+fn front_of(
     alloc: Global,
     runs: &[Run],
     addressed: u64,
-    placed: &Placed,
+    contents: &Contents,
+    entries: &[DirectoryEntry],
     metadata: &[u8],
 ) -> Result<Vec<u8>, AllocError>
     requires some { 0 < length runs.now }
-    requires tiles { AreTiles (tiles_in (run_views runs.now)) }
-    requires longest { AreLongestRuns (tiles_in (run_views runs.now)) (run_views runs.now) }
-    requires addressed { addressed ≡ length (tiles_in (run_views runs.now)) }
-    requires placed { ArePlaced (tiles_in (run_views runs.now)) placed.now.entries.items (map (λ c. c.now) placed.now.contents.items) }
-    requires few { length placed.now.entries.items ≤ MAX_ENTRIES }
+    requires tiles { AreTiles (tiles_in (run_views contents.now runs.now)) }
+    requires longest { AreLongestRuns (tiles_in (run_views contents.now runs.now)) (run_views contents.now runs.now) }
+    requires addressed { addressed ≡ length (tiles_in (run_views contents.now runs.now)) }
+    requires placed { ArePlaced (tiles_in (run_views contents.now runs.now)) entries.now contents.now }
+    requires few { length entries.now ≤ MAX_ENTRIES }
+    requires count { length entries.now ≡ length runs.now }
     requires metadata { IsMetadata metadata.now }
-    ensures archive { IfOk result (λ bytes. IsArchiveOf bytes.items (tile_content (tiles_in (run_views runs.now)))) }
-    ensures header { IfOk result (λ bytes. AreLaidOut bytes.items (tiles_in (run_views runs.now)) metadata.now) }
-    ensures size { IfOk result
-        (λ bytes. length bytes.items ≤ 127 + length metadata.now + 64 * length placed.now.entries.items + length (joined_contents placed.now.contents.items)) }
+    ensures archive { IfOk result (λ front. IsArchiveOf (front.items ++ concat contents.now) (tile_content (tiles_in (run_views contents.now runs.now)))) }
+    ensures header { IfOk result (λ front. AreLaidOut (front.items ++ concat contents.now) (tiles_in (run_views contents.now runs.now)) metadata.now) }
+    ensures size { IfOk result (λ front. length front.items ≤ 127 + length metadata.now + 64 * length entries.now) }
+    ensures least { IfOk result (λ front. 127 + length metadata.now ≤ length front.items) }
 {
-    let directories = write_directories(alloc, &placed.entries)?;
-    let header = header_for_runs(runs, addressed, placed, &directories, metadata);
-    joined(alloc, &header, &directories, metadata, &placed.contents)
+    let directories = write_directories(alloc, entries)?;
+    let header = header_for_runs(runs, addressed, contents, &directories, metadata);
+    joined(alloc, &header, &directories, metadata)
 }
 
-/// The archive of these runs, which are the longest ones of their tiles, with this metadata.
-pub(crate) fn archive_of_runs(
+/// What is stored before the contents in the archive of these runs, which are the longest ones of their tiles, with this metadata.
+pub(crate) fn front_of_runs(
     alloc: Global,
     runs: &[Run],
     addressed: u64,
+    contents: &Contents,
     metadata: &[u8],
 ) -> Result<Vec<u8>, AllocError>
     requires some { 0 < length runs.now }
-    requires tiles { AreTiles (tiles_in (run_views runs.now)) }
-    requires longest { AreLongestRuns (tiles_in (run_views runs.now)) (run_views runs.now) }
-    requires addressed { addressed ≡ length (tiles_in (run_views runs.now)) }
+    requires tiles { AreTiles (tiles_in (run_views contents.now runs.now)) }
+    requires longest { AreLongestRuns (tiles_in (run_views contents.now runs.now)) (run_views contents.now runs.now) }
+    requires addressed { addressed ≡ length (tiles_in (run_views contents.now runs.now)) }
     requires few { length runs.now ≤ MAX_ENTRIES }
+    requires places { ArePlaces contents.now runs.now }
+    requires contents { contents.now ≡ contents_of (tiles_in (run_views contents.now runs.now)) }
     requires metadata { IsMetadata metadata.now }
-    ensures archive { IfOk result (λ bytes. IsArchiveOf bytes.items (tile_content (tiles_in (run_views runs.now)))) }
-    ensures header { IfOk result (λ bytes. AreLaidOut bytes.items (tiles_in (run_views runs.now)) metadata.now) }
-    ensures size { IfOk result (λ bytes. (contents : List (List ℕ)) × AreDifferent contents
-        × AllByRecursion (λ c. Contains (map (λ r. r.content) (run_views runs.now)) c) contents
-        × (length bytes.items ≤ 127 + length metadata.now + 64 * length runs.now + length (concat contents))) }
+    ensures archive { IfOk result (λ front. IsArchiveOf (front.items ++ concat contents.now) (tile_content (tiles_in (run_views contents.now runs.now)))) }
+    ensures header { IfOk result (λ front. AreLaidOut (front.items ++ concat contents.now) (tiles_in (run_views contents.now runs.now)) metadata.now) }
+    ensures size { IfOk result (λ front. length front.items ≤ 127 + length metadata.now + 64 * length runs.now) }
+    ensures least { IfOk result (λ front. 127 + length metadata.now ≤ length front.items) }
 {
-    let placed = place_runs(alloc, runs)?;
-    archive_of(alloc, runs, addressed, &placed, metadata)
+    let entries = entries_of(alloc, runs, contents)?;
+    front_of(alloc, runs, addressed, contents, &entries, metadata)
 }

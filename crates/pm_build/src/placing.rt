@@ -1,37 +1,35 @@
-//! Makes the entries of runs and places their contents.
+//! Makes the entries of runs.
 
-ghost use Rattle.std.specs.Prelude.{◌≡◌, ◌<◌, ◌≤◌, ◌^◌, length, map, All, IfOk};
-ghost use Rattle.pm_build.specs.Joined.{run_views};
+ghost use Rattle.std.specs.Prelude.{◌≡◌, length, map, [], IfOk};
+ghost use Rattle.pm_build.specs.Different.{with_contents};
+ghost use Rattle.pm_build.specs.Joined.{ArePlaces, run_views};
 ghost use Rattle.pm_build.specs.Offsets.{ArePlacedRuns};
 
 use crate::contents::Contents;
-use crate::limit::MAX_ENTRIES;
-use crate::placed::Placed;
 use crate::run::Run;
 use pm_directory::DirectoryEntry;
 use std::alloc::{AllocError, Global};
 
-/// The entries of runs, and their different contents in the order of first use. Equal contents of different runs are found by a map
-/// from contents to offsets.
-pub(crate) fn place_runs<'a>(alloc: Global, runs: &'a [Run]) -> Result<Placed<'a>, AllocError>
-    requires lengths { All (λ r. length r.content.items < 2 ^ 32) runs.now }
-    requires few { length runs.now ≤ MAX_ENTRIES }
-    ensures placed { IfOk result (λ p. ArePlacedRuns (run_views runs.entry.now) p.entries.items (map (λ c. c.now) p.contents.items)) }
-    ensures count { IfOk result (λ p. length p.entries.items ≡ length runs.entry.now) }
+/// An entry for each run, in ascending order. Offsets are from the start of the first content.
+pub(crate) fn entries_of(
+    alloc: Global,
+    runs: &[Run],
+    contents: &Contents,
+) -> Result<Vec<DirectoryEntry>, AllocError>
+    requires places { ArePlaces contents.now runs.now }
+    requires contents { contents.now ≡ with_contents [] (map (λ r. r.content) (run_views contents.now runs.now)) }
+    ensures placed { IfOk result (λ entries. ArePlacedRuns (run_views contents.now runs.now) entries.items contents.now) }
+    ensures count { IfOk result (λ entries. length entries.items ≡ length runs.now) }
 {
-    let mut contents = Contents::new(alloc);
     let mut entries = Vec::with_capacity(alloc, runs.len())?;
     for run in runs {
-        let offset = contents.place(&run.content)?;
+        let stored = contents.stored_at(run.place);
         entries.push(DirectoryEntry {
             id: run.first,
             run: run.count,
-            length: run.content.len() as u32,
-            offset,
+            length: stored.len,
+            offset: stored.offset as u64,
         })?;
     }
-    Ok(Placed {
-        entries,
-        contents: contents.placed,
-    })
+    Ok(entries)
 }

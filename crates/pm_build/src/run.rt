@@ -7,5 +7,6 @@ pub(crate) struct Run {
     pub(crate) first: u64,
     /// The number of tiles.
     pub(crate) count: u32,
-    pub(crate) content: Vec<u8>,
+    /// The place of their content among the different contents.
+    pub(crate) place: usize,
 }

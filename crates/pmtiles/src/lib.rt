@@ -5,7 +5,7 @@
 pub use byte_source::{Bytes, ReadFault};
 pub use hilbert_id::{TILE_IDS, TileAt, id_of, tile_of};
 pub use pm_archive::{Archive, ArchiveFault, Count, Lookup, Section};
-pub use pm_build::{ArchiveBuilder, BuildFault, MAX_ENTRIES};
+pub use pm_build::{ArchiveBuilder, BuildFault, BuiltArchive, MAX_ENTRIES};
 pub use pm_directory::{DirectoryEntry, DirectoryFault, find, read_directory, write_directory};
 pub use pm_header::{
     BROTLI, CLUSTERED, GZIP, HEADER_BYTES, Header, HeaderFault, NOT_COMPRESSED, SectionSpan,

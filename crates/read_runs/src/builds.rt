@@ -18,7 +18,7 @@ fn add_all(builder: &mut ArchiveBuilder, tiles: Vec<Tile>) -> Result<bool, Build
         if !builder.can_add(id, &content) {
             return Ok(false);
         }
-        builder.add(id, content)?;
+        builder.add(id, &content)?;
     }
     Ok(true)
 }
@@ -37,8 +37,9 @@ fn built(
     if builder.is_empty() || !is_metadata(alloc, METADATA)? {
         return Ok(None);
     }
-    let bytes = builder.finish(METADATA)?;
-    Ok(Some(Ok(bytes)))
+    let mut archive = builder.finish(METADATA)?;
+    archive.front.extend_from_slice(&archive.contents)?;
+    Ok(Some(Ok(archive.front)))
 }
 
 /// The bytes of an archive.

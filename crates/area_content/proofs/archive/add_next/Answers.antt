@@ -19,7 +19,7 @@ add-requires c =
     let tile : Tile = (c.in-Ok-Some.tile.0, c.in-Ok-Some.tile.1.items) in
     let next = rw c.in-Ok-Some.field-0-is at c.in-Ok-Some.ensures.tile in
     let short : length c.in-Ok-Some.tile.1.items < 2 ^ 32 = omega (arith, c.if-len.false, c.len.ensures, c.in-Ok-Some.tile.1.ok) in
-    can_be_added old.features old.from c.args.builder.now tile c.requires.added.below next.0 short
+    rw c.deref.ensures.value (can_be_added old.features old.from c.args.builder.now tile c.requires.added.below next.0 short)
 
 pub returns-in-Ok-clause-added : goal.returns-in-Ok-clause-added
 returns-in-Ok-clause-added c same =
@@ -28,12 +28,19 @@ returns-in-Ok-clause-added c same =
     let tile : Tile = (c.in-Ok-Some.tile.0, c.in-Ok-Some.tile.1.items) in
     let next = rw c.in-Ok-Some.field-0-is at c.in-Ok-Some.ensures.tile in
     let short : length c.in-Ok-Some.tile.1.items < 2 ^ 32 = omega (arith, c.if-len.false, c.len.ensures, c.in-Ok-Some.tile.1.ok) in
-    let few = subst AreFew c.in-Ok.ensures.added c.in-Ok.ensures.few in
+    let grows = rw c.deref.ensures.value at c.in-Ok.ensures.added in
+    let few = subst AreFew grows c.in-Ok.ensures.few in
     let grown = next_added old.features old.from c.args.builder.now tile c.requires.added next.0 short few in
     let tiles = c.args.builder.now ++ tile ∷ [] in
-    subst (λ (ts : List Tile). AreAdded new.features new.from ts) (sym c.in-Ok.ensures.added)
+    subst (λ (ts : List Tile). AreAdded new.features new.from ts) (sym grows)
     (subst (λ (n : ℕ). AreAdded new.features n tiles) (sym next.1)
     (subst (λ (m : FeatureMap). AreAdded m (tile.0 + 1) tiles) (sym c.next.ensures.map) grown))
+
+pub returns-in-Ok-clause-grown : goal.returns-in-Ok-clause-grown
+returns-in-Ok-clause-grown c same =
+    let tile : Tile = (c.in-Ok-Some.tile.0, c.in-Ok-Some.tile.1.items) in
+    let next = rw c.in-Ok-Some.field-0-is at c.in-Ok-Some.ensures.tile in
+    (tile, rw c.deref.ensures.value at c.in-Ok.ensures.added, next.1)
 
 pub returns-in-Ok-clause-further : goal.returns-in-Ok-clause-further
 returns-in-Ok-clause-further c same =
@@ -43,8 +50,8 @@ returns-in-Ok-clause-further c same =
     let ends = below_end old.features old.from tile next.0 in
     (omega (arith, ends.0, next.1), omega (arith, ends.1, next.1))
 
-pub returns-in-Err-add-clause-fault : goal.returns-in-Err-add-clause-fault
-returns-in-Err-add-clause-fault c metadata =
+pub returns-clause-fault : goal.returns-clause-fault
+returns-clause-fault c metadata can =
     let old = c.args.tiles.now in
     let tile : Tile = (c.in-Ok-Some.tile.0, c.in-Ok-Some.tile.1.items) in
     let next = rw c.in-Ok-Some.field-0-is at c.in-Ok-Some.ensures.tile in
@@ -52,4 +59,4 @@ returns-in-Err-add-clause-fault c metadata =
     subst (IsContentFault old.features metadata c.args.area) (sym c.to_content_fault.ensures)
     (fault_told old.features metadata c.args.area c.in-Err-add.fault
     (λ many. many_tiles old.features metadata c.args.area old.from c.args.builder.now tile c.requires.added next.0 short
-    (c.in-Err-add.ensures.many.0 (ap (λ f. Err f) many))))
+    ((rw c.deref.ensures.value at c.in-Err-add.ensures.many).0 (ap (λ f. Err f) many))))

@@ -1,28 +1,35 @@
 use Rattle.std.proofs.Common.{◌-◌, ◌<◌, length, refl, sym, ◌∙◌, arith}
 use Rattle.std.proofs.lemmas.Bool.Decides.{nat_tests}
-use Rattle.pm_build.proofs.Adding.{last_end, last_goes_on, last_set}
+use Rattle.pm_build.specs.declared.run.Run.{Run}
+use Rattle.pm_build.proofs.Adding.{last_end_at, last_goes_on, last_set}
 use Rattle.pm_build.proofs.runs.join_last.Goals as goal
 
-pub goes_on-requires : goal.goes_on-requires
-goes_on-requires c =
+-- what an index behind the end would give
+abbrev none : Run
+none = record { first = 0; count = 0; place = 0 }
+
+pub goes_on-requires-clause-end : goal.goes_on-requires-clause-end
+goes_on-requires-clause-end c =
     let runs = c.args.runs.now in
     let more : 0 < length runs = grind (arith, nat_tests, c.is_empty.ensures, c.if-is_empty.false) in
-    omega (arith, c.requires, last_end runs (length runs - 1) c.index-runs-last.result (omega (arith, more)))
+    omega (arith, c.requires.end, last_end_at runs (length runs - 1) none (omega (arith, more)))
 
 pub returns-then-not-goes_on-clause-joins : goal.returns-then-not-goes_on-clause-joins
 returns-then-not-goes_on-clause-joins c =
     let runs = c.args.runs.now in
     let more : 0 < length runs = grind (arith, nat_tests, c.is_empty.ensures, c.if-is_empty.false) in
-    c.if-not-goes_on.ensures ∙ sym (last_goes_on runs (length runs - 1) c.index-runs-last.result (c.args.id, c.args.content.now) (omega (arith, more)))
+    c.if-not-goes_on.ensures
+    ∙ sym (last_goes_on c.args.contents.now runs (length runs - 1) none (c.args.id, c.args.content.now) (omega (arith, more)))
 
 pub returns-clause-joins : goal.returns-clause-joins
 returns-clause-joins c =
     let runs = c.args.runs.now in
     let more : 0 < length runs = grind (arith, nat_tests, c.is_empty.ensures, c.if-is_empty.false) in
-    c.if-not-goes_on.ensures ∙ sym (last_goes_on runs (length runs - 1) c.index-runs-last.result (c.args.id, c.args.content.now) (omega (arith, more)))
+    c.if-not-goes_on.ensures
+    ∙ sym (last_goes_on c.args.contents.now runs (length runs - 1) none (c.args.id, c.args.content.now) (omega (arith, more)))
 
 pub returns-clause-runs : goal.returns-clause-runs
 returns-clause-runs c =
     let runs = c.args.runs.now in
     let more : 0 < length runs = grind (arith, nat_tests, c.is_empty.ensures, c.if-is_empty.false) in
-    last_set runs (length runs - 1) c.index-runs-last.result _ (omega (arith, more)) refl
+    last_set c.args.contents.now runs (length runs - 1) none _ (omega (arith, more)) refl

@@ -1,27 +1,29 @@
 use Rattle.std.proofs.Common.{◌≡◌, List, ap, subst, sym, ◌∙◌, arith}
 use Rattle.pm_build.specs.Building.{CanAdd}
-use Rattle.pm_build.specs.Joined.{run_views, runs_end}
+use Rattle.pm_build.specs.Joined.{run_views, runs_end, last_end}
 use Rattle.pm_build.specs.Runs.{tiles_in}
 use Rattle.pm_build.specs.Tiles.{Tile}
 use Rattle.pm_build.specs.declared.run.Run.{Run}
-use Rattle.pm_build.proofs.Adding.{can_add}
+use Rattle.pm_build.proofs.Adding.{can_add, views_end}
 use Rattle.pm_build.proofs.Entries.{end_low}
 use Rattle.pm_build.proofs.builder.ArchiveBuilder.can_add.Goals as goal
 
 pub end_of-requires : goal.end_of-requires
 end_of-requires c =
-    let rs = run_views c.self.inside.runs.items in
+    let rs = run_views c.self.inside.contents c.self.inside.runs.items in
     omega (
       arith,
       end_low (tiles_in rs) rs c.self.invariant.tiles c.self.invariant.longest,
-      ap (λ (runs : List Run). runs_end (run_views runs)) c.deref.ensures.value,
+      views_end c.self.inside.contents c.self.inside.runs.items,
+      ap (λ (runs : List Run). last_end runs) c.deref.ensures.value,
     )
 
 pub returns : goal.returns
 returns c =
-    let rs = run_views c.self.inside.runs.items in
+    let rs = run_views c.self.inside.contents c.self.inside.runs.items in
     let t : Tile = (c.args.id, c.args.content.now) in
-    let end : c.end_of.result ≡ runs_end rs = c.end_of.ensures ∙ ap (λ (runs : List Run). runs_end (run_views runs)) c.deref.ensures.value in
+    let end : c.end_of.result ≡ runs_end rs =
+    c.end_of.ensures ∙ ap (λ (runs : List Run). last_end runs) c.deref.ensures.value ∙ sym (views_end c.self.inside.contents c.self.inside.runs.items) in
     let test = can_add rs t c.self.invariant.tiles c.self.invariant.longest in (
       λ yes.
           let h = c.is_tile.ensures.0 yes in
