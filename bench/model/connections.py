@@ -372,6 +372,15 @@ def first_from(service, number):
     return json_reply({"feature": service.map[found], "id": found})
 
 
+def status_reply(service):
+    """What the service tells of itself, once its disk was asked to keep what was written."""
+    try:
+        service.check()
+    except Refused:
+        pass  # The status tells of it.
+    return json_reply(service.status())
+
+
 def on_publication(service, name):
     if name == "publish":
         generation, edits, archive = service.publish()
@@ -402,7 +411,7 @@ def reply_to(service, request, is_admin):
         if name == "from":
             return first_from(service, numbers[0])
         if name == "status":
-            return json_reply(service.status())
+            return status_reply(service)
         if name == "metadata":
             return Reply(200, JSON, service.metadata())
         return archive_reply(service, request) if name == "archive" else on_publication(service, name)

@@ -146,6 +146,12 @@ class Service:
             self.broken, self.publication = True, None
             raise Refused("Device") from failed
 
+    def check(self):
+        """Asks the disk to keep what was written."""
+        if self.broken:
+            raise Refused("Broken")
+        self.changed(self.disk.sync)
+
     # ---- edits
 
     def apply(self, changes):

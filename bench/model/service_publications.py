@@ -237,4 +237,15 @@ def too_many():
     yield from [*opened(24000), put(7), "publish", f"put 1 l 18 18 lines 0,0 {WORLD_END - 1},0", "begin", "archive", "delete 1", "publish"]
 
 
-BLOCKS = [publications, between, steps, publication_stops, script_stops, forty_events, stop_choices, one_failure, read_failures, too_many]
+def centres(count):
+    """Points in the middle of every other tile of a row of zoom 16: equal contents, and no run of two."""
+    return " ".join(f"{2 * column * 65536 + 32768},32768" for column in range(count))
+
+
+def directories():
+    yield from heading("Contents that fit in the area, equal ones that are stored once, with directories that do and that don't.")
+    for count in (3200, 3960):
+        yield from [*opened(256), f"put 7 l 16 16 points {centres(count)}", "begin", "step", "step", "archive"]
+
+
+BLOCKS = [publications, between, steps, publication_stops, script_stops, forty_events, stop_choices, one_failure, read_failures, too_many, directories]

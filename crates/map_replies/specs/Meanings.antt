@@ -17,7 +17,7 @@ use Rattle.tile_routes.specs.declared.access.Access.{Access}
 use Rattle.feature_model.specs.Data.{FeatureData, EditData, put, delete, number_of}
 use Rattle.feature_model.specs.Seen.{SeenData}
 use Rattle.feature_store.specs.Store.{FeatureMap}
-use Rattle.tile_service.specs.Machine.{Happening, single, batched, recorded_in, recorded_change, edit, begin, step, cancel}
+use Rattle.tile_service.specs.Machine.{Happening, single, batched, recorded_in, recorded_change, edit, begin, step, cancel, check}
 use Rattle.tile_service.specs.Machine.{got, tile, look, look_from, metadata, read}
 use Rattle.tile_service.specs.Runs.{begin_and_steps, IsUnfinished, TakesAll}
 use Rattle.tile_service.specs.Seen.{IsAsSeen}
@@ -150,15 +150,16 @@ MeansOnFeature failed version id Put body = MeansPut failed version id body
 MeansOnFeature failed version id Delete body = MeansDelete failed version id
 MeansOnFeature failed version id method body = MeansCall (look id) (shown_reply found_reply)
 
--- the service's status is told, and nothing happens
-abbrev pub MeansStatus : Status → ReplyView → List Happening → Type 0
-MeansStatus status reply happenings = (reply ≡ status_reply status) × (happenings ≡ [])
+-- The disk is asked whether it still keeps what is written, and then the service's status is told. With the fault Device the disk has
+-- failed.
+abbrev pub MeansStatus : (failed : Type 0) → (new : Status) → ReplyView → List Happening → Type 0
+MeansStatus failed new = MeansChange failed check (λ outcome. status_reply new)
 
 -- what GET and HEAD show
-abbrev pub MeansView : (failed : Type 0) → (old : Status) → View → Method → Option (List ℕ) → ReplyView → List Happening → Type 0
-MeansView failed old views.Metadata method range = MeansCall metadata (shown_reply metadata_reply)
-MeansView failed old views.Archive method range = OrNoMemory (MeansArchive failed old.archive_len (range_for method range))
-MeansView failed old views.Status method range = OrNoMemory (MeansStatus old)
+abbrev pub MeansView : (failed : Type 0) → (old new : Status) → View → Method → Option (List ℕ) → ReplyView → List Happening → Type 0
+MeansView failed old new views.Metadata method range = MeansCall metadata (shown_reply metadata_reply)
+MeansView failed old new views.Archive method range = OrNoMemory (MeansArchive failed old.archive_len (range_for method range))
+MeansView failed old new views.Status method range = OrNoMemory (MeansStatus failed new)
 
 -- what POST does
 abbrev pub MeansAction : (failed : Type 0) → (old new : Status) → Action → List ℕ → ReplyView → List Happening → Type 0
@@ -175,7 +176,7 @@ abbrev pub MeansAllowed : (failed : Type 0) → (old new : Status) → Asked →
 MeansAllowed failed old new (asked_tile z x y format) method range body = MeansCall (tile z x y) (shown_reply (content_reply format))
 MeansAllowed failed old new (asked_feature id) method range body = MeansOnFeature failed old.version id method body
 MeansAllowed failed old new (asked_from id) method range body = MeansCall (look_from id) (shown_reply numbered_reply)
-MeansAllowed failed old new (asked_view view) method range body = MeansView failed old view method range
+MeansAllowed failed old new (asked_view view) method range body = MeansView failed old new view method range
 MeansAllowed failed old new (asked_action action) method range body = MeansAction failed old new action body
 MeansAllowed failed old new asked_nothing method range body = MeansRefusal NotFound
 

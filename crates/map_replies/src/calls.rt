@@ -50,7 +50,7 @@ impl<D: Sectors + Drop> Calls<D> {
     ) -> Result<Reply, RequestFault>
         ensures answered { IsAnsweredInParts
             (Answers D.sectors D.honest D.history (MeansView (DiskFailed D.faults self.old.service self.new.service)
-            (status_of self.old.service) view method (option_map (λ value. value.now) range.entry))
+            (status_of self.old.service) (status_of self.new.service) view method (option_map (λ value. value.now) range.entry))
             self.old.service self.new.service)
             (SendsAllowed D.sectors D.honest D.history D.faults (asked_view view) method
             (option_map (λ value. value.now) range.entry) self.old.service self.new.sending self.new.service) result }

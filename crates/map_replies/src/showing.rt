@@ -8,7 +8,7 @@ ghost use Rattle.serde_json.specs.View.{view};
 ghost use Rattle.serde_json.specs.Written.{has_float, compact_text};
 ghost use Rattle.tile_service.specs.Machine.{tile, look, look_from, metadata};
 ghost use Rattle.tile_service.specs.Service.{status_of};
-ghost use Rattle.map_replies.specs.Meanings.{MeansCall, MeansStatus, OrNoMemory, Answers};
+ghost use Rattle.map_replies.specs.Meanings.{MeansCall, MeansStatus, OrNoMemory, Answers, DiskFailed};
 ghost use Rattle.map_replies.specs.Sending.{IsAnswered};
 ghost use Rattle.map_replies.specs.Words.{json_reply, shown_reply, content_reply, found_reply, numbered_body, numbered_reply, metadata_reply};
 
@@ -131,16 +131,19 @@ impl<D: Sectors + Drop> Calls<D> {
         }
     }
 
-    /// What the service tells of itself.
+    /// What the service tells of itself, once its disk was asked whether it still keeps what is written.
     pub(crate) fn status(&mut self) -> Result<Reply, RequestFault>
-        ensures answered { IsAnswered (Answers D.sectors D.honest D.history (OrNoMemory (MeansStatus (status_of self.old.service)))
+        ensures answered { IsAnswered (Answers D.sectors D.honest D.history
+            (OrNoMemory (MeansStatus (DiskFailed D.faults self.old.service self.new.service) (status_of self.new.service)))
             self.old.service self.new.service) result }
         ensures writable { IfOk result IsWhole }
     {
-        match telling::told(self.alloc, self.service.status()) {
-            Ok(reply) => Ok(reply),
-            Err(AllocError) => Err(RequestFault::Memory),
-        }
+        let Ok(text) = telling::status_space(self.alloc) else {
+            return Err(RequestFault::Memory);
+        };
+        // The status tells what came of it.
+        let _ = self.service.check();
+        Ok(telling::told(text, self.service.status()))
     }
 
     /// The metadata of the map.

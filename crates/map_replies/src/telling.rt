@@ -3,7 +3,7 @@ ghost use Rattle.std.specs.Prelude.{◌≡◌, ◌≤◌, ◌+◌, ◌++◌, [],
 ghost use Rattle.http_serve.specs.Reply.{reply_view, IsWhole};
 ghost use Rattle.map_replies.specs.Words.{archive_part, broken_part, map_part, journal_part, optional_text, published_part, disk_part};
 ghost use Rattle.map_replies.specs.Words.{status_body, status_reply};
-ghost use Rattle.map_replies.specs.declared.telling.TheConstants.{MAX_PART};
+ghost use Rattle.map_replies.specs.declared.telling.TheConstants.{MAX_PART, MAX_STATUS};
 
 use crate::replies;
 use decimal_number::{MAX_DIGITS, push_number, push_text};
@@ -124,12 +124,21 @@ fn push_disk_part(out: &mut Vec<u8>, status: Status)
     push_number(out, status.version as u64);
 }
 
+/// Capacity for the text of a status.
+pub(crate) fn status_space(alloc: Global) -> Result<Vec<u8>, AllocError>
+    ensures { IfOk result (λ text. (text.items ≡ []) × (MAX_STATUS ≤ vec_capacity text)) }
+{
+    Vec::with_capacity(alloc, MAX_STATUS)
+}
+
 /// The whole text.
 #[tactic(auto, unfolding(crate::specs::Words::status_body))]
-fn status_body(alloc: Global, status: Status) -> Result<Vec<u8>, AllocError>
-    ensures { IfOk result (λ text. text.items ≡ status_body status) }
+fn status_body(text: Vec<u8>, status: Status) -> Vec<u8>
+    requires empty { text.items ≡ [] }
+    requires room { MAX_STATUS ≤ vec_capacity text }
+    ensures { result.items ≡ status_body status }
 {
-    let mut text = Vec::with_capacity(alloc, MAX_STATUS)?;
+    let mut text = text;
     push_archive_part(&mut text, status);
     push_broken_part(&mut text, status);
     push_map_part(&mut text, status);
@@ -137,13 +146,15 @@ fn status_body(alloc: Global, status: Status) -> Result<Vec<u8>, AllocError>
     push_published_part(&mut text, status);
     push_disk_part(&mut text, status);
     push_text(&mut text, b"}");
-    Ok(text)
+    text
 }
 
 /// The reply with a status.
-pub(crate) fn told(alloc: Global, status: Status) -> Result<Reply, AllocError>
-    ensures reply { IfOk result (λ reply. reply_view [] reply ≡ status_reply status) }
-    ensures writable { IfOk result IsWhole }
+pub(crate) fn told(text: Vec<u8>, status: Status) -> Reply
+    requires empty { text.items ≡ [] }
+    requires room { MAX_STATUS ≤ vec_capacity text }
+    ensures reply { reply_view [] result ≡ status_reply status }
+    ensures writable { IsWhole result }
 {
-    Ok(replies::json(status_body(alloc, status)?))
+    replies::json(status_body(text, status))
 }
