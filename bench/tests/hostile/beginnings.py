@@ -1,13 +1,13 @@
 #!/usr/bin/env python3
 """What the beginning of a publication takes of a map that its disk has no room for: time, memory, and whether the map serves on.
 
-    python3 bench/tests/hostile/beginnings.py [--program PROGRAM] [--rows 1,2,6,40,400] [--memory MB] [--seconds S]
+    python3 bench/tests/hostile/beginnings.py [--program PROGRAM] [--rows 1,2,6,40,400] [--memory MB] [--seconds S] [--sectors N]
 
 PROGRAM is crates/vtserve/out/vtserve. Each row is a `serve` of its own, whose address space is limited to 512 MB (`ulimit -v`), on a disk with
 areas of 20 MB, with so many polygons of 2,600 points (61 KB of JSON) at zoom 8, each a third of the world wide: each is whole in 22,016 tiles,
 which take 290 MB. POST /publish/begin is sent twice; then a tile, a feature and an edit are asked for. Memory is the process's resident set
 (/proc): before the first beginning, the greatest during both, and after each. A build with a sanitizer, as `rt try` makes it, reserves
-addresses: for such a one give --memory 0 and `ASAN_OPTIONS=soft_rss_limit_mb=512:allocator_may_return_null=1:quarantine_size_mb=1`.
+addresses: for such a one give --memory 0, a smaller disk (--sectors 11000: areas of 2 MB, up to 65 polygons) and `ASAN_OPTIONS=quarantine_size_mb=1`.
 
 Wanted: each beginning is answered within S seconds (20), as `{"left":N}`, `AreaFull need N free M` with N above M, `TooManyTiles` or `Memory`,
 and the map serves on. Anything else ends the script with 1.
@@ -26,7 +26,7 @@ import tempfile
 import time
 
 TOP = pathlib.Path(__file__).resolve().parents[3]
-SECTORS, POINTS, WORLD = 110000, 2600, 2**32
+POINTS, WORLD = 2600, 2**32
 ANSWERS = re.compile(r'200 \{"left":\d+\}|507 AreaFull need (\d+) free (\d+)|507 TooManyTiles|503 Memory')
 
 
@@ -43,7 +43,7 @@ class Served:
 
     def __init__(self, words, folder):
         disk = os.path.join(folder, "disk")
-        subprocess.run([words.program, "format", disk, "--sectors", str(SECTORS)], check=True, stdout=subprocess.DEVNULL)
+        subprocess.run([words.program, "format", disk, "--sectors", str(words.sectors)], check=True, stdout=subprocess.DEVNULL)
         with socket.socket() as probe:
             probe.bind(("127.0.0.1", 0))
             port = probe.getsockname()[1]
@@ -139,6 +139,7 @@ def options():
     parser.add_argument("--rows", type=lambda text: [int(part) for part in text.split(",")], default=[1, 2, 6, 40, 400])
     parser.add_argument("--memory", type=int, default=512, metavar="MB", help="the limit of the address space (512); 0: none")
     parser.add_argument("--seconds", type=float, default=20)
+    parser.add_argument("--sectors", type=int, default=110000, metavar="N", help="those of the disk (110,000)")
     return parser.parse_args()
 
 
