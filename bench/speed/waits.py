@@ -147,13 +147,13 @@ def small_map(folder):
 
 
 def large_map(folder):
-    """A disk with an archive of about 23 MB: 60 features with 30 texts of 1,000 characters each, in the tiles of 13 zooms."""
+    """A disk with an archive of about 23 MB: 87 features with 30 texts of 1,000 characters each, in the tiles of 13 zooms."""
     with Server(folder, "making-large") as server:
         with connected(server.port) as stream:
             chance = random.Random(1)
-            for number in range(1, 61):
+            for number in range(1, 88):
                 tags = {f"t{key}": "".join(chance.choices("abcdefghijklmnopqrstuvwxyz", k=1000)) for key in range(30)}
-                assert asked(stream, put_of(number, [[number << 26, number << 25]], 4, 16, tags))[0] == 200
+                assert asked(stream, put_of(number, [[number << 25, number << 24]], 4, 16, tags))[0] == 200
             for number in range(1001, 1079):
                 assert asked(stream, put_of(number, [[number << 21, number << 20]]))[0] == 200
             status, told = asked(stream, post_of("/publish"))
