@@ -1,12 +1,10 @@
 -- Laws of stretches one after the other, for the crates above too.
 use Rattle.std.proofs.Common.{◌≡◌, ◌+◌, ℕ, List, [], ◌∷◌, ◌++◌, length, refl, subst, ap, ◌∙◌, length-append, Bool, true, false, add-zero}
 use Rattle.std.proofs.lemmas.List.Elements.{filter-append}
-use Rattle.std.specs.Prelude.{Result, filter}
-use Rattle.http_serve.specs.declared.connection.ServeFault.{ServeFault}
-use Rattle.http_serve.specs.declared.connection.Served.{Served}
+use Rattle.std.specs.Prelude.{filter}
 use Rattle.http_serve.specs.Requests.{RequestView}
 use Rattle.http_serve.specs.Reply.{ReplyView}
-use Rattle.http_listen.specs.Connections.{Stretch, CameTo, Serves, begun, unknown_stream}
+use Rattle.http_listen.specs.Connections.{Stretch, Serves, NextStretch, begun}
 
 module _ {S : Type 0} (replies fails : S → RequestView → ReplyView → S → Type 0) where
   -- Stretches, and then other stretches, are both lists in one.
@@ -27,30 +25,29 @@ module _ {S : Type 0} (replies fails : S → RequestView → ReplyView → S →
   abbrev pub ServesCount : ℕ → S → S → Type 0
   ServesCount count old new = (served : List Stretch) × Serves replies fails old served new × (begun served ≡ count)
 
-  -- a stretch leads from a state to the next, be it a connection's first or not
-  abbrev pub NextStretch : S → S → Type 0
-  NextStretch old new = (outcome : Result Served ServeFault) × ((first : Bool) → CameTo replies fails outcome old (unknown_stream first outcome) new)
+  -- the stretch that leads on, the first of its connection or another one
+  abbrev one_more : Bool → (old new : S) → NextStretch replies fails old new → Stretch
+  one_more first old new then = record { first = first; result = then.0; left = then.1.0; held = then.1.1; leaves = then.1.2; holds = then.1.3 }
 
   -- One stretch more leads on.
-  next_serves : (first : Bool) (count : ℕ) (old middle new : S) → ServesCount count old middle → NextStretch middle new
-      → (outcome : Result Served ServeFault) × ServesCount (count + begun (unknown_stream first outcome ∷ [])) old new
+  next_serves : (first : Bool) (count : ℕ) (old middle new : S) → ServesCount count old middle → (then : NextStretch replies fails middle new)
+      → ServesCount (count + begun (one_more first middle new then ∷ [])) old new
   next_serves first count old middle new before then =
-      let one = unknown_stream first then.0 ∷ [] in (
-        then.0,
-        (
-          before.0 ++ one,
-          serves_both old before.0 one middle new before.1 (new, then.1 first, refl),
-          ap length (filter-append (λ (stretch : Stretch). stretch.first) before.0 one)
-              ∙ length-append (filter (λ stretch. stretch.first) before.0) (filter (λ stretch. stretch.first) one)
-              ∙ ap (λ n. n + begun one) before.2,
-        ),
+      let one = one_more first middle new then ∷ [] in (
+        before.0 ++ one,
+        serves_both old before.0 one middle new before.1 (new, then.1.4 first, refl),
+        ap length (filter-append (λ (stretch : Stretch). stretch.first) before.0 one)
+            ∙ length-append (filter (λ stretch. stretch.first) before.0) (filter (λ stretch. stretch.first) one)
+            ∙ ap (λ n. n + begun one) before.2,
       )
 
   -- The first stretch of one connection more.
-  pub serves_first : (count : ℕ) (old middle new : S) → ServesCount count old middle → NextStretch middle new → ServesCount (count + 1) old new
-  serves_first count old middle new before then = (next_serves true count old middle new before then).1
+  pub serves_first : (count : ℕ) (old middle new : S) → ServesCount count old middle → NextStretch replies fails middle new
+      → ServesCount (count + 1) old new
+  serves_first count old middle new before then = next_serves true count old middle new before then
 
   -- One more of a connection that was served before.
-  pub serves_again : (count : ℕ) (old middle new : S) → ServesCount count old middle → NextStretch middle new → ServesCount count old new
+  pub serves_again : (count : ℕ) (old middle new : S) → ServesCount count old middle → NextStretch replies fails middle new
+      → ServesCount count old new
   serves_again count old middle new before then =
-      subst (λ n. ServesCount n old new) (add-zero count) (next_serves false count old middle new before then).1
+      subst (λ n. ServesCount n old new) (add-zero count) (next_serves false count old middle new before then)

@@ -1,6 +1,8 @@
 -- The limits of connections, as numbers.
 use Rattle.std.proofs.Common.{◌≡◌, refl}
+use Rattle.http_listen.specs.declared.kept.TheConstants.{LAST_WAIT_SECONDS, LEAST_WAIT_SECONDS, MAX_DROPPED, PIECE}
 use Rattle.http_listen.specs.declared.paces.TheConstants.{WAIT_SECONDS, BYTES_A_SECOND}
+use Rattle.http_listen.specs.declared.rooms.TheConstants.{MAX_OUTPUT, MAX_LARGE_OUTPUT, MAX_LARGE, QUEUE_MILLISECONDS, LONG_ANSWER_SECONDS, STOP_SECONDS}
 use Rattle.http_listen.specs.declared.waits.TheConstants.{MAX_KEPT}
 
 wait_seconds_are : WAIT_SECONDS ≡ 60
@@ -8,6 +10,36 @@ wait_seconds_are = refl
 
 bytes_a_second_are : BYTES_A_SECOND ≡ 16384
 bytes_a_second_are = refl
+
+last_wait_seconds_are : LAST_WAIT_SECONDS ≡ 2
+last_wait_seconds_are = refl
+
+least_wait_seconds_are : LEAST_WAIT_SECONDS ≡ 1
+least_wait_seconds_are = refl
+
+queue_milliseconds_are : QUEUE_MILLISECONDS ≡ 10
+queue_milliseconds_are = refl
+
+long_answer_seconds_are : LONG_ANSWER_SECONDS ≡ 1
+long_answer_seconds_are = refl
+
+stop_seconds_are : STOP_SECONDS ≡ 1
+stop_seconds_are = refl
+
+max_dropped_is : MAX_DROPPED ≡ 16777216
+max_dropped_is = refl
+
+piece_is : PIECE ≡ 8192
+piece_is = refl
+
+max_output_is : MAX_OUTPUT ≡ 1048576
+max_output_is = refl
+
+max_large_output_is : MAX_LARGE_OUTPUT ≡ 33554432
+max_large_output_is = refl
+
+max_large_is : MAX_LARGE ≡ 4
+max_large_is = refl
 
 max_kept_is : MAX_KEPT ≡ 256
 max_kept_is = refl

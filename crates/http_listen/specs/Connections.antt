@@ -1,5 +1,5 @@
 -- Connections of which one is served at a time, in stretches.
-use Rattle.std.specs.Prelude.{◌≡◌, ℕ, Bool, List, [], ◌∷◌, length, filter, Option, None, Result, Ok, Err}
+use Rattle.std.specs.Prelude.{◌≡◌, ℕ, Bool, List, [], ◌∷◌, length, filter, Option, Result, Ok, Err}
 use Rattle.http_serve.specs.declared.connection.ServeFault.{ServeFault}
 use Rattle.http_serve.specs.declared.connection.Served.{Served}
 use Rattle.http_serve.specs.Requests.{RequestView}
@@ -16,10 +16,6 @@ pub record Stretch : Type 0 where
   pub leaves : Option (List ℕ)
   pub holds : Option (List ℕ)
 
--- a stretch over a stream of which nothing is known
-abbrev pub unknown_stream : Bool → Result Served ServeFault → Stretch
-unknown_stream first result = record { first = first; result = result; left = None; held = None; leaves = None; holds = None }
-
 -- how many connections these stretches are of: the number of those that are the first of theirs
 abbrev pub begun : List Stretch → ℕ
 begun stretches = length (filter (λ stretch. stretch.first) stretches)
@@ -35,3 +31,12 @@ module _ {S : Type 0} (replies fails : S → RequestView → ReplyView → S →
   abbrev pub Serves : S → List Stretch → S → Type 0
   Serves old [] new = new ≡ old
   Serves old (stretch ∷ stretches) new = (middle : S) × CameTo stretch.result old stretch middle × Serves middle stretches new
+
+  -- a stretch with this result, of a connection that it is the first of or isn't, leads from a state to the next
+  abbrev pub ComesTo : Result Served ServeFault → S → S → Type 0
+  ComesTo result old new = (left : Option (List ℕ)) × (held : Option (List ℕ)) × (leaves : Option (List ℕ)) × (holds : Option (List ℕ))
+      × ((first : Bool) → CameTo result old (record { first = first; result = result; left = left; held = held; leaves = leaves; holds = holds }) new)
+
+  -- a stretch leads from a state to the next
+  abbrev pub NextStretch : S → S → Type 0
+  NextStretch old new = (result : Result Served ServeFault) × ComesTo result old new

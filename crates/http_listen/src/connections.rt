@@ -2,20 +2,17 @@
 ghost use Rattle.std.specs.Prelude.{◌≡◌, ◌<◌, Bool, Result, List, OnOk, OnErr};
 ghost use Rattle.http_serve.specs.declared.connection.ServeFault.{ServeFault};
 ghost use Rattle.http_serve.specs.declared.connection.Served.{Served};
-ghost use Rattle.http_listen.specs.Connections.{Stretch, Serves, CameTo, begun, unknown_stream};
+ghost use Rattle.http_listen.specs.Connections.{Stretch, Serves, ComesTo, NextStretch, begun};
 
-use crate::ends::{end_at_once, end_connection};
-use crate::kept::{Kept, with_earlier};
-use crate::lines::write_line;
-use crate::paced::{Paced, PacedWriter, ROUND_MILLISECONDS};
+use crate::kept::Kept;
 use crate::rooms::{Found, Room, time_of};
-use crate::stretches::StretchReader;
 use crate::waits::Waits;
-use http_serve::{Buffers, End, Handler, MAX_READS, ServeFault, Served, serve_with};
+use crate::writers::ReplyWriter;
+use http_serve::{Buffers, Handler, MAX_READS, ServeFault, Served, serve_with};
 use std::alloc::Global;
 use std::io::{Read, Write};
 use std::net::OpenStream;
-use std::time::{Clock, Duration};
+use std::time::Clock;
 use thiserror::Error;
 
 /// Why no more connections are served.
@@ -26,126 +23,98 @@ pub enum ListenFault {
     Accept,
 }
 
-/// How many stretches are served at most: more than ever come.
-const MAX_STRETCHES: u64 = u64::MAX;
+/// The maximum number of turns: more than there ever are.
+const MAX_TURNS: u64 = u64::MAX;
 
-/// Sets what a new connection has: no delay of small replies, and bounds on how long its peer is waited for. What the system
-/// doesn't let be set is left as it is.
+/// Sets up the stream of a new connection: small replies aren't delayed, and no call waits. What the system refuses to set is left as
+/// it is.
 fn prepare<S: OpenStream>(stream: &S) {
-    let round = Duration::from_millis(ROUND_MILLISECONDS);
     let _ = stream.set_nodelay(true);
-    let _ = stream.set_read_timeout(Some(round));
-    let _ = stream.set_write_timeout(Some(round));
+    let _ = stream.set_nonblocking(true);
 }
 
-/// What became of a stretch of a connection.
+/// Answers the requests that these bytes are.
+fn serve_bytes<S, H>(
+    buffers: &mut Buffers,
+    requests: &[u8],
+    writer: &mut ReplyWriter<S>,
+    handler: &mut H,
+) -> Result<Served, ServeFault>
+where
+    S: Write + OpenStream,
+    H: Handler,
+    ensures { ComesTo H.replies H.fails result handler.old handler.new }
+{
+    let mut reader = requests;
+    serve_with(buffers, &mut reader, writer, handler, MAX_READS)
+}
+
+/// What a stretch of a connection came to.
 #[derive(Drop)]
 struct Past<S> {
     outcome: Result<Served, ServeFault>,
-    /// Whether the connection waits for its next request.
-    waits: bool,
-    stream: S,
+    kept: Kept<S>,
 }
 
-/// Serves a stretch of the connection of a stream, in which another request is asked for `asks` times at most.
-fn serve_stream<S, H, C>(
-    clock: &C,
+/// Answers the first `end` bytes of a connection's input. The replies are added to its output, but for those that would make it larger
+/// than `limit` bytes: these are sent at once.
+fn serve_front<S, H>(
     buffers: &mut Buffers,
-    stream: S,
-    asks: u64,
+    limit: usize,
+    kept: Kept<S>,
+    end: usize,
     handler: &mut H,
 ) -> Past<S>
 where
-    S: Read + Write + OpenStream + Drop,
+    S: Write + OpenStream + Drop,
     H: Handler,
-    C: Clock,
-    ensures { (first : Bool) → CameTo H.replies H.fails result.outcome handler.old (unknown_stream first result.outcome) handler.new }
+    ensures { ComesTo H.replies H.fails result.outcome handler.old handler.new }
 {
-    let stream = Paced::new(clock, stream);
-    let mut reader = StretchReader::new(&stream, asks);
-    let outcome = serve_with(
-        buffers,
-        &mut reader,
-        &mut PacedWriter(&stream),
-        handler,
-        MAX_READS,
-    );
-    let waits = reader.waits();
-    Past {
-        outcome,
-        waits,
-        stream: stream.into_stream(),
-    }
+    let Kept {
+        stream,
+        turn,
+        input,
+        output,
+        pace,
+    } = kept;
+    let mut writer = ReplyWriter::new(stream, pace, output, limit);
+    let outcome = serve_bytes(buffers, input.front(end), &mut writer, handler);
+    let (stream, pace, output) = writer.into_parts();
+    let kept = Kept {
+        stream,
+        turn,
+        input,
+        output,
+        pace,
+    };
+    Past { outcome, kept }
 }
 
-/// Whether a connection may get bytes that nobody will read, though its peer hasn't read its last reply. After a fault there is no whole
-/// reply to be lost, and a peer that has closed its side sends no more.
-fn is_drained(outcome: Result<Served, ServeFault>) -> bool {
-    match outcome {
-        Ok(served) => served.end != End::Closed,
-        Err(_) => false,
-    }
-}
-
-/// Ends a connection, and drops what its peer still sends: where others wait, no longer than it sends without a pause.
-fn drain<S, C>(clock: &C, room: &mut Room<S>, mut stream: S)
-where
-    S: Read + OpenStream + Drop,
-    C: Clock,
-{
-    if room.is_empty() {
-        end_connection(clock, &mut stream);
-    } else {
-        end_at_once(clock, &mut stream);
-        room.linger(stream);
-    }
-}
-
-/// Keeps a connection that waits for its next request after a stretch. Otherwise it ends, with its line in the log.
-fn settle<S, W, C>(
-    clock: &C,
+/// Opens a new connection: its first stretch is over no bytes.
+fn open<S, H, W>(
+    buffers: &mut Buffers,
     room: &mut Room<S>,
-    past: Past<S>,
-    number: u64,
-    earlier: u64,
+    kept: Kept<S>,
+    handler: &mut H,
     log: &mut W,
 )
 where
     S: Read + Write + OpenStream + Drop,
+    H: Handler,
     W: Write,
-    C: Clock,
+    ensures { NextStretch H.replies H.fails handler.old handler.new }
 {
-    let Past {
-        outcome,
-        waits,
-        stream,
-    } = past;
-    match with_earlier(outcome, earlier) {
-        Ok(Served { requests, .. }) if waits => {
-            let kept = Kept {
-                stream,
-                number,
-                requests,
-                since: time_of(clock),
-                ready: false,
-            };
-            room.keep(kept, log);
-        }
-        whole => {
-            let _ = write_line(log, number, whole);
-            if is_drained(whole) {
-                drain(clock, room, stream);
-            }
-        }
-    }
+    let past = serve_front(buffers, 0, kept, 0, handler);
+    room.opened(past.kept, past.outcome, log);
 }
 
-/// Serves a stretch of a connection. If it waits for its next request then, it is kept.
-fn serve_stretch<S, H, W, C>(
+/// Answers the first `end` bytes of a connection's input, in a stretch of it, and begins to send the replies.
+fn answer<S, H, W, C>(
     clock: &C,
     buffers: &mut Buffers,
     room: &mut Room<S>,
-    connection: Kept<S>,
+    kept: Kept<S>,
+    end: usize,
     handler: &mut H,
     log: &mut W,
 )
@@ -154,45 +123,47 @@ where
     H: Handler,
     W: Write,
     C: Clock,
-    ensures { (outcome : Result Served ServeFault)
-        × ((first : Bool) → CameTo H.replies H.fails outcome handler.old (unknown_stream first outcome) handler.new) }
+    ensures { NextStretch H.replies H.fails handler.old handler.new }
 {
-    let asks = room.asks_for(&connection);
-    let Kept {
-        stream,
-        number,
-        requests,
-        ..
-    } = connection;
-    let past = serve_stream(clock, buffers, stream, asks, handler);
-    settle(clock, room, past, number, requests, log);
+    let limit = room.output_limit();
+    let start = time_of(clock);
+    let past = serve_front(buffers, limit, kept, end, handler);
+    room.spend(clock, start);
+    let now = room.now(clock);
+    room.answered(now, past.kept, end, past.outcome, log);
 }
 
-/// Serves this many connections of a listener, and writes a line to the log as each ends: `connection I: R requests, END`. I counts the
-/// connections from 1 as they are accepted, R the requests that got a whole reply, and END is `closed`, `asked`, `refused` or `turns`,
-/// or at a fault `memory`, `read`, `write` or `device`: what `http_serve::serve_with` answered to its last stretch.
+/// Serves this many connections of a listener by turns, and writes a line to the log as each ends: `connection I: R requests, END`. I
+/// counts the connections from 1 as they are accepted, R the requests whose replies were sent whole, and END is `closed`, `asked`,
+/// `refused` or `turns`, or at a fault `memory`, `read`, `write` or `device`.
 ///
-/// One request is served at a time. Between two requests a connection is kept while others are served: so the connections are served in
-/// stretches, each of one connection, and each as `http_serve::serve_with` does. While others are kept, a stretch has one read of a
-/// connection that has something. In the middle of a request a connection is waited for, and all others with it.
+/// No peer is waited for. A turn of a connection is one read or one write, which returns at once. As soon as a whole request was read, or
+/// bytes that are none, they are answered in a stretch of the connection, as `http_serve::serve_with` does. The replies are kept in
+/// memory and sent as the peer takes them. While they wait, no further request of the connection is read or answered.
 ///
-/// At most `MAX_KEPT` wait for their next request. Where so many do, or where a connection can't be accepted for want of descriptors
-/// or memory, room is made for it: of the streams that are only drained one is closed, or else the connection that waits longest is
-/// ended and logged as `closed`, if it has waited for a second and has sent nothing. If there is none, the new one waits in the
-/// listener's queue, and is accepted once one can be. A connection that waits for 60 seconds is ended as well.
+/// Between two requests a connection holds no buffers. Otherwise it has at most `http_serve::MAX_REQUEST` bytes of input, and replies of
+/// at most 1 MiB, on four connections 32 MiB; a buffer takes at most twice as much as it has. A larger reply is sent at once, up to its
+/// end: for that time its peer is waited for, and all others with it.
 ///
-/// A connection's fault ends that connection alone. An accept that fails for the one that it accepts is tried again, and a call that
-/// a signal interrupts. A line that can't be written is left out.
+/// At most `MAX_KEPT` connections are open. When so many are, or when one can't be accepted for want of descriptors or memory, room is
+/// made for it: a connection that has ended is closed, or else the one that waits longest for a request is ended and logged as `closed`,
+/// if it has waited for a second and has sent nothing. If there is none, the new one waits in the listener's queue, and is accepted
+/// once it can be.
 ///
-/// A peer has 60 seconds to begin a request, as long again to its end, and as long for a reply and a second more for each
-/// 16,384 bytes of it, but never more than 60 seconds at once. The replies to requests that were read together count as one.
-/// A slower peer's connection is given up, as where a read or a write fails: its stream is closed at once. What a peer sends after
-/// its last reply is dropped for 60 seconds at most, and where others are kept, as long as it sends without a pause of 10 ms.
+/// A connection's fault ends that connection alone. An accept that fails for the one that it accepts is tried again, and a call that a
+/// signal interrupts. A line that can't be written is left out.
+///
+/// A peer has 60 seconds to begin a request, as long again to its end, and as long for a reply and a second more for each 16,384 bytes
+/// of it, but never more than 60 seconds at once. The replies to requests that were read together count as one. An answer
+/// that takes a second or longer doesn't count. A slower peer's connection is closed, as when a read or a write fails, or `closed` if it has begun no request.
+/// What a peer sends after its last reply is dropped for 60 seconds at most, as long as it sends without a pause of two.
+///
+/// If the listener stops, all connections end, once the replies that wait are sent, or after a second.
 ///
 /// # Errors
 ///
-/// `Accept` where a connection couldn't be accepted while none is kept and no stream could be closed for it, or 1,000 in a row failed:
-/// then no more are served. Where the listener fails otherwise, those that are kept are ended first.
+/// `Accept` if a connection couldn't be accepted while none is open and no stream could be closed for it, or 1,000 in a row failed, or
+/// if the listener stops. No more are served then. If the listener fails otherwise, the open ones are ended first.
 pub fn serve_on<L, H, W, C>(
     clock: &C,
     alloc: Global,
@@ -213,16 +184,16 @@ where
     let mut room = Room::new(alloc);
     let mut buffers = Buffers::new(alloc);
     let mut begun = 0;
-    'stretches: for _turn in 0..MAX_STRETCHES {
+    'turns: for _turn in 0..MAX_TURNS {
         match room.find(clock, listener, begun < connections, log) {
             Found::New(stream) => {
                 begun += 1;
                 prepare(&stream);
-                let connection = Kept::new(stream, begun);
-                serve_stretch(clock, &mut buffers, &mut room, connection, handler, log);
+                let kept = Kept::new(alloc, stream, begun, room.now(clock));
+                open(&mut buffers, &mut room, kept, handler, log);
             }
-            Found::Kept(connection) => {
-                serve_stretch(clock, &mut buffers, &mut room, connection, handler, log);
+            Found::Asks(kept, end) => {
+                answer(clock, &mut buffers, &mut room, kept, end, handler, log);
             }
             Found::Nothing => {}
             Found::Over => break,

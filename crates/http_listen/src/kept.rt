@@ -1,34 +1,89 @@
-//! Connections that wait for their next request.
+//! Connections between two of their turns.
 ghost use Rattle.std.specs.Prelude.{◌≡◌, ◌≢◌, ◌+◌, ◌-◌, ◌^◌, min, Err};
 ghost use Rattle.http_serve.specs.declared.connection.ServeFault.TheVariants.{Memory};
 ghost use Rattle.http_listen.specs.Lines.{result_word, replied_requests};
 
-use http_serve::{ServeFault, Served};
+use crate::inputs::Input;
+use crate::outputs::Output;
+use crate::paced::{is_passing, nanoseconds_of};
+use crate::paces::Pace;
+use http_serve::{End, MAX_REQUEST, Scanned, ServeFault, Served};
+use std::alloc::Global;
+use std::io::{Read, Write};
 use std::time::Duration;
 
-/// A connection between two of its stretches, and its stream.
-#[derive(Drop)]
-pub struct Kept<S> {
-    pub(crate) stream: S,
-    /// Its number, from 1, in the order in which they are accepted.
+/// How many seconds a peer is waited for that sends nothing after its last reply.
+const LAST_WAIT_SECONDS: u64 = 2;
+
+/// The maximum number of bytes that are dropped after a peer's last reply: 16 MiB.
+const MAX_DROPPED: usize = 16_777_216;
+
+/// The maximum size of one read in bytes.
+const PIECE: usize = 8_192;
+
+/// How many seconds a connection has waited at least before it is closed for another one.
+const LEAST_WAIT_SECONDS: u64 = 1;
+
+/// What a connection came to on which nothing was answered.
+const NOTHING: Result<Served, ServeFault> = Ok(Served {
+    requests: 0,
+    end: End::Closed,
+});
+
+/// What is known of a connection, beside its bytes.
+#[derive(Clone, Copy, Debug)]
+pub(crate) struct Turn {
+    /// Its number, from 1, in the order of acceptance.
     pub(crate) number: u64,
     /// How many of its requests got a whole reply.
     pub(crate) requests: u64,
-    /// Since when it waits, by the monotonic clock.
+    /// Whether the end of the input was read.
+    pub(crate) ended: bool,
+    /// Whether the input is searched for a request before more is read.
+    pub(crate) searches: bool,
+    /// What its last stretch came to. The output has its replies.
+    pub(crate) outcome: Result<Served, ServeFault>,
+    /// Whether the connection ends once they are sent.
+    pub(crate) last: bool,
+    /// If the connection has ended: how many of the bytes that its peer still sends are dropped.
+    pub(crate) drops: Option<usize>,
+    /// When the time that its peer has left was counted.
     pub(crate) since: Duration,
-    /// Whether its stream has something.
+    /// Whether it may have its turn.
     pub(crate) ready: bool,
+}
+
+/// A connection and its stream, which is never waited for.
+#[derive(Drop)]
+pub struct Kept<S> {
+    pub(crate) stream: S,
+    pub(crate) turn: Turn,
+    pub(crate) input: Input,
+    pub(crate) output: Output,
+    /// The time that its peer has left.
+    pub(crate) pace: Pace,
 }
 
 impl<S> Kept<S> {
     /// A connection of which nothing was read.
-    pub(crate) fn new(stream: S, number: u64) -> Self {
-        Kept {
-            stream,
+    pub(crate) fn new(alloc: Global, stream: S, number: u64, now: Duration) -> Self {
+        let turn = Turn {
             number,
             requests: 0,
-            since: Duration::ZERO,
-            ready: false,
+            ended: false,
+            searches: false,
+            outcome: NOTHING,
+            last: false,
+            drops: None,
+            since: now,
+            ready: true,
+        };
+        Kept {
+            stream,
+            turn,
+            input: Input::new(alloc),
+            output: Output::new(alloc),
+            pace: Pace::new(),
         }
     }
 
@@ -37,9 +92,161 @@ impl<S> Kept<S> {
         &self.stream
     }
 
-    /// Says whether the stream has something: bytes, the end of its input, or a fault.
+    /// Whether replies wait to be sent. If none do, it waits for bytes.
+    pub fn sends(&self) -> bool {
+        !self.output.waiting().is_empty()
+    }
+
+    /// Says whether the stream is ready for that.
     pub fn set_ready(&mut self, ready: bool) {
-        self.ready = ready;
+        self.turn.ready = ready;
+    }
+
+    /// The time that its peer has left.
+    fn pace_at(&self, now: Duration) -> Pace {
+        let passed = now.saturating_sub(self.turn.since);
+        self.pace.waited(nanoseconds_of(passed))
+    }
+
+    /// How long its peer may still be waited for.
+    pub(crate) fn left(&self, now: Duration) -> Duration {
+        let left = Duration::from_nanos(self.pace_at(now).left());
+        if self.turn.drops.is_none() {
+            return left;
+        }
+        let passed = now.saturating_sub(self.turn.since);
+        Duration::from_secs(LAST_WAIT_SECONDS)
+            .saturating_sub(passed)
+            .min(left)
+    }
+
+    /// Whether it may be closed for another connection: it has waited for a request for a while, and has sent nothing.
+    pub(crate) fn may_give_way(&self, now: Duration) -> bool {
+        let idle = self.input.len() == 0 && !self.sends() && self.turn.drops.is_none();
+        let passed = now.saturating_sub(self.turn.since);
+        idle && !self.turn.ready && passed >= Duration::from_secs(LEAST_WAIT_SECONDS)
+    }
+
+    /// What it comes to if its peer is waited for no longer.
+    pub(crate) fn given_up(&self) -> Result<Served, ServeFault> {
+        if self.sends() {
+            Err(ServeFault::Write { requests: 0 })
+        } else if self.input.len() > 0 {
+            Err(ServeFault::Read { requests: 0 })
+        } else {
+            NOTHING
+        }
+    }
+
+    /// How many bytes of the input can be answered: a request, or bytes that are none, whatever follows, or all bytes at the input's end.
+    pub(crate) fn asked(&mut self) -> Option<usize> {
+        match self.input.scan() {
+            Scanned::Whole(end) => Some(end),
+            Scanned::Refused => Some(self.input.len()),
+            Scanned::More if self.turn.ended => Some(self.input.len()),
+            Scanned::More => None,
+        }
+    }
+
+    /// More bytes are waited for.
+    pub(crate) fn begin_read(&mut self, now: Duration) {
+        self.turn.searches = false;
+        self.pace = self.pace.reads(self.input.len() == 0);
+        self.turn.since = now;
+    }
+
+    /// The first `end` bytes of the input were answered.
+    pub(crate) fn answered(
+        &mut self,
+        now: Duration,
+        end: usize,
+        outcome: Result<Served, ServeFault>,
+    ) {
+        let goes_on = matches!(
+            outcome,
+            Ok(Served {
+                end: End::Closed,
+                ..
+            })
+        );
+        self.turn.last = !goes_on || (self.turn.ended && end >= self.input.len());
+        self.turn.outcome = outcome;
+        self.input.drop_front(end);
+        self.turn.since = now;
+        if let Err(ServeFault::Write { .. }) = outcome {
+            self.output.clear();
+        }
+    }
+
+    /// The replies of its last stretch were sent.
+    pub(crate) fn replied(&mut self, now: Duration) {
+        self.output.clear();
+        if let Ok(served) = self.turn.outcome {
+            self.turn.requests = self.turn.requests.saturating_add(served.requests);
+        }
+        self.turn.searches = self.input.len() > 0 || self.turn.ended;
+        if !self.turn.searches {
+            self.begin_read(now);
+        }
+    }
+
+    /// The connection has ended, and what its peer still sends is dropped.
+    pub(crate) fn begin_drop(&mut self, now: Duration) {
+        self.turn.drops = Some(MAX_DROPPED);
+        self.output.clear();
+        self.input.drop_front(usize::MAX);
+        self.pace = Pace::new();
+        self.turn.since = now;
+    }
+}
+
+impl<S: Read> Kept<S> {
+    /// Makes one read. Whether the input is to be searched, since bytes or its end came.
+    pub(crate) fn receive(&mut self, now: Duration) -> Result<bool, ServeFault> {
+        let mut piece = [0; PIECE];
+        let space = MAX_REQUEST.saturating_sub(self.input.len()).min(PIECE);
+        match self.stream.read(&mut piece[..space]) {
+            Ok(0) => self.turn.ended = true,
+            Ok(count) => match self.input.add(&piece[..count]) {
+                Ok(()) => {}
+                Err(_) => return Err(ServeFault::Memory),
+            },
+            Err(e) if is_passing(&e) => return Ok(false),
+            Err(_) => return Err(ServeFault::Read { requests: 0 }),
+        }
+        self.pace = self.pace_at(now).received();
+        self.turn.since = now;
+        Ok(true)
+    }
+
+    /// Makes one read, and drops what it gives. Whether more may come.
+    pub(crate) fn drop_piece(&mut self, now: Duration, left: usize) -> bool {
+        let mut piece = [0; PIECE];
+        match self.stream.read(&mut piece) {
+            Ok(count) => {
+                self.turn.drops = Some(left.saturating_sub(count));
+                self.pace = self.pace_at(now);
+                self.turn.since = now;
+                count > 0 && left > count && !self.pace.is_over()
+            }
+            Err(e) => is_passing(&e),
+        }
+    }
+}
+
+impl<S: Write> Kept<S> {
+    /// Makes one write of the replies that wait.
+    pub(crate) fn send(&mut self, now: Duration) -> Result<(), ServeFault> {
+        match self.output.send(&mut self.stream) {
+            Ok(0) => Err(ServeFault::Write { requests: 0 }),
+            Ok(count) => {
+                self.pace = self.pace_at(now).sent(count);
+                self.turn.since = now;
+                Ok(())
+            }
+            Err(e) if is_passing(&e) => Ok(()),
+            Err(_) => Err(ServeFault::Write { requests: 0 }),
+        }
     }
 }
 

@@ -1,19 +1,19 @@
-//! HTTP/1.1 connections of a listener, whose requests are served one after the other.
+//! HTTP/1.1 connections of a listener, which are served by turns.
 #![tactic(auto)]
 
 mod connections;
-mod ends;
+mod inputs;
 mod kept;
 mod lines;
+mod outputs;
 mod paced;
 mod paces;
 mod refusals;
 mod rooms;
-mod stretches;
 mod waits;
+mod writers;
 
 pub use connections::{ListenFault, serve_on};
-pub use ends::LAST_WAIT_SECONDS;
 pub use kept::Kept;
 pub use lines::write_line;
 pub use waits::{MAX_KEPT, Waits};

@@ -108,6 +108,13 @@ impl Pace {
         }
     }
 
+    /// The time that is left, in nanoseconds.
+    pub(crate) fn left(self) -> u64
+        ensures { result ≡ self.left }
+    {
+        self.left
+    }
+
     /// Whether no time is left.
     pub(crate) fn is_over(self) -> bool
         ensures { IsTrue result ↔ (self.left ≡ 0) }

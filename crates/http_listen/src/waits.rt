@@ -1,14 +1,14 @@
-//! Listeners that can be waited for together with the streams that are kept.
+//! Listeners that can be waited for together with the streams of connections.
 
 use crate::kept::Kept;
-use libc::net::{POLLIN, poll};
+use libc::net::{POLLIN, POLLOUT, poll};
 use libc::types::pollfd;
 use std::io::{self, ErrorKind};
 use std::net::{OpenListener, TcpListener};
 use std::os::fd::{AsRawFd, RawFd};
 use std::time::Duration;
 
-/// How many connections are kept at most while they wait for their next request.
+/// The maximum number of open connections.
 pub const MAX_KEPT: usize = 256;
 
 /// How many times a wait is tried that fails: a signal interrupts one.
@@ -16,8 +16,9 @@ const MAX_TRIES: u64 = 3;
 
 /// A listener that can be waited for together with streams.
 pub trait Waits: OpenListener {
-    /// Waits until one of the streams has something, or a connection comes if one is to be accepted, but no longer than this. Says of
-    /// each stream whether it has something: bytes, the end of its input, or a fault. Whether a connection can be accepted.
+    /// Waits until a connection can be accepted, if `accepts` says that one is to be, or until one of the streams can take bytes (if
+    /// `sends` says of its connection that replies wait) or has some (otherwise), but no longer than `longest`. Tells each connection by
+    /// `set_ready` whether that is so: the end of the input and a fault count as bytes. Returns whether a connection can be accepted.
     ///
     /// # Errors
     ///
@@ -28,13 +29,18 @@ pub trait Waits: OpenListener {
         streams: &mut [Kept<Self::Stream>],
         longest: Duration,
     ) -> io::Result<bool>;
+
+    /// Whether no more requests are to be read: the connections end then, once the replies that wait are sent, or after a second.
+    fn stops(&self) -> bool {
+        false
+    }
 }
 
-/// The question whether a descriptor has something. One below 0 has nothing.
-fn question(fd: RawFd) -> pollfd {
+/// The question whether one of these events is there for a descriptor. There is none for one below 0.
+fn question(fd: RawFd, events: i16) -> pollfd {
     pollfd {
         fd,
-        events: POLLIN,
+        events,
         revents: 0,
     }
 }
@@ -50,6 +56,12 @@ fn ask(questions: &mut [pollfd], longest: Duration) -> io::Result<()> {
     Err(ErrorKind::Interrupted.into())
 }
 
+/// Asks whether a stream can take the replies that wait, or has bytes.
+fn question_of<S: AsRawFd>(kept: &Kept<S>) -> pollfd {
+    let events = if kept.sends() { POLLOUT } else { POLLIN };
+    question(kept.stream().as_raw_fd(), events)
+}
+
 impl Waits for TcpListener {
     fn wait(
         &self,
@@ -57,12 +69,12 @@ impl Waits for TcpListener {
         streams: &mut [Kept<Self::Stream>],
         longest: Duration,
     ) -> io::Result<bool> {
-        let mut questions = [question(-1); MAX_KEPT + 1];
+        let mut questions = [question(-1, POLLIN); MAX_KEPT + 1];
         if accepts {
-            questions[0] = question(self.as_raw_fd());
+            questions[0] = question(self.as_raw_fd(), POLLIN);
         }
         for (asked, kept) in questions[1..].iter_mut().zip(streams.iter()) {
-            *asked = question(kept.stream().as_raw_fd());
+            *asked = question_of(kept);
         }
         let count = streams.len().min(MAX_KEPT) + 1;
         ask(&mut questions[..count], longest)?;

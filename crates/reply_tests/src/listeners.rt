@@ -1,14 +1,16 @@
 //! Connections of peers on this machine, and of streams and listeners that fail.
 ghost use Rattle.http_serve.specs.Reply.{IsWhole};
 
+mod crowds;
 mod fakes;
-mod kept;
 mod lines;
 mod maps;
 mod peers;
-mod slow;
+mod peers_in_time;
+mod turns;
 
 use http_serve::{Content, ContentFault, Handler, Reply, Request, Status};
+use std::alloc::Global;
 
 /// Answers each request with how many there were before it: `0`, `1`, `2`, and then `many`.
 #[derive(Clone, Copy)]
@@ -49,3 +51,47 @@ impl Handler for Counter {
 }
 
 const GET: &str = "GET / HTTP/1.1\r\nhost: a\r\n\r\n";
+
+/// Answers with the name of the path `/a` or `/b`, and with 300,000 times an `x` otherwise. Counts the answers.
+#[derive(Drop)]
+struct Paths {
+    alloc: Global,
+    answers: u64,
+}
+
+/// A content of 300,000 bytes, or none for want of memory.
+fn large_content(alloc: Global) -> Vec<u8> {
+    let mut content = Vec::new(alloc);
+    let _ = content.resize(300_000, b'x');
+    content
+}
+
+fn reply_to(alloc: Global, path: &[u8]) -> Reply
+    ensures { IsWhole result }
+{
+    let content = match path {
+        b"/a" => Content::Fixed(b"a"),
+        b"/b" => Content::Fixed(b"b"),
+        _ => Content::Whole(large_content(alloc)),
+    };
+    Reply::plain(Status::Ok, None, content)
+}
+
+impl Handler for Paths {
+    ghost replies = { λ _ _ _ _. Unit {0} };
+
+    ghost sends = { λ _ _ _ _. ⊥ };
+
+    ghost fails = { λ _ _ _ _. ⊥ };
+
+    ghost size = { λ _. 0 };
+
+    fn answer(&mut self, request: &Request<'_>) -> Reply {
+        self.answers = self.answers.saturating_add(1);
+        reply_to(self.alloc, request.path)
+    }
+
+    fn read_content(&mut self, _offset: u64, _part: &mut [u8]) -> Result<(), ContentFault> {
+        Err(ContentFault)
+    }
+}

@@ -85,8 +85,7 @@ impl<F: SectorFile, W: Write, P: Place> SectorFile for Watched<'_, F, W, P> {
     }
 }
 
-/// A listener that has the disk file looked at, and may accept no connection, and wait for none, once it has failed. Its error is none that
-/// an accept is tried again after.
+/// A listener that has the disk file looked at, and may stop once it has failed.
 #[derive(Drop)]
 pub(crate) struct Halting<'a, 'b, L> {
     pub(crate) listener: L,
@@ -96,21 +95,10 @@ pub(crate) struct Halting<'a, 'b, L> {
     pub(crate) looks: &'a Looks<'b>,
 }
 
-impl<L> Halting<'_, '_, L> {
-    /// Has the file looked at, and says whether it has stopped.
-    fn has_stopped(&self) -> bool {
-        self.looks.look();
-        self.halts && self.looks.has_failed()
-    }
-}
-
 impl<L: OpenListener> OpenListener for Halting<'_, '_, L> {
     type Stream = L::Stream;
 
     fn accept(&self) -> io::Result<(L::Stream, SocketAddr)> {
-        if self.has_stopped() {
-            return Err(ErrorKind::Other.into());
-        }
         self.listener.accept()
     }
 }
@@ -122,9 +110,11 @@ impl<L: Waits> Waits for Halting<'_, '_, L> {
         streams: &mut [Kept<L::Stream>],
         longest: Duration,
     ) -> io::Result<bool> {
-        if self.has_stopped() {
-            return Err(ErrorKind::Other.into());
-        }
         self.listener.wait(accepts, streams, longest)
+    }
+
+    fn stops(&self) -> bool {
+        self.looks.look();
+        self.halts && self.looks.has_failed()
     }
 }

@@ -1,14 +1,11 @@
 //! Streams that say what was asked of them, and listeners, streams and logs that fail.
 use super::Counter;
-use http_listen::{Kept, LAST_WAIT_SECONDS, ListenFault, Waits, serve_on};
+use http_listen::{Kept, ListenFault, Waits, serve_on};
 use std::cell::Cell;
 use std::io::{self, ErrorKind, Read, Write};
 use std::net::{Ipv4Addr, OpenListener, OpenStream, Shutdown, SocketAddr};
 use std::test::Fail;
 use std::time::Duration;
-
-/// How many milliseconds a read or a write waits.
-const ROUND_MILLISECONDS: u64 = 10;
 
 /// What streams were asked.
 #[derive(Clone, Copy, Debug, PartialEq, Eq)]
@@ -17,22 +14,20 @@ struct Asked {
     accepts: u64,
     /// Whether small replies go out at once.
     no_delay: bool,
-    /// For how many milliseconds a read waits, and a write.
-    read_wait: u64,
-    write_wait: u64,
+    /// Whether its calls return at once.
+    at_once: bool,
     /// Whether the sending side is shut.
     shut: bool,
     /// How many bytes were read after that.
     dropped: usize,
-    /// How many reads found other than the wanted waits.
+    /// How many reads would have waited.
     wrong: u64,
 }
 
 const NOTHING: Asked = Asked {
     accepts: 0,
     no_delay: false,
-    read_wait: 0,
-    write_wait: 0,
+    at_once: false,
     shut: false,
     dropped: 0,
     wrong: 0,
@@ -49,12 +44,7 @@ struct Stream<'a> {
 impl Read for Stream<'_> {
     fn read(&mut self, buf: &mut [u8]) -> io::Result<usize> {
         let mut asked = self.asked.get();
-        let wait = if asked.shut {
-            LAST_WAIT_SECONDS * 1_000
-        } else {
-            ROUND_MILLISECONDS
-        };
-        if !asked.no_delay || asked.read_wait != wait || asked.write_wait != ROUND_MILLISECONDS {
+        if !asked.no_delay || !asked.at_once {
             asked.wrong = asked.wrong.saturating_add(1);
         }
         let mut count = buf.len();
@@ -78,14 +68,6 @@ impl Write for Stream<'_> {
 
     fn flush(&mut self) -> io::Result<()> {
         Ok(())
-    }
-}
-
-/// The milliseconds of a wait, or 0 where there is no bound.
-fn milliseconds(wait: Option<Duration>) -> u64 {
-    match wait {
-        Some(wait) => u64::try_from(wait.as_millis()).unwrap_or(0),
-        None => 0,
     }
 }
 
@@ -113,15 +95,9 @@ impl OpenStream for Stream<'_> {
         self.set(asked)
     }
 
-    fn set_read_timeout(&self, dur: Option<Duration>) -> io::Result<()> {
+    fn set_nonblocking(&self, nonblocking: bool) -> io::Result<()> {
         let mut asked = self.asked.get();
-        asked.read_wait = milliseconds(dur);
-        self.set(asked)
-    }
-
-    fn set_write_timeout(&self, dur: Option<Duration>) -> io::Result<()> {
-        let mut asked = self.asked.get();
-        asked.write_wait = milliseconds(dur);
+        asked.at_once = nonblocking;
         self.set(asked)
     }
 }
@@ -140,7 +116,7 @@ impl<'a> OpenListener for Listener<'a> {
     fn accept(&self) -> io::Result<(Stream<'a>, SocketAddr)> {
         let mut asked = self.asked.get();
         let Some(accepts) = asked.accepts.checked_sub(1) else {
-            return Err(ErrorKind::Other.into());
+            return Err(ErrorKind::InvalidInput.into());
         };
         asked.accepts = accepts;
         self.asked.set(asked);
@@ -157,9 +133,12 @@ impl Waits for Listener<'_> {
     fn wait(
         &self,
         accepts: bool,
-        _streams: &mut [Kept<Self::Stream>],
+        streams: &mut [Kept<Self::Stream>],
         _longest: Duration,
     ) -> io::Result<bool> {
+        for kept in streams.iter_mut() {
+            kept.set_ready(true);
+        }
         Ok(accepts)
     }
 }
@@ -226,8 +205,7 @@ fn a_peer_that_sends_on_is_read_for_a_while(rt: HostRuntime) -> Result<(), Fail>
     let want = Asked {
         accepts: 0,
         no_delay: true,
-        read_wait: 2_000,
-        write_wait: ROUND_MILLISECONDS,
+        at_once: true,
         shut: true,
         dropped: 16_777_216,
         wrong: 0,

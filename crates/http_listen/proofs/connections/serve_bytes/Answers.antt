@@ -1,0 +1,11 @@
+use Rattle.http_listen.proofs.Cases.{came}
+use Rattle.http_listen.proofs.connections.serve_bytes.Goals as goal
+
+pub returns : goal.returns
+returns g c = (
+  _,
+  _,
+  _,
+  _,
+  came g.H.Handler.replies g.H.Handler.fails _ _ _ _ _ _ c.serve_with.result c.serve_with.ensures.serves.served c.serve_with.ensures.serves.fault,
+)

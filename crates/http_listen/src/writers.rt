@@ -1,0 +1,67 @@
+//! The writer of a stretch.
+
+use crate::outputs::Output;
+use crate::paced::PacedWriter;
+use crate::paces::Pace;
+use std::io::{self, Write};
+use std::net::OpenStream;
+
+/// A writer that collects replies in memory, up to a limit. What is beyond it is sent at once, after what was collected, and the peer is
+/// waited for.
+#[derive(Drop)]
+pub(crate) struct ReplyWriter<S> {
+    output: Output,
+    /// The maximum number of bytes in memory.
+    limit: usize,
+    /// Whether replies are sent at once.
+    at_once: bool,
+    paced: PacedWriter<S>,
+}
+
+impl<S: OpenStream> ReplyWriter<S> {
+    /// A writer that has collected these replies.
+    pub(crate) fn new(stream: S, pace: Pace, output: Output, limit: usize) -> Self {
+        ReplyWriter {
+            output,
+            limit,
+            at_once: false,
+            paced: PacedWriter { stream, pace },
+        }
+    }
+
+    /// The stream, the time that its peer has left, and the replies that wait. No call of the stream waits any more.
+    pub(crate) fn into_parts(self) -> (S, Pace, Output) {
+        if self.at_once {
+            let _ = self.paced.stream.set_nonblocking(true);
+        }
+        (self.paced.stream, self.paced.pace, self.output)
+    }
+}
+
+impl<S: Write + OpenStream> ReplyWriter<S> {
+    /// Sends what was collected. What is written from now on is sent at once.
+    fn send_collected(&mut self) -> io::Result<()> {
+        self.at_once = true;
+        self.paced.prepare();
+        self.output.send_all(&mut self.paced)
+    }
+}
+
+impl<S: Write + OpenStream> Write for ReplyWriter<S> {
+    fn write(&mut self, buf: &[u8]) -> io::Result<usize> {
+        if self.at_once {
+            return self.paced.write(buf);
+        }
+        if self.output.add(buf, self.limit) {
+            return Ok(buf.len());
+        }
+        match self.send_collected() {
+            Ok(()) => self.paced.write(buf),
+            Err(e) => Err(e),
+        }
+    }
+
+    fn flush(&mut self) -> io::Result<()> {
+        Ok(())
+    }
+}

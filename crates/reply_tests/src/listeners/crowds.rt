@@ -1,0 +1,120 @@
+//! Connections for which there is no room, and accepts that fail.
+use super::peers_in_time::{Peer, serve_peers, serve_until};
+use http_listen::{ListenFault, MAX_KEPT};
+use std::alloc::Global;
+use std::test::Fail;
+
+const ASKS: &str = "GET /a HTTP/1.1\r\nhost: x\r\n\r\n";
+
+const A: &str = "HTTP/1.1 200 OK\r\ncontent-length: 1\r\n\r\na";
+
+/// Linux's error if a process has no descriptor left.
+const EMFILE: i32 = 24;
+
+/// While there is no descriptor left, a connection is closed for another one only after it has waited for a second.
+#[test]
+fn one_that_has_waited_makes_room(rt: HostRuntime) -> Result<(), Fail> {
+    let first = [(0, ASKS)];
+    let second = [(500, ASKS), (1_500, "")];
+    let peers = [Peer::new(0, &first, A), Peer::new(500, &second, A)];
+    // Each 10 ms from 500 ms to 1 s, and once more while the closed one may still send.
+    let mut failures = [EMFILE; 53];
+    failures[0] = 0;
+    let outcome = serve_until(rt.alloc(), &peers, &failures, u64::MAX);
+    let lines = "connection 1: 1 requests, closed\nconnection 2: 1 requests, closed\n";
+    assert_eq!(rt; outcome.log.as_slice(), lines.as_bytes());
+    assert_eq!(rt;
+        (
+            peers[0].is_right(),
+            peers[1].is_right(),
+            peers[1].last.get()
+        ),
+        (true, true, 1_000)
+    );
+    Ok(())
+}
+
+/// One that asks again within that second is served, and the new one waits until there is a descriptor.
+#[test]
+fn one_that_asks_is_not_closed(rt: HostRuntime) -> Result<(), Fail> {
+    let both = [A, A].concat(rt.alloc())?;
+    let first = [(0, ASKS), (900, ASKS), (1_200, "")];
+    let second = [(500, ASKS), (1_500, "")];
+    let peers = [Peer::new(0, &first, &both), Peer::new(500, &second, A)];
+    let mut failures = [EMFILE; 53];
+    failures[0] = 0;
+    let outcome = serve_until(rt.alloc(), &peers, &failures, u64::MAX);
+    let lines = "connection 1: 2 requests, closed\nconnection 2: 1 requests, closed\n";
+    assert_eq!(rt; outcome.log.as_slice(), lines.as_bytes());
+    assert_eq!(rt; (peers[0].is_right(), peers[1].is_right()), (true, true));
+    Ok(())
+}
+
+/// An accept that fails for the connection that it accepts, and one that a signal interrupts: the next one is accepted.
+#[test]
+fn an_accept_that_fails_is_tried_again(rt: HostRuntime) -> Result<(), Fail> {
+    let asks = [(0, ASKS), (1, "")];
+    let peers = [Peer::new(0, &asks, A), Peer::new(0, &asks, A)];
+    let outcome = serve_until(rt.alloc(), &peers, &[103, 4, 0, 71, 103], u64::MAX);
+    assert_eq!(rt; (outcome.ended, outcome.answers), (Ok(()), 2));
+    assert_eq!(rt; (peers[0].is_right(), peers[1].is_right()), (true, true));
+    Ok(())
+}
+
+/// What serving one peer comes to, after so many failed accepts.
+fn after_failures(alloc: Global, failures: &[i32]) -> Result<(), ListenFault> {
+    let asks = [(0, ASKS), (1, "")];
+    let peers = [Peer::new(0, &asks, A)];
+    serve_until(alloc, &peers, failures, u64::MAX).ended
+}
+
+/// A thousand may fail in a row.
+#[test]
+fn a_thousand_may_fail(rt: HostRuntime) -> Result<(), Fail> {
+    let failures = [103; 1_001];
+    let ended = after_failures(rt.alloc(), &failures);
+    assert_eq!(rt; ended, Err(ListenFault::Accept));
+    assert_eq!(rt; after_failures(rt.alloc(), &failures[1..]), Ok(()));
+    Ok(())
+}
+
+/// A listener that accepts no more ends what is open.
+#[test]
+fn a_listener_that_fails_ends_it(rt: HostRuntime) -> Result<(), Fail> {
+    let asks = [(0, ASKS)];
+    let peers = [Peer::new(0, &asks, A), Peer::new(5, &asks, A)];
+    let outcome = serve_until(rt.alloc(), &peers, &[0, 22, 22, 22], u64::MAX);
+    assert_eq!(rt;
+        outcome.log.as_slice(),
+        b"connection 1: 1 requests, closed\n".as_slice()
+    );
+    assert_eq!(rt;
+        (outcome.ended, outcome.time),
+        (Err(ListenFault::Accept), 5)
+    );
+    Ok(())
+}
+
+/// One more than may be open: the one that has waited longest is closed after a second, and the new one is served then.
+#[test]
+fn so_many_are_open(rt: HostRuntime) -> Result<(), Fail> {
+    let alloc = rt.alloc();
+    let early = [(0, ASKS), (5_000, "")];
+    let late = [(0, ASKS), (1, ASKS), (5_000, "")];
+    let both = [A, A].concat(alloc)?;
+    let mut peers = Vec::new(alloc);
+    peers.push(Peer::new(0, &late, &both))?;
+    for _ in 0..MAX_KEPT {
+        peers.push(Peer::new(0, &early, A))?;
+    }
+    let outcome = serve_peers(alloc, &peers);
+    assert_eq!(rt; peers.iter().all(|peer| peer.is_right()), true);
+    assert_eq!(rt; (outcome.ended, outcome.answers), (Ok(()), 258));
+    assert_eq!(rt;
+        outcome.log.starts_with(
+            b"connection 2: 1 requests, closed\nconnection 3: 1 requests, closed\n"
+        ),
+        true
+    );
+    Ok(())
+}

@@ -1,0 +1,338 @@
+//! Peers that act at times, over a clock that waits move on.
+use super::Paths;
+use http_listen::{Kept, ListenFault, Waits, serve_on};
+use std::alloc::Global;
+use std::cell::Cell;
+use std::io::{self, ErrorKind, Read, Write};
+use std::net::{Ipv4Addr, OpenListener, OpenStream, Shutdown, SocketAddr};
+use std::time::{Clock, Duration};
+
+/// A clock in milliseconds.
+#[derive(Clone, Copy)]
+pub(super) struct Watch<'a> {
+    pub(super) now: &'a Cell<u64>,
+}
+
+impl Clock for Watch<'_> {
+    fn monotonic(&self) -> io::Result<Duration> {
+        Ok(Duration::from_millis(self.now.get()))
+    }
+
+    fn since_1970(&self) -> io::Result<Duration> {
+        self.monotonic()
+    }
+}
+
+/// At this time a peer sends this, or ends its side if it is empty.
+pub(super) type Act<'a> = (u64, &'a str);
+
+/// A peer.
+#[derive(Drop)]
+pub(super) struct Peer<'a> {
+    /// When it connects.
+    pub(super) comes: u64,
+    pub(super) acts: &'a [Act<'a>],
+    /// How many bytes it takes at once, and in each tenth of a second after that.
+    pub(super) quick: usize,
+    pub(super) rate: usize,
+    /// What it is to get.
+    pub(super) wants: &'a str,
+    /// How many bytes it has got, when the last one came, and whether one was another one.
+    pub(super) got: Cell<usize>,
+    pub(super) last: Cell<u64>,
+    pub(super) wrong: Cell<bool>,
+    /// How many acts were read, and how many bytes of the next one.
+    pub(super) read: Cell<usize>,
+    pub(super) part: Cell<usize>,
+    /// Whether the server has ended its side.
+    pub(super) shut: Cell<bool>,
+    /// How many more calls of its stream a signal interrupts.
+    pub(super) signals: Cell<u64>,
+}
+
+/// Whether a signal interrupts a call, of which this many are interrupted.
+fn is_interrupted(signals: &Cell<u64>) -> bool {
+    let left = signals.get();
+    signals.set(left.saturating_sub(1));
+    left > 0
+}
+
+impl<'a> Peer<'a> {
+    /// A peer that takes everything at once.
+    pub(super) fn new(comes: u64, acts: &'a [Act<'a>], wants: &'a str) -> Self {
+        Peer {
+            comes,
+            acts,
+            quick: usize::MAX,
+            rate: 0,
+            wants,
+            got: Cell::new(0),
+            last: Cell::new(0),
+            wrong: Cell::new(false),
+            read: Cell::new(0),
+            part: Cell::new(0),
+            shut: Cell::new(false),
+            signals: Cell::new(2),
+        }
+    }
+
+    /// Whether it got what it is to get, and nothing else.
+    pub(super) fn is_right(&self) -> bool {
+        !self.wrong.get() && self.got.get() == self.wants.len()
+    }
+
+    /// What it has sent by now that wasn't read.
+    fn sent(&self, now: u64) -> Option<&'a str> {
+        match self.acts.get(self.read.get()) {
+            Some((time, text)) if *time <= now => Some(*text),
+            _ => None,
+        }
+    }
+
+    /// How many bytes it can take now.
+    fn space(&self, now: u64) -> usize {
+        let later = self.rate.saturating_mul((now / 100) as usize);
+        self.quick
+            .saturating_add(later)
+            .saturating_sub(self.got.get())
+    }
+
+    /// When it sends something, or takes bytes, after this time.
+    fn next(&self, now: u64, sends: bool) -> u64 {
+        if sends {
+            return (now / 100).saturating_add(1).saturating_mul(100);
+        }
+        match self.acts.get(self.read.get()) {
+            Some((time, _)) => *time,
+            None => u64::MAX,
+        }
+    }
+
+    /// It gets bytes.
+    fn take(&self, now: u64, bytes: &[u8]) {
+        let got = self.got.get();
+        let wanted = self.wants.as_bytes().get(got..).unwrap_or(&[]);
+        if !wanted.starts_with(bytes) {
+            self.wrong.set(true);
+        }
+        self.got.set(got.saturating_add(bytes.len()));
+        self.last.set(now);
+    }
+}
+
+/// The stream of a peer.
+#[derive(Clone, Copy)]
+pub(super) struct Stream<'a> {
+    peer: &'a Peer<'a>,
+    watch: Watch<'a>,
+}
+
+impl Stream<'_> {
+    /// Whether it can take bytes, or has some.
+    fn is_ready(&self, sends: bool) -> bool {
+        let now = self.watch.now.get();
+        if sends {
+            self.peer.space(now) > 0
+        } else {
+            self.peer.sent(now).is_some()
+        }
+    }
+}
+
+impl Read for Stream<'_> {
+    fn read(&mut self, buf: &mut [u8]) -> io::Result<usize> {
+        if is_interrupted(&self.peer.signals) {
+            return Err(ErrorKind::Interrupted.into());
+        }
+        let Some(text) = self.peer.sent(self.watch.now.get()) else {
+            return Err(ErrorKind::WouldBlock.into());
+        };
+        let part = self.peer.part.get();
+        let rest = text.as_bytes().get(part..).unwrap_or(&[]);
+        let count = rest.len().min(buf.len());
+        buf[..count].copy_from_slice(&rest[..count]);
+        if count < rest.len() {
+            self.peer.part.set(part.saturating_add(count));
+        } else if !text.is_empty() {
+            self.peer.part.set(0);
+            self.peer.read.set(self.peer.read.get().saturating_add(1));
+        }
+        Ok(count)
+    }
+}
+
+impl Write for Stream<'_> {
+    fn write(&mut self, buf: &[u8]) -> io::Result<usize> {
+        if is_interrupted(&self.peer.signals) {
+            return Err(ErrorKind::Interrupted.into());
+        }
+        let now = self.watch.now.get();
+        let count = self.peer.space(now).min(buf.len());
+        if count == 0 {
+            return Err(ErrorKind::WouldBlock.into());
+        }
+        self.peer.take(now, &buf[..count]);
+        self.peer.signals.set(1);
+        Ok(count)
+    }
+
+    fn flush(&mut self) -> io::Result<()> {
+        Ok(())
+    }
+}
+
+impl OpenStream for Stream<'_> {
+    fn shutdown(&self, _how: Shutdown) -> io::Result<()> {
+        self.peer.shut.set(true);
+        Ok(())
+    }
+}
+
+/// A listener to which peers connect.
+#[derive(Clone, Copy)]
+pub(super) struct Listener<'a> {
+    pub(super) peers: &'a [Peer<'a>],
+    pub(super) accepted: &'a Cell<usize>,
+    /// The errors of Linux with which the first accepts fail: 0 if one doesn't.
+    pub(super) failures: &'a [i32],
+    pub(super) tried: &'a Cell<usize>,
+    /// How many more waits a signal interrupts.
+    pub(super) signals: &'a Cell<u64>,
+    /// When it stops.
+    pub(super) stops: u64,
+    pub(super) watch: Watch<'a>,
+}
+
+impl Listener<'_> {
+    /// When the next peer connects.
+    fn next_comes(&self) -> u64 {
+        match self.peers.get(self.accepted.get()) {
+            Some(peer) => peer.comes,
+            None => u64::MAX,
+        }
+    }
+
+    /// Whether a peer has connected that wasn't accepted.
+    fn comes(&self) -> bool {
+        let now = self.watch.now.get();
+        self.peers
+            .get(self.accepted.get())
+            .is_some_and(|peer| peer.comes <= now)
+    }
+}
+
+impl<'a> OpenListener for Listener<'a> {
+    type Stream = Stream<'a>;
+
+    fn accept(&self) -> io::Result<(Stream<'a>, SocketAddr)> {
+        let tried = self.tried.get();
+        self.tried.set(tried.saturating_add(1));
+        match self.failures.get(tried) {
+            None | Some(0) => {}
+            Some(failure) => return Err(io::Error::from_raw_os_error(*failure)),
+        }
+        let accepted = self.accepted.get();
+        let Some(peer) = self.peers.get(accepted) else {
+            return Err(ErrorKind::InvalidInput.into());
+        };
+        self.accepted.set(accepted.saturating_add(1));
+        let now = self.watch.now.get().max(peer.comes);
+        self.watch.now.set(now);
+        let watch = self.watch;
+        Ok((
+            Stream { peer, watch },
+            SocketAddr::from((Ipv4Addr::LOCALHOST, 1)),
+        ))
+    }
+}
+
+/// Says which of the streams are ready. Returns `None` if one is, and otherwise when one may be.
+fn mark(streams: &mut [Kept<Stream<'_>>], now: u64) -> Option<u64> {
+    let mut any = false;
+    let mut next = u64::MAX;
+    for kept in streams.iter_mut() {
+        let sends = kept.sends();
+        let ready = kept.stream().is_ready(sends);
+        next = next.min(kept.stream().peer.next(now, sends));
+        kept.set_ready(ready);
+        any = any || ready;
+    }
+    if any { None } else { Some(next) }
+}
+
+impl Waits for Listener<'_> {
+    fn wait(
+        &self,
+        accepts: bool,
+        streams: &mut [Kept<Self::Stream>],
+        longest: Duration,
+    ) -> io::Result<bool> {
+        let milliseconds = longest.as_millis() as u64;
+        let end = self.watch.now.get().saturating_add(milliseconds);
+        for _ in 0..=milliseconds {
+            let now = self.watch.now.get();
+            let comes = accepts && self.comes();
+            let Some(next) = mark(streams, now) else {
+                return Ok(comes);
+            };
+            if comes || now >= end {
+                return Ok(comes);
+            }
+            let coming = if accepts { self.next_comes() } else { u64::MAX };
+            self.watch
+                .now
+                .set(next.min(coming).min(end).max(now.saturating_add(1)));
+        }
+        Ok(false)
+    }
+
+    fn stops(&self) -> bool {
+        self.watch.now.get() >= self.stops
+    }
+}
+
+/// What serving peers came to.
+#[derive(Drop)]
+pub(super) struct Outcome {
+    pub(super) ended: Result<(), ListenFault>,
+    pub(super) log: Vec<u8>,
+    /// When it ended, and how many requests were answered by then.
+    pub(super) time: u64,
+    pub(super) answers: u64,
+}
+
+/// Serves these peers.
+pub(super) fn serve_peers(alloc: Global, peers: &[Peer<'_>]) -> Outcome {
+    serve_until(alloc, peers, &[], u64::MAX)
+}
+
+/// Serves these peers with a listener whose first accepts fail, and that stops at this time.
+pub(super) fn serve_until(
+    alloc: Global,
+    peers: &[Peer<'_>],
+    failures: &[i32],
+    stops: u64,
+) -> Outcome {
+    let (now, accepted, tried) = (Cell::new(0), Cell::new(0), Cell::new(0));
+    let signals = Cell::new(2);
+    let watch = Watch { now: &now };
+    let listener = Listener {
+        peers,
+        accepted: &accepted,
+        failures,
+        tried: &tried,
+        signals: &signals,
+        stops,
+        watch,
+    };
+    let mut handler = Paths { alloc, answers: 0 };
+    let mut log = Vec::new(alloc);
+    let count = peers.len() as u64;
+    let ended = serve_on(&watch, alloc, &listener, count, &mut handler, &mut log);
+    Outcome {
+        ended,
+        log,
+        time: now.get(),
+        answers: handler.answers,
+    }
+}
