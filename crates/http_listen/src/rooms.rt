@@ -386,6 +386,16 @@ impl<S: Read + Write + OpenStream + Drop> Room<S> {
         Found::Nothing
     }
 
+    /// Whether another connection comes just now, while some are open: otherwise one would be accepted in each round of the others.
+    fn another_comes<L: Waits<Stream = S>>(&mut self, listener: &L) -> bool {
+        if self.kept.is_empty() {
+            return false;
+        }
+        listener
+            .wait(true, &mut self.kept[..0], Duration::ZERO)
+            .unwrap_or(false)
+    }
+
     /// Accepts a connection, if there is room for it.
     fn accept<L: Waits<Stream = S>, W: Write>(
         &mut self,
@@ -401,6 +411,7 @@ impl<S: Read + Write + OpenStream + Drop> Room<S> {
         match listener.accept() {
             Ok((stream, _)) => {
                 self.failures = 0;
+                self.comes = self.another_comes(listener);
                 Found::New(stream)
             }
             Err(e) => self.refused(now, listener, refusal_of(&e), log),

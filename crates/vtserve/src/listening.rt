@@ -11,11 +11,17 @@ use crate::watching::Halting;
 use clap::ArgMatches;
 use generations::StoreFault;
 use http_listen::ListenFault;
+use libc::net::listen;
 use map_listen::serve_map_on;
 use map_replies::MapReplies;
 use sector_disk::Sectors;
 use std::io::{self, LineWriter, Write};
 use std::net::{Ipv4Addr, SocketAddr, TcpListener};
+use std::os::fd::AsRawFd;
+
+/// How many connections the system keeps until they are accepted. If there are more, it drops packets of the handshake, and the peer
+/// waits for a second or more until it sends them again.
+const QUEUE: i32 = 4_096;
 
 /// Where connections come from, and how many.
 #[derive(Clone, Copy, Debug, PartialEq, Eq)]
@@ -74,6 +80,8 @@ pub(crate) fn serve_connections<D: Sectors + Drop>(
             });
         }
     };
+    // The kit's own is 128. If it can't be set, that remains.
+    let _ = listen(listener.as_raw_fd(), QUEUE);
     // Each line of the log is one call of the system.
     let Ok(mut log) = LineWriter::new(rt.alloc(), rt.stderr()) else {
         return Err(CommandFault::Store(StoreFault::Memory));

@@ -63,8 +63,9 @@ fn peers_one_after_the_other(rt: HostRuntime) -> Result<(), Fail> {
     let mut read = Vec::new(alloc);
     last.read_to_end(&mut read)?;
     assert_eq!(rt; read.as_slice(), THIRD_LAST.as_bytes());
+    // All four are accepted before the second asks again.
     let lines = "connection 1: 0 requests, closed\nconnection 3: 1 requests, asked\n\
-        connection 2: 2 requests, closed\nconnection 4: 1 requests, refused\n";
+        connection 4: 1 requests, refused\nconnection 2: 2 requests, closed\n";
     assert_eq!(rt; log.as_slice(), lines.as_bytes());
     drop(silent);
     drop(asks);
