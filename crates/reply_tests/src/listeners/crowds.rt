@@ -1,7 +1,7 @@
 //! Connections for which there is no room, and accepts that fail.
-use super::peers_in_time::{Peer, serve_peers, serve_until};
+use super::peers_in_time::{Act, Peer, serve_peers, serve_until};
 use http_listen::{ListenFault, MAX_KEPT};
-use std::alloc::Global;
+use std::alloc::{AllocError, Global};
 use std::test::Fail;
 
 const ASKS: &str = "GET /a HTTP/1.1\r\nhost: x\r\n\r\n";
@@ -11,12 +11,21 @@ const A: &str = "HTTP/1.1 200 OK\r\ncontent-length: 1\r\n\r\na";
 /// Linux's error if a process has no descriptor left.
 const EMFILE: i32 = 24;
 
+/// Two peers that each ask once: at the beginning, and half a second later.
+fn one_and_another<'a>(
+    first: &'a [Act<'a>],
+    second: &'a [Act<'a>],
+    wants: &'a str,
+) -> [Peer<'a>; 2] {
+    [Peer::new(0, first, wants), Peer::new(500, second, wants)]
+}
+
 /// While there is no descriptor left, a connection is closed for another one only after it has waited for a second.
 #[test]
 fn one_that_has_waited_makes_room(rt: HostRuntime) -> Result<(), Fail> {
     let first = [(0, ASKS)];
     let second = [(500, ASKS), (1_500, "")];
-    let peers = [Peer::new(0, &first, A), Peer::new(500, &second, A)];
+    let peers = one_and_another(&first, &second, A);
     // Each 10 ms from 500 ms to 1 s, and once more while the closed one may still send.
     let mut failures = [EMFILE; 53];
     failures[0] = 0;
@@ -95,6 +104,21 @@ fn a_listener_that_fails_ends_it(rt: HostRuntime) -> Result<(), Fail> {
     Ok(())
 }
 
+/// One peer, and as many others as may be open.
+fn crowd<'a>(
+    alloc: Global,
+    one: Peer<'a>,
+    acts: &'a [Act<'a>],
+    wants: &'a str,
+) -> Result<Vec<Peer<'a>>, AllocError> {
+    let mut peers = Vec::new(alloc);
+    peers.push(one)?;
+    for _ in 0..MAX_KEPT {
+        peers.push(Peer::new(0, acts, wants))?;
+    }
+    Ok(peers)
+}
+
 /// One more than may be open: the one that has waited longest is closed after a second, and the new one is served then.
 #[test]
 fn so_many_are_open(rt: HostRuntime) -> Result<(), Fail> {
@@ -102,11 +126,7 @@ fn so_many_are_open(rt: HostRuntime) -> Result<(), Fail> {
     let early = [(0, ASKS), (5_000, "")];
     let late = [(0, ASKS), (1, ASKS), (5_000, "")];
     let both = [A, A].concat(alloc)?;
-    let mut peers = Vec::new(alloc);
-    peers.push(Peer::new(0, &late, &both))?;
-    for _ in 0..MAX_KEPT {
-        peers.push(Peer::new(0, &early, A))?;
-    }
+    let peers = crowd(alloc, Peer::new(0, &late, &both), &early, A)?;
     let outcome = serve_peers(alloc, &peers);
     assert_eq!(rt; peers.iter().all(|peer| peer.is_right()), true);
     assert_eq!(rt; (outcome.ended, outcome.answers), (Ok(()), 258));

@@ -267,7 +267,7 @@ impl Waits for Listener<'_> {
         streams: &mut [Kept<Self::Stream>],
         longest: Duration,
     ) -> io::Result<bool> {
-        let milliseconds = longest.as_millis() as u64;
+        let milliseconds = u64::try_from(longest.as_millis()).unwrap_or(u64::MAX);
         let end = self.watch.now.get().saturating_add(milliseconds);
         for _ in 0..=milliseconds {
             let now = self.watch.now.get();

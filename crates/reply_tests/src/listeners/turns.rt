@@ -83,6 +83,16 @@ fn byte_by_byte(alloc: Global, text: &str, from: u64) -> Result<Vec<Act<'_>>, Al
     Ok(acts)
 }
 
+/// Three peers, of which the first and the last want the same.
+fn three<'a>(acts: [&'a [Act<'a>]; 3], wants: &'a str, other: &'a str) -> [Peer<'a>; 3] {
+    let [first, second, third] = acts;
+    [
+        Peer::new(0, first, wants),
+        Peer::new(0, second, other),
+        Peer::new(0, third, wants),
+    ]
+}
+
 /// Three connections whose bytes come one by one, by turns: each with two requests.
 #[test]
 fn three_come_byte_by_byte(rt: HostRuntime) -> Result<(), Fail> {
@@ -94,11 +104,7 @@ fn three_come_byte_by_byte(rt: HostRuntime) -> Result<(), Fail> {
     let first = byte_by_byte(alloc, &both, 0)?;
     let second = byte_by_byte(alloc, &other, 1)?;
     let third = byte_by_byte(alloc, &both, 2)?;
-    let peers = [
-        Peer::new(0, &first, &replies),
-        Peer::new(0, &second, &other_replies),
-        Peer::new(0, &third, &replies),
-    ];
+    let peers = three([&first, &second, &third], &replies, &other_replies);
     let outcome = serve_peers(alloc, &peers);
     assert_eq!(rt; peers.iter().all(|peer| peer.is_right()), true);
     assert_eq!(rt; (outcome.ended, outcome.answers), (Ok(()), 6));
@@ -122,6 +128,19 @@ fn slow<'a>(quick: usize, rate: usize, acts: &'a [Act<'a>], wants: &'a str) -> P
     peer
 }
 
+/// A slow peer, and one that comes later.
+fn slow_and_quick<'a>(
+    acts: &'a [Act<'a>],
+    wants: &'a str,
+    other: &'a [Act<'a>],
+    wants_then: &'a str,
+) -> [Peer<'a>; 2] {
+    [
+        slow(1_000, 1_000, acts, wants),
+        Peer::new(400, other, wants_then),
+    ]
+}
+
 /// One that reads a large reply slowly, and has asked for more before: others are served meanwhile, and its next request only then.
 #[test]
 fn a_slow_reader_holds_nobody_up(rt: HostRuntime) -> Result<(), Fail> {
@@ -132,10 +151,7 @@ fn a_slow_reader_holds_nobody_up(rt: HostRuntime) -> Result<(), Fail> {
     let acts = [(0, two.as_str()), (1, "")];
     let other = [(500, ASKS_B), (600, ASKS_A), (700, "")];
     let both = [B, A].concat(alloc)?;
-    let peers = [
-        slow(1_000, 1_000, &acts, &replies),
-        Peer::new(400, &other, &both),
-    ];
+    let peers = slow_and_quick(&acts, &replies, &other, &both);
     let outcome = serve_peers(alloc, &peers);
     assert_eq!(rt; peers.iter().all(|peer| peer.is_right()), true);
     assert_eq!(rt; (peers[0].last.get(), peers[1].last.get()), (30_000, 600));
