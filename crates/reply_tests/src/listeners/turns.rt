@@ -71,46 +71,6 @@ fn requests_are_cut_anywhere(rt: HostRuntime) -> Result<(), Fail> {
     Ok(())
 }
 
-/// Each byte of a text as a piece: one in three milliseconds, from this one on.
-fn byte_by_byte(alloc: Global, text: &str, from: u64) -> Result<Vec<Act<'_>>, AllocError> {
-    let mut acts = Vec::new(alloc);
-    let mut time = from;
-    for place in 0..text.len() {
-        acts.push((time, text.get(place..place + 1).unwrap_or("")))?;
-        time = time.saturating_add(3);
-    }
-    acts.push((time, ""))?;
-    Ok(acts)
-}
-
-/// Three peers, of which the first and the last want the same.
-fn three<'a>(acts: [&'a [Act<'a>]; 3], wants: &'a str, other: &'a str) -> [Peer<'a>; 3] {
-    let [first, second, third] = acts;
-    [
-        Peer::new(0, first, wants),
-        Peer::new(0, second, other),
-        Peer::new(0, third, wants),
-    ]
-}
-
-/// Three connections whose bytes come one by one, by turns: each with two requests.
-#[test]
-fn three_come_byte_by_byte(rt: HostRuntime) -> Result<(), Fail> {
-    let alloc = rt.alloc();
-    let both = [ASKS_A, ASKS_B].concat(alloc)?;
-    let other = [ASKS_B, ASKS_A].concat(alloc)?;
-    let replies = [A, B].concat(alloc)?;
-    let other_replies = [B, A].concat(alloc)?;
-    let first = byte_by_byte(alloc, &both, 0)?;
-    let second = byte_by_byte(alloc, &other, 1)?;
-    let third = byte_by_byte(alloc, &both, 2)?;
-    let peers = three([&first, &second, &third], &replies, &other_replies);
-    let outcome = serve_peers(alloc, &peers);
-    assert_eq!(rt; peers.iter().all(|peer| peer.is_right()), true);
-    assert_eq!(rt; (outcome.ended, outcome.answers), (Ok(()), 6));
-    Ok(())
-}
-
 /// A reply to `ASKS_BIG`.
 fn big(alloc: Global) -> Result<String, AllocError> {
     let mut text = String::from_str(alloc, BIG_HEAD)?;
@@ -126,41 +86,6 @@ fn slow<'a>(quick: usize, rate: usize, acts: &'a [Act<'a>], wants: &'a str) -> P
     peer.quick = quick;
     peer.rate = rate;
     peer
-}
-
-/// A slow peer, and one that comes later.
-fn slow_and_quick<'a>(
-    acts: &'a [Act<'a>],
-    wants: &'a str,
-    other: &'a [Act<'a>],
-    wants_then: &'a str,
-) -> [Peer<'a>; 2] {
-    [
-        slow(1_000, 1_000, acts, wants),
-        Peer::new(400, other, wants_then),
-    ]
-}
-
-/// One that reads a large reply slowly, and has asked for more before: others are served meanwhile, and its next request only then.
-#[test]
-fn a_slow_reader_holds_nobody_up(rt: HostRuntime) -> Result<(), Fail> {
-    let alloc = rt.alloc();
-    let large = big(alloc)?;
-    let two = [ASKS_BIG, ASKS_A].concat(alloc)?;
-    let replies = [large.as_str(), A].concat(alloc)?;
-    let acts = [(0, two.as_str()), (1, "")];
-    let other = [(500, ASKS_B), (600, ASKS_A), (700, "")];
-    let both = [B, A].concat(alloc)?;
-    let peers = slow_and_quick(&acts, &replies, &other, &both);
-    let outcome = serve_peers(alloc, &peers);
-    assert_eq!(rt; peers.iter().all(|peer| peer.is_right()), true);
-    assert_eq!(rt; (peers[0].last.get(), peers[1].last.get()), (30_000, 600));
-    let lines = "connection 2: 2 requests, closed\nconnection 1: 2 requests, closed\n";
-    assert_eq!(rt;
-        (outcome.log.as_slice(), outcome.answers),
-        (lines.as_bytes(), 4)
-    );
-    Ok(())
 }
 
 /// One that reads nothing is given up after a minute, and only its first request was answered.
