@@ -21,8 +21,8 @@ import map_stand
 import read_stand
 from archives import DirectoryEntry, directory
 from disk import Change, edit_text, text_of
-from map_script import LINE, POLYGONS
 from map_stand import POINT
+from map_texts import LINE, POLYGONS
 from odd_edits import compact, odd_body
 from reply_edits import deletes, of_other_forms, sets
 from reply_stand import Script

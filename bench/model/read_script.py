@@ -12,7 +12,7 @@ import read_hostile
 from archives import ALL_IDS, DirectoryEntry, Maker, directory
 from disk import Change, edit_text, text_of
 from map_stand import POINT
-from map_script import LINE, POLYGONS
+from map_texts import LINE, POLYGONS
 from read_stand import METADATA, Stand
 from wire import number, part, varint
 
