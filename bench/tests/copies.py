@@ -21,7 +21,7 @@ import tempfile
 import threading
 import time
 
-from commands import Cases, Serving, content, failed_at_each_call, killed_at_each_call, published, refusal, vtserve, write
+from command_cases import Cases, Serving, content, failed_at_each_call, killed_at_each_call, published, refusal, vtserve, write
 from command_streams import GET, put
 
 SECTORS = 4096

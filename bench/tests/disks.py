@@ -17,7 +17,7 @@ import tempfile
 from collections import Counter
 from pathlib import Path
 
-from commands import Cases, refusal, vtserve
+from command_cases import Cases, refusal, vtserve
 
 sys.path.append(str(Path(__file__).resolve().parents[1] / "model"))
 import disk as model
