@@ -6,7 +6,8 @@
     python3 bench/tools/lemmas.py --check      ends with 1 if that page isn't what --write writes
 
 A definition is a name that a file of crates/CRATE/specs/ declares. A lemma file is a file of crates/CRATE/proofs/ that is no proof of
-a function (Answers.antt, Invariants.antt, Proof.antt) and no list of modules (Lib.antt). Names are resolved by the `use` lines.
+a function (Answers.antt, Invariants.antt, Proof.antt) and no list of modules (Lib.antt; a folder's
+list, beside it, states nothing). Names are resolved by the `use` lines.
 """
 import argparse
 import re

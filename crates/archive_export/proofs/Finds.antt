@@ -11,7 +11,7 @@ use Rattle.generations.specs.declared.root.Root.{Root}
 use Rattle.generations.proofs.Laws.{one_live, live_no_fault}
 use Rattle.tile_service.specs.Stored.{Stored, Holds, root_of}
 use Rattle.tile_service.specs.Tiles.{archive_place}
-use Rattle.tile_service.proofs.Laws.{lives}
+use Rattle.tile_service.proofs.Disk.OneState.{lives}
 use Rattle.published_tiles.specs.declared.place.ArchivePlace.{ArchivePlace}
 
 -- the bytes of the archive at a place

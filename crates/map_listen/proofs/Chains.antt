@@ -8,7 +8,7 @@ use Rattle.map_replies.proofs.Connections.{GoesAlong, goes_from, replied, cut}
 use Rattle.map_replies.specs.State.{asked_service, ServiceReplies, ServiceFails, Course, course, Tells, TellsCut}
 use Rattle.map_replies.specs.declared.service.MapReplies.{MapReplies}
 use Rattle.sector_disk.specs.Disk.{History}
-use Rattle.tile_service.proofs.Callers.{takes_run}
+use Rattle.tile_service.proofs.Runs.Callers.{takes_run}
 use Rattle.tile_service.specs.Machine.{Happening}
 use Rattle.tile_service.specs.Runs.{TakesRun}
 

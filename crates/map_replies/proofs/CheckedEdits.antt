@@ -12,8 +12,8 @@ use Rattle.tile_service.specs.Runs.{acknowledged, Takes, TakesAll}
 use Rattle.tile_service.specs.Seen.{IsAsSeen, IsFirstChanged}
 use Rattle.tile_service.specs.Service.{ServiceView, TellsDevice}
 use Rattle.tile_service.specs.declared.fault.ServiceFault.{ServiceFault}
-use Rattle.tile_service.proofs.Callers.{look_step, events_on}
-use Rattle.tile_service.proofs.Runs.{no_known}
+use Rattle.tile_service.proofs.Runs.Callers.{look_step, events_on}
+use Rattle.tile_service.proofs.Runs.OneEvent.{no_known}
 use Rattle.edit_json.proofs.CheckedLaws.{checked-numbers}
 use Rattle.map_replies.specs.Bodies.{CheckedEdit, SaysChecked}
 use Rattle.map_replies.specs.Meanings.{looks, MeansChecked, MeansCheckedBatch, ReplacesSeen, Answers}

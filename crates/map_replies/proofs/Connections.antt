@@ -8,7 +8,7 @@ use Rattle.http_serve.specs.Told.{IsServed, IsServedUpTo}
 use Rattle.sector_disk.specs.Disk.{History}
 use Rattle.tile_service.specs.Machine.{Happening}
 use Rattle.tile_service.specs.Runs.{TakesAll, TakesRun}
-use Rattle.tile_service.proofs.Callers.{HasRun, run_begins, run_on_all, takes_run}
+use Rattle.tile_service.proofs.Runs.Callers.{HasRun, run_begins, run_on_all, takes_run}
 use Rattle.map_replies.specs.declared.service.MapReplies.{MapReplies}
 use Rattle.tile_service.specs.Service.{status_of}
 use Rattle.map_replies.specs.Meanings.{Means, DiskFailed}

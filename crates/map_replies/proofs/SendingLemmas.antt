@@ -18,7 +18,7 @@ use Rattle.tile_service.specs.Machine.{read}
 use Rattle.tile_service.specs.Runs.{Takes}
 use Rattle.tile_service.specs.Service.{ServiceView, IsUp, ShowsArchive, ReadsFrom, shown_archive}
 use Rattle.tile_service.specs.Stored.{Stored}
-use Rattle.tile_service.proofs.Callers.{read_step, shown_seen}
+use Rattle.tile_service.proofs.Runs.Callers.{read_step, shown_seen}
 use Rattle.tile_service.specs.declared.fault.ServiceFault.TheVariants.{Device}
 use Rattle.tile_routes.specs.declared.fault.RouteFault.{RouteFault}
 use Rattle.tile_routes.specs.declared.method.Method.{Method}

@@ -1,6 +1,6 @@
 use Rattle.std.proofs.Common.{sym, ◌∙◌}
 use Rattle.std.proofs.lemmas.Bool.{false≢true}
-use Rattle.tile_service.proofs.Unchanged.{same_step, same_all, first_is}
+use Rattle.tile_service.proofs.Edits.SeenFeatures.{same_step, same_all, first_is}
 use Rattle.tile_service.proofs.comparing.first_changed.Goals as goal
 
 pub returns-then-not-is_as_seen : goal.returns-then-not-is_as_seen

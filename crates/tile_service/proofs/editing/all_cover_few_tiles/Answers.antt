@@ -2,7 +2,7 @@ use Rattle.std.proofs.Common.{refl, sym, ◌∙◌}
 use Rattle.std.proofs.lemmas.Bool.{false≢true}
 use Rattle.feature_model.specs.Limits.{ChangeFits}
 use Rattle.tile_service.specs.Limits.{CoversFewTiles}
-use Rattle.tile_service.proofs.Batches.{passes_step, passes_all, passes_there}
+use Rattle.tile_service.proofs.Edits.BatchLimits.{passes_step, passes_all, passes_there}
 use Rattle.tile_service.proofs.editing.all_cover_few_tiles.Goals as goal
 
 pub covers_few_tiles-requires : goal.covers_few_tiles-requires

@@ -1,4 +1,4 @@
-use Rattle.tile_service.proofs.Steps.{without_count}
+use Rattle.tile_service.proofs.Edits.Limits.{without_count}
 use Rattle.tile_service.proofs.editing.deletion_text.Goals as goal
 
 pub returns-then-version-eq-FIRST_VERSION : goal.returns-then-version-eq-FIRST_VERSION

@@ -1,7 +1,7 @@
 use Rattle.std.proofs.Common.{rules}
 use Rattle.std.specs.Prelude.{IsSome, IsTrue}
 use Rattle.feature_model.specs.Data.{feature_data}
-use Rattle.tile_service.proofs.Steps.{fits_there}
+use Rattle.tile_service.proofs.Edits.Limits.{fits_there}
 use Rattle.tile_service.proofs.editing.has.Goals as goal
 
 pub returns-clause-number : goal.returns-clause-number

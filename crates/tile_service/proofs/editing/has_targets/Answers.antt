@@ -1,7 +1,7 @@
 use Rattle.std.proofs.Common.{refl, sym, ◌∙◌}
 use Rattle.std.proofs.lemmas.Bool.{false≢true}
 use Rattle.tile_service.specs.Machine.{HasTarget}
-use Rattle.tile_service.proofs.Batches.{passes_step, passes_all, passes_there}
+use Rattle.tile_service.proofs.Edits.BatchLimits.{passes_step, passes_all, passes_there}
 use Rattle.tile_service.proofs.editing.has_targets.Goals as goal
 
 pub returns-then-not-has_target : goal.returns-then-not-has_target

@@ -3,7 +3,7 @@ use Rattle.std.proofs.lemmas.Bool.{false≢true}
 use Rattle.feature_model.specs.Data.{change_data}
 use Rattle.feature_model.specs.declared.fault.EditFault.TheVariants.{Reach}
 use Rattle.feature_model.proofs.Changes.{all_fit}
-use Rattle.tile_service.proofs.Batches.{far_from}
+use Rattle.tile_service.proofs.Edits.BatchLimits.{far_from}
 use Rattle.tile_service.proofs.editing.within_batch_limits.Goals as goal
 
 pub all_cover_few_tiles-requires : goal.all_cover_few_tiles-requires

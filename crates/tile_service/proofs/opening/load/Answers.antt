@@ -1,6 +1,6 @@
 use Rattle.std.proofs.Common.{◌∙◌}
 use Rattle.sector_disk.specs.Disk.{seen}
-use Rattle.tile_service.proofs.Opens.{live_before, version_before, read_after, fault_after, root_fault_after, device_no_memory, root_no_memory}
+use Rattle.tile_service.proofs.Disk.Opened.{live_before, version_before, read_after, fault_after, root_fault_after, device_no_memory, root_no_memory}
 use Rattle.tile_service.proofs.opening.load.Goals as goal
 
 pub returns-in-Ok-read_map-clause-found : goal.returns-in-Ok-read_map-clause-found

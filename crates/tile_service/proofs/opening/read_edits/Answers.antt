@@ -14,7 +14,7 @@ use Rattle.tile_service.specs.After.{after}
 use Rattle.feature_store.specs.declared.limit.TheConstants.{TEXTS_END}
 use Rattle.tile_service.specs.Replayed.{bytes_of}
 use Rattle.tile_service.specs.Tiles.{WereMaps}
-use Rattle.tile_service.proofs.Opens.{recovery_fault, text_fault, texts_short, replayed_short}
+use Rattle.tile_service.proofs.Disk.Opened.{recovery_fault, text_fault, texts_short, replayed_short}
 use Rattle.tile_service.proofs.opening.read_edits.Goals as goal
 
 pub returns-in-Err-clause-fault : goal.returns-in-Err-clause-fault

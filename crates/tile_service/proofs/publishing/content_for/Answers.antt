@@ -2,7 +2,7 @@ use Rattle.std.proofs.Common.{ℕ, List, length, sym, subst}
 use Rattle.std.specs.Prelude.{string_bytes}
 use Rattle.area_content.specs.Faults.{IsBuiltFor}
 use Rattle.pm_metadata.specs.Archive.{IsMetadata}
-use Rattle.tile_service.proofs.PublishSteps.{metadata_is_text, publishable}
+use Rattle.tile_service.proofs.Publications.Steps.{metadata_is_text, publishable}
 use Rattle.tile_service.proofs.publishing.content_for.Goals as goal
 
 pub content_of-requires-clause-metadata : goal.content_of-requires-clause-metadata

@@ -3,9 +3,9 @@ use Rattle.sector_disk.proofs.AskedLaws.{writes_on}
 use Rattle.sector_disk.proofs.History.{started, any_write, any_sync}
 use Rattle.tile_service.specs.Publishing.{IsContentSector}
 use Rattle.tile_service.specs.Stored.{Holds}
-use Rattle.tile_service.proofs.AreaWrites.{write_moment, is_content_sector, next_area_keeps, next_area_leaves, sync_keeps, sync_holds}
-use Rattle.tile_service.proofs.AreaWrites.{write_beside, sync_beside}
-use Rattle.tile_service.proofs.Contents.{write_stands}
+use Rattle.tile_service.proofs.Publications.StepWrites.{write_moment, is_content_sector, next_area_keeps, next_area_leaves, sync_keeps, sync_holds}
+use Rattle.tile_service.proofs.Publications.StepWrites.{write_beside, sync_beside}
+use Rattle.tile_service.proofs.Publications.AreaContents.{write_stands}
 use Rattle.tile_service.proofs.publishing.write_sectors.Goals as goal
 
 pub loop-index-init : goal.loop-index-init

@@ -7,7 +7,7 @@ use Rattle.edit_journal.specs.declared.records.Record.{Record}
 use Rattle.feature_store.specs.Store.{snapshot}
 use Rattle.feature_store.specs.declared.limit.TheConstants.{TEXTS_END}
 use Rattle.tile_service.specs.Replayed.{AreMade, IsReplayFault, bytes_of}
-use Rattle.tile_service.proofs.Replays.{replay_fault, replayed_one, short_one}
+use Rattle.tile_service.proofs.Disk.Replayed.{replay_fault, replayed_one, short_one}
 use Rattle.tile_service.proofs.replaying.replay.Goals as goal
 
 records_append : (found more : List Record) → records_of (found ++ more) ≡ records_of found ++ records_of more

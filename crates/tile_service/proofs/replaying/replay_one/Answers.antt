@@ -2,7 +2,7 @@ use Rattle.std.proofs.Common.{arith}
 use Rattle.edit_journal.specs.Records.{record_data}
 use Rattle.feature_model.specs.Data.{edit_data}
 use Rattle.tile_service.specs.Machine.{recorded_in}
-use Rattle.tile_service.proofs.Replays.{text_short}
+use Rattle.tile_service.proofs.Disk.Replayed.{text_short}
 use Rattle.tile_service.proofs.replaying.replay_one.Goals as goal
 
 pub make-requires-clause-texts : goal.make-requires-clause-texts

@@ -4,7 +4,7 @@ use Rattle.generations.specs.declared.fault.What.TheVariants.{Snapshot}
 use Rattle.feature_store.specs.Snapshots.{IsNoSnapshot}
 use Rattle.sector_bytes.specs.Bytes.{StandsIn}
 use Rattle.sector_disk.specs.Disk.{seen}
-use Rattle.tile_service.proofs.Opens.{snapshot_fault}
+use Rattle.tile_service.proofs.Disk.Opened.{snapshot_fault}
 use Rattle.tile_service.proofs.snapshot_reading.read_snapshot.Goals as goal
 
 pub returns-clause-fault : goal.returns-clause-fault

@@ -1,6 +1,6 @@
 use Rattle.std.proofs.Common.{length, arith}
 use Rattle.sector_disk.specs.Disk.{seen}
-use Rattle.tile_service.proofs.Bytes.{read_whole}
+use Rattle.tile_service.proofs.Disk.SectorBytes.{read_whole}
 use Rattle.tile_service.proofs.snapshot_reading.read_text.Goals as goal
 
 pub returns-in-Ok-read_bytes-clause-stands : goal.returns-in-Ok-read_bytes-clause-stands

@@ -1,7 +1,7 @@
 use Rattle.std.proofs.Common.{map}
 use Rattle.feature_model.specs.Data.{change_data}
 use Rattle.tile_service.specs.Machine.{batched}
-use Rattle.tile_service.proofs.Callers.{edit_step}
+use Rattle.tile_service.proofs.Runs.Callers.{edit_step}
 use Rattle.map_replies.proofs.Answering.{edited}
 use Rattle.map_replies.proofs.calls.Calls.batch.Goals as goal
 

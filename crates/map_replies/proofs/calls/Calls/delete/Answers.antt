@@ -1,6 +1,6 @@
 use Rattle.feature_model.specs.Data.{delete}
 use Rattle.tile_service.specs.Machine.{single, recorded_change, edit}
-use Rattle.tile_service.proofs.Callers.{edit_step}
+use Rattle.tile_service.proofs.Runs.Callers.{edit_step}
 use Rattle.map_replies.specs.Words.{outcome_reply}
 use Rattle.map_replies.proofs.Answering.{changed_first}
 use Rattle.map_replies.proofs.calls.Calls.delete.Goals as goal

@@ -1,7 +1,7 @@
 use Rattle.std.proofs.Common.{Some, None, refl}
 use Rattle.feature_model.specs.Data.{feature_data}
 use Rattle.tile_service.specs.Machine.{got, no_memory, look}
-use Rattle.tile_service.proofs.Callers.{look_step}
+use Rattle.tile_service.proofs.Runs.Callers.{look_step}
 use Rattle.map_replies.specs.Words.{shown_reply, found_reply}
 use Rattle.map_replies.proofs.Answering.{called, shown}
 use Rattle.map_replies.proofs.calls.Calls.feature.Goals as goal

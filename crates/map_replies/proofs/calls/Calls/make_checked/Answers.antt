@@ -2,7 +2,7 @@ use Rattle.std.proofs.Common.{map}
 use Rattle.feature_model.specs.Data.{change_data}
 use Rattle.feature_model.specs.Seen.{seen_data}
 use Rattle.tile_service.specs.Machine.{batched}
-use Rattle.tile_service.proofs.Callers.{edit_step}
+use Rattle.tile_service.proofs.Runs.Callers.{edit_step}
 use Rattle.map_replies.proofs.CheckedEdits.{told_changed, made_unchanged}
 use Rattle.map_replies.proofs.calls.Calls.make_checked.Goals as goal
 

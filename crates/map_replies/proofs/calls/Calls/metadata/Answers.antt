@@ -1,7 +1,7 @@
 use Rattle.std.proofs.Common.{refl}
 use Rattle.serde_json.specs.View.{view}
 use Rattle.tile_service.specs.Machine.{got, no_memory, metadata}
-use Rattle.tile_service.proofs.Callers.{metadata_step}
+use Rattle.tile_service.proofs.Runs.Callers.{metadata_step}
 use Rattle.map_replies.specs.Words.{shown_reply, metadata_reply}
 use Rattle.map_replies.proofs.Answering.{called, shown}
 use Rattle.map_replies.proofs.Texts.{metadata_whole}

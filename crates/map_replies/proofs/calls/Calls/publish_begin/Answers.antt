@@ -1,5 +1,5 @@
 use Rattle.tile_service.specs.Machine.{begin}
-use Rattle.tile_service.proofs.Callers.{begin_step}
+use Rattle.tile_service.proofs.Runs.Callers.{begin_step}
 use Rattle.map_replies.specs.Words.{left_reply}
 use Rattle.map_replies.proofs.Answering.{called_first}
 use Rattle.map_replies.proofs.calls.Calls.publish_begin.Goals as goal

@@ -1,5 +1,5 @@
 use Rattle.tile_service.specs.Machine.{cancel}
-use Rattle.tile_service.proofs.Callers.{cancel_step}
+use Rattle.tile_service.proofs.Runs.Callers.{cancel_step}
 use Rattle.map_replies.specs.Words.{cancel_reply}
 use Rattle.map_replies.proofs.Answering.{called_first}
 use Rattle.map_replies.proofs.calls.Calls.publish_cancel.Goals as goal

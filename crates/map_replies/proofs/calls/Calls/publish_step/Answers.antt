@@ -1,5 +1,5 @@
 use Rattle.tile_service.specs.Machine.{step}
-use Rattle.tile_service.proofs.Callers.{step_step}
+use Rattle.tile_service.proofs.Runs.Callers.{step_step}
 use Rattle.map_replies.specs.Words.{left_reply}
 use Rattle.map_replies.proofs.Answering.{changed_first}
 use Rattle.map_replies.proofs.calls.Calls.publish_step.Goals as goal

@@ -1,6 +1,6 @@
 use Rattle.feature_model.specs.Data.{feature_data}
 use Rattle.tile_service.specs.Machine.{single}
-use Rattle.tile_service.proofs.Callers.{edit_step}
+use Rattle.tile_service.proofs.Runs.Callers.{edit_step}
 use Rattle.map_replies.proofs.Answering.{edited}
 use Rattle.map_replies.proofs.calls.Calls.put.Goals as goal
 

@@ -1,6 +1,6 @@
 use Rattle.tile_service.specs.Machine.{check}
 use Rattle.tile_service.specs.Service.{status_of}
-use Rattle.tile_service.proofs.Callers.{check_step}
+use Rattle.tile_service.proofs.Runs.Callers.{check_step}
 use Rattle.map_replies.specs.Words.{status_reply}
 use Rattle.map_replies.proofs.Answering.{changed_first}
 use Rattle.map_replies.proofs.calls.Calls.status.Goals as goal

@@ -1,7 +1,7 @@
 use Rattle.std.proofs.Common.{ap, refl}
 use Rattle.tile_service.specs.Machine.{got, no_memory, tile}
 use Rattle.tile_service.specs.Service.{state_of}
-use Rattle.tile_service.proofs.Callers.{tile_step}
+use Rattle.tile_service.proofs.Runs.Callers.{tile_step}
 use Rattle.map_replies.specs.Words.{shown_reply, content_reply}
 use Rattle.map_replies.proofs.Answering.{called}
 use Rattle.map_replies.proofs.calls.Calls.tile.Goals as goal

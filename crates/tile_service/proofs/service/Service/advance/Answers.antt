@@ -3,8 +3,8 @@ use Rattle.area_content.specs.Content.{sectors_taken}
 use Rattle.tile_service.specs.Inside.{publication_view, service_view}
 use Rattle.tile_service.specs.Service.{ServiceView, PublicationView, IsUp, with_publication}
 use Rattle.tile_service.specs.declared.fault.ServiceFault.TheVariants.{Device}
-use Rattle.tile_service.proofs.Shown.{beside_keeps, install_keeps, beside_area}
-use Rattle.tile_service.proofs.PublishSteps.{up_further, step_leaves, last_step_leaves, up_after_step, up_after_last, step_told, last_step_told}
+use Rattle.tile_service.proofs.Archive.Unchanged.{beside_keeps, install_keeps, beside_area}
+use Rattle.tile_service.proofs.Publications.Steps.{up_further, step_leaves, last_step_leaves, up_after_step, up_after_last, step_told, last_step_told}
 use Rattle.tile_service.proofs.service.Service.advance.Goals as goal
 
 pub returns-in-Err-clause-any_moment : goal.returns-in-Err-clause-any_moment

@@ -1,11 +1,11 @@
 use Rattle.std.proofs.Common.{◌∙◌, Ok, Err, map, refl, sym}
 use Rattle.feature_model.specs.Data.{put, delete, feature_data, change_data}
 use Rattle.tile_service.specs.Machine.{got, no_memory, single, batched, recorded_in, recorded_change, edit, begin, step, cancel, tile, look}
-use Rattle.tile_service.proofs.Callers.{edit_step, tile_step, look_step, begin_step, step_step, cancel_step}
-use Rattle.tile_service.proofs.Counted.{other_answer, memory_told, outcome_counts, edit_risen, left_risen}
-use Rattle.tile_service.proofs.Counted.{begin_no_device, cancel_no_device, look_no_device}
-use Rattle.tile_service.proofs.Runs.{no_known, edit_faults, edit_fails, step_faults, step_fails}
-use Rattle.tile_service.proofs.Tellings.{told_step, put_told, delete_told, batch_told, begin_told, step_told}
+use Rattle.tile_service.proofs.Runs.Callers.{edit_step, tile_step, look_step, begin_step, step_step, cancel_step}
+use Rattle.tile_service.proofs.Runs.DeviceFaults.{other_answer, memory_told, outcome_counts, edit_risen, left_risen}
+use Rattle.tile_service.proofs.Runs.DeviceFaults.{begin_no_device, cancel_no_device, look_no_device}
+use Rattle.tile_service.proofs.Runs.OneEvent.{no_known, edit_faults, edit_fails, step_faults, step_fails}
+use Rattle.tile_service.proofs.Runs.EventAnswers.{told_step, put_told, delete_told, batch_told, begin_told, step_told}
 use Rattle.tile_service.proofs.service.Service.answer.Goals as goal
 
 pub returns-in-Put-clause-takes : goal.returns-in-Put-clause-takes

@@ -1,7 +1,7 @@
 use Rattle.std.proofs.Common.{sym, subst}
 use Rattle.published_tiles.specs.declared.place.ArchivePlace.{ArchivePlace}
 use Rattle.tile_service.specs.Service.{HasArchive}
-use Rattle.tile_service.proofs.Archives.{archive_there}
+use Rattle.tile_service.proofs.Archive.Read.{archive_there}
 use Rattle.tile_service.proofs.service.Service.archive_read.Goals as goal
 
 pub returns-clause-read : goal.returns-clause-read

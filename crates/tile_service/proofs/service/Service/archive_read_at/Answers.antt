@@ -1,5 +1,5 @@
 use Rattle.std.proofs.Common.{◌≡◌, ◌+◌, length, slice_range, OnOk, refl, sym, subst}
-use Rattle.tile_service.proofs.Archives.{shown_is_read, up_unwritten}
+use Rattle.tile_service.proofs.Archive.Read.{shown_is_read, up_unwritten}
 use Rattle.tile_service.proofs.service.Service.archive_read_at.Goals as goal
 use Rattle.tile_service.proofs.service.Service.archive_read_at.Goals.{in-Ok, in-Err}
 

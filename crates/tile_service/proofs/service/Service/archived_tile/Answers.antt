@@ -6,8 +6,8 @@ use Rattle.published_tiles.specs.declared.place.ArchivePlace.{ArchivePlace}
 use Rattle.sector_bytes.specs.Source.{AreItsBytes}
 use Rattle.sector_disk.specs.Disk.{seen}
 use Rattle.tile_service.specs.Service.{archive_of}
-use Rattle.tile_service.proofs.Archives.{archive_of_map, archive_there, up_read}
-use Rattle.tile_service.proofs.Shared.{shared_outcome}
+use Rattle.tile_service.proofs.Archive.Read.{archive_of_map, archive_there, up_read}
+use Rattle.tile_service.proofs.Tiles.SharedRead.{shared_outcome}
 use Rattle.tile_service.proofs.service.Service.archived_tile.Goals as goal
 
 pub returns-clause-tile : goal.returns-clause-tile

@@ -7,9 +7,9 @@ use Rattle.feature_store.specs.Store.{FeatureMap}
 use Rattle.tile_service.specs.Limits.{KeepsBatchLimits}
 use Rattle.tile_service.specs.Machine.{batched, recorded_in, HasTarget}
 use Rattle.tile_service.specs.declared.fault.ServiceFault.TheVariants.{Broken, NeedsUpgrade, NotFound, NumbersSpent}
-use Rattle.tile_service.proofs.Batches.{lacks_from}
-use Rattle.tile_service.proofs.Edits.{refuses_edit}
-use Rattle.tile_service.proofs.Steps.{is_later}
+use Rattle.tile_service.proofs.Edits.BatchLimits.{lacks_from}
+use Rattle.tile_service.proofs.Edits.EditStored.{refuses_edit}
+use Rattle.tile_service.proofs.Edits.Limits.{is_later}
 use Rattle.tile_service.proofs.service.Service.batch.Goals as goal
 
 pub returns-then-self-clause-takes : goal.returns-then-self-clause-takes

@@ -1,5 +1,5 @@
 use Rattle.sector_disk.proofs.History.{any_sync}
-use Rattle.tile_service.proofs.Checks.{sync_leaves_stored, up_synced}
+use Rattle.tile_service.proofs.Disk.Synced.{sync_leaves_stored, up_synced}
 use Rattle.tile_service.proofs.service.Service.check.Goals as goal
 
 pub returns-in-Ok-clause-any_moment : goal.returns-in-Ok-clause-any_moment

@@ -1,5 +1,5 @@
 use Rattle.std.proofs.Common.{ap}
-use Rattle.tile_service.proofs.Fresh.{formatting_leaves, formatted_keeps}
+use Rattle.tile_service.proofs.Disk.Formatted.{formatting_leaves, formatted_keeps}
 use Rattle.tile_service.proofs.service.Service.format.Goals as goal
 
 pub returns-clause-any_moment : goal.returns-clause-any_moment

@@ -4,8 +4,8 @@ use Rattle.edit_journal.specs.declared.journal.Journal.{Journal}
 use Rattle.generations.specs.declared.root.Root.{Root}
 use Rattle.tile_service.specs.Inside.{service_view}
 use Rattle.tile_service.specs.Service.{ServiceView, PublicationView}
-use Rattle.tile_service.proofs.Shown.{root_area}
-use Rattle.tile_service.proofs.PublishSteps.{next_root_is, installing_leaves, up_installed}
+use Rattle.tile_service.proofs.Archive.Unchanged.{root_area}
+use Rattle.tile_service.proofs.Publications.Steps.{next_root_is, installing_leaves, up_installed}
 use Rattle.tile_service.proofs.service.Service.install_now.Goals as goal
 
 pub returns-in-Ok-clause-any_moment : goal.returns-in-Ok-clause-any_moment

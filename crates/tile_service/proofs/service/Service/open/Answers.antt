@@ -1,6 +1,6 @@
 use Rattle.std.proofs.Common.{None, false, refl}
 use Rattle.sector_disk.specs.Disk.{seen}
-use Rattle.tile_service.proofs.Opens.{opens, no_other_fault, read_sound}
+use Rattle.tile_service.proofs.Disk.Opened.{opens, no_other_fault, read_sound}
 use Rattle.tile_service.proofs.service.Service.open.Goals as goal
 
 pub returns-in-Ok-clause-opened : goal.returns-in-Ok-clause-opened

@@ -5,11 +5,11 @@ use Rattle.std.proofs.lemmas.List.Elements.{All-nil}
 use Rattle.tile_service.specs.Runs.{begin_and_steps, IsUnfinished, Takes}
 use Rattle.tile_service.specs.declared.fault.ServiceFault.{ServiceFault}
 use Rattle.tile_service.specs.Service.{state_of, known_after, KeepsArea}
-use Rattle.tile_service.proofs.Callers.{begin_step, step_step, run_begins, run_on, one_step_more, takes_run}
-use Rattle.tile_service.proofs.Runs.{no_known}
-use Rattle.tile_service.proofs.Shown.{keeps_on, area_on}
-use Rattle.tile_service.proofs.Whole.{Stands, begun_stands, on_stands, falls, only_device, device_gives_up, begin_counts, none_seen, begin_given_up}
-use Rattle.tile_service.proofs.Whole.{begin_no_step, left_not_done, refused_not_done, one_more_unfinished}
+use Rattle.tile_service.proofs.Runs.Callers.{begin_step, step_step, run_begins, run_on, one_step_more, takes_run}
+use Rattle.tile_service.proofs.Runs.OneEvent.{no_known}
+use Rattle.tile_service.proofs.Archive.Unchanged.{keeps_on, area_on}
+use Rattle.tile_service.proofs.Publications.WholePublication.{Stands, begun_stands, on_stands, falls, only_device, device_gives_up, begin_counts}
+use Rattle.tile_service.proofs.Publications.WholePublication.{none_seen, begin_given_up, begin_no_step, left_not_done, refused_not_done, one_more_unfinished}
 use Rattle.tile_service.proofs.service.Service.publish.Goals as goal
 
 pub loop-rest-init : goal.loop-rest-init

@@ -3,8 +3,8 @@ use Rattle.std.specs.Prelude.{All}
 use Rattle.tile_service.specs.Runs.{begin_and_steps, IsUnfinished, TakesAll}
 use Rattle.tile_service.specs.declared.fault.ServiceFault.{ServiceFault}
 use Rattle.tile_service.specs.Service.{Known, state_of, KeepsArchive, KeepsArea}
-use Rattle.tile_service.proofs.Callers.{HasRun}
-use Rattle.tile_service.proofs.Whole.{Stands}
+use Rattle.tile_service.proofs.Runs.Callers.{HasRun}
+use Rattle.tile_service.proofs.Publications.WholePublication.{Stands}
 use Rattle.tile_service.proofs.service.Service.publish.Given as goal
 
 abbrev pub invariant-loop-rest : goal.invariant-loop-rest

@@ -5,7 +5,7 @@ use Rattle.feature_store.specs.Store.{IsMap, snapshot}
 use Rattle.tile_service.specs.Machine.{IsPublishable}
 use Rattle.tile_service.specs.Inside.{service_view}
 use Rattle.tile_service.specs.Service.{PublicationView}
-use Rattle.tile_service.proofs.PublishSteps.{up_with, begins_publishing, begins_told}
+use Rattle.tile_service.proofs.Publications.Steps.{up_with, begins_publishing, begins_told}
 use Rattle.tile_service.proofs.service.Service.publish_begin.Goals as goal
 
 pub returns-in-Ok-clause-machine : goal.returns-in-Ok-clause-machine

@@ -1,5 +1,5 @@
 use Rattle.std.specs.Prelude.{None}
-use Rattle.tile_service.proofs.PublishSteps.{up_with}
+use Rattle.tile_service.proofs.Publications.Steps.{up_with}
 use Rattle.tile_service.proofs.service.Service.publish_cancel.Goals as goal
 
 pub returns-clause-up : goal.returns-clause-up

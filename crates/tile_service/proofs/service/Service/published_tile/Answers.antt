@@ -5,8 +5,8 @@ use Rattle.feature_store.specs.Layers.{layers}
 use Rattle.mvt_layer.specs.Tile.{LayerView}
 use Rattle.sector_bytes.specs.Counts.{NeverFalls}
 use Rattle.tile_service.specs.Service.{IsUp}
-use Rattle.tile_service.proofs.Archives.{same_layers}
-use Rattle.tile_service.proofs.Kept.{up_keeps_read}
+use Rattle.tile_service.proofs.Archive.Read.{same_layers}
+use Rattle.tile_service.proofs.Tiles.Cached.{up_keeps_read}
 use Rattle.tile_service.proofs.service.Service.published_tile.Goals as goal
 use Rattle.tile_service.proofs.service.Service.published_tile.Goals.{Joined-content, in-Some, in_default}
 

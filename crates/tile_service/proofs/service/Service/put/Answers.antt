@@ -5,8 +5,8 @@ use Rattle.edit_text.specs.Recorded.{FitsVersion}
 use Rattle.tile_service.specs.Machine.{single, recorded_in, recorded_change}
 use Rattle.tile_service.specs.Runs.{TakesEdit}
 use Rattle.tile_service.specs.declared.fault.ServiceFault.TheVariants.{Broken, NumbersSpent, Memory}
-use Rattle.tile_service.proofs.Edits.{refuses_edit}
-use Rattle.tile_service.proofs.Steps.{put_allowed, one_fits}
+use Rattle.tile_service.proofs.Edits.EditStored.{refuses_edit}
+use Rattle.tile_service.proofs.Edits.Limits.{put_allowed, one_fits}
 use Rattle.tile_service.proofs.service.Service.put.Goals as goal
 
 pub returns-then-self-clause-takes : goal.returns-then-self-clause-takes

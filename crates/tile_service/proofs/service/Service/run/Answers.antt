@@ -11,9 +11,9 @@ use Rattle.sector_disk.specs.Disk.{HasFailed}
 use Rattle.tile_service.specs.Events.{Tells, AreTold}
 use Rattle.tile_service.specs.declared.event.Answer.TheVariants.{Refused}
 use Rattle.tile_service.specs.declared.fault.ServiceFault.TheVariants.{Device}
-use Rattle.tile_service.proofs.Callers.{run_begins, run_on, takes_run, was_before, broken_on}
-use Rattle.tile_service.proofs.Runs.{true_or_false}
-use Rattle.tile_service.proofs.Tellings.{told_no_read, told_on, asks_before, asks_last}
+use Rattle.tile_service.proofs.Runs.Callers.{run_begins, run_on, takes_run, was_before, broken_on}
+use Rattle.tile_service.proofs.Runs.OneEvent.{true_or_false}
+use Rattle.tile_service.proofs.Runs.EventAnswers.{told_no_read, told_on, asks_before, asks_last}
 use Rattle.tile_service.proofs.service.Service.run.Goals as goal
 
 pub loop-event-init : goal.loop-event-init

@@ -8,7 +8,7 @@ use Rattle.tile_service.specs.Events.{AreTold, AsksTile}
 use Rattle.tile_service.specs.Machine.{Happening}
 use Rattle.tile_service.specs.declared.event.Answer.TheVariants.{Refused}
 use Rattle.tile_service.specs.declared.fault.ServiceFault.TheVariants.{Device}
-use Rattle.tile_service.proofs.Callers.{HasRun}
+use Rattle.tile_service.proofs.Runs.Callers.{HasRun}
 use Rattle.tile_service.proofs.service.Service.run.Given as goal
 
 abbrev pub invariant-loop-event : goal.invariant-loop-event

@@ -3,7 +3,7 @@ use Rattle.sector_bytes.specs.Counts.{NeverFalls}
 use Rattle.feature_store.specs.Content.{IsTileContent}
 use Rattle.feature_store.specs.Layers.{layers}
 use Rattle.tile_service.specs.Service.{IsUp}
-use Rattle.tile_service.proofs.Kept.{up_cached, nothing_given}
+use Rattle.tile_service.proofs.Tiles.Cached.{up_cached, nothing_given}
 use Rattle.tile_service.proofs.service.Service.tile.Goals as goal
 
 -- a tile that was cached

@@ -1,4 +1,4 @@
-use Rattle.tile_service.proofs.Upgraded.{upgrade_leaves, upgrade_keeps, upgrade_refused}
+use Rattle.tile_service.proofs.Disk.Upgraded.{upgrade_leaves, upgrade_keeps, upgrade_refused}
 use Rattle.tile_service.proofs.service.Service.upgrade.Goals as goal
 
 pub returns-clause-any_moment : goal.returns-clause-any_moment

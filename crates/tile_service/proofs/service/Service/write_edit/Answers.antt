@@ -10,11 +10,11 @@ use Rattle.tile_cache.specs.Touched.{StaysElsewhere}
 use Rattle.tile_service.specs.Machine.{recorded_in}
 use Rattle.tile_service.specs.Stored.{stored_records}
 use Rattle.tile_service.specs.declared.fault.ServiceFault.TheVariants.{Memory}
-use Rattle.tile_service.proofs.Earlier.{since_on, now_on, right_on}
-use Rattle.tile_service.proofs.Edits.{up_is_at, refuses_edit, append_any_moment, refused_any_moment, up_with_edit}
-use Rattle.tile_service.proofs.Going.{service_on}
-use Rattle.tile_service.proofs.Shown.{append_keeps, append_area}
-use Rattle.tile_service.proofs.Steps.{text_length, short_after_edit, short_enough}
+use Rattle.tile_service.proofs.Tiles.EarlierMaps.{since_on, now_on, right_on}
+use Rattle.tile_service.proofs.Edits.EditStored.{up_is_at, refuses_edit, append_any_moment, refused_any_moment, up_with_edit}
+use Rattle.tile_service.proofs.Edits.ServiceAfter.{service_on}
+use Rattle.tile_service.proofs.Archive.Unchanged.{append_keeps, append_area}
+use Rattle.tile_service.proofs.Edits.Limits.{text_length, short_after_edit, short_enough}
 use Rattle.tile_service.proofs.service.Service.write_edit.Goals as goal
 
 pub returns-in-Err-clause-takes : goal.returns-in-Err-clause-takes

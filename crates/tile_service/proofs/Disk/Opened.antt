@@ -42,10 +42,10 @@ use Rattle.tile_service.specs.Replayed.{AreRecordsFor, IsReplayFault, bytes_of}
 use Rattle.tile_service.specs.Service.{PublicationView, ServiceView, Publishes, IsUp, archive_of}
 use Rattle.tile_service.specs.Stored.{Stored, Holds, Keeps, CanRecord, root_of, record_for, stored_records, map_of, journal_start, journal_ring}
 use Rattle.tile_service.specs.Tiles.{WereMaps}
-use Rattle.tile_service.proofs.Bytes.{one_stands, each_stands}
-use Rattle.tile_service.proofs.Laws.{one_run, all_recorded, version_known, version_most}
-use Rattle.tile_service.proofs.Replays.{made_short}
-use Rattle.tile_service.proofs.Roots.{lives}
+use Rattle.tile_service.proofs.Disk.SectorBytes.{one_stands, each_stands}
+use Rattle.tile_service.proofs.Disk.OneState.{one_run, all_recorded, version_known, version_most}
+use Rattle.tile_service.proofs.Disk.Replayed.{made_short}
+use Rattle.tile_service.proofs.Disk.Roots.{lives}
 
 -- ---- the bytes of texts
 

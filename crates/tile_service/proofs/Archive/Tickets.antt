@@ -12,9 +12,9 @@ use Rattle.tile_service.specs.Service.{ServiceView, KeepsArea, IsPlaceIn, HasArc
 use Rattle.tile_service.specs.Tickets.{IsHeld}
 use Rattle.tile_service.specs.declared.fault.ServiceFault.{ServiceFault}
 use Rattle.tile_service.specs.declared.fault.ServiceFault.TheVariants.{Broken, Device}
-use Rattle.tile_service.proofs.Checks.{any_check, sync_seen}
-use Rattle.tile_service.proofs.Runs.{no_known}
-use Rattle.tile_service.proofs.Shown.{area_on, place_on}
+use Rattle.tile_service.proofs.Disk.Synced.{any_check, sync_seen}
+use Rattle.tile_service.proofs.Runs.OneEvent.{no_known}
+use Rattle.tile_service.proofs.Archive.Unchanged.{area_on, place_on}
 
 -- ---- the generation
 

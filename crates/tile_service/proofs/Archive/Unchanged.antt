@@ -15,7 +15,7 @@ use Rattle.tile_service.specs.Service.{PublicationView, ServiceView, KeepsArchiv
 use Rattle.tile_service.specs.Stored.{journal_ring}
 use Rattle.tile_service.specs.Tiles.{archive_place}
 use Rattle.tile_service.specs.declared.fault.ServiceFault.{ServiceFault}
-use Rattle.tile_service.proofs.Publishes.{no_piece_behind, areas_apart}
+use Rattle.tile_service.proofs.Publications.AfterWrites.{no_piece_behind, areas_apart}
 
 -- a generation's area holds a snapshot and an archive of these lengths
 module _ (n generation snapshot_len archive_len : ℕ) (fits : sectors_of snapshot_len + sectors_of archive_len ≤ area_sectors n) (archive : List ℕ)

@@ -10,8 +10,8 @@ use Rattle.area_content.specs.Content.{ContentView, sector_at}
 use Rattle.area_content.proofs.Laws.{snapshot_sector, archive_sector}
 use Rattle.tile_service.specs.Publishing.{IsContentSector, IsInArea, IsBeside, HasFirst}
 use Rattle.tile_service.specs.Stored.{Stored, Holds, Keeps}
-use Rattle.tile_service.proofs.Contents.{content_sector}
-use Rattle.tile_service.proofs.Publishes.{write_area_keeps, write_area_leaves}
+use Rattle.tile_service.proofs.Publications.AreaContents.{content_sector}
+use Rattle.tile_service.proofs.Publications.AfterWrites.{write_area_keeps, write_area_leaves}
 
 -- a write, reported as done or as failed, takes one moment at most
 pub write_moment : (at : ℕ) (bytes : List ℕ) (old new : History) → FailedWrite at bytes old new → moment new ≤ moment old + 1

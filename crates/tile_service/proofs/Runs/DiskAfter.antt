@@ -18,9 +18,9 @@ use Rattle.tile_service.specs.Service.{PublicationView, left_of, EventLeaves, Is
 use Rattle.tile_service.specs.Stored.{Stored, Holds, Keeps, with_edit}
 use Rattle.tile_service.specs.declared.fault.ServiceFault.{ServiceFault}
 use Rattle.tile_service.specs.declared.fault.ServiceFault.TheVariants.{Device}
-use Rattle.tile_service.proofs.Progress.{Within, IsSince, Has, all_edits_on, progress_on, all_split_at, all_of_more, progress_edits, progress_within}
-use Rattle.tile_service.proofs.Progress.{fits_more, has_start, has_edit, has_published, has_on}
-use Rattle.tile_service.proofs.Runs.{doubtful_or_not, IsQuiet}
+use Rattle.tile_service.proofs.Runs.Progress.{Within, IsSince, Has, all_edits_on, progress_on, all_split_at, all_of_more, progress_edits, progress_within}
+use Rattle.tile_service.proofs.Runs.Progress.{fits_more, has_start, has_edit, has_published, has_on}
+use Rattle.tile_service.proofs.Runs.OneEvent.{doubtful_or_not, IsQuiet}
 
 -- ---- an event in doubt
 

@@ -13,7 +13,7 @@ use Rattle.tile_service.specs.Runs.{edits_by, IsDoubtful, acknowledged, all_edit
 use Rattle.tile_service.specs.Service.{PublicationView, going_of, count_at, stored_after}
 use Rattle.tile_service.specs.Stored.{Stored, last_of, with_edit}
 use Rattle.tile_service.specs.declared.fault.ServiceFault.TheVariants.{Broken, Device}
-use Rattle.tile_service.proofs.Publications.{published_fits, place_behind}
+use Rattle.tile_service.proofs.Publications.DuringEdits.{published_fits, place_behind}
 
 -- ---- one happening more
 

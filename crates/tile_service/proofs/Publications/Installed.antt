@@ -32,8 +32,8 @@ use Rattle.tile_service.specs.Stored.{Stored, Holds, HasBytes, HasEarlierRoot, K
 use Rattle.tile_service.specs.Stored.{map_of, last_of, root_of, CanRecord, record_for, stored_records, with_edit, journal_ring, journal_start}
 use Rattle.tile_service.specs.Tiles.{WereMaps}
 use Rattle.area_content.specs.Tiles.{IsArchiveOfMap}
-use Rattle.tile_service.proofs.Appends.{records_with}
-use Rattle.tile_service.proofs.Publishes.{same_ring, live_can}
+use Rattle.tile_service.proofs.Edits.JournalAppend.{records_with}
+use Rattle.tile_service.proofs.Publications.AfterWrites.{same_ring, live_can}
 
 -- ---- the journal from a later start on
 

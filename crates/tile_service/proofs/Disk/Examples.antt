@@ -21,9 +21,9 @@ use Rattle.edit_journal.proofs.Laws.{written_is_part, first_is_head, first_stand
 use Rattle.edit_text.specs.Recorded.{RecordedEdit}
 use Rattle.tile_service.specs.Stored.{Stored, Holds, HoldsAt, HasBytes, HasEarlierRoot, CanRecord}
 use Rattle.tile_service.specs.Stored.{root_of, record_for, stored_records, journal_ring, journal_start}
-use Rattle.tile_service.proofs.Fresh.{first_in, fresh_version_holds, no_bytes, no_text}
-use Rattle.tile_service.proofs.Laws.{one_state}
-use Rattle.tile_service.proofs.Roots.{lives, parities, zeros_no_root}
+use Rattle.tile_service.proofs.Disk.Formatted.{first_in, fresh_version_holds, no_bytes, no_text}
+use Rattle.tile_service.proofs.Disk.OneState.{one_state}
+use Rattle.tile_service.proofs.Disk.Roots.{lives, parities, zeros_no_root}
 
 -- a disk of n sectors that was just formatted in a version
 abbrev pub formatted_image : (disk n : ℕ) → Image

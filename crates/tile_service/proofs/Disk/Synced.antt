@@ -10,8 +10,8 @@ use Rattle.tile_service.specs.Publishing.{map_at}
 use Rattle.tile_service.specs.Service.{PublicationView, ServiceView, Publishes, IsUp, SyncsDisk, count_at}
 use Rattle.tile_service.specs.Stored.{Stored, Holds}
 use Rattle.tile_service.specs.declared.fault.ServiceFault.{ServiceFault}
-use Rattle.tile_service.proofs.Archives.{up_moved}
-use Rattle.tile_service.proofs.AreaWrites.{sync_first, sync_keeps, sync_holds}
+use Rattle.tile_service.proofs.Archive.Read.{up_moved}
+use Rattle.tile_service.proofs.Publications.StepWrites.{sync_first, sync_keeps, sync_holds}
 
 -- a check of the disk synced it, or did nothing
 pub any_check : (result : Result (Unit {0}) ServiceFault) (old new : History) → SyncsDisk result old new → (new ≡ old) ⊎ (new ≡ synced old)

@@ -7,7 +7,7 @@ use Rattle.feature_store.specs.Layers.{layers}
 use Rattle.feature_store.specs.Store.{FeatureMap}
 use Rattle.tile_service.specs.Service.{ServiceView, IsUp}
 use Rattle.tile_service.specs.Stored.{Stored}
-use Rattle.tile_service.proofs.Archives.{up_read}
+use Rattle.tile_service.proofs.Archive.Read.{up_read}
 
 -- the service has this map
 pub record HasMap {D : Type 0} (service : ServiceView D) (map : CachedView) : Type 0 where

@@ -16,7 +16,7 @@ use Rattle.published_tiles.specs.Published.{PublishedView, ArePublished}
 use Rattle.tile_cache.specs.Kept.{CacheView}
 use Rattle.tile_service.specs.Service.{PublicationView, ServiceView, Publishes, IsUp, archive_of, shown_archive, ShowsArchive}
 use Rattle.tile_service.specs.Stored.{Stored, Keeps}
-use Rattle.tile_service.proofs.Bytes.{each_stands}
+use Rattle.tile_service.proofs.Disk.SectorBytes.{each_stands}
 
 -- What is read in the archive's place is of the archive that is stored there.
 pub shown_is_read : (history : History) (place len : ℕ) (archive : List ℕ) → AreItsBytes place len archive (seen history)

@@ -23,14 +23,14 @@ use Rattle.tile_service.specs.Service.{ShowsArchive, KeepsArchive, ReadsFrom, Ev
 use Rattle.tile_service.specs.Stored.{Stored, Holds, Keeps, last_of}
 use Rattle.tile_service.specs.declared.fault.ServiceFault.{ServiceFault}
 use Rattle.tile_service.specs.declared.fault.ServiceFault.TheVariants.{Device}
-use Rattle.tile_service.proofs.Archives.{archive_there, archive_is_shown, shown_is_seen}
-use Rattle.tile_service.proofs.Fits.{RunLeaves, IsHere, doubt_breaks, run_starts, run_goes_on, run_fits, reaches_on, published_within, sized_as}
-use Rattle.tile_service.proofs.Progress.{Within, IsSince, has_start, has_last, progress_on, progress_edits, way_seen, way_after}
-use Rattle.tile_service.proofs.Shown.{keeps_on}
-use Rattle.tile_service.proofs.Whole.{steps_more}
-use Rattle.tile_service.proofs.Runs.{no_known, clash, is_false, doubt_breaks_it, IsQuiet, broken_stays, broken_halts, broken_refuses}
-use Rattle.tile_service.proofs.Runs.{broken_unchecked, after_step, after_edit, after_check, kept_for, edit_version, step_version, check_version}
-use Rattle.tile_service.proofs.Runs.{happens_less, runs_less, runs_on, writes_nothing}
+use Rattle.tile_service.proofs.Archive.Read.{archive_there, archive_is_shown, shown_is_seen}
+use Rattle.tile_service.proofs.Runs.DiskAfter.{RunLeaves, IsHere, doubt_breaks, run_starts, run_goes_on, run_fits, reaches_on, published_within, sized_as}
+use Rattle.tile_service.proofs.Runs.Progress.{Within, IsSince, has_start, has_last, progress_on, progress_edits, way_seen, way_after}
+use Rattle.tile_service.proofs.Archive.Unchanged.{keeps_on}
+use Rattle.tile_service.proofs.Publications.WholePublication.{steps_more}
+use Rattle.tile_service.proofs.Runs.OneEvent.{no_known, clash, is_false, doubt_breaks_it, IsQuiet, broken_stays, broken_halts, broken_refuses}
+use Rattle.tile_service.proofs.Runs.OneEvent.{broken_unchecked, after_step, after_edit, after_check, kept_for, edit_version, step_version, check_version}
+use Rattle.tile_service.proofs.Runs.OneEvent.{happens_less, runs_less, runs_on, writes_nothing}
 
 -- The image that is seen of a disk has the archive that the service continues from.
 pub archive_shown : {D : Type 0} (count : ℕ) (history : History) (stored : Stored) (service : ServiceView D) → IsUp count history stored service

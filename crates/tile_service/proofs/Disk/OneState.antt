@@ -16,10 +16,10 @@ use Rattle.edit_text.proofs.Recorded.{one_recorded}
 use Rattle.feature_store.specs.Store.{snapshot}
 use Rattle.feature_store.proofs.Laws.{snapshot_of_one_map}
 use Rattle.tile_service.specs.Stored.{Stored, Holds, CanRecord, root_of, HasBytes, record_for, stored_records, journal_ring, journal_start}
-pub use Rattle.tile_service.proofs.Appends.{append_leaves}
-use Rattle.tile_service.proofs.Bytes.{one_bytes}
-pub use Rattle.tile_service.proofs.Fresh.{fresh_holds}
-pub use Rattle.tile_service.proofs.Roots.{lives}
+pub use Rattle.tile_service.proofs.Edits.JournalAppend.{append_leaves}
+use Rattle.tile_service.proofs.Disk.SectorBytes.{one_bytes}
+pub use Rattle.tile_service.proofs.Disk.Formatted.{fresh_holds}
+pub use Rattle.tile_service.proofs.Disk.Roots.{lives}
 
 abbrev head : List RecordData → RecordData
 head [] = record_of 0 []

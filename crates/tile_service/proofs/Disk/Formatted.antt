@@ -27,7 +27,7 @@ use Rattle.feature_store.specs.Store.{IsMap, snapshot}
 use Rattle.mvt_layer.specs.Tile.{LayerView}
 use Rattle.tile_service.specs.Stored.{Stored, Holds, Keeps, HoldsAt, HasBytes, first_state, root_of}
 use Rattle.area_content.specs.Tiles.{HasNoTile}
-use Rattle.tile_service.proofs.Roots.{root_or_none}
+use Rattle.tile_service.proofs.Disk.Roots.{root_or_none}
 
 empty_map : IsMap []
 unfolding IsStrictlySortedBy snapshot

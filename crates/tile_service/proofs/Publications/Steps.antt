@@ -39,10 +39,10 @@ use Rattle.tile_service.specs.Tiles.{WereMaps}
 use Rattle.tile_service.specs.declared.fault.ServiceFault.{ServiceFault}
 use Rattle.tile_service.specs.declared.fault.ServiceFault.TheVariants.{Device}
 use Rattle.tile_service.specs.declared.publishing.TheConstants.{STEP_SECTORS}
-use Rattle.tile_service.proofs.Archives.{up_moved}
-use Rattle.tile_service.proofs.Earlier.{were_published}
-use Rattle.tile_service.proofs.Installed.{all_taken, install_leaves, installed_keeps, up_published}
-use Rattle.tile_service.proofs.Publications.{begins, all_written}
+use Rattle.tile_service.proofs.Archive.Read.{up_moved}
+use Rattle.tile_service.proofs.Tiles.EarlierMaps.{were_published}
+use Rattle.tile_service.proofs.Publications.Installed.{all_taken, install_leaves, installed_keeps, up_published}
+use Rattle.tile_service.proofs.Publications.DuringEdits.{begins, all_written}
 
 -- ---- the content
 

@@ -11,7 +11,7 @@ use Rattle.generations.specs.Areas.{journal_sectors, area_start, sectors_of}
 use Rattle.edit_journal.specs.Appends.{IsFree, ReadsAsBefore}
 use Rattle.tile_service.specs.Publishing.{BeginsWith, IsContentSector, HasFirst, HasArea}
 use Rattle.tile_service.specs.Stored.{journal_ring}
-use Rattle.tile_service.proofs.Publishes.{no_piece_behind}
+use Rattle.tile_service.proofs.Publications.AfterWrites.{no_piece_behind}
 
 -- every sector begins with no bytes
 begins_with_none : (bytes sector : List ℕ) → bytes ≡ [] → BeginsWith bytes sector

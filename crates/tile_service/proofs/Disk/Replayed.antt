@@ -16,7 +16,7 @@ use Rattle.generations.specs.declared.fault.StoreFault.{StoreFault}
 use Rattle.tile_service.specs.After.{made, after}
 use Rattle.tile_service.specs.Replayed.{IsRecordFor, IsRecordFault, AreRecordsFor, AreMade, IsReplayFault, bytes_of}
 use Rattle.tile_service.specs.Stored.{record_for}
-use Rattle.tile_service.proofs.Earlier.{were_one}
+use Rattle.tile_service.proofs.Tiles.EarlierMaps.{were_one}
 
 -- ---- the length of texts
 

@@ -17,9 +17,9 @@ use Rattle.generations.specs.declared.sizes.TheConstants.{LAST_VERSION}
 use Rattle.generations.proofs.Laws.{live_no_fault}
 use Rattle.generations.proofs.Upgrades.{upgraded_live, upgraded_version}
 use Rattle.tile_service.specs.Stored.{Stored, Holds, HoldsAt, Keeps, CanRecord, root_of, stored_records, journal_ring, journal_start, upgraded}
-use Rattle.tile_service.proofs.Laws.{version_known, version_most}
-use Rattle.tile_service.proofs.Publishes.{live_can, same_ring}
-use Rattle.tile_service.proofs.Roots.{lives}
+use Rattle.tile_service.proofs.Disk.OneState.{version_known, version_most}
+use Rattle.tile_service.proofs.Publications.AfterWrites.{live_can, same_ring}
+use Rattle.tile_service.proofs.Disk.Roots.{lives}
 
 module _ (count n : ℕ) (stored : Stored) (before image : Image) (holds : Holds count n stored before) (is : IsUpgraded count before image) where
   format_there : IsFormat count (image 0) n

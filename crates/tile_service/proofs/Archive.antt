@@ -1,0 +1,4 @@
+-- The published archive, as it is read.
+pub mod Read
+pub mod Tickets
+pub mod Unchanged
