@@ -12,8 +12,8 @@ covers_few_tiles-requires c =
 pub returns-then-not-covers_few_tiles : goal.returns-then-not-covers_few_tiles
 returns-then-not-covers_few_tiles c = (
   λ e. absurd (false≢true e),
-  λ all. absurd (false≢true (sym c.if-not-covers_few_tiles.true ∙ c.covers_few_tiles.ensures.1 (passes_there CoversFewTiles c.loop-change.change-index c.args.changes.now
-      c.change-item.result c.loop-change-test.true c.change-item.is all))),
+  λ all. absurd (false≢true (sym c.if-not-covers_few_tiles.true ∙ c.covers_few_tiles.ensures.1 (
+      passes_there CoversFewTiles c.loop-change.change-index c.args.changes.now c.change-item.result c.loop-change-test.true c.change-item.is all))),
 )
 
 pub loop-change-preserved : goal.loop-change-preserved
