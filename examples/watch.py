@@ -26,6 +26,8 @@ SECTOR, DAY = 512, 24 * 3600
 MANY = 20
 # What a first publication takes for each sector of the journal, if nothing is known: a town takes five times, large areas more.
 FIRST = 10
+# If edits have touched this share of the cells, in percent, the next archive may be another than the last one.
+MUCH = 50
 SOON, NOW, UNKNOWN = 1, 2, 3
 LARGER = "move the map to a larger disk (docs/DEPLOYING.md): once it is full, nothing can be published, and when the journal is full too, nothing can be edited"
 IN_FRONT = "the proxy in front of the server answers, but the server doesn't: systemctl status vtserve"
@@ -51,6 +53,8 @@ METRICS = [
     ("area_used_sectors", "gauge", "The sectors of an area that the last publication takes."),
     ("area_next_sectors", "gauge", "The sectors of an area that the next publication may take."),
     ("area_sectors", "gauge", "The sectors of an area."),
+    ("stale_cells", "gauge", "The cells that edits have touched since the last publication began."),
+    ("cells", "gauge", "The cells in which those are counted."),
     ("watch_result", "gauge", "What watch.py ends with: 0 nothing to do, 1 soon, 2 now, 3 unknown."),
 ]
 
@@ -92,6 +96,8 @@ def next_area(status):
 def fullness(status, most):
     """What is full, or will be."""
     journal, area = status["journal"], status["area"]
+    # An older server doesn't tell these.
+    stale, cells = status.get("stale", 0), status.get("cells", 1)
     if status["broken"]:
         yield NOW, ("the disk failed, or its file was removed, replaced or cut (the log says which): edits are refused until the server is started "
                     "again (docs/DEPLOYING.md, After 500 Device)")
@@ -107,6 +113,9 @@ def fullness(status, most):
         yield SOON, "nothing was published yet: whether a publication fits isn't known before the first one. Publish (examples/publish.sh)"
     elif next_area(status) > area["sectors"] > area["used"]:
         yield SOON, f"the next publication may not fit: about {next_area(status):,} sectors, an area has {area['sectors']:,}. Publish now, and {LARGER}"
+    elif area["used"] * 100 >= area["sectors"] * most and stale * 100 >= cells * MUCH:
+        yield SOON, (f"the next publication may not fit: the last one takes {area['used']:,} of the {area['sectors']:,} sectors of an area, and edits "
+                     f"since have touched {stale:,} of {cells:,} cells. Publish now, and {LARGER}")
 
 
 def left(status, url, wait):
@@ -178,6 +187,7 @@ def metrics(path, status, result):
             "area_next_sectors": next_area(status),
             "area_sectors": area["sectors"],
         }
+        values |= {name: status[member] for name, member in [("stale_cells", "stale"), ("cells", "cells")] if member in status}
     replace(path, "".join(
         f"# HELP vtserve_{name} {text}\n# TYPE vtserve_{name} {kind}\nvtserve_{name} {values[name]}\n"
         for name, kind, text in METRICS if name in values

@@ -130,7 +130,7 @@ class Service:
         found = read_disk(Seen(disk))
         self.disk, self.version, self.layout, self.root, self.used = disk, found.version, found.layout, found.root, found.used
         self.publication, self.broken, self.attempted = None, False, []
-        self.snapshot, self.map, self.last, self.cells = found.snapshot, dict(found.snapshot), found.root.edits, {}
+        self.snapshot, self.map, self.last, self.cells, self.boxes = found.snapshot, dict(found.snapshot), found.root.edits, {}, []
         self.kept, self.directories = {}, None
         for record in found.records:
             self.apply(record.changes)
@@ -155,7 +155,7 @@ class Service:
     # ---- edits
 
     def apply(self, changes):
-        """Applies the next edit to the map, and records its number in the cells of each feature that it removes or adds."""
+        """Applies the next edit to the map, and records its number in the cells of each feature that it removes or adds, and beside its box."""
         self.last += 1
         for change in changes:
             before = self.map.pop(change.number, None)
@@ -163,6 +163,7 @@ class Service:
                 self.map[change.number] = change.feature
             for feature in filter(None, (before, change.feature)):
                 self.cells.update({cell: self.last for cell in cells_of_feature(feature)})
+                self.boxes.append((self.last, box_of(feature)))
 
     def edit(self, changes):
         if self.last == LAST_NUMBER:
@@ -320,6 +321,11 @@ class Service:
         """The first number from this one on that has a feature, or None."""
         return min((other for other in self.map if other >= number), default=None)
 
+    def stale(self):
+        """In how many squares, of the 1,024 that the squares of the world share, edits came that aren't in the archive."""
+        self.boxes = [(number, box) for number, box in self.boxes if number > self.root.edits]
+        return len(set().union(*(squares_of(box) for _, box in self.boxes)))
+
     def status(self):
         """What the service tells of itself."""
         layout, root, going = self.layout, self.root, self.publication
@@ -327,6 +333,7 @@ class Service:
             "archive": root.archive_len,
             "area": {"sectors": layout.area, "used": whole_sectors(root.snapshot_len) + whole_sectors(root.archive_len)},
             "broken": self.broken,
+            "cells": SQUARES**2,
             "edits": self.last,
             "features": len(self.map),
             "generation": root.generation,
@@ -335,6 +342,7 @@ class Service:
             "left": going.sectors - going.written + 1 if going else None,
             "published": root.edits,
             "sectors": layout.sectors,
+            "stale": self.stale(),
             "version": self.version,
         }
 
@@ -361,6 +369,21 @@ def cells_of_tile(zoom, x, y):
         return cells_between([0, WORLD_END], [0, WORLD_END])
     spans = [[(4096 * number - 64) << (20 - zoom), ((4096 * number + 4161) << (20 - zoom)) - 1] for number in (x, y)]
     return cells_between(*spans)
+
+
+# ---- squares: the world is 32,768 of them wide and high, and those that are 32 columns or rows apart count as one
+SQUARE, SQUARES = WORLD_END // 32768, 32
+
+
+def box_of(feature):
+    """The least and the greatest coordinate of a feature's points, across and down."""
+    return [(min(numbers), max(numbers)) for numbers in zip(*points_of(feature["geometry"]))]
+
+
+def squares_of(box):
+    """The squares that a box touches, each by the remainders of its column and of its row."""
+    across, down = ({number % SQUARES for number in range(first // SQUARE, last // SQUARE + 1)} for first, last in box)
+    return {(column, row) for column in across for row in down}
 
 
 # ---- tiles in an archive

@@ -1,6 +1,6 @@
 """Blocks of `reply_script.py` about the paths under `/admin/`, which are served where that is asked for."""
 import tiles
-from reply_stand import BEGIN, BODY, CANCEL, PUBLISH, STEP, large_put, put, request, spelled, with_point
+from reply_stand import BEGIN, BODY, CANCEL, PUBLISH, STEP, WORLD, large_put, put, request, spelled, with_point
 
 STATUS = "/admin/status"
 FROM = "/admin/features/from/"
@@ -99,4 +99,37 @@ def broken(script):
     script.ask(BEGIN, *get(STATUS), STEP, *get(STATUS), sizes="4096")
 
 
-BLOCKS = [who_may_ask, listing, statuses, broken]
+def shape(number, kind, *points):
+    """A PUT of a line, or of points."""
+    return put(number, tiles.feature({kind: [list(points)] if kind == "lines" else list(points)}))
+
+
+def touched(script):
+    script.say("In how many of 1,024 cells edits came since the last publication: cells have 131,072 units, and repeat after 32 of them.")
+    cell, status = 131072, get(STATUS)
+    script.disk(4096)
+    script.admin()
+    script.ask(*status, shape(1, "points", [0, 0]), *status, shape(2, "points", [cell - 1, cell - 1]), *status)
+    script.ask(shape(3, "points", [cell, 0]), *status, shape(4, "points", [0, cell]), *status, shape(5, "points", [32 * cell, 32 * cell]), *status)
+    script.note("Points at the world's end, and a refused edit.")
+    script.ask(shape(6, "points", [WORLD, WORLD]), *status, shape(7, "lines", [40 * cell, 40 * cell]), *status)
+    script.ask(PUBLISH, *status)
+    script.note("Boxes that are 31, 32, 33 and 65 cells wide, each after a publication: one of them is counted once.")
+    for width in (31, 32, 33, 65):
+        script.ask(shape(7, "lines", [5 * cell, 9 * cell], [(5 + width) * cell - 1, 9 * cell]), *status, PUBLISH, *status)
+    script.note("A box is counted whole, not only the cells of its line. A feature that moves is counted where it was, and so is one that is deleted.")
+    script.ask(shape(8, "lines", [2 * cell, 2 * cell], [5 * cell, 4 * cell]), *status, PUBLISH, shape(8, "points", [9 * cell, 9 * cell]), *status, PUBLISH)
+    script.ask(request("DELETE", "/features/8"), *status, PUBLISH, *status)
+    script.note("Edits in a publication: those before its beginning count until it is installed, those after it from then on too.")
+    script.ask(shape(9, "lines", [0, 0], [3 * cell, 0]), *status, BEGIN, *status, shape(10, "lines", [0, cell], [cell, cell]), *status)
+    while script.stand.service.publication:
+        script.ask(STEP, *status)
+    script.note("One that is cancelled changes nothing, and neither does opening the disk again.")
+    script.ask(BEGIN, shape(11, "points", [0, 7 * cell]), CANCEL, *status)
+    script.admin()
+    script.ask(*status)
+    script.note("The whole world in one edit, and more edits.")
+    script.ask(shape(12, "lines", [0, 0], [WORLD, WORLD]), *status, put(13), *status, PUBLISH, *status)
+
+
+BLOCKS = [who_may_ask, listing, statuses, touched, broken]

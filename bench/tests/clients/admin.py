@@ -13,8 +13,8 @@ MANY = 200
 
 def status(**changes):
     """The status of a fresh disk of 4,096 sectors, by HTTP.md, with changes."""
-    first = {"archive": 0, "area": {"sectors": 1534, "used": 0}, "broken": False, "edits": 0, "features": 0, "generation": 0,
-             "journal": {"places": 1024, "used": 0}, "last": None, "left": None, "published": 0, "sectors": 4096, "version": 2}
+    first = {"archive": 0, "area": {"sectors": 1534, "used": 0}, "broken": False, "cells": 1024, "edits": 0, "features": 0, "generation": 0,
+             "journal": {"places": 1024, "used": 0}, "last": None, "left": None, "published": 0, "sectors": 4096, "stale": 0, "version": 2}
     return wanted(200, JSON, json.dumps({**first, **changes}, separators=(",", ":")))
 
 
@@ -49,15 +49,16 @@ def statuses(cases, server):
     url = server.url
     same(cases, "status: a fresh disk", curl(url + STATUS), status())
     curl(url + "/features/7", "-X", "PUT", body=feature())
-    one = {"edits": 1, "features": 1, "journal": {"places": 1024, "used": 1}, "last": 7}
+    one = {"edits": 1, "features": 1, "journal": {"places": 1024, "used": 1}, "last": 7, "stale": 1}
     same(cases, "status: an edit", curl(url + STATUS), status(**one))
     curl(url + "/publish/begin", "-X", "POST")
     same(cases, "status: a publication under way", curl(url + STATUS), status(**one, left=3))
     curl(url + "/publish/step", "-X", "POST")
-    done = {**one, "archive": 223, "area": {"sectors": 1534, "used": 2}, "generation": 1, "published": 1, "journal": {"places": 1024, "used": 0}}
+    done = {**one, "archive": 223, "area": {"sectors": 1534, "used": 2}, "generation": 1, "published": 1, "journal": {"places": 1024, "used": 0},
+            "stale": 0}
     same(cases, "status: it is installed", curl(url + STATUS), status(**done))
     curl(url + "/features/7", "-X", "DELETE")
-    empty = {**done, "edits": 2, "features": 0, "journal": {"places": 1024, "used": 1}, "last": None}
+    empty = {**done, "edits": 2, "features": 0, "journal": {"places": 1024, "used": 1}, "last": None, "stale": 1}
     same(cases, "status: nothing is left of the map", curl(url + STATUS), status(**empty))
     same(cases, "status: another method", curl(url + STATUS, "-X", "PUT", body="{}"), refusal(405, "Method", more=[("allow", "GET, HEAD")]))
 

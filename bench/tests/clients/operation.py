@@ -83,6 +83,29 @@ def rooms(cases, folder):
 
 # ---- watching
 
+def touched(cases, folder):
+    """What `watch.py` says of an area that is nearly full, once edits have touched little or much of the map since the last publication."""
+    with Server(folder, "touched", 1024) as server:
+        fill(server, range(1, 91))
+        curl(server.url + "/publish", "-X", "POST")
+        area = status(server)["area"]
+        used = f"{area['used']} of the {area['sectors']} sectors of an area are used"
+
+        def lines():
+            percent = 100 * area["used"] // area["sectors"]
+            return [line.partition(": ") for line in tool("watch.py", server.url, "--at", str(percent))[1]]
+
+        curl(server.url + "/features/1", "-X", "PUT", body=feature("p", 0, 0))
+        cases.show("operation: watch.py, an area that is nearly full", [line[0] for line in lines()], [used])
+        world_wide = {"lines": [[[0, 0], [2 ** 32 - 1, 2 ** 32 - 1]]]}
+        curl(server.url + "/features/2", "-X", "PUT", body=feature("p", 0, 0, world_wide))
+        found = lines()
+        cases.show("operation: watch.py, and edits everywhere", [line[0] for line in found], [used, "the next publication may not fit"])
+        cases.show("operation: watch.py, how much they touched", "edits since have touched 1,024 of 1,024 cells" in found[-1][2], True)
+        curl(server.url + "/publish", "-X", "POST")
+        cases.show("operation: watch.py, once they are published", "the next publication may not fit" in [line[0] for line in lines()], False)
+
+
 def watching(cases, folder):
     """What an operator is told, and a monitor."""
     state, record, metrics = (os.path.join(folder, name) for name in ("state", "record", "metrics"))
@@ -120,7 +143,10 @@ def watching(cases, folder):
         cases.show("operation: watch.py, a full journal", (code, lines[1]), (2, "the journal is full"))
         with open(metrics, encoding="utf-8") as file:
             told = dict(line.split() for line in file if not line.startswith("#"))
-        wanted = {"up": "1", "journal_used_sectors": "256", "journal_sectors": "256", "features": "180", "watch_result": "2"}
+        # All points are in the first row of cells: those of `fill`, and the one of feature 1.
+        stale = {number * 40000000 % 2 ** 32 // 131072 % 32 for number in [0, 1, *range(201, 291)]}
+        wanted = {"up": "1", "journal_used_sectors": "256", "journal_sectors": "256", "features": "180", "watch_result": "2", "cells": "1024",
+                  "stale_cells": str(len(stale))}
         cases.show("operation: the metrics", {name: told.get("vtserve_" + name) for name in wanted}, wanted)
         nginx = shutil.which("nginx", path=os.environ.get("PATH", "") + ":/usr/sbin")
         if nginx:
@@ -388,6 +414,6 @@ def operation(cases, folder):
     """Each task of an operator."""
     place = os.path.join(folder, "operation")
     os.mkdir(place)
-    for part in (rooms, watching, served_disk, passed_by, written_disks, wholes, stores):
+    for part in (rooms, touched, watching, served_disk, passed_by, written_disks, wholes, stores):
         part(cases, place)
     shutil.rmtree(place)

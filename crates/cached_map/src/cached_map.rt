@@ -9,6 +9,7 @@ ghost use Rattle.feature_store.specs.Content.{IsTileContent};
 ghost use Rattle.feature_store.specs.Layers.{layers};
 ghost use Rattle.feature_store.specs.Store.{FeatureMap, feature_at, with_feature, without_feature, changed, edited, snapshot, puts_in};
 ghost use Rattle.feature_store.specs.declared.limit.TheConstants.{TEXTS_END};
+ghost use Rattle.tile_cache.specs.Cells.{stale_cells};
 ghost use Rattle.tile_cache.specs.Kept.{kept_at, fresh, asked_for, KeepsSame};
 ghost use Rattle.tile_cache.specs.Touched.{Mark, Remembers, StaysElsewhere, IsClear, IsNewest, IsNewestOf};
 ghost use Rattle.tile_cache.specs.declared.cached_tiles.Origin.TheVariants.{Cut, Read};
@@ -155,6 +156,14 @@ impl CachedMap {
         ensures of_cells { IsNewestOf self.now.touched at.z at.x at.y result }
     {
         self.touched.newest(at)
+    }
+
+    /// How many of `tile_cache::LEVEL_CELLS` cells an edit after this number has touched, by the boxes that its features had before and
+    /// have after it. The cells are 1.2 km wide at the equator. Those that are 39 km apart are one.
+    pub fn stale(&self, number: u64) -> u64
+        ensures { result ≡ stale_cells self.now.touched number }
+    {
+        self.touched.stale(number)
     }
 
     /// Reserves memory for each feature that the changes put, so that an edit of them allocates nothing.

@@ -1,5 +1,5 @@
 -- The replies of the service.
-use Rattle.std.specs.Prelude.{ℕ, List, ◌++◌, codes, decimal, Option, Some, None, Result, Ok, Err, if◌then◌else◌}
+use Rattle.std.specs.Prelude.{ℕ, List, ◌++◌, Bool, codes, decimal, Option, Some, None, Result, Ok, Err, if◌then◌else◌}
 use Rattle.hex.specs.Hex.{encode_lower}
 use Rattle.serde_json.specs.Data.{Data}
 use Rattle.serde_json.specs.Written.{compact_text}
@@ -200,9 +200,12 @@ archive_part s =
     codes "{\"archive\":" ++ decimal s.archive_len ++ codes ",\"area\":{" ++ codes "\"sectors\":" ++ decimal s.area_sectors ++ codes ",\"used\":"
     ++ decimal s.area_used
 
--- whether the service is broken
+unfoldable pub truth_text : Bool → List ℕ
+truth_text truth = if truth then codes "true" else codes "false"
+
+-- whether the service is broken, and in how many cells the area that edits touch is counted
 unfoldable pub broken_part : Status → List ℕ
-broken_part s = codes "},\"broken\":" ++ (if s.broken then codes "true" else codes "false")
+broken_part s = codes "},\"broken\":" ++ truth_text s.broken ++ codes ",\"cells\":" ++ decimal s.cells
 
 -- the number of the last edit, how many features there are, and the generation
 unfoldable pub map_part : Status → List ℕ
@@ -222,9 +225,10 @@ unfoldable pub published_part : Status → List ℕ
 published_part s =
     codes "},\"last\":" ++ optional_text s.last ++ codes ",\"left\":" ++ optional_text s.left ++ codes ",\"published\":" ++ decimal s.published
 
--- the sectors of the disk, and the version of its format
+-- the sectors of the disk, in how many cells edits came since the last publication, and the version of the disk's format
 unfoldable pub disk_part : Status → List ℕ
-disk_part s = codes ",\"sectors\":" ++ decimal s.sectors ++ codes ",\"version\":" ++ decimal s.version
+disk_part s =
+    codes ",\"sectors\":" ++ decimal s.sectors ++ codes ",\"stale\":" ++ decimal s.stale ++ codes ",\"version\":" ++ decimal s.version
 
 unfoldable pub status_body : Status → List ℕ
 status_body s = archive_part s ++ broken_part s ++ map_part s ++ journal_part s ++ published_part s ++ disk_part s ++ codes "}"

@@ -1,7 +1,7 @@
 //! The status of the service, in JSON.
 ghost use Rattle.std.specs.Prelude.{◌≡◌, ◌≤◌, ◌+◌, ◌++◌, [], vec_len, vec_capacity, IfOk};
 ghost use Rattle.http_serve.specs.Reply.{reply_view, IsWhole};
-ghost use Rattle.map_replies.specs.Words.{archive_part, broken_part, map_part, journal_part, optional_text, published_part, disk_part};
+ghost use Rattle.map_replies.specs.Words.{archive_part, truth_text, broken_part, map_part, journal_part, optional_text, published_part, disk_part};
 ghost use Rattle.map_replies.specs.Words.{status_body, status_reply};
 ghost use Rattle.map_replies.specs.declared.telling.TheConstants.{MAX_PART, MAX_STATUS};
 
@@ -34,7 +34,22 @@ fn push_archive_part(out: &mut Vec<u8>, status: Status)
     push_number(out, status.area_used);
 }
 
-/// Adds whether the service is broken.
+/// Adds a truth value.
+#[tactic(auto, unfolding(crate::specs::Words::truth_text))]
+fn push_truth(out: &mut Vec<u8>, truth: bool)
+    requires room { vec_len out.old + MAX_DIGITS ≤ vec_capacity out.old }
+    ensures items { out.new.items ≡ out.old.items ++ truth_text truth }
+    ensures len { vec_len out.new ≤ vec_len out.old + MAX_DIGITS }
+    ensures capacity { vec_capacity out.old ≤ vec_capacity out.new }
+{
+    if truth {
+        push_text(out, b"true");
+    } else {
+        push_text(out, b"false");
+    }
+}
+
+/// Adds whether the service is broken, and in how many cells edits are counted.
 #[tactic(auto, unfolding(crate::specs::Words::broken_part))]
 fn push_broken_part(out: &mut Vec<u8>, status: Status)
     requires room { vec_len out.old + MAX_PART ≤ vec_capacity out.old }
@@ -43,11 +58,9 @@ fn push_broken_part(out: &mut Vec<u8>, status: Status)
     ensures capacity { vec_capacity out.old ≤ vec_capacity out.new }
 {
     push_text(out, b"},\"broken\":");
-    if status.broken {
-        push_text(out, b"true");
-    } else {
-        push_text(out, b"false");
-    }
+    push_truth(out, status.broken);
+    push_text(out, b",\"cells\":");
+    push_number(out, status.cells);
 }
 
 /// Adds how many edits, features and publications there are.
@@ -110,7 +123,7 @@ fn push_published_part(out: &mut Vec<u8>, status: Status)
     push_number(out, status.published);
 }
 
-/// Adds the size of the disk, and the version of its format.
+/// Adds the size of the disk, in how many cells edits came since the last publication, and the version of the disk's format.
 #[tactic(auto, unfolding(crate::specs::Words::disk_part))]
 fn push_disk_part(out: &mut Vec<u8>, status: Status)
     requires room { vec_len out.old + MAX_PART ≤ vec_capacity out.old }
@@ -120,6 +133,8 @@ fn push_disk_part(out: &mut Vec<u8>, status: Status)
 {
     push_text(out, b",\"sectors\":");
     push_number(out, status.sectors);
+    push_text(out, b",\"stale\":");
+    push_number(out, status.stale);
     push_text(out, b",\"version\":");
     push_number(out, status.version as u64);
 }

@@ -1,7 +1,7 @@
 -- The number of each limit.
 use Rattle.std.proofs.Common.{◌≡◌, ◌∷◌, [], refl}
 use Rattle.tile_cache.specs.declared.cached_tiles.TheConstants.{MAX_CACHED_TILES, MAX_CACHED_BYTES, MAX_TILE_BYTES}
-use Rattle.tile_cache.specs.declared.touch_grid.TheConstants.{SIDE, LEVEL_CELLS, LEVELS, CELLS, CELL_BITS}
+use Rattle.tile_cache.specs.declared.touch_grid.TheConstants.{SIDE, LEVEL_CELLS, LEVELS, CELLS, FINEST, CELL_BITS}
 
 pub max_cached_tiles_is : MAX_CACHED_TILES ≡ 256
 max_cached_tiles_is = refl
@@ -23,6 +23,9 @@ levels_is = refl
 
 pub cells_is : CELLS ≡ 3072
 cells_is = refl
+
+pub finest_is : FINEST ≡ 2048
+finest_is = refl
 
 pub cell_bits_is : CELL_BITS ≡ 27 ∷ 22 ∷ 17 ∷ []
 cell_bits_is = refl

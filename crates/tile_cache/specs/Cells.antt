@@ -1,7 +1,7 @@
 -- The cells of each level: 32 in a row, and 32 rows of them.
-use Rattle.std.specs.Prelude.{◌≡◌, ℕ, ◌+◌, ◌*◌, ◌/◌, ◌%◌, ◌^◌, ◌<◌, ◌≤◌, ◌⊎◌, List, length, slice_index}
+use Rattle.std.specs.Prelude.{◌≡◌, ℕ, ◌+◌, ◌*◌, ◌/◌, ◌%◌, ◌^◌, ◌<◌, ◌≤◌, ◌⊎◌, List, length, slice_index, slice_range, count_by, nat_lt}
 use Rattle.feature_model.specs.declared.feature.WorldBox.{WorldBox}
-use Rattle.tile_cache.specs.declared.touch_grid.TheConstants.{SIDE, LEVEL_CELLS, LEVELS, CELL_BITS}
+use Rattle.tile_cache.specs.declared.touch_grid.TheConstants.{SIDE, LEVEL_CELLS, LEVELS, CELLS, FINEST, CELL_BITS}
 use Rattle.tile_cache.specs.declared.touch_grid.Cells.{Cells}
 
 -- the place of the number of a cell, by its level, its column and its row: cells SIDE columns or rows apart share one
@@ -84,6 +84,10 @@ pub record IsLookedAt (level : ℕ) (b : WorldBox) : Type 0 where
 pub record IsNewestIn (cells : List ℕ) (b : WorldBox) (n : ℕ) : Type 0 where
   pub least : (level m : ℕ) → IsLookedAt level b → IsGreatestIn cells level (cells_of level b) m → n ≤ m
   pub found : (level : ℕ) × IsLookedAt level b × IsGreatestIn cells level (cells_of level b) n
+
+-- how many numbers of the finest level are above this one: how many of its cells an edit after this one has touched
+abbrev pub stale_cells : List ℕ → (number : ℕ) → ℕ
+stale_cells cells number = count_by (nat_lt number) (slice_range cells FINEST CELLS)
 
 -- a box has the whole of another
 pub record HasWhole (outer inner : WorldBox) : Type 0 where

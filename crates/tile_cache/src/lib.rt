@@ -9,4 +9,4 @@ mod touch_grid;
 pub use cached_tiles::{
     CachedTile, MAX_CACHED_BYTES, MAX_CACHED_TILES, MAX_TILE_BYTES, Origin, TileCache, TileKey,
 };
-pub use touch_grid::TouchGrid;
+pub use touch_grid::{LEVEL_CELLS, TouchGrid};

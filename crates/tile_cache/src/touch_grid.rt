@@ -1,9 +1,9 @@
 //! The newest edit of each cell of the world.
 
-ghost use Rattle.std.specs.Prelude.{◌≡◌, ◌↔◌, ℕ, ◌+◌, ◌<◌, ◌≤◌, ◌^◌, ◌∷◌, [], List, length, min, IsTrue};
+ghost use Rattle.std.specs.Prelude.{◌≡◌, ◌↔◌, ℕ, ◌+◌, ◌<◌, ◌≤◌, ◌^◌, ◌∷◌, [], List, count_by, length, min, nat_lt, IsTrue};
 ghost use Rattle.tile_cache.specs.Cells.{cell_at, cell_of, cells_of, place_in, IsNear, IsNarrow, HasCell, RisesTo, StaysBut, IsInRow, IsOfCells, IsOfBox};
 ghost use Rattle.tile_cache.specs.Cells.{IsZeroOrOneOf};
-ghost use Rattle.tile_cache.specs.Cells.{IsGreatestIn, IsNewestIn};
+ghost use Rattle.tile_cache.specs.Cells.{IsGreatestIn, IsNewestIn, stale_cells};
 ghost use Rattle.tile_cache.specs.Touched.{Mark, Remembers, StaysElsewhere, IsNewest, IsNewestOf, shown_box};
 
 use feature_model::{MAX_ZOOM, WorldBox};
@@ -15,13 +15,16 @@ use tile_cutter::tile_box;
 const SIDE: usize = 32;
 
 /// The number of cells of a level.
-const LEVEL_CELLS: usize = SIDE * SIDE;
+pub const LEVEL_CELLS: usize = SIDE * SIDE;
 
 /// The number of levels.
 const LEVELS: usize = 3;
 
 /// The number of cells.
 const CELLS: usize = LEVELS * LEVEL_CELLS;
+
+/// The index of the first cell of the finest level.
+const FINEST: usize = CELLS - LEVEL_CELLS;
 
 /// The bits of a coordinate within a cell, by level. The first level is as wide as the world. Each further one is as wide as a cell of
 /// the one before, and is repeated over the world: cells that are `SIDE` columns or rows apart share one number.
@@ -190,6 +193,13 @@ fn newest_of(cells: &[u64], bounds: &WorldBox) -> u64
     newest
 }
 
+/// How many of these numbers are above this one.
+fn count_above(numbers: &[u64], number: u64) -> usize
+    ensures { result ≡ count_by (nat_lt number) numbers.now }
+{
+    numbers.iter().filter(|other| **other > number).count()
+}
+
 /// The box that a tile shows: the world, if no tile of the zoom shows anything.
 fn shown_by(at: TileAt) -> WorldBox
     ensures { result ≡ shown_box at.z at.x at.y }
@@ -233,5 +243,13 @@ impl TouchGrid {
         ensures of_cells { IsNewestOf self.now at.z at.x at.y result }
     {
         newest_of(&self.cells, &shown_by(at))
+    }
+
+    /// How many cells of the finest level an edit after this number has touched, from 0 to `LEVEL_CELLS`. Cells that share a number are
+    /// one.
+    pub fn stale(&self, number: u64) -> u64
+        ensures { result ≡ stale_cells self.now number }
+    {
+        count_above(&self.cells[FINEST..], number) as u64
     }
 }

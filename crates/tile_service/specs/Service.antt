@@ -24,7 +24,9 @@ use Rattle.feature_store.specs.Store.{FeatureMap, greatest_id, snapshot}
 use Rattle.pm_archive.specs.declared.fault.ArchiveFault.{ArchiveFault}
 use Rattle.pm_archive.specs.declared.fault.ArchiveFault.TheVariants as archives
 use Rattle.published_tiles.specs.Published.{PublishedView, ArePublished}
+use Rattle.tile_cache.specs.Cells.{stale_cells}
 use Rattle.tile_cache.specs.Kept.{CacheView}
+use Rattle.tile_cache.specs.declared.touch_grid.TheConstants.{LEVEL_CELLS}
 use Rattle.published_tiles.specs.declared.place.ArchivePlace.{ArchivePlace}
 use Rattle.tile_service.specs.declared.fault.ServiceFault.{ServiceFault}
 use Rattle.tile_service.specs.declared.fault.ServiceFault.TheVariants.{NumbersSpent, Memory, JournalFull, Device}
@@ -160,6 +162,9 @@ status_of service = record {
   journal_used = service.journal.used;
   area_sectors = area_sectors service.size;
   area_used = sectors_of service.snapshot_len + sectors_of service.archive_len;
+  cells = LEVEL_CELLS;
+  -- what edits after the last published one have touched
+  stale = stale_cells service.touched service.journal.edits;
   left = option_map left_of service.publication;
   broken = service.broken;
 }

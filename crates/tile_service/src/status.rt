@@ -1,10 +1,13 @@
 //! What a service tells of itself.
-ghost use Rattle.std.specs.Prelude.{◌≡◌, option_map};
+ghost use Rattle.std.specs.Prelude.{◌≡◌, ◌+◌, option_map};
+ghost use Rattle.generations.specs.Areas.{sectors_of};
+ghost use Rattle.tile_cache.specs.Cells.{stale_cells};
 ghost use Rattle.tile_service.specs.Service.{left_of, status_of};
 
 use crate::service::Service;
 use generations::sectors_for;
 use sector_disk::Sectors;
+use tile_cache::LEVEL_CELLS;
 
 /// What a service tells of itself.
 #[derive(Clone, Copy, Debug, PartialEq, Eq)]
@@ -33,6 +36,10 @@ pub struct Status {
     pub area_sectors: u64,
     /// How many of them the last snapshot and its archive take.
     pub area_used: u64,
+    /// In how many cells the area is counted that edits touch: 1.2 km wide at the equator, and those that are 39 km apart are one.
+    pub cells: u64,
+    /// How many of them an edit after `published` has touched, by the boxes that its features had before and have after it.
+    pub stale: u64,
     /// How much is left of the publication under way: the sectors to write, and one for the root.
     pub left: Option<u64>,
     /// Whether a write or a sync of the disk has failed.
@@ -48,6 +55,20 @@ impl<D: Sectors + Drop> Service<D> {
             Some(publication) => { Some(publication.content.sectors() - publication.written + 1) }
             None => None,
         }
+    }
+
+    /// How many sectors of an area the last snapshot and its archive take.
+    fn area_used(&self) -> u64
+        ensures { result ≡ sectors_of self.now.snapshot_len + sectors_of self.now.archive_len }
+    {
+        sectors_for(self.root.snapshot_len) + sectors_for(self.root.archive_len)
+    }
+
+    /// How many cells an edit after the last published one has touched.
+    fn stale(&self) -> u64
+        ensures { result ≡ stale_cells self.now.touched self.now.journal.edits }
+    {
+        self.map.stale(self.journal.edits)
     }
 
     /// What the service tells of itself, a broken one too. It doesn't allocate, and the disk isn't read.
@@ -66,7 +87,9 @@ impl<D: Sectors + Drop> Service<D> {
             journal_places: self.journal.places,
             journal_used: self.journal.used,
             area_sectors: self.layout.area,
-            area_used: sectors_for(self.root.snapshot_len) + sectors_for(self.root.archive_len),
+            area_used: self.area_used(),
+            cells: LEVEL_CELLS as u64,
+            stale: self.stale(),
             left: self.left(),
             broken: self.broken,
         }
