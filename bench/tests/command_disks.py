@@ -114,6 +114,8 @@ def fails(cases, folder):
     for call, at, number, fault, name in rows:
         cases.show(f"format where {name} fails", failing(call, at, number, make), refusal(fault))
         cases.show("the file is taken away", os.path.exists(path), False)
+        told = fault + b": " + path.encode() + b": Input/output error (os error 5)"
+        cases.show(f"format -v where {name} fails", failing(call, at, number, [*make, "-v"]), refusal(told))
     cases.show("the same command again, where each read would fail", failing("pread64", path, "1+", make), (0, b"formatted 64 sectors\n", b""))
     cases.show("pipe where its first sync fails", failing("fdatasync", path, 1, ["pipe", path], GET), refusal(b"Device"))
     word = b"Device: " + path.encode() + b": Input/output error (os error 5)"

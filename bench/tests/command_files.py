@@ -1,11 +1,11 @@
-"""Cases of `commands.py` about what a file is: opened and locked, lost while it is open, and not a regular one."""
+"""Cases of `commands.py` about what a file is: opened and locked, lost while it is open, not a regular one, and on a file system that is full."""
 import os
 import shutil
 import socket
 import stat
 import subprocess
 
-from command_cases import ARCHIVE, PROGRAM, PUBLISH, asked, content, failing, published, refusal, vtserve
+from command_cases import ARCHIVE, PROGRAM, PUBLISH, asked, content, failing, published, refusal, system, vtserve
 from command_streams import EMPTY, GET, TEXT, TILE, edit, error, put, reply
 
 NO_LOCKS = b"vtserve: the file system has no locks: nothing keeps another process from this disk\n"
@@ -107,3 +107,34 @@ def refuses_unusual_files(cases, folder):
     with open(target, "wb") as file:
         file.write(archive)
     cases.show("verify of a link to an archive", vtserve(["verify", link])[0], 0)
+
+
+def small_file_systems(cases, folder):
+    """What `-v` tells of a file system that is full, of one that isn't written, and of a folder in place of a disk."""
+    small = os.path.join(folder, "small")
+    disk, other = os.path.join(small, "disk"), os.path.join(small, "other")
+    os.mkdir(small)
+
+    def told(word, path, cause):
+        return refusal(word + b": " + path.encode() + b": " + cause)
+
+    cases.show("format -v of a folder", vtserve(["format", small, "--sectors", "64", "-v"]), told(b"File", small, b"File exists (os error 17)"))
+    for words in (["pipe", small], ["upgrade", small], ["export", small, other]):
+        cases.show(f"{words[0]} -v of a folder", vtserve([*words, "-v"]), told(b"File", small, b"invalid input parameter"))
+    try:
+        system("mount", "-t", "tmpfs", "-o", "size=256k", "tmpfs", small)
+    except (OSError, subprocess.CalledProcessError):
+        print("        no tmpfs can be mounted: no file system is full")
+        return
+    try:
+        cases.show("a small disk", vtserve(["format", disk, "--sectors", "64", "-v"]), (0, b"formatted 64 sectors\n", b""))
+        full = told(b"Device", other, b"No space left on device (os error 28)")
+        cases.show("format -v on a file system that is full", vtserve(["format", other, "--sectors", "4096", "-v"]), full)
+        cases.show("it leaves no file", os.path.exists(other), False)
+        system("mount", "-o", "remount,ro", small)
+        cause = b"Read-only file system (os error 30)"
+        cases.show("format -v on one that isn't written", vtserve(["format", other, "--sectors", "64", "-v"]), told(b"File", other, cause))
+        for words in (["pipe", disk], ["upgrade", disk]):
+            cases.show(f"{words[0]} -v on one that isn't written", vtserve([*words, "-v"]), told(b"File", disk, cause))
+    finally:
+        system("umount", "-l", small)

@@ -15,7 +15,7 @@ import tempfile
 from command_cases import Cases, published
 from command_disks import after_a_failed_sync, closed_streams, fails, formats, keeps, refuses, runs_out, stopped_formats
 from command_exports import damaged_exports, exports, stopped_exports
-from command_files import loses, opens, refuses_unusual_files
+from command_files import loses, opens, refuses_unusual_files, small_file_systems
 from command_ports import serves, slow_peers
 from command_upgrades import stopped_upgrades, upgrades
 from command_words import foreign_paths, told_more, words
@@ -45,6 +45,7 @@ def main():
         slow_peers(cases, folder)
         words(cases, folder, disk)
         told_more(cases, folder, published(folder, "told")[0])
+        small_file_systems(cases, folder)
         foreign_paths(cases, folder, disk)
     return 1 if cases.differ else 0
 

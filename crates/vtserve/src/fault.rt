@@ -34,16 +34,15 @@ pub(crate) enum CommandFault {
     Told,
 }
 
-impl From<FileFault> for CommandFault {
-    fn from(fault: FileFault) -> CommandFault {
+impl CommandFault {
+    /// Why no disk was made, of which a call's error was noted here.
+    pub(crate) fn of_format(fault: FileFault, cause: &Cell<Cause>) -> CommandFault {
         match fault {
             FileFault::File(error) => CommandFault::File(Some(error)),
-            FileFault::Store(fault) => CommandFault::Store(fault),
+            FileFault::Store(fault) => CommandFault::of_disk(fault, cause),
         }
     }
-}
 
-impl CommandFault {
     /// The fault of a disk, whose file noted this as a call of it failed.
     pub(crate) fn of_disk(fault: StoreFault, cause: &Cell<Cause>) -> CommandFault {
         match fault {

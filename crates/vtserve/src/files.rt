@@ -3,6 +3,7 @@
 use crate::fault::{Cause, CommandFault};
 use crate::looks::Looks;
 use crate::noted::Noted;
+use crate::noted_files::NotedFiles;
 use crate::place::{Identity, OpenPath, identity_of};
 use crate::regular::open_regular;
 use crate::serving::{Peers, serve};
@@ -20,9 +21,14 @@ use tile_service::Service;
 
 /// Creates a disk file of this many sectors with the empty map, and prints a line.
 pub(crate) fn format_file(rt: &HostRuntime, path: &str, sectors: u64) -> Result<(), CommandFault> {
-    match formatted_file(rt, path, sectors, Zeros) {
+    let cause: Cell<Cause> = Cell::new(None);
+    let files = NotedFiles {
+        files: rt,
+        cause: &cause,
+    };
+    match formatted_file(&files, path, sectors, Zeros) {
         Ok(_) => {}
-        Err(fault) => return Err(CommandFault::from(fault)),
+        Err(fault) => return Err(CommandFault::of_format(fault, &cause)),
     }
     match println!(rt; "formatted {sectors} sectors") {
         Ok(()) => Ok(()),

@@ -10,6 +10,7 @@ mod files;
 mod listening;
 mod looks;
 mod noted;
+mod noted_files;
 mod place;
 mod regular;
 mod serving;

@@ -5,6 +5,13 @@ use sector_disk::{SECTOR_BYTES, SectorFile};
 use std::cell::Cell;
 use std::io;
 
+/// Notes what the system said as a call failed. Returns an error of the same kind.
+pub(crate) fn note(cause: &Cell<Cause>, error: io::Error) -> io::Error {
+    let kind = error.kind();
+    cause.set(Some(error));
+    kind.into()
+}
+
 /// A file that notes what the system said as a call of it failed, for the command that tells of it.
 #[derive(Drop)]
 pub(crate) struct Noted<'a, F> {
@@ -17,11 +24,7 @@ impl<F> Noted<'_, F> {
     fn noted(&self, outcome: io::Result<()>) -> io::Result<()> {
         match outcome {
             Ok(()) => Ok(()),
-            Err(error) => {
-                let kind = error.kind();
-                self.cause.set(Some(error));
-                Err(kind.into())
-            }
+            Err(error) => Err(note(self.cause, error)),
         }
     }
 }
