@@ -223,6 +223,19 @@ def edits(port, waits):
 OTHERS = {"kept": kept_asks, "new": new_ask, "edit": edits}
 
 
+def processor_seconds(server):
+    """The processor time that the server has used."""
+    with open(f"/proc/{server.child.pid}/stat", encoding="ascii") as stat:
+        fields = stat.read().rsplit(")", 1)[1].split()
+    return (int(fields[11]) + int(fields[12])) / os.sysconf("SC_CLK_TCK")
+
+
+def memory_of(server):
+    """The memory that the server takes, as /proc prints it."""
+    with open(f"/proc/{server.child.pid}/status", encoding="ascii") as status:
+        return next(line for line in status if line.startswith("VmRSS")).split(":")[1].strip()
+
+
 def beside(server, others, act):
     """What these others wait while something is done."""
     all_waits = [Waits(name) for name in others]
@@ -342,6 +355,22 @@ def half_requests(count):
     return act
 
 
+def silent(count):
+    """So many peers that have connected and send nothing. A kept connection asks 20,000 times beside them: its processor time."""
+    def act(server):
+        before = memory_of(server)
+        streams = [connected(server.port) for _ in range(count)]
+        with connected(server.port) as stream:
+            asked(stream, TILE)
+            used, start = processor_seconds(server), time.monotonic()
+            for _ in range(20000):
+                asked(stream, TILE)
+            took, used = time.monotonic() - start, processor_seconds(server) - used
+        closed = len(server.lines())
+        return f"{len(streams)} silent, {closed} closed, memory {before} to {memory_of(server)}; a request: {took * 50:.1f} us, {used * 50:.1f} us of processor"
+    return act
+
+
 async def client(port, until, seen, waits):
     """A client of nginx, which asks again as soon as it has its reply."""
     while time.monotonic() < until:
@@ -441,6 +470,11 @@ ROWS = {
     "next-begun": (("kept", "new"), next_begun, False, ()),
     "download": (("kept", "new", "edit"), slow_download, True, ()),
     "half-200": (("kept",), half_requests(200), False, ()),
+    "half-1000": (("kept", "new"), half_requests(1000), False, ()),
+    "silent-0": ((), silent(0), False, ()),
+    "silent-200": ((), silent(200), False, ()),
+    "silent-10000": (("kept", "new"), silent(10000), False, ()),
+    "nginx-50": ((), through_nginx(50), False, ()),
     "nginx-300": ((), through_nginx(300), False, ()),
     "nginx-700": ((), through_nginx(700), False, ()),
     "nginx-2000": ((), through_nginx(2000), False, ()),

@@ -1,8 +1,11 @@
 -- The limits of connections, as numbers.
 use Rattle.std.proofs.Common.{◌≡◌, refl}
+use Rattle.http_listen.specs.declared.accepting.TheConstants.{QUEUE_MILLISECONDS}
+use Rattle.http_listen.specs.declared.deadlines.TheConstants.{LOOK_NANOSECONDS}
 use Rattle.http_listen.specs.declared.kept.TheConstants.{LAST_WAIT_SECONDS, LEAST_WAIT_SECONDS, MAX_DROPPED, PIECE}
 use Rattle.http_listen.specs.declared.paces.TheConstants.{WAIT_SECONDS, BYTES_A_SECOND}
-use Rattle.http_listen.specs.declared.rooms.TheConstants.{MAX_OUTPUT, MAX_LARGE_OUTPUT, MAX_LARGE, QUEUE_MILLISECONDS, LONG_ANSWER_SECONDS, STOP_SECONDS}
+use Rattle.http_listen.specs.declared.rooms.TheConstants.{MAX_OUTPUT, MAX_LARGE_OUTPUT, MAX_LARGE, MAX_HELD, LONG_ANSWER_SECONDS}
+use Rattle.http_listen.specs.declared.waiting.TheConstants.{STOP_SECONDS, MAX_ACCEPTS}
 use Rattle.http_listen.specs.declared.waits.TheConstants.{MAX_KEPT}
 
 wait_seconds_are : WAIT_SECONDS ≡ 60
@@ -19,6 +22,12 @@ least_wait_seconds_are = refl
 
 queue_milliseconds_are : QUEUE_MILLISECONDS ≡ 10
 queue_milliseconds_are = refl
+
+look_nanoseconds_are : LOOK_NANOSECONDS ≡ 10000
+look_nanoseconds_are = refl
+
+max_accepts_is : MAX_ACCEPTS ≡ 64
+max_accepts_is = refl
 
 long_answer_seconds_are : LONG_ANSWER_SECONDS ≡ 1
 long_answer_seconds_are = refl
@@ -41,5 +50,8 @@ max_large_output_is = refl
 max_large_is : MAX_LARGE ≡ 4
 max_large_is = refl
 
-max_kept_is : MAX_KEPT ≡ 256
+max_held_is : MAX_HELD ≡ 268435456
+max_held_is = refl
+
+max_kept_is : MAX_KEPT ≡ 16384
 max_kept_is = refl

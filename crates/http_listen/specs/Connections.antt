@@ -1,5 +1,5 @@
 -- Connections of which one is served at a time, in stretches.
-use Rattle.std.specs.Prelude.{◌≡◌, ℕ, Bool, List, [], ◌∷◌, length, filter, Option, Result, Ok, Err}
+use Rattle.std.specs.Prelude.{◌≡◌, ℕ, Bool, List, [], ◌∷◌, length, filter, Option, Some, IsSome, Result, Ok, Err, ⊤}
 use Rattle.http_serve.specs.declared.connection.ServeFault.{ServeFault}
 use Rattle.http_serve.specs.declared.connection.Served.{Served}
 use Rattle.http_serve.specs.Requests.{RequestView}
@@ -20,6 +20,11 @@ pub record Stretch : Type 0 where
 abbrev pub begun : List Stretch → ℕ
 begun stretches = length (filter (λ stretch. stretch.first) stretches)
 
+-- what each of these stretches was over is known: the bytes that its requests and the ending are in
+abbrev pub AreOverKnown : List Stretch → Type 0
+AreOverKnown [] = ⊤
+AreOverKnown (stretch ∷ stretches) = IsSome stretch.left × AreOverKnown stretches
+
 -- replies, and those of which the handler's part fails
 module _ {S : Type 0} (replies fails : S → RequestView → ReplyView → S → Type 0) where
   -- what a stretch came to, or what its fault leaves
@@ -32,10 +37,10 @@ module _ {S : Type 0} (replies fails : S → RequestView → ReplyView → S →
   Serves old [] new = new ≡ old
   Serves old (stretch ∷ stretches) new = (middle : S) × CameTo stretch.result old stretch middle × Serves middle stretches new
 
-  -- a stretch with this result, of a connection that it is the first of or isn't, leads from a state to the next
+  -- a stretch over known bytes with this result, of a connection that it is the first of or isn't, leads from a state to the next
   abbrev pub ComesTo : Result Served ServeFault → S → S → Type 0
-  ComesTo result old new = (left : Option (List ℕ)) × (held : Option (List ℕ)) × (leaves : Option (List ℕ)) × (holds : Option (List ℕ))
-      × ((first : Bool) → CameTo result old (record { first = first; result = result; left = left; held = held; leaves = leaves; holds = holds }) new)
+  ComesTo result old new = (input : List ℕ) × (held : Option (List ℕ)) × (leaves : Option (List ℕ)) × (holds : Option (List ℕ))
+      × ((first : Bool) → CameTo result old (record { first = first; result = result; left = Some input; held = held; leaves = leaves; holds = holds }) new)
 
   -- a stretch leads from a state to the next
   abbrev pub NextStretch : S → S → Type 0

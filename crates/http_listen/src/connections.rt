@@ -2,7 +2,7 @@
 ghost use Rattle.std.specs.Prelude.{◌≡◌, ◌<◌, Bool, Result, List, OnOk, OnErr};
 ghost use Rattle.http_serve.specs.declared.connection.ServeFault.{ServeFault};
 ghost use Rattle.http_serve.specs.declared.connection.Served.{Served};
-ghost use Rattle.http_listen.specs.Connections.{Stretch, Serves, ComesTo, NextStretch, begun};
+ghost use Rattle.http_listen.specs.Connections.{Stretch, Serves, ComesTo, NextStretch, AreOverKnown, begun};
 
 use crate::kept::Kept;
 use crate::rooms::{Found, Room, time_of};
@@ -143,19 +143,23 @@ where
 ///
 /// Between two requests a connection holds no buffers. Otherwise it has at most `http_serve::MAX_REQUEST` bytes of input, and replies of
 /// at most 1 MiB, on four connections 32 MiB; a buffer takes at most twice as much as it has. A larger reply is sent at once, up to its
-/// end: for that time its peer is waited for, and all others with it.
+/// end: for that time its peer is waited for, and all others with it. Once all connections hold 256 MiB, so is each reply, and a connection
+/// that has begun a request and sends more of it ends with `memory`.
 ///
-/// At most `MAX_KEPT` connections are open. When so many are, or when one can't be accepted for want of descriptors or memory, room is
-/// made for it: a connection that has ended is closed, or else the one that waits longest for a request is ended and logged as `closed`,
-/// if it has waited for a second and has sent nothing. If there is none, the new one waits in the listener's queue, and is accepted
-/// once it can be.
+/// At most `Waits::max_open` connections are open, and never more than `MAX_KEPT`. When so many are, or when one can't be accepted for
+/// want of descriptors or memory, room is made for it: a connection that has ended is closed, or else the one that waits longest for a
+/// request is ended and logged as `closed`, if it has waited for a second and has sent nothing. If there is none, the new one waits in
+/// the listener's queue, and is accepted once it can be.
 ///
 /// A connection's fault ends that connection alone. An accept that fails for the one that it accepts is tried again, and a call that a
 /// signal interrupts. A line that can't be written is left out.
 ///
+/// A silent connection takes no time of a turn. All are looked at when the time of a peer may be over, at most every 10 µs for each of them.
+///
 /// A peer has 60 seconds to begin a request, as long again to its end, and as long for a reply and a second more for each 16,384 bytes
-/// of it, but never more than 60 seconds at once. The replies to requests that were read together count as one. An answer
-/// that takes a second or longer doesn't count. A slower peer's connection is closed, as when a read or a write fails, or `closed` if it has begun no request.
+/// of it, but never more than 60 seconds at once. The replies to requests that were read together count as one. An answer that takes a
+/// second or longer doesn't count. A slower peer's connection is closed, as when a read or a write fails, or `closed` if it has begun no
+/// request.
 /// What a peer sends after its last reply is dropped for 60 seconds at most, as long as it sends without a pause of two.
 ///
 /// If the listener stops, all connections end, once the replies that wait are sent, or after a second.
@@ -167,7 +171,7 @@ where
 pub fn serve_on<L, H, W, C>(
     clock: &C,
     alloc: Global,
-    listener: &L,
+    listener: &mut L,
     connections: u64,
     handler: &mut H,
     log: &mut W,
@@ -180,6 +184,9 @@ where
     C: Clock,
     ensures all { OnOk result ((served : List Stretch) × Serves H.replies H.fails handler.old served handler.new × (begun served ≡ connections)) }
     ensures fewer { OnErr result ((served : List Stretch) × Serves H.replies H.fails handler.old served handler.new × (begun served < connections)) }
+    // The bytes of each stretch are known, so what was read is: the requests that were answered are its bytes.
+    ensures known { OnOk result ((served : List Stretch) × Serves H.replies H.fails handler.old served handler.new × (begun served ≡ connections) × AreOverKnown served) }
+    ensures fewer_known { OnErr result ((served : List Stretch) × Serves H.replies H.fails handler.old served handler.new × (begun served < connections) × AreOverKnown served) }
 {
     let mut room = Room::new(alloc);
     let mut buffers = Buffers::new(alloc);

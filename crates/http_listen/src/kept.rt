@@ -7,9 +7,11 @@ use crate::inputs::Input;
 use crate::outputs::Output;
 use crate::paced::{is_passing, nanoseconds_of};
 use crate::paces::Pace;
+use crate::places::List;
+use crate::readiness::Readiness;
 use http_serve::{End, MAX_REQUEST, Scanned, ServeFault, Served};
 use std::alloc::Global;
-use std::io::{Read, Write};
+use std::io::{self, ErrorKind, Read, Write};
 use std::time::Duration;
 
 /// How many seconds a peer is waited for that sends nothing after its last reply.
@@ -49,13 +51,15 @@ pub(crate) struct Turn {
     pub(crate) drops: Option<usize>,
     /// When the time that its peer has left was counted.
     pub(crate) since: Duration,
-    /// Whether it may have its turn.
-    pub(crate) ready: bool,
+    /// What its stream may be ready for.
+    pub(crate) ready: Readiness,
+    /// The key by which its stream is watched, if it is, and whether that is so for sending too.
+    pub(crate) watched: Option<(usize, bool)>,
 }
 
 /// A connection and its stream, which is never waited for.
 #[derive(Drop)]
-pub struct Kept<S> {
+pub(crate) struct Kept<S> {
     pub(crate) stream: S,
     pub(crate) turn: Turn,
     pub(crate) input: Input,
@@ -76,7 +80,8 @@ impl<S> Kept<S> {
             last: false,
             drops: None,
             since: now,
-            ready: true,
+            ready: Readiness::new(),
+            watched: None,
         };
         Kept {
             stream,
@@ -87,19 +92,41 @@ impl<S> Kept<S> {
         }
     }
 
-    /// The stream.
-    pub fn stream(&self) -> &S {
-        &self.stream
-    }
-
     /// Whether replies wait to be sent. If none do, it waits for bytes.
-    pub fn sends(&self) -> bool {
+    pub(crate) fn sends(&self) -> bool {
         !self.output.waiting().is_empty()
     }
 
-    /// Says whether the stream is ready for that.
-    pub fn set_ready(&mut self, ready: bool) {
-        self.turn.ready = ready;
+    /// Whether it may have its turn.
+    fn may_turn(&self) -> bool {
+        if self.sends() {
+            self.turn.ready.writes
+        } else {
+            self.turn.ready.reads || self.turn.searches
+        }
+    }
+
+    /// Whether its stream is watched by this key for what it waits for.
+    fn is_watched(&self, key: usize) -> bool {
+        match self.turn.watched {
+            Some((watched, sends)) => watched == key && (sends || !self.sends()),
+            None => false,
+        }
+    }
+
+    /// The list that it is to be in, at this key.
+    pub(crate) fn list(&self, key: usize) -> List {
+        if self.may_turn() {
+            List::Ready
+        } else if !self.is_watched(key) {
+            List::Unwatched
+        } else if self.turn.drops.is_some() {
+            List::Ended
+        } else if self.sends() || self.input.len() > 0 {
+            List::Busy
+        } else {
+            List::Idle
+        }
     }
 
     /// The time that its peer has left.
@@ -108,23 +135,19 @@ impl<S> Kept<S> {
         self.pace.waited(nanoseconds_of(passed))
     }
 
-    /// How long its peer may still be waited for.
-    pub(crate) fn left(&self, now: Duration) -> Duration {
-        let left = Duration::from_nanos(self.pace_at(now).left());
-        if self.turn.drops.is_none() {
-            return left;
+    /// When its peer has no time left, in nanoseconds.
+    pub(crate) fn deadline(&self) -> u64 {
+        let mut left = self.pace.left();
+        if self.turn.drops.is_some() {
+            left = left.min(LAST_WAIT_SECONDS * 1_000_000_000);
         }
-        let passed = now.saturating_sub(self.turn.since);
-        Duration::from_secs(LAST_WAIT_SECONDS)
-            .saturating_sub(passed)
-            .min(left)
+        nanoseconds_of(self.turn.since).saturating_add(left)
     }
 
-    /// Whether it may be closed for another connection: it has waited for a request for a while, and has sent nothing.
+    /// Whether it has waited long enough to be closed for another connection.
     pub(crate) fn may_give_way(&self, now: Duration) -> bool {
-        let idle = self.input.len() == 0 && !self.sends() && self.turn.drops.is_none();
         let passed = now.saturating_sub(self.turn.since);
-        idle && !self.turn.ready && passed >= Duration::from_secs(LEAST_WAIT_SECONDS)
+        passed >= Duration::from_secs(LEAST_WAIT_SECONDS)
     }
 
     /// What it comes to if its peer is waited for no longer.
@@ -171,6 +194,7 @@ impl<S> Kept<S> {
         );
         self.turn.last = !goes_on || (self.turn.ended && end >= self.input.len());
         self.turn.outcome = outcome;
+        self.turn.ready.writes = true;
         self.input.drop_front(end);
         self.turn.since = now;
         if let Err(ServeFault::Write { .. }) = outcome {
@@ -193,6 +217,7 @@ impl<S> Kept<S> {
     /// The connection has ended, and what its peer still sends is dropped.
     pub(crate) fn begin_drop(&mut self, now: Duration) {
         self.turn.drops = Some(MAX_DROPPED);
+        self.turn.searches = false;
         self.output.clear();
         self.input.drop_front(usize::MAX);
         self.pace = Pace::new();
@@ -201,18 +226,30 @@ impl<S> Kept<S> {
 }
 
 impl<S: Read> Kept<S> {
+    /// A read failed: nothing came for now, or none will.
+    fn not_read(&mut self, error: &io::Error) -> Result<bool, ServeFault> {
+        if error.kind() == ErrorKind::WouldBlock {
+            self.turn.ready.reads = false;
+        }
+        if is_passing(error) {
+            return Ok(false);
+        }
+        Err(ServeFault::Read { requests: 0 })
+    }
+
     /// Makes one read. Whether the input is to be searched, since bytes or its end came.
     pub(crate) fn receive(&mut self, now: Duration) -> Result<bool, ServeFault> {
         let mut piece = [0; PIECE];
         let space = MAX_REQUEST.saturating_sub(self.input.len()).min(PIECE);
         match self.stream.read(&mut piece[..space]) {
             Ok(0) => self.turn.ended = true,
-            Ok(count) => match self.input.add(&piece[..count]) {
-                Ok(()) => {}
-                Err(_) => return Err(ServeFault::Memory),
-            },
-            Err(e) if is_passing(&e) => return Ok(false),
-            Err(_) => return Err(ServeFault::Read { requests: 0 }),
+            Ok(count) => {
+                self.turn.ready = self.turn.ready.read(count >= space);
+                if self.input.add(&piece[..count]).is_err() {
+                    return Err(ServeFault::Memory);
+                }
+            }
+            Err(e) => return self.not_read(&e),
         }
         self.pace = self.pace_at(now).received();
         self.turn.since = now;
@@ -224,12 +261,13 @@ impl<S: Read> Kept<S> {
         let mut piece = [0; PIECE];
         match self.stream.read(&mut piece) {
             Ok(count) => {
+                self.turn.ready = self.turn.ready.read(count >= PIECE);
                 self.turn.drops = Some(left.saturating_sub(count));
                 self.pace = self.pace_at(now);
                 self.turn.since = now;
                 count > 0 && left > count && !self.pace.is_over()
             }
-            Err(e) => is_passing(&e),
+            Err(e) => self.not_read(&e).is_ok(),
         }
     }
 }
@@ -242,9 +280,13 @@ impl<S: Write> Kept<S> {
             Ok(count) => {
                 self.pace = self.pace_at(now).sent(count);
                 self.turn.since = now;
+                self.turn.ready.writes = !self.sends();
                 Ok(())
             }
-            Err(e) if is_passing(&e) => Ok(()),
+            Err(e) if is_passing(&e) => {
+                self.turn.ready.writes = e.kind() != ErrorKind::WouldBlock;
+                Ok(())
+            }
             Err(_) => Err(ServeFault::Write { requests: 0 }),
         }
     }

@@ -1,19 +1,26 @@
 //! HTTP/1.1 connections of a listener, which are served by turns.
 #![tactic(auto)]
 
+mod accepting;
 mod connections;
+mod deadlines;
 mod inputs;
 mod kept;
 mod lines;
 mod outputs;
 mod paced;
 mod paces;
+mod places;
+mod readiness;
 mod refusals;
 mod rooms;
+mod system_listener;
+mod waiting;
 mod waits;
 mod writers;
 
 pub use connections::{ListenFault, serve_on};
-pub use kept::Kept;
 pub use lines::write_line;
-pub use waits::{MAX_KEPT, Waits};
+pub use places::Places;
+pub use system_listener::SystemListener;
+pub use waits::{Change, MAX_KEPT, Waits};

@@ -2,19 +2,19 @@
 ghost use Rattle.std.specs.Prelude.{◌≡◌, true};
 ghost use Rattle.http_listen.specs.declared.rooms.Found.TheVariants.{New};
 
+use crate::deadlines::Deadlines;
 use crate::kept::{Kept, with_earlier};
 use crate::lines::write_line;
-use crate::paces::WAIT_SECONDS;
-use crate::refusals::{Refusal, refusal_of};
-use crate::waits::{MAX_KEPT, Waits};
-use http_serve::{End, ServeFault, Served};
+use crate::places::Places;
+use crate::waits::Waits;
+use http_serve::{ServeFault, Served};
 use std::alloc::Global;
-use std::io::{ErrorKind, Read, Write};
+use std::io::{Read, Write};
 use std::net::{OpenStream, Shutdown};
 use std::time::{Clock, Duration};
 
 /// The maximum number of bytes of replies that wait on a connection: 1 MiB.
-const MAX_OUTPUT: usize = 1_048_576;
+pub(crate) const MAX_OUTPUT: usize = 1_048_576;
 
 /// The same on each of `MAX_LARGE` connections: 32 MiB.
 const MAX_LARGE_OUTPUT: usize = 33_554_432;
@@ -22,17 +22,20 @@ const MAX_LARGE_OUTPUT: usize = 33_554_432;
 /// On how many connections more than `MAX_OUTPUT` bytes wait at most.
 const MAX_LARGE: usize = 4;
 
-/// How many milliseconds a new connection is left in the listener's queue while there is no room for it.
-const QUEUE_MILLISECONDS: u64 = 10;
+/// The number of bytes of requests and replies of all connections up to which more are taken: 256 MiB.
+const MAX_HELD: usize = 268_435_456;
 
 /// An answer that takes at least as many seconds takes nothing off the time of other peers.
 const LONG_ANSWER_SECONDS: u64 = 1;
 
-/// For how many seconds replies are still sent after the server is stopped.
-const STOP_SECONDS: u64 = 1;
-
-/// How many accepts and waits in a row may fail for a cause that passes.
+/// How many accepts or waits in a row may fail for a cause that passes.
 const MAX_FAILURES: u64 = 1_000;
+
+/// Counts a failure whose cause passes. Whether there were too many in a row.
+pub(crate) fn fails_too_often(failures: &mut u64) -> bool {
+    *failures = failures.saturating_add(1);
+    *failures > MAX_FAILURES
+}
 
 /// The time of the monotonic clock, or 0 if it can't be read.
 pub(crate) fn time_of<C: Clock>(clock: &C) -> Duration {
@@ -55,30 +58,42 @@ pub(crate) enum Found<S> {
 /// The open connections, and those that have ended, whose peers may still send.
 #[derive(Drop)]
 pub(crate) struct Room<S> {
-    /// Those whose last turn is longest ago come first.
-    kept: Vec<Kept<S>>,
-    /// Whether a connection can be accepted.
-    comes: bool,
-    /// Whether one comes for which there is no room yet.
-    crowded: bool,
-    /// How many accepts and waits in a row have failed for a cause that passes.
-    failures: u64,
+    pub(crate) places: Places<S>,
+    /// How many of those that may have their turn have it before the next wait.
+    pub(crate) round: usize,
+    /// How many connections are accepted at most before the next wait.
+    pub(crate) accepts: usize,
+    /// Whether a connection may have come.
+    pub(crate) comes: bool,
+    /// Until when it stays in the listener's queue, since there was no room for it.
+    pub(crate) crowded: Duration,
+    pub(crate) deadlines: Deadlines,
+    /// How many accepts in a row have failed for a cause that passes, and how many waits.
+    pub(crate) failed_accepts: u64,
+    pub(crate) failed_waits: u64,
     /// The time that was spent on long answers, during which no peer is waited for.
     spent: Duration,
     /// Since when the server stops.
-    stops: Option<Duration>,
+    pub(crate) stops: Option<Duration>,
+    /// Whether a connection may have ended its replies since then.
+    pub(crate) may_stop: bool,
 }
 
 impl<S> Room<S> {
     /// No connection is open.
     pub(crate) fn new(alloc: Global) -> Self {
         Room {
-            kept: Vec::new(alloc),
+            places: Places::new(alloc),
+            round: 0,
+            accepts: 0,
             comes: false,
-            crowded: false,
-            failures: 0,
+            crowded: Duration::ZERO,
+            deadlines: Deadlines::new(),
+            failed_accepts: 0,
+            failed_waits: 0,
             spent: Duration::ZERO,
             stops: None,
+            may_stop: false,
         }
     }
 
@@ -95,76 +110,61 @@ impl<S> Room<S> {
         }
     }
 
+    /// Whether the connections hold so much that no more is taken.
+    fn is_full(&self) -> bool {
+        self.places.held() >= MAX_HELD
+    }
+
     /// How many bytes of replies may wait on the connection that is answered next.
     pub(crate) fn output_limit(&self) -> usize {
-        let large = self
-            .kept
-            .iter()
-            .filter(|kept| kept.output.held() > MAX_OUTPUT);
-        if large.count() < MAX_LARGE {
+        if self.is_full() {
+            0
+        } else if self.places.large() < MAX_LARGE {
             MAX_LARGE_OUTPUT
         } else {
             MAX_OUTPUT
         }
     }
 
-    /// Counts a failure whose cause passes. Whether there were too many in a row.
-    fn fails_too_often(&mut self) -> bool {
-        self.failures = self.failures.saturating_add(1);
-        self.failures > MAX_FAILURES
-    }
-
-    /// Takes the first connection that may have its turn.
-    fn take_ready(&mut self) -> Option<Kept<S>> {
-        let place = self.kept.iter().position(|kept| kept.turn.ready)?;
-        let mut kept = self.kept.remove(place);
-        kept.turn.ready = false;
-        Some(kept)
-    }
-
-    /// How long the connections are waited for at most.
-    fn longest(&self, now: Duration) -> Duration {
-        let mut longest = Duration::from_secs(WAIT_SECONDS);
-        if self.crowded {
-            longest = Duration::from_millis(QUEUE_MILLISECONDS);
-        }
-        if let Some(since) = self.stops {
-            let passed = now.saturating_sub(since);
-            longest = longest.min(Duration::from_secs(STOP_SECONDS).saturating_sub(passed));
-        }
-        for kept in self.kept.iter() {
-            let left = if kept.turn.searches {
-                Duration::ZERO
-            } else {
-                kept.left(now)
-            };
-            longest = longest.min(left);
-        }
-        longest
-    }
-
-    /// A connection whose input may hold a request may have its turn, whatever its stream has.
-    fn mark_searches(&mut self) {
-        for kept in self.kept.iter_mut() {
-            if kept.turn.searches {
-                kept.turn.ready = true;
-            }
-        }
+    /// Takes the next connection out that has its turn in this round.
+    fn take_turn(&mut self) -> Option<Kept<S>> {
+        self.round = self.round.checked_sub(1)?;
+        self.places.take_ready()
     }
 }
 
 impl<S: OpenStream + Drop> Room<S> {
+    /// Keeps a connection up to its next turn. If memory runs out, it is closed. Returns its key.
+    fn put<W: Write>(&mut self, kept: Kept<S>, log: &mut W) -> Option<usize> {
+        self.deadlines.note(kept.deadline());
+        if !kept.sends() {
+            self.may_stop = true;
+        }
+        match self.places.put(kept) {
+            Ok(key) => Some(key),
+            Err(kept) => {
+                if kept.turn.drops.is_none() {
+                    let _ = write_line(
+                        log,
+                        kept.turn.number,
+                        with_earlier(kept.given_up(), kept.turn.requests),
+                    );
+                }
+                None
+            }
+        }
+    }
+
     /// Keeps a connection up to its next turn. If memory runs out, it is closed.
     pub(crate) fn keep<W: Write>(&mut self, kept: Kept<S>, log: &mut W) {
-        if let Err(refused) = self.kept.push(kept) {
-            let kept = refused.value;
-            if kept.turn.drops.is_none() {
-                let _ = write_line(
-                    log,
-                    kept.turn.number,
-                    with_earlier(kept.given_up(), kept.turn.requests),
-                );
-            }
+        self.put(kept, log);
+    }
+
+    /// Keeps a new connection, which has its first turn next.
+    fn keep_first<W: Write>(&mut self, kept: Kept<S>, log: &mut W) {
+        if let Some(key) = self.put(kept, log) {
+            self.places.move_first(key);
+            self.round = self.round.saturating_add(1);
         }
     }
 
@@ -188,41 +188,14 @@ impl<S: OpenStream + Drop> Room<S> {
         }
     }
 
-    /// Ends the connection at a place, whose peer is waited for no longer.
-    fn end_at<W: Write>(&mut self, now: Duration, place: usize, log: &mut W) {
-        if place >= self.kept.len() {
+    /// Ends the connection at a key, whose peer is waited for no longer.
+    pub(crate) fn end_at<W: Write>(&mut self, now: Duration, key: usize, log: &mut W) {
+        let Some(kept) = self.places.take(key) else {
             return;
-        }
-        let kept = self.kept.remove(place);
+        };
         if kept.turn.drops.is_none() {
             let outcome = kept.given_up();
             self.end(now, kept, outcome, log);
-        }
-    }
-
-    /// Ends the connections whose peers have no time left and aren't ready.
-    fn end_late<W: Write>(&mut self, now: Duration, log: &mut W) {
-        for _ in 0..MAX_KEPT {
-            let late = |kept: &Kept<S>| !kept.turn.ready
-                && !kept.turn.searches
-                && kept.left(now).is_zero();
-            match self.kept.iter().position(late) {
-                Some(place) => self.end_at(now, place, log),
-                None => return,
-            }
-        }
-    }
-
-    /// Ends the connections of a server that stops, but for those whose replies are still sent.
-    fn end_stopped<W: Write>(&mut self, now: Duration, log: &mut W) {
-        let since = self.stops.unwrap_or(now);
-        self.stops = Some(since);
-        let over = now.saturating_sub(since) >= Duration::from_secs(STOP_SECONDS);
-        for _ in 0..2 * MAX_KEPT {
-            match self.kept.iter().position(|kept| over || !kept.sends()) {
-                Some(place) => self.end_at(now, place, log),
-                None => return,
-            }
         }
     }
 }
@@ -271,7 +244,7 @@ impl<S: Read + Write + OpenStream + Drop> Room<S> {
         log: &mut W,
     ) {
         match outcome {
-            Ok(_) => self.keep(kept, log),
+            Ok(_) => self.keep_first(kept, log),
             Err(fault) => self.end(kept.turn.since, kept, Err(fault), log),
         }
     }
@@ -297,13 +270,17 @@ impl<S: Read + Write + OpenStream + Drop> Room<S> {
         None
     }
 
-    /// Reads once from a connection.
+    /// Reads once from a connection. If all hold too much, one that has begun a request is ended.
     fn receive<W: Write>(
         &mut self,
         now: Duration,
         mut kept: Kept<S>,
         log: &mut W,
     ) -> Option<(Kept<S>, usize)> {
+        if self.is_full() && kept.input.len() > 0 {
+            self.end(now, kept, Err(ServeFault::Memory), log);
+            return None;
+        }
         match kept.receive(now) {
             Ok(true) => self.search(now, kept, log),
             Ok(false) => {
@@ -340,113 +317,11 @@ impl<S: Read + Write + OpenStream + Drop> Room<S> {
         self.receive(now, kept, log)
     }
 
-    /// Closes a connection for one that comes: one that has ended, or else the one that waits longest for a request, if it has waited
-    /// for a second and has sent nothing. If there is none, the new one stays in the listener's queue for now.
-    fn give_way<L: Waits<Stream = S>, W: Write>(
-        &mut self,
-        now: Duration,
-        listener: &L,
-        log: &mut W,
-    ) {
-        self.crowded = true;
-        if listener
-            .wait(false, &mut self.kept, Duration::ZERO)
-            .is_err()
-        {
-            return;
-        }
-        let ended = self.kept.iter().position(|kept| kept.turn.drops.is_some());
-        let Some(place) = ended.or(self.kept.iter().position(|kept| kept.may_give_way(now))) else {
-            return;
-        };
-        self.end_at(now, place, log);
-        self.crowded = false;
-        self.comes = true;
-    }
-
-    /// What follows if a connection couldn't be accepted.
-    fn refused<L: Waits<Stream = S>, W: Write>(
-        &mut self,
-        now: Duration,
-        listener: &L,
-        refusal: Refusal,
-        log: &mut W,
-    ) -> Found<S> {
-        if refusal == Refusal::Passing && !self.fails_too_often() {
-            return Found::Nothing;
-        }
-        if self.kept.is_empty() {
-            return Found::Over;
-        }
-        if refusal == Refusal::Full {
-            self.give_way(now, listener, log);
-        } else {
-            self.end_at(now, 0, log);
-        }
-        Found::Nothing
-    }
-
-    /// Whether another connection comes just now, while some are open: otherwise one would be accepted in each round of the others.
-    fn another_comes<L: Waits<Stream = S>>(&mut self, listener: &L) -> bool {
-        if self.kept.is_empty() {
-            return false;
-        }
-        listener
-            .wait(true, &mut self.kept[..0], Duration::ZERO)
-            .unwrap_or(false)
-    }
-
-    /// Accepts a connection, if there is room for it.
-    fn accept<L: Waits<Stream = S>, W: Write>(
-        &mut self,
-        now: Duration,
-        listener: &L,
-        log: &mut W,
-    ) -> Found<S> {
-        self.comes = false;
-        if self.kept.len() >= MAX_KEPT {
-            self.give_way(now, listener, log);
-            return Found::Nothing;
-        }
-        match listener.accept() {
-            Ok((stream, _)) => {
-                self.failures = 0;
-                self.comes = self.another_comes(listener);
-                Found::New(stream)
-            }
-            Err(e) => self.refused(now, listener, refusal_of(&e), log),
-        }
-    }
-
-    /// Waits for the connections, and for a new one if one is to be accepted and there may be room for it. A connection whose peer has
-    /// no time left is ended, and the first one if they can't be waited for.
-    fn wait<L: Waits<Stream = S>, W: Write>(
-        &mut self,
-        now: Duration,
-        listener: &L,
-        accepts: bool,
-        log: &mut W,
-    ) {
-        let longest = self.longest(now);
-        let accepts = accepts && !self.crowded;
-        self.crowded = false;
-        match listener.wait(accepts, &mut self.kept, longest) {
-            Ok(comes) => {
-                self.failures = 0;
-                self.comes = comes;
-            }
-            Err(e) if e.kind() == ErrorKind::Interrupted && !self.fails_too_often() => return,
-            Err(_) => return self.end_at(now, 0, log),
-        }
-        self.mark_searches();
-        self.end_late(now, log);
-    }
-
-    /// What is to be done next: what was seen to be ready, or else what comes.
+    /// What is to be done next: the turns of a round, then the connections that come, and then a wait for the next round.
     pub(crate) fn find<L: Waits<Stream = S>, W: Write, C: Clock>(
         &mut self,
         clock: &C,
-        listener: &L,
+        listener: &mut L,
         accepts: bool,
         log: &mut W,
     ) -> Found<S>
@@ -457,19 +332,20 @@ impl<S: Read + Write + OpenStream + Drop> Room<S> {
         if stops {
             self.end_stopped(now, log);
         }
-        if let Some(kept) = self.take_ready() {
+        if let Some(kept) = self.take_turn() {
             return match self.turn(now, kept, log) {
                 Some((kept, end)) => Found::Asks(kept, end),
                 None => Found::Nothing,
             };
         }
-        if accepts && !stops && (self.comes || self.kept.is_empty()) {
+        if accepts && !stops && self.may_accept(now) {
             return self.accept(now, listener, log);
         }
-        if self.kept.is_empty() {
-            return Found::Over;
+        let is_over = self.places.count() == 0 && (stops || !accepts);
+        if !is_over && self.wait(now, listener, accepts && !stops, log) {
+            Found::Nothing
+        } else {
+            Found::Over
         }
-        self.wait(now, listener, accepts && !stops, log);
-        Found::Nothing
     }
 }

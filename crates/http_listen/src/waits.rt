@@ -1,86 +1,52 @@
-//! Listeners that can be waited for together with the streams of connections.
+//! Listeners whose connections can be waited for together.
 
-use crate::kept::Kept;
-use libc::net::{POLLIN, POLLOUT, poll};
-use libc::types::pollfd;
-use std::io::{self, ErrorKind};
-use std::net::{OpenListener, TcpListener};
-use std::os::fd::{AsRawFd, RawFd};
+use crate::places::Places;
+use std::io;
+use std::net::OpenListener;
 use std::time::Duration;
 
 /// The maximum number of open connections.
-pub const MAX_KEPT: usize = 256;
+pub const MAX_KEPT: usize = 16_384;
 
-/// How many times a wait is tried that fails: a signal interrupts one.
-const MAX_TRIES: u64 = 3;
+/// What a stream has become ready for.
+#[derive(Clone, Copy, Debug, PartialEq, Eq)]
+pub struct Change {
+    /// A read returns bytes, the end of the input or a fault.
+    pub reads: bool,
+    /// A write takes bytes or returns a fault.
+    pub writes: bool,
+    /// The peer sends no more than what can be read now.
+    pub ends: bool,
+}
 
-/// A listener that can be waited for together with streams.
+/// A listener that can be waited for together with streams. No call of `accept` waits: it returns `WouldBlock` if no connection is there.
 pub trait Waits: OpenListener {
-    /// Waits until a connection can be accepted, if `accepts` says that one is to be, or until one of the streams can take bytes (if
-    /// `sends` says of its connection that replies wait) or has some (otherwise), but no longer than `longest`. Tells each connection by
-    /// `set_ready` whether that is so: the end of the input and a fault count as bytes. Returns whether a connection can be accepted.
+    /// How many connections may be open at once. More than `MAX_KEPT` never are.
+    fn max_open(&self) -> usize {
+        MAX_KEPT
+    }
+
+    /// Reports from now on when the stream of the connection at this key can be read, and if `sends`, when it takes bytes. What it is
+    /// ready for already is reported too. The stream may be watched before: this takes the place of that. One that is closed is no
+    /// longer watched.
+    ///
+    /// # Errors
+    ///
+    /// It can't be watched.
+    fn watch(&mut self, stream: &Self::Stream, key: usize, sends: bool) -> io::Result<()>;
+
+    /// Waits until a connection comes or a stream that is watched becomes ready, but no longer than `longest`. Reports each change of a
+    /// stream by `Places::report`, and whether a connection has come. A change is reported once: the next one of the stream may be
+    /// reported only after a read or a write has returned `WouldBlock` or has moved fewer bytes than it might, and the next connection
+    /// only after an accept has returned `WouldBlock`.
     ///
     /// # Errors
     ///
     /// They can't be waited for.
-    fn wait(
-        &self,
-        accepts: bool,
-        streams: &mut [Kept<Self::Stream>],
-        longest: Duration,
-    ) -> io::Result<bool>;
+    fn wait(&mut self, longest: Duration, places: &mut Places<Self::Stream>) -> io::Result<bool>;
 
     /// Whether no more requests are to be read: the connections end then, once the replies that wait are sent, or after a second.
     fn stops(&self) -> bool {
         false
-    }
-}
-
-/// The question whether one of these events is there for a descriptor. There is none for one below 0.
-fn question(fd: RawFd, events: i16) -> pollfd {
-    pollfd {
-        fd,
-        events,
-        revents: 0,
-    }
-}
-
-/// Waits for an answer, no longer than this, rounded up to milliseconds.
-fn ask(questions: &mut [pollfd], longest: Duration) -> io::Result<()> {
-    let milliseconds = longest.as_nanos().div_ceil(1_000_000).min(i32::MAX as u128) as i32;
-    for _ in 0..MAX_TRIES {
-        if poll(questions, milliseconds) >= 0 {
-            return Ok(());
-        }
-    }
-    Err(ErrorKind::Interrupted.into())
-}
-
-/// Asks whether a stream can take the replies that wait, or has bytes.
-fn question_of<S: AsRawFd>(kept: &Kept<S>) -> pollfd {
-    let events = if kept.sends() { POLLOUT } else { POLLIN };
-    question(kept.stream().as_raw_fd(), events)
-}
-
-impl Waits for TcpListener {
-    fn wait(
-        &self,
-        accepts: bool,
-        streams: &mut [Kept<Self::Stream>],
-        longest: Duration,
-    ) -> io::Result<bool> {
-        let mut questions = [question(-1, POLLIN); MAX_KEPT + 1];
-        if accepts {
-            questions[0] = question(self.as_raw_fd(), POLLIN);
-        }
-        for (asked, kept) in questions[1..].iter_mut().zip(streams.iter()) {
-            *asked = question_of(kept);
-        }
-        let count = streams.len().min(MAX_KEPT) + 1;
-        ask(&mut questions[..count], longest)?;
-        for (kept, asked) in streams.iter_mut().zip(questions[1..].iter()) {
-            kept.set_ready(asked.revents != 0);
-        }
-        Ok(questions[0].revents != 0)
     }
 }

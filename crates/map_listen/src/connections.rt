@@ -21,7 +21,7 @@ use std::time::Clock;
 pub fn serve_map_on<D, L, W, C>(
     clock: &C,
     alloc: Global,
-    listener: &L,
+    listener: &mut L,
     connections: u64,
     service: &mut MapReplies<D>,
     log: &mut W,

@@ -66,7 +66,7 @@ const COMMANDS: [Row; 9] = [
             Word::Admin,
             Word::Stops,
         ],
-        "Serves the map of a disk file on a port of 127.0.0.1, one request at a time",
+        "Serves the map of a disk file on a port of 127.0.0.1 to many clients by turns",
     ),
     (
         "show",

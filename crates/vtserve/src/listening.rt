@@ -5,12 +5,13 @@ ghost use Rattle.map_replies.specs.State.{asked_service, Tells, TellsCut, course
 ghost use Rattle.tile_service.specs.Machine.{Happening};
 ghost use Rattle.tile_service.specs.Runs.{TakesRun};
 
+use crate::descriptors::max_connections;
 use crate::fault::CommandFault;
 use crate::looks::Looks;
 use crate::watching::Halting;
 use clap::ArgMatches;
 use generations::StoreFault;
-use http_listen::ListenFault;
+use http_listen::{ListenFault, SystemListener};
 use libc::net::listen;
 use map_listen::serve_map_on;
 use map_replies::MapReplies;
@@ -56,7 +57,15 @@ fn tell_port(rt: &HostRuntime, port: u16) -> io::Result<()> {
     rt.stdout().flush()
 }
 
-/// Serves the connections, one request at a time, with their log on standard error. The disk file is watched meanwhile.
+/// Listens on a port of 127.0.0.1.
+fn listen_on(rt: &HostRuntime, port: u16) -> io::Result<SystemListener> {
+    let listener = TcpListener::bind(rt, SocketAddr::from((Ipv4Addr::LOCALHOST, port)))?;
+    // The kit's own is 128. If it can't be set, that remains.
+    let _ = listen(listener.as_raw_fd(), QUEUE);
+    SystemListener::new(rt, rt.alloc(), listener, max_connections())
+}
+
+/// Serves the connections by turns, with their log on standard error. The disk file is watched meanwhile.
 pub(crate) fn serve_connections<D: Sectors + Drop>(
     rt: &HostRuntime,
     asked: Listening,
@@ -68,10 +77,7 @@ pub(crate) fn serve_connections<D: Sectors + Drop>(
         (course service.old []) served (course service.new run)
         × TakesRun D.sectors D.honest D.history (asked_service service.old) run (asked_service service.new)) }
 {
-    let listener = match TcpListener::bind(
-        rt,
-        SocketAddr::from((Ipv4Addr::LOCALHOST, asked.port)),
-    ) {
+    let listener = match listen_on(rt, asked.port) {
         Ok(listener) => listener,
         Err(error) => {
             return Err(CommandFault::Listen {
@@ -80,8 +86,6 @@ pub(crate) fn serve_connections<D: Sectors + Drop>(
             });
         }
     };
-    // The kit's own is 128. If it can't be set, that remains.
-    let _ = listen(listener.as_raw_fd(), QUEUE);
     // Each line of the log is one call of the system.
     let Ok(mut log) = LineWriter::new(rt.alloc(), rt.stderr()) else {
         return Err(CommandFault::Store(StoreFault::Memory));
@@ -90,14 +94,21 @@ pub(crate) fn serve_connections<D: Sectors + Drop>(
         Ok(()) => {}
         Err(error) => return Err(CommandFault::Write(Some(error))),
     }
-    let listener = Halting {
+    let mut listener = Halting {
         listener,
         halts: asked.stops,
         looks,
     };
     looks.begin();
     let connections = u64::from(asked.connections);
-    match serve_map_on(rt, rt.alloc(), &listener, connections, service, &mut log) {
+    match serve_map_on(
+        rt,
+        rt.alloc(),
+        &mut listener,
+        connections,
+        service,
+        &mut log,
+    ) {
         _ if asked.stops && looks.has_failed() => Err(CommandFault::Told),
         Ok(()) => Ok(()),
         Err(ListenFault::Accept) => Err(CommandFault::Listen {

@@ -4,6 +4,7 @@
 mod archives;
 mod commands;
 mod copying;
+mod descriptors;
 mod exporting;
 mod fault;
 mod files;

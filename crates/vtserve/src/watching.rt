@@ -2,7 +2,7 @@
 
 use crate::looks::Looks;
 use crate::place::Place;
-use http_listen::{Kept, Waits};
+use http_listen::{Places, Waits};
 use sector_disk::{SECTOR_BYTES, SectorFile};
 use std::cell::Cell;
 use std::fmt::Display;
@@ -104,13 +104,16 @@ impl<L: OpenListener> OpenListener for Halting<'_, '_, L> {
 }
 
 impl<L: Waits> Waits for Halting<'_, '_, L> {
-    fn wait(
-        &self,
-        accepts: bool,
-        streams: &mut [Kept<L::Stream>],
-        longest: Duration,
-    ) -> io::Result<bool> {
-        self.listener.wait(accepts, streams, longest)
+    fn max_open(&self) -> usize {
+        self.listener.max_open()
+    }
+
+    fn watch(&mut self, stream: &L::Stream, key: usize, sends: bool) -> io::Result<()> {
+        self.listener.watch(stream, key, sends)
+    }
+
+    fn wait(&mut self, longest: Duration, places: &mut Places<L::Stream>) -> io::Result<bool> {
+        self.listener.wait(longest, places)
     }
 
     fn stops(&self) -> bool {

@@ -1,6 +1,6 @@
 //! Connections for which there is no room, and accepts that fail.
-use super::peers_in_time::{Act, Peer, serve_peers, serve_until};
-use http_listen::{ListenFault, MAX_KEPT};
+use super::peers_in_time::{Act, MAX_OPEN, Peer, serve_peers, serve_until};
+use http_listen::ListenFault;
 use std::alloc::{AllocError, Global};
 use std::test::Fail;
 
@@ -113,7 +113,7 @@ fn crowd<'a>(
 ) -> Result<Vec<Peer<'a>>, AllocError> {
     let mut peers = Vec::new(alloc);
     peers.push(one)?;
-    for _ in 0..MAX_KEPT {
+    for _ in 0..MAX_OPEN {
         peers.push(Peer::new(0, acts, wants))?;
     }
     Ok(peers)
@@ -132,9 +132,35 @@ fn so_many_are_open(rt: HostRuntime) -> Result<(), Fail> {
     assert_eq!(rt; (outcome.ended, outcome.answers), (Ok(()), 258));
     assert_eq!(rt;
         outcome.log.starts_with(
-            b"connection 2: 1 requests, closed\nconnection 3: 1 requests, closed\n"
+            b"connection 2: 1 requests, closed\nconnection 1: 2 requests, closed\n"
         ),
         true
     );
+    Ok(())
+}
+
+/// While each of those that are open has begun a request, none is ended for another one, which waits until their time is over.
+#[test]
+fn none_is_ended_that_has_begun(rt: HostRuntime) -> Result<(), Fail> {
+    let begun = [(0, "GET /a HT")];
+    let peers = crowd(rt.alloc(), Peer::new(0, &begun, ""), &begun, "")?;
+    let outcome = serve_peers(rt.alloc(), &peers);
+    let last = b"\nconnection 257: 0 requests, read\n";
+    assert_eq!(rt; outcome.log.ends_with(last), true);
+    assert_eq!(rt; (outcome.time, outcome.answers), (120_010, 0));
+    Ok(())
+}
+
+/// A connection is ended whose stream can't be watched, and no other one.
+#[test]
+fn what_cannot_be_watched_is_ended(rt: HostRuntime) -> Result<(), Fail> {
+    let asks = [(5, ASKS), (6, "")];
+    let mut first = Peer::new(0, &asks, "");
+    first.can_be_watched = false;
+    let peers = [first, Peer::new(0, &asks, A)];
+    let outcome = serve_peers(rt.alloc(), &peers);
+    let lines = "connection 1: 0 requests, closed\nconnection 2: 1 requests, closed\n";
+    assert_eq!(rt; outcome.log.as_slice(), lines.as_bytes());
+    assert_eq!(rt; (peers[1].is_right(), outcome.time), (true, 6));
     Ok(())
 }

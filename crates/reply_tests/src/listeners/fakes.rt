@@ -1,6 +1,6 @@
 //! Streams that say what was asked of them, and listeners, streams and logs that fail.
 use super::Counter;
-use http_listen::{Kept, ListenFault, Waits, serve_on};
+use http_listen::{Change, ListenFault, Places, Waits, serve_on};
 use std::cell::Cell;
 use std::io::{self, ErrorKind, Read, Write};
 use std::net::{Ipv4Addr, OpenListener, OpenStream, Shutdown, SocketAddr};
@@ -129,17 +129,23 @@ impl<'a> OpenListener for Listener<'a> {
     }
 }
 
+/// A stream is ready for everything.
+const READY: Change = Change {
+    reads: true,
+    writes: true,
+    ends: false,
+};
+
 impl Waits for Listener<'_> {
-    fn wait(
-        &self,
-        accepts: bool,
-        streams: &mut [Kept<Self::Stream>],
-        _longest: Duration,
-    ) -> io::Result<bool> {
-        for kept in streams.iter_mut() {
-            kept.set_ready(true);
+    fn watch(&mut self, _stream: &Self::Stream, _key: usize, _sends: bool) -> io::Result<()> {
+        Ok(())
+    }
+
+    fn wait(&mut self, _longest: Duration, places: &mut Places<Self::Stream>) -> io::Result<bool> {
+        for key in 0..4 {
+            places.report(key, READY);
         }
-        Ok(accepts)
+        Ok(true)
     }
 }
 
@@ -176,15 +182,16 @@ fn listener_of(asked: &Cell<Asked>, stubborn: bool) -> Listener<'_> {
 /// What serving these connections returns, and its log.
 fn served(
     rt: &HostRuntime,
-    listener: &Listener<'_>,
+    listener: Listener<'_>,
     connections: u64,
 ) -> (Result<(), ListenFault>, Vec<u8>) {
+    let mut listener = listener;
     let mut log = Vec::new(rt.alloc());
     let mut handler = Counter { before: 0 };
     let ended = serve_on(
         rt,
         rt.alloc(),
-        listener,
+        &mut listener,
         connections,
         &mut handler,
         &mut log,
@@ -201,7 +208,7 @@ const TWO_LINES: &str = "connection 1: 1 requests, asked\nconnection 2: 1 reques
 #[test]
 fn a_peer_that_sends_on_is_read_for_a_while(rt: HostRuntime) -> Result<(), Fail> {
     let asked = Cell::new(accepting(1));
-    let (ended, log) = served(&rt, &listener_of(&asked, false), 1);
+    let (ended, log) = served(&rt, listener_of(&asked, false), 1);
     let want = Asked {
         accepts: 0,
         no_delay: true,
@@ -219,7 +226,7 @@ fn a_peer_that_sends_on_is_read_for_a_while(rt: HostRuntime) -> Result<(), Fail>
 #[test]
 fn a_stubborn_stream_is_served(rt: HostRuntime) -> Result<(), Fail> {
     let asked = Cell::new(accepting(1));
-    let (ended, log) = served(&rt, &listener_of(&asked, true), 1);
+    let (ended, log) = served(&rt, listener_of(&asked, true), 1);
     assert_eq!(rt;
         asked.get(),
         Asked {
@@ -234,7 +241,7 @@ fn a_stubborn_stream_is_served(rt: HostRuntime) -> Result<(), Fail> {
 #[test]
 fn an_accept_that_fails_ends_it(rt: HostRuntime) -> Result<(), Fail> {
     let asked = Cell::new(accepting(2));
-    let (ended, log) = served(&rt, &listener_of(&asked, true), 4);
+    let (ended, log) = served(&rt, listener_of(&asked, true), 4);
     let want = (Err(ListenFault::Accept), TWO_LINES.as_bytes());
     assert_eq!(rt; (ended, log.as_slice()), want);
     Ok(())
@@ -243,9 +250,9 @@ fn an_accept_that_fails_ends_it(rt: HostRuntime) -> Result<(), Fail> {
 #[test]
 fn a_full_log_is_passed_over(rt: HostRuntime) -> Result<(), Fail> {
     let asked = Cell::new(accepting(3));
-    let listener = listener_of(&asked, true);
+    let mut listener = listener_of(&asked, true);
     let mut handler = Counter { before: 0 };
-    serve_on(&rt, rt.alloc(), &listener, 3, &mut handler, &mut Full)?;
+    serve_on(&rt, rt.alloc(), &mut listener, 3, &mut handler, &mut Full)?;
     assert_eq!(rt; handler.before, 3);
     Ok(())
 }

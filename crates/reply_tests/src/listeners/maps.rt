@@ -1,5 +1,5 @@
 //! Peers on this machine that edit one map.
-use http_listen::ListenFault;
+use http_listen::{ListenFault, SystemListener};
 use map_listen::serve_map_on;
 use map_replies::MapReplies;
 use sector_disk::MemoryDisk;
@@ -37,12 +37,13 @@ fn peer(rt: &HostRuntime, listener: &TcpListener, sent: &str) -> io::Result<TcpS
 /// Serves the connections that wait: what came of it.
 fn served(
     rt: &HostRuntime,
-    listener: &TcpListener,
+    listener: TcpListener,
     count: u64,
 ) -> Result<Result<(), ListenFault>, Fail> {
+    let mut listener = SystemListener::new(rt, rt.alloc(), listener, 8)?;
     let mut service = empty(rt.alloc())?;
     let mut log = Vec::new(rt.alloc());
-    Ok(serve_map_on(rt, rt.alloc(), listener, count, &mut service, &mut log))
+    Ok(serve_map_on(rt, rt.alloc(), &mut listener, count, &mut service, &mut log))
 }
 
 #[test]
@@ -51,7 +52,7 @@ fn an_edit_of_one_connection_shows_on_the_next(rt: HostRuntime) -> Result<(), Fa
     let listener = TcpListener::bind(&rt, SocketAddr::from((Ipv4Addr::LOCALHOST, 0)))?;
     let edits = peer(&rt, &listener, PUT)?;
     let mut looks = peer(&rt, &listener, GET)?;
-    let outcome = served(&rt, &listener, 2)?;
+    let outcome = served(&rt, listener, 2)?;
     let mut read = Vec::new(alloc);
     looks.read_to_end(&mut read)?;
     assert_eq!(rt; (outcome, read.as_slice()), (Ok(()), TILE.as_bytes()));

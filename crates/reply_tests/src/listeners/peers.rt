@@ -1,6 +1,6 @@
 //! Peers that connect to a listener on this machine.
 use super::{Counter, GET};
-use http_listen::serve_on;
+use http_listen::{SystemListener, serve_on};
 use http_serve::{ContentFault, Handler, Reply, Request};
 use std::io::{self, Read, Write};
 use std::net::{Ipv4Addr, Shutdown, SocketAddr, TcpListener, TcpStream};
@@ -12,10 +12,15 @@ const SECOND: &str = "HTTP/1.1 200 OK\r\ncontent-length: 1\r\n\r\n1";
 
 const THIRD: &str = "HTTP/1.1 200 OK\r\ncontent-length: 1\r\n\r\n2";
 
-const THIRD_LAST: &str = "HTTP/1.1 200 OK\r\ncontent-length: 1\r\nconnection: close\r\n\r\n2";
+const SECOND_LAST: &str = "HTTP/1.1 200 OK\r\ncontent-length: 1\r\nconnection: close\r\n\r\n1";
 
 fn listen(rt: &HostRuntime) -> io::Result<TcpListener> {
     TcpListener::bind(rt, SocketAddr::from((Ipv4Addr::LOCALHOST, 0)))
+}
+
+/// Has the system watch a listener.
+fn watched(rt: &HostRuntime, listener: TcpListener) -> io::Result<SystemListener> {
+    SystemListener::new(rt, rt.alloc(), listener, 8)
 }
 
 /// A peer that has sent all that it sends.
@@ -34,7 +39,8 @@ fn a_peer_reads_its_replies(rt: HostRuntime) -> Result<(), Fail> {
     let mut first = peer(&rt, &listener, two.as_str())?;
     let mut handler = Counter { before: 0 };
     let mut log = Vec::new(alloc);
-    serve_on(&rt, alloc, &listener, 1, &mut handler, &mut log)?;
+    let mut listener = watched(&rt, listener)?;
+    serve_on(&rt, alloc, &mut listener, 1, &mut handler, &mut log)?;
     let mut read = Vec::new(alloc);
     first.read_to_end(&mut read)?;
     let want = [FIRST, SECOND].concat(alloc)?;
@@ -59,10 +65,11 @@ fn peers_one_after_the_other(rt: HostRuntime) -> Result<(), Fail> {
     let refused = peer(&rt, &listener, "GET / HTTP/1.1\r\n\r\n")?;
     let mut handler = Counter { before: 0 };
     let mut log = Vec::new(alloc);
-    serve_on(&rt, alloc, &listener, 4, &mut handler, &mut log)?;
+    let mut listener = watched(&rt, listener)?;
+    serve_on(&rt, alloc, &mut listener, 4, &mut handler, &mut log)?;
     let mut read = Vec::new(alloc);
     last.read_to_end(&mut read)?;
-    assert_eq!(rt; read.as_slice(), THIRD_LAST.as_bytes());
+    assert_eq!(rt; read.as_slice(), SECOND_LAST.as_bytes());
     // All four are accepted before the second asks again.
     let lines = "connection 1: 0 requests, closed\nconnection 3: 1 requests, asked\n\
         connection 4: 1 requests, refused\nconnection 2: 2 requests, closed\n";
@@ -122,7 +129,8 @@ fn a_kept_connection_is_served_again(rt: HostRuntime) -> Result<(), Fail> {
         peer: kept,
     };
     let mut log = Vec::new(alloc);
-    serve_on(&rt, alloc, &listener, 2, &mut handler, &mut log)?;
+    let mut listener = watched(&rt, listener)?;
+    serve_on(&rt, alloc, &mut listener, 2, &mut handler, &mut log)?;
     let mut read = Vec::new(alloc);
     handler.peer.read_to_end(&mut read)?;
     let want = [FIRST, THIRD].concat(alloc)?;

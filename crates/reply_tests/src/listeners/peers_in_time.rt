@@ -1,11 +1,14 @@
 //! Peers that act at times, over a clock that waits move on.
 use super::Paths;
-use http_listen::{Kept, ListenFault, Waits, serve_on};
+use http_listen::{Change, ListenFault, Places, Waits, serve_on};
 use std::alloc::Global;
 use std::cell::Cell;
 use std::io::{self, ErrorKind, Read, Write};
 use std::net::{Ipv4Addr, OpenListener, OpenStream, Shutdown, SocketAddr};
 use std::time::{Clock, Duration};
+
+/// How many connections may be open.
+pub(super) const MAX_OPEN: usize = 256;
 
 /// A clock in milliseconds.
 #[derive(Clone, Copy)]
@@ -35,6 +38,8 @@ pub(super) struct Peer<'a> {
     /// How many bytes it takes at once, and in each tenth of a second after that.
     pub(super) quick: usize,
     pub(super) rate: usize,
+    /// Whether its stream can be watched.
+    pub(super) can_be_watched: bool,
     /// What it is to get.
     pub(super) wants: &'a str,
     /// How many bytes it has got, when the last one came, and whether one was another one.
@@ -48,6 +53,12 @@ pub(super) struct Peer<'a> {
     pub(super) shut: Cell<bool>,
     /// How many more calls of its stream a signal interrupts.
     pub(super) signals: Cell<u64>,
+    /// The key by which its stream is watched, and whether that is so for sending too.
+    key: Cell<Option<usize>>,
+    sends: Cell<bool>,
+    /// How many acts were reported, and whether it is to be reported when it takes bytes again.
+    reported: Cell<usize>,
+    blocked: Cell<bool>,
 }
 
 /// Whether a signal interrupts a call, of which this many are interrupted.
@@ -65,6 +76,7 @@ impl<'a> Peer<'a> {
             acts,
             quick: usize::MAX,
             rate: 0,
+            can_be_watched: true,
             wants,
             got: Cell::new(0),
             last: Cell::new(0),
@@ -73,6 +85,10 @@ impl<'a> Peer<'a> {
             part: Cell::new(0),
             shut: Cell::new(false),
             signals: Cell::new(2),
+            key: Cell::new(None),
+            sends: Cell::new(false),
+            reported: Cell::new(0),
+            blocked: Cell::new(false),
         }
     }
 
@@ -97,14 +113,57 @@ impl<'a> Peer<'a> {
             .saturating_sub(self.got.get())
     }
 
-    /// When it sends something, or takes bytes, after this time.
-    fn next(&self, now: u64, sends: bool) -> u64 {
-        if sends {
-            return (now / 100).saturating_add(1).saturating_mul(100);
+    /// How many of its acts have come by now, and whether the last one of them ends its side.
+    fn come(&self, now: u64) -> (usize, bool) {
+        let mut count: usize = 0;
+        let mut ends = false;
+        for (time, text) in self.acts {
+            if *time > now {
+                break;
+            }
+            count = count.saturating_add(1);
+            ends = text.is_empty();
         }
-        match self.acts.get(self.read.get()) {
+        (count, ends)
+    }
+
+    /// What its stream has become ready for since that was reported.
+    fn change(&self, now: u64) -> Option<Change> {
+        let (count, ends) = self.come(now);
+        let reads = count > self.reported.get();
+        let writes = self.sends.get() && self.blocked.get() && self.space(now) > 0;
+        self.reported.set(count);
+        if writes {
+            self.blocked.set(false);
+        }
+        let change = Change {
+            reads,
+            writes,
+            ends,
+        };
+        if reads || writes { Some(change) } else { None }
+    }
+
+    /// When there may be another change, after this time.
+    fn next(&self, now: u64) -> u64 {
+        let act = match self.acts.get(self.reported.get()) {
             Some((time, _)) => *time,
             None => u64::MAX,
+        };
+        if self.sends.get() && self.blocked.get() {
+            act.min((now / 100).saturating_add(1).saturating_mul(100))
+        } else {
+            act
+        }
+    }
+
+    /// Its present act was read whole. If more bytes have come, that is reported again. Of the end `Change::ends` has told.
+    fn next_act(&self, now: u64) {
+        self.part.set(0);
+        self.read.set(self.read.get().saturating_add(1));
+        match self.sent(now) {
+            None | Some("") => {}
+            Some(_) => self.reported.set(self.read.get()),
         }
     }
 
@@ -127,24 +186,13 @@ pub(super) struct Stream<'a> {
     watch: Watch<'a>,
 }
 
-impl Stream<'_> {
-    /// Whether it can take bytes, or has some.
-    fn is_ready(&self, sends: bool) -> bool {
-        let now = self.watch.now.get();
-        if sends {
-            self.peer.space(now) > 0
-        } else {
-            self.peer.sent(now).is_some()
-        }
-    }
-}
-
 impl Read for Stream<'_> {
     fn read(&mut self, buf: &mut [u8]) -> io::Result<usize> {
         if is_interrupted(&self.peer.signals) {
             return Err(ErrorKind::Interrupted.into());
         }
-        let Some(text) = self.peer.sent(self.watch.now.get()) else {
+        let now = self.watch.now.get();
+        let Some(text) = self.peer.sent(now) else {
             return Err(ErrorKind::WouldBlock.into());
         };
         let part = self.peer.part.get();
@@ -154,8 +202,7 @@ impl Read for Stream<'_> {
         if count < rest.len() {
             self.peer.part.set(part.saturating_add(count));
         } else if !text.is_empty() {
-            self.peer.part.set(0);
-            self.peer.read.set(self.peer.read.get().saturating_add(1));
+            self.peer.next_act(now);
         }
         Ok(count)
     }
@@ -168,6 +215,7 @@ impl Write for Stream<'_> {
         }
         let now = self.watch.now.get();
         let count = self.peer.space(now).min(buf.len());
+        self.peer.blocked.set(count < buf.len());
         if count == 0 {
             return Err(ErrorKind::WouldBlock.into());
         }
@@ -196,6 +244,8 @@ pub(super) struct Listener<'a> {
     /// The errors of Linux with which the first accepts fail: 0 if one doesn't.
     pub(super) failures: &'a [i32],
     pub(super) tried: &'a Cell<usize>,
+    /// How many peers were reported to have come.
+    pub(super) reported: &'a Cell<usize>,
     /// How many more waits a signal interrupts.
     pub(super) signals: &'a Cell<u64>,
     /// When it stops.
@@ -204,20 +254,41 @@ pub(super) struct Listener<'a> {
 }
 
 impl Listener<'_> {
-    /// When the next peer connects.
+    /// When the next peer connects that wasn't reported.
     fn next_comes(&self) -> u64 {
-        match self.peers.get(self.accepted.get()) {
+        match self.peers.get(self.reported.get()) {
             Some(peer) => peer.comes,
             None => u64::MAX,
         }
     }
 
-    /// Whether a peer has connected that wasn't accepted.
-    fn comes(&self) -> bool {
-        let now = self.watch.now.get();
-        self.peers
-            .get(self.accepted.get())
-            .is_some_and(|peer| peer.comes <= now)
+    /// Whether a peer has connected since that was reported.
+    fn comes(&self, now: u64) -> bool {
+        let before = self.reported.get();
+        for _ in before..self.peers.len() {
+            if self.next_comes() > now {
+                break;
+            }
+            self.reported.set(self.reported.get().saturating_add(1));
+        }
+        self.reported.get() > before
+    }
+
+    /// Reports what the streams have become ready for. Returns `None` if one has, and otherwise when one may.
+    fn report(&self, now: u64, places: &mut Places<Stream<'_>>) -> Option<u64> {
+        let mut any = false;
+        let mut next = u64::MAX;
+        for peer in self.peers {
+            let Some(key) = peer.key.get() else {
+                continue;
+            };
+            if let Some(change) = peer.change(now) {
+                places.report(key, change);
+                any = true;
+            }
+            next = next.min(peer.next(now));
+        }
+        if any { None } else { Some(next) }
     }
 }
 
@@ -225,19 +296,19 @@ impl<'a> OpenListener for Listener<'a> {
     type Stream = Stream<'a>;
 
     fn accept(&self) -> io::Result<(Stream<'a>, SocketAddr)> {
+        let now = self.watch.now.get();
+        let accepted = self.accepted.get();
+        let peer = match self.peers.get(accepted) {
+            Some(peer) if peer.comes <= now => peer,
+            _ => return Err(ErrorKind::WouldBlock.into()),
+        };
         let tried = self.tried.get();
         self.tried.set(tried.saturating_add(1));
         match self.failures.get(tried) {
             None | Some(0) => {}
             Some(failure) => return Err(io::Error::from_raw_os_error(*failure)),
         }
-        let accepted = self.accepted.get();
-        let Some(peer) = self.peers.get(accepted) else {
-            return Err(ErrorKind::InvalidInput.into());
-        };
         self.accepted.set(accepted.saturating_add(1));
-        let now = self.watch.now.get().max(peer.comes);
-        self.watch.now.set(now);
         let watch = self.watch;
         Ok((
             Stream { peer, watch },
@@ -246,42 +317,39 @@ impl<'a> OpenListener for Listener<'a> {
     }
 }
 
-/// Says which of the streams are ready. Returns `None` if one is, and otherwise when one may be.
-fn mark(streams: &mut [Kept<Stream<'_>>], now: u64) -> Option<u64> {
-    let mut any = false;
-    let mut next = u64::MAX;
-    for kept in streams.iter_mut() {
-        let sends = kept.sends();
-        let ready = kept.stream().is_ready(sends);
-        next = next.min(kept.stream().peer.next(now, sends));
-        kept.set_ready(ready);
-        any = any || ready;
-    }
-    if any { None } else { Some(next) }
-}
-
 impl Waits for Listener<'_> {
-    fn wait(
-        &self,
-        accepts: bool,
-        streams: &mut [Kept<Self::Stream>],
-        longest: Duration,
-    ) -> io::Result<bool> {
+    fn max_open(&self) -> usize {
+        MAX_OPEN
+    }
+
+    fn watch(&mut self, stream: &Self::Stream, key: usize, sends: bool) -> io::Result<()> {
+        if !stream.peer.can_be_watched {
+            return Err(ErrorKind::StorageFull.into());
+        }
+        stream.peer.key.set(Some(key));
+        stream.peer.sends.set(sends);
+        stream.peer.reported.set(stream.peer.read.get());
+        stream.peer.blocked.set(true);
+        Ok(())
+    }
+
+    fn wait(&mut self, longest: Duration, places: &mut Places<Self::Stream>) -> io::Result<bool> {
+        if is_interrupted(self.signals) {
+            return Err(ErrorKind::Interrupted.into());
+        }
         let milliseconds = u64::try_from(longest.as_millis()).unwrap_or(u64::MAX);
         let end = self.watch.now.get().saturating_add(milliseconds);
         for _ in 0..=milliseconds {
             let now = self.watch.now.get();
-            let comes = accepts && self.comes();
-            let Some(next) = mark(streams, now) else {
+            let comes = self.comes(now);
+            let Some(next) = self.report(now, places) else {
                 return Ok(comes);
             };
             if comes || now >= end {
                 return Ok(comes);
             }
-            let coming = if accepts { self.next_comes() } else { u64::MAX };
-            self.watch
-                .now
-                .set(next.min(coming).min(end).max(now.saturating_add(1)));
+            let next = next.min(self.next_comes()).min(end);
+            self.watch.now.set(next.max(now.saturating_add(1)));
         }
         Ok(false)
     }
@@ -313,14 +381,15 @@ pub(super) fn serve_until(
     failures: &[i32],
     stops: u64,
 ) -> Outcome {
-    let (now, accepted, tried) = (Cell::new(0), Cell::new(0), Cell::new(0));
+    let (now, accepted, tried, reported) = (Cell::new(0), Cell::new(0), Cell::new(0), Cell::new(0));
     let signals = Cell::new(2);
     let watch = Watch { now: &now };
-    let listener = Listener {
+    let mut listener = Listener {
         peers,
         accepted: &accepted,
         failures,
         tried: &tried,
+        reported: &reported,
         signals: &signals,
         stops,
         watch,
@@ -328,7 +397,7 @@ pub(super) fn serve_until(
     let mut handler = Paths { alloc, answers: 0 };
     let mut log = Vec::new(alloc);
     let count = peers.len() as u64;
-    let ended = serve_on(&watch, alloc, &listener, count, &mut handler, &mut log);
+    let ended = serve_on(&watch, alloc, &mut listener, count, &mut handler, &mut log);
     Outcome {
         ended,
         log,

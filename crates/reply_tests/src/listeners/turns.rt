@@ -71,6 +71,81 @@ fn requests_are_cut_anywhere(rt: HostRuntime) -> Result<(), Fail> {
     Ok(())
 }
 
+const ASKS_A_AND_B: &str =
+    "GET /a HTTP/1.1\r\nhost: x\r\n\r\nPUT /b HTTP/1.1\r\nhost: x\r\ncontent-length: 3\r\n\r\nabc";
+
+const ASKS_B_AND_A: &str =
+    "PUT /b HTTP/1.1\r\nhost: x\r\ncontent-length: 3\r\n\r\nabcGET /a HTTP/1.1\r\nhost: x\r\n\r\n";
+
+const A_AND_B: &str =
+    "HTTP/1.1 200 OK\r\ncontent-length: 1\r\n\r\naHTTP/1.1 200 OK\r\ncontent-length: 1\r\n\r\nb";
+
+const B_AND_A: &str =
+    "HTTP/1.1 200 OK\r\ncontent-length: 1\r\n\r\nbHTTP/1.1 200 OK\r\ncontent-length: 1\r\n\r\na";
+
+/// Each byte of a text as a piece: one in three milliseconds, from this one on.
+fn byte_by_byte(
+    alloc: Global,
+    text: &'static str,
+    from: u64,
+) -> Result<Vec<Act<'static>>, AllocError> {
+    let mut acts = Vec::new(alloc);
+    let mut time = from;
+    for place in 0..text.len() {
+        acts.push((time, text.get(place..place + 1).unwrap_or("")))?;
+        time = time.saturating_add(3);
+    }
+    acts.push((time, ""))?;
+    Ok(acts)
+}
+
+/// Three connections whose bytes come one by one, by turns: each with two requests.
+#[test]
+fn three_come_byte_by_byte(rt: HostRuntime) -> Result<(), Fail> {
+    let alloc = rt.alloc();
+    let mut all = Vec::new(alloc);
+    all.push(byte_by_byte(alloc, ASKS_A_AND_B, 0)?)?;
+    all.push(byte_by_byte(alloc, ASKS_B_AND_A, 1)?)?;
+    all.push(byte_by_byte(alloc, ASKS_A_AND_B, 2)?)?;
+    let mut peers = Vec::new(alloc);
+    let mut wants = [A_AND_B, B_AND_A];
+    for acts in all.iter() {
+        peers.push(Peer::new(0, acts, wants[0]))?;
+        wants = [wants[1], wants[0]];
+    }
+    let outcome = serve_peers(alloc, &peers);
+    assert_eq!(rt; peers.iter().position(|peer| !peer.is_right()), None);
+    assert_eq!(rt; (outcome.ended, outcome.answers), (Ok(()), 6));
+    Ok(())
+}
+
+const ASKS_THRICE: [Act<'static>; 2] = [
+    (
+        0,
+        "GET /a HTTP/1.1\r\nhost: x\r\n\r\nGET /a HTTP/1.1\r\nhost: x\r\n\r\nGET /a HTTP/1.1\r\nhost: x\r\n\r\n",
+    ),
+    (0, ""),
+];
+
+const ASKS_ONCE: [Act<'static>; 2] = [(0, ASKS_B), (0, "")];
+
+const THREE_TIMES_A: &str =
+    "HTTP/1.1 200 OK\r\ncontent-length: 1\r\n\r\naHTTP/1.1 200 OK\r\ncontent-length: 1\r\n\r\naHTTP/1.1 200 OK\r\ncontent-length: 1\r\n\r\na";
+
+/// One that has sent several requests at once has a turn for each of them, as others have.
+#[test]
+fn several_requests_take_several_turns(rt: HostRuntime) -> Result<(), Fail> {
+    let peers = [
+        Peer::new(0, &ASKS_THRICE, THREE_TIMES_A),
+        Peer::new(0, &ASKS_ONCE, B),
+    ];
+    let outcome = serve_peers(rt.alloc(), &peers);
+    let lines = "connection 2: 1 requests, closed\nconnection 1: 3 requests, closed\n";
+    assert_eq!(rt; outcome.log.as_slice(), lines.as_bytes());
+    assert_eq!(rt; peers.iter().all(|peer| peer.is_right()), true);
+    Ok(())
+}
+
 /// A reply to `ASKS_BIG`.
 fn big(alloc: Global) -> Result<String, AllocError> {
     let mut text = String::from_str(alloc, BIG_HEAD)?;
@@ -86,6 +161,38 @@ fn slow<'a>(quick: usize, rate: usize, acts: &'a [Act<'a>], wants: &'a str) -> P
     peer.quick = quick;
     peer.rate = rate;
     peer
+}
+
+/// A large reply is asked for, and another one before it is sent.
+const ASKS_BIG_AND_A: [Act<'static>; 2] = [
+    (
+        0,
+        "GET /big HTTP/1.1\r\nhost: x\r\n\r\nGET /a HTTP/1.1\r\nhost: x\r\n\r\n",
+    ),
+    (1, ""),
+];
+
+const ASKS_LATER: [Act<'static>; 3] = [(500, ASKS_B), (600, ASKS_A), (700, "")];
+
+/// One that reads a large reply slowly, and has asked for more before: others are served meanwhile, and its next request only then.
+#[test]
+fn a_slow_reader_holds_nobody_up(rt: HostRuntime) -> Result<(), Fail> {
+    let alloc = rt.alloc();
+    let mut replies = big(alloc)?;
+    replies.push_str(A)?;
+    let peers = [
+        slow(1_000, 1_000, &ASKS_BIG_AND_A, &replies),
+        Peer::new(400, &ASKS_LATER, B_AND_A),
+    ];
+    let outcome = serve_peers(alloc, &peers);
+    assert_eq!(rt; peers.iter().all(|peer| peer.is_right()), true);
+    assert_eq!(rt; (peers[0].last.get(), peers[1].last.get()), (30_000, 600));
+    let lines = "connection 2: 2 requests, closed\nconnection 1: 2 requests, closed\n";
+    assert_eq!(rt;
+        (outcome.log.as_slice(), outcome.answers),
+        (lines.as_bytes(), 4)
+    );
+    Ok(())
 }
 
 /// One that reads nothing is given up after a minute, and only its first request was answered.
@@ -145,7 +252,13 @@ const BACK: &str = "TP/1.1\r\nhost: x\r\n\r\n";
 
 const LAST: &str = "GET /a HTTP/1.1\r\nhost: x\r\nconnection: close\r\n\r\n";
 
-const ROWS: [Row<'static>; 9] = [
+const ROWS: [Row<'static>; 10] = [
+    // The end of the input comes with the request.
+    (
+        &[(0, ASKS_A), (0, "")],
+        "connection 1: 1 requests, closed\n",
+        0,
+    ),
     // A minute for the first bytes, one for the rest, and the same again.
     (
         &[

@@ -3,7 +3,7 @@ use Rattle.http_listen.proofs.connections.serve_bytes.Goals as goal
 
 pub returns : goal.returns
 returns g c = (
-  _,
+  c.args.requests.now,
   _,
   _,
   _,

@@ -1,0 +1,93 @@
+//! New connections, and what makes room for them.
+
+use crate::places::List;
+use crate::refusals::{Refusal, refusal_of};
+use crate::rooms::{Found, Room, fails_too_often};
+use crate::waits::{MAX_KEPT, Waits};
+use std::io::{ErrorKind, Write};
+use std::net::OpenStream;
+use std::time::Duration;
+
+/// How many milliseconds a new connection is left in the listener's queue while there is no room for it.
+const QUEUE_MILLISECONDS: u64 = 10;
+
+impl<S: OpenStream + Drop> Room<S> {
+    /// The connection that is closed for one that comes: one that has ended, or else the one that has waited longest for a request, if it
+    /// has waited for a second and has sent nothing.
+    fn giving_way(&self, now: Duration) -> Option<usize> {
+        if let Some(key) = self.places.first(List::Ended) {
+            return Some(key);
+        }
+        let key = self.places.first(List::Idle)?;
+        match self.places.get(key) {
+            Some(kept) if kept.may_give_way(now) => Some(key),
+            _ => None,
+        }
+    }
+
+    /// Closes a connection for one that comes, if one may be closed. Otherwise the new one stays in the listener's queue for now.
+    fn give_way<L: Waits<Stream = S>, W: Write>(
+        &mut self,
+        now: Duration,
+        listener: &mut L,
+        log: &mut W,
+    ) {
+        let pause = Duration::from_millis(QUEUE_MILLISECONDS);
+        self.crowded = now.saturating_add(pause);
+        if listener.wait(Duration::ZERO, &mut self.places).is_err() {
+            return;
+        }
+        if let Some(key) = self.giving_way(now) {
+            self.end_at(now, key, log);
+            self.crowded = now;
+        }
+    }
+
+    /// What follows if a connection couldn't be accepted.
+    fn refused<L: Waits<Stream = S>, W: Write>(
+        &mut self,
+        now: Duration,
+        listener: &mut L,
+        refusal: Refusal,
+        log: &mut W,
+    ) -> Found<S> {
+        if refusal == Refusal::Passing && !fails_too_often(&mut self.failed_accepts) {
+            return Found::Nothing;
+        }
+        if refusal == Refusal::Full && self.places.count() > 0 {
+            self.give_way(now, listener, log);
+            return Found::Nothing;
+        }
+        if self.end_any(now, log) {
+            Found::Nothing
+        } else {
+            Found::Over
+        }
+    }
+
+    /// Accepts a connection, if there is room for it.
+    pub(crate) fn accept<L: Waits<Stream = S>, W: Write>(
+        &mut self,
+        now: Duration,
+        listener: &mut L,
+        log: &mut W,
+    ) -> Found<S> {
+        self.accepts = self.accepts.saturating_sub(1);
+        if self.places.count() >= listener.max_open().min(MAX_KEPT) {
+            self.give_way(now, listener, log);
+            return Found::Nothing;
+        }
+        match listener.accept() {
+            Ok((stream, _)) => {
+                self.failed_accepts = 0;
+                Found::New(stream)
+            }
+            Err(e) if e.kind() == ErrorKind::WouldBlock => {
+                self.failed_accepts = 0;
+                self.comes = false;
+                Found::Nothing
+            }
+            Err(e) => self.refused(now, listener, refusal_of(&e), log),
+        }
+    }
+}

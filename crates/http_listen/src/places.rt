@@ -1,0 +1,302 @@
+//! The places of open connections: which may have their turn, and which may be closed for others.
+
+use crate::kept::Kept;
+use crate::rooms::MAX_OUTPUT;
+use crate::waits::{Change, Waits};
+use slab::Slab;
+use std::alloc::Global;
+
+/// What the connections of a list have in common.
+#[derive(Clone, Copy, Debug, PartialEq, Eq)]
+pub(crate) enum List {
+    /// They may have their turn. The one whose last turn is longest ago comes first.
+    Ready,
+    /// Their streams aren't watched yet for what they wait for.
+    Unwatched,
+    /// They wait for a request, of which nothing has come. The one that has waited longest comes first.
+    Idle,
+    /// They wait for the rest of a request, or until a reply can be sent.
+    Busy,
+    /// They have ended, and what their peers still send is dropped.
+    Ended,
+}
+
+/// The keys of the first and the last connection of a list, and how many it has.
+#[derive(Clone, Copy, Debug, PartialEq, Eq)]
+struct Ends {
+    first: Option<usize>,
+    last: Option<usize>,
+    count: usize,
+}
+
+const EMPTY: Ends = Ends {
+    first: None,
+    last: None,
+    count: 0,
+};
+
+/// A connection, and its neighbours in its list.
+#[derive(Drop)]
+struct Place<S> {
+    kept: Kept<S>,
+    list: List,
+    before: Option<usize>,
+    after: Option<usize>,
+    /// How many bytes it holds, and whether its replies take more than `MAX_OUTPUT` of them.
+    held: usize,
+    is_large: bool,
+}
+
+/// The open connections, each at a key, and each in one list. What is done with one of them takes as long whether there are many or few.
+#[derive(Drop)]
+pub struct Places<S> {
+    places: Slab<Place<S>>,
+    ready: Ends,
+    unwatched: Ends,
+    idle: Ends,
+    busy: Ends,
+    ended: Ends,
+    /// How many bytes they hold.
+    held: usize,
+    /// On how many the replies take more than `MAX_OUTPUT` bytes.
+    large: usize,
+}
+
+impl<S> Places<S> {
+    /// No connections.
+    pub(crate) fn new(alloc: Global) -> Self {
+        Places {
+            places: Slab::new(alloc),
+            ready: EMPTY,
+            unwatched: EMPTY,
+            idle: EMPTY,
+            busy: EMPTY,
+            ended: EMPTY,
+            held: 0,
+            large: 0,
+        }
+    }
+
+    /// How many connections there are.
+    pub(crate) fn count(&self) -> usize {
+        self.places.len()
+    }
+
+    /// A number above all keys.
+    pub(crate) fn key_bound(&self) -> usize {
+        self.places.capacity()
+    }
+
+    /// The connection at a key.
+    pub(crate) fn get(&self, key: usize) -> Option<&Kept<S>> {
+        match self.places.get(key) {
+            Some(place) => Some(&place.kept),
+            None => None,
+        }
+    }
+
+    /// How many bytes of requests and replies they hold.
+    pub(crate) fn held(&self) -> usize {
+        self.held
+    }
+
+    /// On how many the replies take more than `MAX_OUTPUT` bytes.
+    pub(crate) fn large(&self) -> usize {
+        self.large
+    }
+
+    /// The ends of a list.
+    fn ends(&self, list: List) -> Ends {
+        match list {
+            List::Ready => self.ready,
+            List::Unwatched => self.unwatched,
+            List::Idle => self.idle,
+            List::Busy => self.busy,
+            List::Ended => self.ended,
+        }
+    }
+
+    /// Changes the ends of a list.
+    fn set_ends(&mut self, list: List, ends: Ends) {
+        match list {
+            List::Ready => self.ready = ends,
+            List::Unwatched => self.unwatched = ends,
+            List::Idle => self.idle = ends,
+            List::Busy => self.busy = ends,
+            List::Ended => self.ended = ends,
+        }
+    }
+
+    /// How many connections a list has.
+    pub(crate) fn count_of(&self, list: List) -> usize {
+        self.ends(list).count
+    }
+
+    /// The key of the first connection of a list.
+    pub(crate) fn first(&self, list: List) -> Option<usize> {
+        self.ends(list).first
+    }
+
+    /// The key of some connection, if there is one.
+    pub(crate) fn any(&self) -> Option<usize> {
+        let waiting = self.first(List::Ended).or(self.first(List::Idle));
+        let working = self.first(List::Busy).or(self.first(List::Unwatched));
+        waiting.or(working).or(self.first(List::Ready))
+    }
+
+    /// Makes two connections neighbours in a list. `None` is its end.
+    fn join(&mut self, list: List, before: Option<usize>, after: Option<usize>) {
+        let mut ends = self.ends(list);
+        match before {
+            None => ends.first = after,
+            Some(key) => {
+                if let Some(place) = self.places.get_mut(key) {
+                    place.after = after;
+                }
+            }
+        }
+        match after {
+            None => ends.last = before,
+            Some(key) => {
+                if let Some(place) = self.places.get_mut(key) {
+                    place.before = before;
+                }
+            }
+        }
+        self.set_ends(list, ends);
+    }
+
+    /// Adds to the number of connections of a list.
+    fn add_count(&mut self, list: List, added: usize, removed: usize) {
+        let mut ends = self.ends(list);
+        ends.count = ends.count.saturating_add(added).saturating_sub(removed);
+        self.set_ends(list, ends);
+    }
+
+    /// Puts a connection, which is in no list, into this one between two neighbours.
+    fn link(&mut self, key: usize, list: List, before: Option<usize>, after: Option<usize>) {
+        self.join(list, before, Some(key));
+        self.join(list, Some(key), after);
+        self.add_count(list, 1, 0);
+        if let Some(place) = self.places.get_mut(key) {
+            place.list = list;
+        }
+    }
+
+    /// Takes a connection out of its list.
+    fn unlink(&mut self, key: usize) {
+        let Some(place) = self.places.get(key) else {
+            return;
+        };
+        let (list, before, after) = (place.list, place.before, place.after);
+        self.join(list, before, after);
+        self.add_count(list, 0, 1);
+    }
+
+    /// The list that a connection is to be in.
+    fn list_of(&self, key: usize) -> List {
+        match self.places.get(key) {
+            Some(place) => place.kept.list(key),
+            None => List::Ready,
+        }
+    }
+
+    /// Puts a connection, which is in no list, at the end of the one that it is to be in.
+    fn link_last(&mut self, key: usize) {
+        let list = self.list_of(key);
+        let last = self.ends(list).last;
+        self.link(key, list, last, None);
+    }
+
+    /// Moves a connection to the beginning of its list.
+    pub(crate) fn move_first(&mut self, key: usize) {
+        self.unlink(key);
+        let list = self.list_of(key);
+        let first = self.ends(list).first;
+        self.link(key, list, None, first);
+    }
+
+    /// Moves a connection if it is to be in another list.
+    fn move_to_its_list(&mut self, key: usize) {
+        let wanted = self.list_of(key);
+        match self.places.get(key) {
+            Some(place) if place.list != wanted => {}
+            _ => return,
+        }
+        self.unlink(key);
+        self.link_last(key);
+    }
+
+    /// Adds a connection, at the end of the list that it is to be in. Returns its key, which is the one that the last connection had
+    /// that was taken out, or the connection if memory runs out.
+    pub(crate) fn put(&mut self, kept: Kept<S>) -> Result<usize, Kept<S>> {
+        let output = kept.output.held();
+        let held = output.saturating_add(kept.input.len());
+        let is_large = output > MAX_OUTPUT;
+        let place = Place {
+            kept,
+            list: List::Ready,
+            before: None,
+            after: None,
+            held,
+            is_large,
+        };
+        let key = match self.places.insert(place) {
+            Ok(key) => key,
+            Err(refused) => {
+                let Place { kept, .. } = refused.value;
+                return Err(kept);
+            }
+        };
+        self.held = self.held.saturating_add(held);
+        self.large = self.large.saturating_add(usize::from(is_large));
+        self.link_last(key);
+        Ok(key)
+    }
+
+    /// Takes a connection out.
+    pub(crate) fn take(&mut self, key: usize) -> Option<Kept<S>> {
+        self.unlink(key);
+        let Place {
+            kept,
+            held,
+            is_large,
+            ..
+        } = self.places.try_remove(key)?;
+        self.held = self.held.saturating_sub(held);
+        self.large = self.large.saturating_sub(usize::from(is_large));
+        Some(kept)
+    }
+
+    /// Takes the first connection out that may have its turn.
+    pub(crate) fn take_ready(&mut self) -> Option<Kept<S>> {
+        let key = self.first(List::Ready)?;
+        self.take(key)
+    }
+
+    /// Reports what the stream of the connection at a key has become ready for. If there is none, nothing happens.
+    pub fn report(&mut self, key: usize, change: Change) {
+        let Some(place) = self.places.get_mut(key) else {
+            return;
+        };
+        place.kept.turn.ready = place.kept.turn.ready.changed(change);
+        self.move_to_its_list(key);
+    }
+
+    /// Has a listener watch the stream of the connection at a key for what it waits for. Whether that is done.
+    pub(crate) fn watch<L>(&mut self, key: usize, listener: &mut L) -> bool
+    where
+        L: Waits<Stream = S>,
+    {
+        let Some(place) = self.places.get_mut(key) else {
+            return false;
+        };
+        let sends = place.kept.sends();
+        if listener.watch(&place.kept.stream, key, sends).is_err() {
+            return false;
+        }
+        place.kept.turn.watched = Some((key, sends));
+        self.move_to_its_list(key);
+        true
+    }
+}

@@ -1,0 +1,138 @@
+//! What is done between two rounds of turns.
+
+use crate::paced::nanoseconds_of;
+use crate::places::List;
+use crate::rooms::{Room, fails_too_often};
+use crate::waits::Waits;
+use std::io::{ErrorKind, Write};
+use std::net::OpenStream;
+use std::time::Duration;
+
+/// The longest wait in seconds.
+const MAX_WAIT_SECONDS: u64 = 60;
+
+/// For how many seconds replies are still sent after the server is stopped.
+const STOP_SECONDS: u64 = 1;
+
+/// How many connections are accepted at most between two waits.
+const MAX_ACCEPTS: usize = 64;
+
+impl<S> Room<S> {
+    /// Whether a connection is to be accepted, if one is wanted.
+    pub(crate) fn may_accept(&self, now: Duration) -> bool {
+        self.comes && self.accepts > 0 && self.crowded <= now
+    }
+
+    /// How long the connections are waited for at most.
+    fn longest(&self, now: Duration, accepts: bool) -> Duration {
+        if self.places.count_of(List::Ready) > 0 {
+            return Duration::ZERO;
+        }
+        let look = Duration::from_nanos(self.deadlines.left(nanoseconds_of(now)));
+        let mut longest = Duration::from_secs(MAX_WAIT_SECONDS).min(look);
+        if accepts && self.comes {
+            longest = longest.min(self.crowded.saturating_sub(now));
+        }
+        if let Some(since) = self.stops {
+            let passed = now.saturating_sub(since);
+            longest = longest.min(Duration::from_secs(STOP_SECONDS).saturating_sub(passed));
+        }
+        longest
+    }
+}
+
+impl<S: OpenStream + Drop> Room<S> {
+    /// Ends one of the connections. Whether there was one.
+    pub(crate) fn end_any<W: Write>(&mut self, now: Duration, log: &mut W) -> bool {
+        match self.places.any() {
+            Some(key) => {
+                self.end_at(now, key, log);
+                true
+            }
+            None => false,
+        }
+    }
+
+    /// Ends the connections whose peers have no time left and which may not have their turn. All are looked at.
+    fn end_late<W: Write>(&mut self, now: Duration, log: &mut W) {
+        let time = nanoseconds_of(now);
+        self.deadlines.begin_look(time, self.places.count());
+        for key in 0..self.places.key_bound() {
+            let deadline = match self.places.get(key) {
+                Some(kept) if kept.list(key) != List::Ready => kept.deadline(),
+                _ => continue,
+            };
+            if deadline <= time {
+                self.end_at(now, key, log);
+            } else {
+                self.deadlines.note(deadline);
+            }
+        }
+    }
+
+    /// Ends the connections of a server that stops, but for those whose replies are still sent. If there may be one, all are looked at.
+    pub(crate) fn end_stopped<W: Write>(&mut self, now: Duration, log: &mut W) {
+        let since = self.stops.unwrap_or(now);
+        self.stops = Some(since);
+        let over = now.saturating_sub(since) >= Duration::from_secs(STOP_SECONDS);
+        if !over && !self.may_stop {
+            return;
+        }
+        self.may_stop = false;
+        for key in 0..self.places.key_bound() {
+            match self.places.get(key) {
+                Some(kept) if over || !kept.sends() => {}
+                _ => continue,
+            }
+            self.end_at(now, key, log);
+            self.end_at(now, key, log);
+        }
+    }
+
+    /// Has the streams watched of those that wait for something new. One that can't be watched is ended.
+    fn watch_all<L: Waits<Stream = S>, W: Write>(
+        &mut self,
+        now: Duration,
+        listener: &mut L,
+        log: &mut W,
+    ) {
+        for _ in 0..self.places.count_of(List::Unwatched) {
+            let Some(key) = self.places.first(List::Unwatched) else {
+                return;
+            };
+            if !self.places.watch(key, listener) {
+                self.end_at(now, key, log);
+            }
+        }
+    }
+
+    /// Waits for the connections, and for new ones. A connection whose peer has no time left is ended, and one of them if they can't be
+    /// waited for. Returns `false` if there is none then.
+    pub(crate) fn wait<L: Waits<Stream = S>, W: Write>(
+        &mut self,
+        now: Duration,
+        listener: &mut L,
+        accepts: bool,
+        log: &mut W,
+    ) -> bool {
+        self.watch_all(now, listener, log);
+        let longest = self.longest(now, accepts);
+        let outcome = listener.wait(longest, &mut self.places);
+        self.round = self.places.count_of(List::Ready);
+        self.accepts = MAX_ACCEPTS;
+        match outcome {
+            Ok(comes) => {
+                self.failed_waits = 0;
+                self.comes = self.comes || comes;
+            }
+            Err(e)
+                if e.kind() == ErrorKind::Interrupted && !fails_too_often(&mut self.failed_waits) =>
+                return true,
+            Err(_) => return self.end_any(now, log),
+        }
+        if self.deadlines.left(nanoseconds_of(now)) == 0 {
+            self.end_late(now, log);
+        }
+        true
+    }
+}
