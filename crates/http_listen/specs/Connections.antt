@@ -1,7 +1,8 @@
 -- Connections of which one is served at a time, in stretches.
-use Rattle.std.specs.Prelude.{◌≡◌, ℕ, Bool, List, [], ◌∷◌, length, filter, Option, Some, IsSome, Result, Ok, Err, ⊤}
+use Rattle.std.specs.Prelude.{◌≡◌, ℕ, Bool, false, List, [], ◌∷◌, length, filter, Option, Some, IsSome, Result, Ok, Err, ⊤}
 use Rattle.http_serve.specs.declared.connection.ServeFault.{ServeFault}
 use Rattle.http_serve.specs.declared.connection.Served.{Served}
+use Rattle.http_serve.specs.declared.handlers.Ticket.{Ticket}
 use Rattle.http_serve.specs.Requests.{RequestView}
 use Rattle.http_serve.specs.Reply.{ReplyView}
 use Rattle.http_serve.specs.Told.{IsServed, IsServedUpTo}
@@ -16,14 +17,31 @@ pub record Stretch : Type 0 where
   pub leaves : Option (List ℕ)
   pub holds : Option (List ℕ)
 
--- how many connections these stretches are of: the number of those that are the first of theirs
-abbrev pub begun : List Stretch → ℕ
-begun stretches = length (filter (λ stretch. stretch.first) stretches)
+-- What is done for connections, one after the other.
+pub data Event : Type 0 where
+  -- a stretch
+  at_stretch : Stretch → Event
+  -- a read of the rest of a content that a stretch left: its ticket, an offset, and the bytes from there on, or None if they couldn't be read
+  at_part : Ticket → ℕ → Option (List ℕ) → Event
 
--- what each of these stretches was over is known: the bytes that its requests and the ending are in
-abbrev pub AreOverKnown : List Stretch → Type 0
+-- it is the first stretch of a connection
+abbrev pub is_first : Event → Bool
+is_first (at_stretch s) = s.first
+is_first (at_part ticket offset outcome) = false
+
+-- how many connections these events are of: the number of first stretches
+abbrev pub begun : List Event → ℕ
+begun events = length (filter is_first events)
+
+-- what a stretch was over is known: the bytes that its requests and the ending are in
+abbrev pub IsOverKnown : Event → Type 0
+IsOverKnown (at_stretch s) = IsSome s.left
+IsOverKnown (at_part ticket offset outcome) = ⊤
+
+-- so it is of each of these
+abbrev pub AreOverKnown : List Event → Type 0
 AreOverKnown [] = ⊤
-AreOverKnown (stretch ∷ stretches) = IsSome stretch.left × AreOverKnown stretches
+AreOverKnown (event ∷ events) = IsOverKnown event × AreOverKnown events
 
 -- replies, and those of which the handler's part fails
 module _ {S : Type 0} (replies fails : S → RequestView → ReplyView → S → Type 0) where
@@ -31,11 +49,6 @@ module _ {S : Type 0} (replies fails : S → RequestView → ReplyView → S →
   abbrev pub CameTo : Result Served ServeFault → S → Stretch → S → Type 0
   CameTo (Ok served) old stretch new = IsServed replies old stretch.left stretch.held served new stretch.leaves stretch.holds
   CameTo (Err fault) old stretch new = IsServedUpTo replies fails old stretch.left stretch.held fault new stretch.leaves stretch.holds
-
-  -- the replies of these stretches, in order, lead from the old state to the new one
-  abbrev pub Serves : S → List Stretch → S → Type 0
-  Serves old [] new = new ≡ old
-  Serves old (stretch ∷ stretches) new = (middle : S) × CameTo stretch.result old stretch middle × Serves middle stretches new
 
   -- a stretch over known bytes with this result, of a connection that it is the first of or isn't, leads from a state to the next
   abbrev pub ComesTo : Result Served ServeFault → S → S → Type 0
@@ -45,3 +58,20 @@ module _ {S : Type 0} (replies fails : S → RequestView → ReplyView → S →
   -- a stretch leads from a state to the next
   abbrev pub NextStretch : S → S → Type 0
   NextStretch old new = (result : Result Served ServeFault) × ComesTo result old new
+
+-- reads of a content by its ticket
+module _ {S : Type 0} (reads : S → Ticket → ℕ → Option (List ℕ) → S → Type 0) where
+  -- a read leads from a state to the next
+  abbrev pub NextPart : S → S → Type 0
+  NextPart old new = (ticket : Ticket) × (offset : ℕ) × (outcome : Option (List ℕ)) × reads old ticket offset outcome new
+
+module _ {S : Type 0} (replies fails : S → RequestView → ReplyView → S → Type 0) (reads : S → Ticket → ℕ → Option (List ℕ) → S → Type 0) where
+  -- an event leads from a state to the next
+  abbrev pub Happens : S → Event → S → Type 0
+  Happens old (at_stretch s) new = CameTo replies fails s.result old s new
+  Happens old (at_part ticket offset outcome) new = reads old ticket offset outcome new
+
+  -- the replies and reads of these events, in order, lead from the old state to the new one
+  abbrev pub Serves : S → List Event → S → Type 0
+  Serves old [] new = new ≡ old
+  Serves old (event ∷ events) new = (middle : S) × Happens old event middle × Serves middle events new

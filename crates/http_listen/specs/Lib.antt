@@ -1,3 +1,4 @@
 pub mod Connections
 pub mod Lines
 pub mod Paces
+pub mod Rests

@@ -3,7 +3,7 @@ use Rattle.std.specs.Prelude.{ℕ, List, ◌++◌, codes, decimal, Result, Ok, E
 use Rattle.http_serve.specs.declared.connection.End.{End}
 use Rattle.http_serve.specs.declared.connection.End.TheVariants.{Closed, Asked, Refused, Turns}
 use Rattle.http_serve.specs.declared.connection.ServeFault.{ServeFault}
-use Rattle.http_serve.specs.declared.connection.ServeFault.TheVariants.{Memory, Read, Write, Content}
+use Rattle.http_serve.specs.declared.connection.ServeFault.TheVariants.{Memory, Read, Write, Content, Rest}
 use Rattle.http_serve.specs.declared.connection.Served.{Served}
 
 -- the word for an end
@@ -20,6 +20,7 @@ result_word (Err Memory) = codes "memory"
 result_word (Err (Read requests)) = codes "read"
 result_word (Err (Write requests)) = codes "write"
 result_word (Err (Content requests)) = codes "device"
+result_word (Err (Rest requests close from size)) = codes "write"
 
 -- how many requests got a whole reply
 abbrev pub replied_requests : Result Served ServeFault → ℕ
@@ -28,6 +29,7 @@ replied_requests (Err Memory) = 0
 replied_requests (Err (Read requests)) = requests
 replied_requests (Err (Write requests)) = requests
 replied_requests (Err (Content requests)) = requests
+replied_requests (Err (Rest requests close from size)) = requests
 
 -- the line of a connection: its number, its requests, its end
 unfoldable pub line_of : ℕ → Result Served ServeFault → List ℕ

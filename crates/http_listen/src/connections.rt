@@ -2,13 +2,15 @@
 ghost use Rattle.std.specs.Prelude.{◌≡◌, ◌<◌, Bool, Result, List, OnOk, OnErr};
 ghost use Rattle.http_serve.specs.declared.connection.ServeFault.{ServeFault};
 ghost use Rattle.http_serve.specs.declared.connection.Served.{Served};
-ghost use Rattle.http_listen.specs.Connections.{Stretch, Serves, ComesTo, NextStretch, AreOverKnown, begun};
+ghost use Rattle.http_listen.specs.Rests.{rest_after};
+ghost use Rattle.http_listen.specs.Connections.{Event, Serves, ComesTo, NextStretch, NextPart, AreOverKnown, begun};
 
-use crate::kept::Kept;
+use crate::kept::{Kept, Turn};
+use crate::rests::{Unsent, add_part};
 use crate::rooms::{Found, Room, time_of};
 use crate::waits::Waits;
 use crate::writers::ReplyWriter;
-use http_serve::{Buffers, Handler, MAX_READS, ServeFault, Served, serve_with};
+use http_serve::{Buffers, Downloads, MAX_READS, ServeFault, Served, serve_fronts};
 use std::alloc::Global;
 use std::io::{Read, Write};
 use std::net::OpenStream;
@@ -33,7 +35,7 @@ fn prepare<S: OpenStream>(stream: &S) {
     let _ = stream.set_nonblocking(true);
 }
 
-/// Answers the requests that these bytes are.
+/// Answers the requests that these bytes are, up to the rest of a content.
 fn serve_bytes<S, H>(
     buffers: &mut Buffers,
     requests: &[u8],
@@ -42,11 +44,11 @@ fn serve_bytes<S, H>(
 ) -> Result<Served, ServeFault>
 where
     S: Write + OpenStream,
-    H: Handler,
+    H: Downloads,
     ensures { ComesTo H.replies H.fails result handler.old handler.new }
 {
     let mut reader = requests;
-    serve_with(buffers, &mut reader, writer, handler, MAX_READS)
+    serve_fronts(buffers, &mut reader, writer, handler, MAX_READS)
 }
 
 /// What a stretch of a connection came to.
@@ -57,7 +59,7 @@ struct Past<S> {
 }
 
 /// Answers the first `end` bytes of a connection's input. The replies are added to its output, but for those that would make it larger
-/// than `limit` bytes: these are sent at once.
+/// than `limit` bytes: these are sent at once. The rest of a content is left, and read later.
 fn serve_front<S, H>(
     buffers: &mut Buffers,
     limit: usize,
@@ -67,8 +69,10 @@ fn serve_front<S, H>(
 ) -> Past<S>
 where
     S: Write + OpenStream + Drop,
-    H: Handler,
-    ensures { ComesTo H.replies H.fails result.outcome handler.old handler.new }
+    H: Downloads,
+    ensures comes { ComesTo H.replies H.fails result.outcome handler.old handler.new }
+    // What is left is read by the ticket of the reply that stopped.
+    ensures unsent { result.kept.turn.unsent ≡ rest_after (H.ticket_of handler.new) result.outcome }
 {
     let Kept {
         stream,
@@ -80,9 +84,10 @@ where
     let mut writer = ReplyWriter::new(stream, pace, output, limit);
     let outcome = serve_bytes(buffers, input.front(end), &mut writer, handler);
     let (stream, pace, output) = writer.into_parts();
+    let unsent = Unsent::after(&outcome, handler);
     let kept = Kept {
         stream,
-        turn,
+        turn: Turn { unsent, ..turn },
         input,
         output,
         pace,
@@ -100,7 +105,7 @@ fn open<S, H, W>(
 )
 where
     S: Read + Write + OpenStream + Drop,
-    H: Handler,
+    H: Downloads,
     W: Write,
     ensures { NextStretch H.replies H.fails handler.old handler.new }
 {
@@ -120,7 +125,7 @@ fn answer<S, H, W, C>(
 )
 where
     S: Read + Write + OpenStream + Drop,
-    H: Handler,
+    H: Downloads,
     W: Write,
     C: Clock,
     ensures { NextStretch H.replies H.fails handler.old handler.new }
@@ -133,18 +138,45 @@ where
     room.answered(now, past.kept, end, past.outcome, log);
 }
 
+/// Reads the next part of the content that a connection sends, and begins to send it.
+fn send_part<S, H, W, C>(
+    clock: &C,
+    room: &mut Room<S>,
+    mut kept: Kept<S>,
+    unsent: Unsent,
+    handler: &mut H,
+    log: &mut W,
+)
+where
+    S: Read + Write + OpenStream + Drop,
+    H: Downloads,
+    W: Write,
+    C: Clock,
+    ensures { NextPart H.reads handler.old handler.new }
+{
+    let start = time_of(clock);
+    kept.output.clear();
+    let outcome = add_part(handler, unsent, &mut kept.output);
+    room.spend(clock, start);
+    let now = room.now(clock);
+    room.parted(now, kept, outcome, log);
+}
+
 /// Serves this many connections of a listener by turns, and writes a line to the log as each ends: `connection I: R requests, END`. I
 /// counts the connections from 1 as they are accepted, R the requests whose replies were sent whole, and END is `closed`, `asked`,
 /// `refused` or `turns`, or at a fault `memory`, `read`, `write` or `device`.
 ///
 /// No peer is waited for. A turn of a connection is one read or one write, which returns at once. As soon as a whole request was read, or
-/// bytes that are none, they are answered in a stretch of the connection, as `http_serve::serve_with` does. The replies are kept in
-/// memory and sent as the peer takes them. While they wait, no further request of the connection is read or answered.
+/// bytes that are none, they are answered in a stretch of the connection, as `http_serve::serve_fronts` does. The replies are kept in
+/// memory and sent as the peer takes them. The rest of a content is read part by part, 64 KiB each, once the peer has taken what comes
+/// before; other requests are answered between two parts. While replies wait, or the rest of one, no further request of the connection is
+/// read or answered.
 ///
 /// Between two requests a connection holds no buffers. Otherwise it has at most `http_serve::MAX_REQUEST` bytes of input, and replies of
-/// at most 1 MiB, on four connections 32 MiB; a buffer takes at most twice as much as it has. A larger reply is sent at once, up to its
-/// end: for that time its peer is waited for, and all others with it. Once all connections hold 256 MiB, so is each reply, and a connection
-/// that has begun a request and sends more of it ends with `memory`.
+/// at most 1 MiB, on four connections 32 MiB; a buffer takes at most twice as much as it has. Of a content that is read in parts one
+/// part is in memory. A larger reply that the handler holds whole is sent at once, up to its end: for that time its peer is waited for, and
+/// all others with it. Once all connections hold 256 MiB, so is each reply, and a connection that has begun a request and sends more of it
+/// ends with `memory`.
 ///
 /// At most `Waits::max_open` connections are open, and never more than `MAX_KEPT`. When so many are, or when one can't be accepted for
 /// want of descriptors or memory, room is made for it: a connection that has ended is closed, or else the one that waits longest for a
@@ -179,14 +211,14 @@ pub fn serve_on<L, H, W, C>(
 where
     L: Waits,
     L::Stream: Read + Write + OpenStream,
-    H: Handler,
+    H: Downloads,
     W: Write,
     C: Clock,
-    ensures all { OnOk result ((served : List Stretch) × Serves H.replies H.fails handler.old served handler.new × (begun served ≡ connections)) }
-    ensures fewer { OnErr result ((served : List Stretch) × Serves H.replies H.fails handler.old served handler.new × (begun served < connections)) }
+    ensures all { OnOk result ((served : List Event) × Serves H.replies H.fails H.reads handler.old served handler.new × (begun served ≡ connections)) }
+    ensures fewer { OnErr result ((served : List Event) × Serves H.replies H.fails H.reads handler.old served handler.new × (begun served < connections)) }
     // The bytes of each stretch are known, so what was read is: the requests that were answered are its bytes.
-    ensures known { OnOk result ((served : List Stretch) × Serves H.replies H.fails handler.old served handler.new × (begun served ≡ connections) × AreOverKnown served) }
-    ensures fewer_known { OnErr result ((served : List Stretch) × Serves H.replies H.fails handler.old served handler.new × (begun served < connections) × AreOverKnown served) }
+    ensures known { OnOk result ((served : List Event) × Serves H.replies H.fails H.reads handler.old served handler.new × (begun served ≡ connections) × AreOverKnown served) }
+    ensures fewer_known { OnErr result ((served : List Event) × Serves H.replies H.fails H.reads handler.old served handler.new × (begun served < connections) × AreOverKnown served) }
 {
     let mut room = Room::new(alloc);
     let mut buffers = Buffers::new(alloc);
@@ -202,6 +234,7 @@ where
             Found::Asks(kept, end) => {
                 answer(clock, &mut buffers, &mut room, kept, end, handler, log);
             }
+            Found::Reads(kept, unsent) => send_part(clock, &mut room, kept, unsent, handler, log),
             Found::Nothing => {}
             Found::Over => break,
         }

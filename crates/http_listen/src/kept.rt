@@ -9,6 +9,7 @@ use crate::paced::{is_passing, nanoseconds_of};
 use crate::paces::Pace;
 use crate::places::List;
 use crate::readiness::Readiness;
+use crate::rests::{Unsent, once_sent};
 use http_serve::{End, MAX_REQUEST, Scanned, ServeFault, Served};
 use std::alloc::Global;
 use std::io::{self, ErrorKind, Read, Write};
@@ -45,6 +46,8 @@ pub(crate) struct Turn {
     pub(crate) searches: bool,
     /// What its last stretch came to. The output has its replies.
     pub(crate) outcome: Result<Served, ServeFault>,
+    /// The rest of the last reply's content, which is read once the output was sent.
+    pub(crate) unsent: Option<Unsent>,
     /// Whether the connection ends once they are sent.
     pub(crate) last: bool,
     /// If the connection has ended: how many of the bytes that its peer still sends are dropped.
@@ -77,6 +80,7 @@ impl<S> Kept<S> {
             ended: false,
             searches: false,
             outcome: NOTHING,
+            unsent: None,
             last: false,
             drops: None,
             since: now,
@@ -92,9 +96,23 @@ impl<S> Kept<S> {
         }
     }
 
-    /// Whether replies wait to be sent. If none do, it waits for bytes.
+    /// Whether replies wait to be sent, or the rest of one to be read and sent. If none do, it waits for bytes.
     pub(crate) fn sends(&self) -> bool {
+        self.has_output() || self.turn.unsent.is_some()
+    }
+
+    /// Whether bytes wait to be sent.
+    pub(crate) fn has_output(&self) -> bool {
         !self.output.waiting().is_empty()
+    }
+
+    /// The rest of a content of which the next part is to be read, since all bytes before it were sent.
+    pub(crate) fn due(&self) -> Option<Unsent> {
+        if self.has_output() {
+            None
+        } else {
+            self.turn.unsent
+        }
     }
 
     /// Whether it may have its turn.
@@ -185,6 +203,7 @@ impl<S> Kept<S> {
         end: usize,
         outcome: Result<Served, ServeFault>,
     ) {
+        let outcome = once_sent(outcome);
         let goes_on = matches!(
             outcome,
             Ok(Served {
@@ -200,6 +219,11 @@ impl<S> Kept<S> {
         if let Err(ServeFault::Write { .. }) = outcome {
             self.output.clear();
         }
+    }
+
+    /// One part more of a content was read, and this is left of it.
+    pub(crate) fn leave(&mut self, unsent: Option<Unsent>) {
+        self.turn.unsent = unsent;
     }
 
     /// The replies of its last stretch were sent.
@@ -218,6 +242,7 @@ impl<S> Kept<S> {
     pub(crate) fn begin_drop(&mut self, now: Duration) {
         self.turn.drops = Some(MAX_DROPPED);
         self.turn.searches = false;
+        self.turn.unsent = None;
         self.output.clear();
         self.input.drop_front(usize::MAX);
         self.pace = Pace::new();
@@ -314,6 +339,19 @@ pub(crate) fn with_earlier(
         }),
         Err(ServeFault::Content { requests }) => Err(ServeFault::Content {
             requests: requests.saturating_add(earlier),
+        }),
+        Err(
+            ServeFault::Rest {
+                requests,
+                close,
+                from,
+                length,
+            },
+        ) => Err(ServeFault::Rest {
+            requests: requests.saturating_add(earlier),
+            close,
+            from,
+            length,
         }),
     }
 }

@@ -13,6 +13,7 @@ mod paces;
 mod places;
 mod readiness;
 mod refusals;
+mod rests;
 mod rooms;
 mod system_listener;
 mod waiting;

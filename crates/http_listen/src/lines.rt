@@ -16,7 +16,8 @@ fn replied_requests(outcome: Result<Served, ServeFault>) -> u64
         Err(
             ServeFault::Read { requests }
             | ServeFault::Write { requests }
-            | ServeFault::Content { requests },
+            | ServeFault::Content { requests }
+            | ServeFault::Rest { requests, .. },
         ) => requests,
     }
 }
@@ -34,7 +35,7 @@ fn result_word(outcome: Result<Served, ServeFault>) -> &'static str
         },
         Err(ServeFault::Memory) => "memory",
         Err(ServeFault::Read { .. }) => "read",
-        Err(ServeFault::Write { .. }) => "write",
+        Err(ServeFault::Write { .. } | ServeFault::Rest { .. }) => "write",
         Err(ServeFault::Content { .. }) => "device",
     }
 }

@@ -6,6 +6,7 @@ use crate::deadlines::Deadlines;
 use crate::kept::{Kept, with_earlier};
 use crate::lines::write_line;
 use crate::places::Places;
+use crate::rests::Unsent;
 use crate::waits::Waits;
 use http_serve::{ServeFault, Served};
 use std::alloc::Global;
@@ -49,6 +50,8 @@ pub(crate) enum Found<S> {
     New(S),
     /// The first bytes of a connection's input are to be answered.
     Asks(Kept<S>, usize),
+    /// The next part of a content is to be read.
+    Reads(Kept<S>, Unsent),
     /// Nothing for now.
     Nothing,
     /// Nothing any more.
@@ -201,9 +204,10 @@ impl<S: OpenStream + Drop> Room<S> {
 }
 
 impl<S: Read + Write + OpenStream + Drop> Room<S> {
-    /// Sends what a connection can take of its replies. If it has taken all, it goes on, or ends.
+    /// Sends what a connection can take of its replies. If it has taken all, it goes on, or ends. If there is a rest to be read, it is
+    /// kept until its stream can take more.
     fn send<W: Write>(&mut self, now: Duration, mut kept: Kept<S>, log: &mut W) {
-        if kept.sends() {
+        if kept.has_output() {
             if let Err(fault) = kept.send(now) {
                 return self.end(now, kept, Err(fault), log);
             }
@@ -234,6 +238,23 @@ impl<S: Read + Write + OpenStream + Drop> Room<S> {
     ) {
         kept.answered(now, end, outcome);
         self.send(now, kept, log);
+    }
+
+    /// The next part of a content was added to a connection's output, and this is left of it, or it couldn't be read.
+    pub(crate) fn parted<W: Write>(
+        &mut self,
+        now: Duration,
+        mut kept: Kept<S>,
+        outcome: Result<Option<Unsent>, ServeFault>,
+        log: &mut W,
+    ) {
+        match outcome {
+            Ok(unsent) => {
+                kept.leave(unsent);
+                self.send(now, kept, log);
+            }
+            Err(fault) => self.end(now, kept, Err(fault), log),
+        }
     }
 
     /// Keeps a new connection, unless it couldn't be served.
@@ -333,6 +354,9 @@ impl<S: Read + Write + OpenStream + Drop> Room<S> {
             self.end_stopped(now, log);
         }
         if let Some(kept) = self.take_turn() {
+            if let Some(unsent) = kept.due() {
+                return Found::Reads(kept, unsent);
+            }
             return match self.turn(now, kept, log) {
                 Some((kept, end)) => Found::Asks(kept, end),
                 None => Found::Nothing,

@@ -10,7 +10,8 @@ use Rattle.http_serve.specs.Requests.{RequestView, request_view, request_view_at
 use Rattle.http_serve.specs.declared.frames.Frame.{Frame}
 use Rattle.http_serve.specs.Frame.{IsFrameOf}
 use Rattle.http_serve.specs.Reply.{ReplyView, is_head, reply_bytes, reply_to, reply_at, refusal_bytes}
-use Rattle.http_serve.specs.Served.{RisesBy, reply_count, Answers, AnswersEnd, AnswersNext, RepliesNext, Carries, Ends, Breaks, Anything}
+use Rattle.http_serve.specs.Served.{RisesBy, reply_count, Answers, AnswersEnd, AnswersNext, RepliesNext, Carries, Ends, Breaks, StopsNext, Anything}
+use Rattle.http_serve.specs.Parts.{IsStopped}
 use Rattle.http_serve.proofs.HeadLemmas.{IsHead-append}
 use Rattle.http_serve.proofs.KnownLemmas.{Appends-then, Appends_none}
 
@@ -82,6 +83,23 @@ Frame_next last old input frame request reply new is given = record {
   is = is.is;
   replied = subst (λ (q : RequestView). last old q reply new) (framed_view input frame request is) given;
   out_is = framed_reply input frame request reply is;
+}
+
+-- so is one that stops before the rest of its content
+pub Frame_stops : {S : Type 0} (replies sends : S → RequestView → ReplyView → S → Type 0) (old : S) (input : List ℕ) (frame : Frame) (request : Request)
+    (reply : ReplyView) (from size : ℕ) (new : S) (held holds : Option (List ℕ)) → IsFrameOf input frame request
+    → replies old (request_view_at input frame) reply new → sends old (request_view_at input frame) reply new
+    → IsStopped (reply_at input frame reply) reply.content from size held holds
+    → StopsNext replies sends old input held frame.close from size new holds
+Frame_stops replies sends old input frame request reply from size new held holds is given sent stopped = record {
+  request = request;
+  rest = drop frame.body.end input;
+  reply = reply;
+  is = is.is;
+  replied = subst (λ (q : RequestView). replies old q reply new) (framed_view input frame request is) given;
+  sent = subst (λ (q : RequestView). sends old q reply new) (framed_view input frame request is) sent;
+  close_is = is.close;
+  stopped = subst (λ (t : List ℕ). IsStopped t reply.content from size held holds) (framed_reply input frame request reply is) stopped;
 }
 
 -- ---- replies

@@ -1,21 +1,21 @@
 -- Contents part by part.
 use Rattle.std.proofs.Common.{◌≡◌, ℕ, ◌+◌, ◌-◌, ◌<◌, ◌≤◌, List, [], ◌++◌, Bool, true, false, Option, take, drop, length, refl, sym, ap, ◌∙◌, subst, arith}
 use Rattle.std.proofs.Common.{append_assoc, length-append, length-drop, Global}
-use Rattle.std.specs.Prelude.{cond, ◌||◌, Vec}
+use Rattle.std.specs.Prelude.{cond, ◌||◌, Vec, Result, Ok, Err}
 use Rattle.std.proofs.Math.Seq.{take-add}
 use Rattle.std.proofs.lemmas.List.{append-nil, drop-drop, drop-take, drop_at, take-take, take_all, take_at, take-append-drop, length-take, length-take-le}
 use Rattle.std.specs.Io.KnownBytes.{Appends}
 use Rattle.http_serve.specs.declared.replies.Content.{Content}
 use Rattle.http_serve.specs.declared.replies.Content.TheVariants.{Empty, Fixed, Whole, Shared, Parts}
 use Rattle.http_serve.specs.declared.replies.Reply.{Reply}
-use Rattle.http_serve.specs.Parts.{front_content, rest_content, front_bytes, rest_bytes, IsLater, IsReadable, IsCutIn, cut_after}
+use Rattle.http_serve.specs.Parts.{front_content, rest_content, front_bytes, rest_bytes, IsLater, IsReadable, IsCutIn, IsLeft, IsStopped, IfRest, IsNoRest, cut_after}
 use Rattle.http_serve.specs.Reply.{ReplyView, HeadView, head_of, head_view, reply_view, content_bytes, content_size, FitsParts, IsReply, InParts, with_part}
 use Rattle.http_serve.specs.Reply.{has_no_content, reply_head, reply_bytes}
 use Rattle.status_phrase.specs.Codes.{code_of}
 use Rattle.http_serve.specs.Requests.{RequestView}
 use Rattle.http_serve.specs.declared.contents.SendFault.{SendFault}
 use Rattle.http_serve.specs.declared.contents.SendFault.TheVariants as cuts
-use Rattle.http_serve.specs.Told.{HasContent, IsNotMemory}
+use Rattle.http_serve.specs.Told.{HasContent, IsNotMemory, IsNotRest}
 use Rattle.http_serve.proofs.KnownLemmas.{Appends-then, Appends_none}
 
 -- one more part after those so far
@@ -222,11 +222,56 @@ readable size (Shared bytes) parts fits is = tt
 readable size (Parts first total) parts fits is = (is ∙ fits.0, omega (arith, is, ap length fits.1, length-take (length first.items) parts))
 
 -- the fault reported for a cut is the handler's only if a content is read in parts
-pub cut_content : (size requests : ℕ) (fault : SendFault) → IsCutIn size fault → HasContent size (cut_after requests fault)
-cut_content size requests cuts.Write is = tt
-cut_content size requests cuts.Content is = is
+pub cut_content : (size requests : ℕ) (close : Bool) (fault : SendFault) → IsCutIn size fault → HasContent size (cut_after requests close fault)
+cut_content size requests close cuts.Write is = tt
+cut_content size requests close cuts.Content is = is
+cut_content size requests close (cuts.Rest from total) is = tt
 
 -- and never Memory
-pub cut_no_memory : (requests : ℕ) (fault : SendFault) → IsNotMemory (cut_after requests fault)
-cut_no_memory requests cuts.Write = tt
-cut_no_memory requests cuts.Content = tt
+pub cut_no_memory : (requests : ℕ) (close : Bool) (fault : SendFault) → IsNotMemory (cut_after requests close fault)
+cut_no_memory requests close cuts.Write = tt
+cut_no_memory requests close cuts.Content = tt
+cut_no_memory requests close (cuts.Rest from total) = tt
+
+-- and Rest only if a rest was left
+pub cut_whole : (requests : ℕ) (close : Bool) (fault : SendFault) → IsNoRest fault → IsNotRest (cut_after requests close fault)
+cut_whole requests close cuts.Write is = tt
+cut_whole requests close cuts.Content is = tt
+cut_whole requests close (cuts.Rest from total) is = is
+
+-- ---- a rest that is left
+
+pub if_rest : (r : Result (Unit {0}) SendFault) (P Q : ℕ → ℕ → Type 0) → ((from size : ℕ) → P from size → Q from size) → IfRest r P → IfRest r Q
+if_rest (Ok done) P Q f is = tt
+if_rest (Err cuts.Write) P Q f is = tt
+if_rest (Err cuts.Content) P Q f is = tt
+if_rest (Err (cuts.Rest from size)) P Q f is = f from size is
+
+module _ (bare : Bool) (reply : Reply) (view : ReplyView) (from size : ℕ) (left : IsLeft bare reply from size) (is : IsReply reply view) where
+  left_size : size ≡ length view.content
+  left_size = sym (subst (λ (c : Content). FitsParts view.content c) left.parts is.1).0
+
+  left_rest : rest_bytes bare view.content reply ≡ drop from view.content
+  left_rest = ap (λ (none : Bool). cond none [] (rest_content view.content reply.content)) left.sent
+      ∙ ap (rest_content view.content) left.parts ∙ ap (λ (n : ℕ). drop n view.content) (sym left.from_is)
+
+  -- it has some bytes, of which none are written
+  pub left_unsent : (held : Option (List ℕ)) → (n : ℕ) × (n < length (rest_bytes bare view.content reply))
+      × Appends held held (take n (rest_bytes bare view.content reply))
+  left_unsent held = (0, omega (arith, left.some, left_size, ap length left_rest, length-drop from view.content), Appends_none held)
+
+  -- the front was written
+  pub left_stopped : (close : Bool) (held holds : Option (List ℕ)) → Appends held holds (front_bytes close bare reply)
+      → IsStopped (reply_bytes close bare view) view.content from size held holds
+  left_stopped close held holds sent = record {
+    size_is = left_size;
+    some = left.some;
+    front = front_bytes close bare reply;
+    whole =
+        sym (ap (λ (t : List ℕ). front_bytes close bare reply ++ t) (sym left_rest) ∙ front_rest close bare view.content reply is.1
+        ∙ ap (λ (r : ReplyView). reply_bytes close bare r) (sym is.0));
+    written = sent;
+  }
+
+  pub left_sends : (fact : Type 0) → InParts reply.content fact → fact
+  left_sends fact sends = subst (λ (c : Content). InParts c fact) left.parts sends

@@ -1,5 +1,5 @@
 -- A connection, read by read.
-use Rattle.std.proofs.Common.{◌≡◌, ◌≢◌, ℕ, ◌<◌, ◌≤◌, List, [], ◌∷◌, ◌++◌, Option, Some, None, take, length, ◌+◌, ◌*◌, refl, sym, ap, ◌∙◌, subst}
+use Rattle.std.proofs.Common.{◌≡◌, ◌≢◌, ℕ, Bool, ◌<◌, ◌≤◌, List, [], ◌∷◌, ◌++◌, Option, Some, None, take, length, ◌+◌, ◌*◌, refl, sym, ap, ◌∙◌, subst}
 use Rattle.std.proofs.Common.{append_assoc, arith, inl, inr, length-append, zero, suc}
 use Rattle.std.specs.Prelude.{⊤, Result, Ok, Err, IfOk, IfErr}
 use Rattle.httparse.specs.Grammar.{RequestHead}
@@ -12,7 +12,7 @@ use Rattle.http_serve.specs.declared.connection.End.{End}
 use Rattle.http_serve.specs.declared.connection.End.TheVariants.{Closed, Asked, Refused, Turns}
 use Rattle.http_serve.specs.declared.connection.Served.{Served}
 use Rattle.http_serve.specs.declared.connection.ServeFault.{ServeFault}
-use Rattle.http_serve.specs.declared.connection.ServeFault.TheVariants.{Memory, Read, Write, Content}
+use Rattle.http_serve.specs.declared.connection.ServeFault.TheVariants.{Memory, Read, Write, Content, Rest}
 use Rattle.http_serve.specs.declared.contents.SendFault.{SendFault}
 use Rattle.http_serve.specs.declared.contents.SendFault.TheVariants as cuts
 use Rattle.http_serve.specs.declared.frames.Frame.{Frame}
@@ -20,17 +20,17 @@ use Rattle.http_serve.specs.declared.frames.TheConstants.{MAX_REQUEST}
 use Rattle.http_serve.specs.Input.{buffer_size}
 use Rattle.http_serve.specs.Reads.{Gives, GivesTimes}
 use Rattle.http_serve.specs.Frame.{IsFrameOf}
-use Rattle.http_serve.specs.Parts.{GivesOrFails, cut_after}
+use Rattle.http_serve.specs.Parts.{GivesOrFails, IsStopped, IfRest, cut_after}
 use Rattle.http_serve.specs.Requests.{Request, Ending, going, closed, asked, refused, EndsAs, IsRefused, Requests}
 use Rattle.http_serve.specs.Requests.{RequestView, request_view_at}
 use Rattle.http_serve.specs.Reply.{ReplyView, reply_at, refusal_bytes, has_head_method}
-use Rattle.http_serve.specs.Served.{RisesBy, reply_count, Answers, AnswersEnd, AnswersAll, AnswersNext, RepliesNext, Carries, Ends, Breaks, Anything, MayFollow}
-use Rattle.http_serve.specs.Steps.{HasPlainEnd, IsFinished, IsUnfinished, IsBroken}
+use Rattle.http_serve.specs.Served.{RisesBy, reply_count, Answers, AnswersEnd, AnswersAll, AnswersNext, RepliesNext, Carries, Ends, Breaks, Stops, Anything, MayFollow}
+use Rattle.http_serve.specs.Steps.{HasPlainEnd, IsFinished, IsUnfinished, IsBroken, IsLeftAt}
 use Rattle.http_serve.specs.Told.{end_of, IfTurns, IsServed, IsServedTo, IsServedSoFar, IsServedInPart, IsServedUpTo, IsAnswered, LosesAtMost}
-use Rattle.http_serve.specs.Told.{HasContent, MeetsTurns, KeepsTurns, AnswersInput}
+use Rattle.http_serve.specs.Told.{HasContent, IsNotRest, OnRest, StopsAtRest, MeetsTurns, KeepsTurns, AnswersInput}
 use Rattle.http_serve.proofs.HeadLemmas.{empty_no_head, refused_none}
 use Rattle.http_serve.proofs.KnownLemmas.{Appends-then, Consumes-then, Consumes_none}
-use Rattle.http_serve.proofs.CarryLemmas.{Begins-append, Begins-then, Answers-then, Carries_start, Ends_push, Frame_next, Breaks_at, Breaks_refused}
+use Rattle.http_serve.proofs.CarryLemmas.{Begins-append, Begins-then, Answers-then, Carries_start, Ends_push, Frame_next, Frame_stops, Breaks_at, Breaks_refused}
 use Rattle.http_serve.proofs.CarryLemmas.{rises_then, reply_count-append}
 
 finished_other : (end : End) (ending : Ending) (last : List ℕ) → end ≡ end_of ending → HasPlainEnd ending last → end ≢ Turns
@@ -76,13 +76,40 @@ pub cut_breaks : {S : Type 0} (replies fails : S → RequestView → ReplyView �
     → Carries replies old bytes held before middle input holds so_far → IsFrameOf input frame request
     → GivesOrFails (Err fault) (replies middle (request_view_at input frame) reply new) (fails middle (request_view_at input frame) reply new)
     → n < length (reply_at input frame reply) → Appends holds now (take n (reply_at input frame reply))
-    → IsBroken replies fails old bytes held before (cut_after so_far fault) new now
+    → IsBroken replies fails old bytes held before (cut_after so_far frame.close fault) new now
 cut_breaks replies fails old bytes held before middle input holds so_far frame request reply n new now cuts.Write so is given cut sent =
     Breaks_at replies (RepliesNext replies Anything) old bytes held before middle input holds so_far (reply_at input frame reply) n new now so
     (inl (Frame_next replies middle input frame request reply new is given)) cut sent
 cut_breaks replies fails old bytes held before middle input holds so_far frame request reply n new now cuts.Content so is given cut sent =
     Breaks_at replies (AnswersNext fails) old bytes held before middle input holds so_far (reply_at input frame reply) n new now so
     (Frame_next fails middle input frame request reply new is given) cut sent
+cut_breaks replies fails old bytes held before middle input holds so_far frame request reply n new now (cuts.Rest from size) so is given cut sent =
+    Breaks_at replies (AnswersNext replies) old bytes held before middle input holds so_far (reply_at input frame reply) n new now so
+    (Frame_next replies middle input frame request reply new is given) cut sent
+
+-- and where the rest of its content was left
+pub cut_left : {S : Type 0} (replies sends : S → RequestView → ReplyView → S → Type 0) (old : S) (bytes : List ℕ) (held : Option (List ℕ)) (before : ℕ)
+    (middle : S) (input : List ℕ) (holds : Option (List ℕ)) (so_far : ℕ) (frame : Frame) (request : Request) (new : S) (now : Option (List ℕ))
+    (fault : SendFault) → Carries replies old bytes held before middle input holds so_far → IsFrameOf input frame request
+    → IfRest (Err fault) (λ from size. (reply : ReplyView) × replies middle (request_view_at input frame) reply new
+    × sends middle (request_view_at input frame) reply new × IsStopped (reply_at input frame reply) reply.content from size holds now)
+    → IsLeftAt replies sends old bytes held before (cut_after so_far frame.close fault) new now
+cut_left replies sends old bytes held before middle input holds so_far frame request new now cuts.Write so is left = tt
+cut_left replies sends old bytes held before middle input holds so_far frame request new now cuts.Content so is left = tt
+cut_left replies sends old bytes held before middle input holds so_far frame request new now (cuts.Rest from size) so is left = record {
+  middle = middle;
+  rest = input;
+  between = holds;
+  carries = so;
+  next = Frame_stops replies sends middle input frame request left.0 from size new holds now is left.1 left.2 left.3;
+}
+
+pub not_rest : (fault : ServeFault) (fact : ℕ → Bool → ℕ → ℕ → Type 0) → IsNotRest fault → OnRest fault fact
+not_rest Memory fact is = tt
+not_rest (Read n) fact is = tt
+not_rest (Write n) fact is = tt
+not_rest (Content n) fact is = tt
+not_rest (Rest n close from size) fact is = absurd is
 
 module _ {S : Type 0} (replies : S → RequestView → ReplyView → S → Type 0) where
   pub SoFar_start : (old : S) (left held : Option (List ℕ)) (waiting : List ℕ) → waiting ≡ []
@@ -275,6 +302,29 @@ module _ {S : Type 0} (replies : S → RequestView → ReplyView → S → Type 
       SoFar_broken fails (Write n) y = SoFar_breaks (RepliesNext replies Anything) (RepliesNext replies (MayFollow last)) n
           (λ at rest next is. Next-follows at rest next (MayFollow last) new is) y
       SoFar_broken fails (Content n) y = SoFar_breaks (AnswersNext fails) (AnswersNext fails) n (λ at rest next is. is) y
+      SoFar_broken fails (Rest n close from size) y = SoFar_breaks (AnswersNext replies) (AnswersNext replies) n (λ at rest next is. is) y
+
+      pub SoFar_left : (sends : S → RequestView → ReplyView → S → Type 0) (fault : ServeFault)
+          → IsLeftAt replies sends middle full holds requests fault new now → StopsAtRest replies sends old left held fault new last now
+      SoFar_left sends Memory y = tt
+      SoFar_left sends (Read n) y = tt
+      SoFar_left sends (Write n) y = tt
+      SoFar_left sends (Content n) y = tt
+      SoFar_left sends (Rest n close from size) y =
+          let z = subst (λ (t : List ℕ). Stops replies sends middle t holds requests close from size new now n) joined y in
+          record {
+            bytes = so.bytes ++ more;
+            read = Consumes-then left leaves last so.bytes more so.read came;
+            stops = record {
+              middle = z.middle;
+              rest = z.rest;
+              between = z.between;
+              carries =
+                  Carries-then old (so.bytes ++ more) held 0 middle (waiting ++ more) holds requests z.middle z.rest z.between n
+                  (Carries-more old so.bytes held 0 middle waiting holds requests more so.carries) z.carries;
+              next = z.next;
+            };
+          }
 
     -- the input ended
     SoFar_finish : (served : Served) (last : Option (List ℕ)) (now : Option (List ℕ)) → Consumes leaves last [] → IsAtEnd last
@@ -431,6 +481,7 @@ finished_reads turns input left waiting head reason held before (Err Memory) hol
 finished_reads turns input left waiting head reason held before (Err (Read n)) holds so x = let told = x.told in absurd (cc)
 finished_reads turns input left waiting head reason held before (Err (Write n)) holds so x = so
 finished_reads turns input left waiting head reason held before (Err (Content n)) holds so x = so
+finished_reads turns input left waiting head reason held before (Err (Rest n close from size)) holds so x = so
 
 -- what the input's end is answered with isn't read in parts
 pub unfinished_content : (size : ℕ) (waiting : List ℕ) (head : Option RequestHead) (reason : Refusal) (held : Option (List ℕ)) (before : ℕ)

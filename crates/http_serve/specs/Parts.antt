@@ -1,5 +1,7 @@
 -- A reply in two pieces: its front, which the reply holds, and its rest, which is read in parts.
-use Rattle.std.specs.Prelude.{ℕ, ◌≡◌, ◌<◌, ◌≤◌, List, [], ◌++◌, ◌||◌, Bool, cond, take, drop, length, Result, Ok, Err, ⊤}
+use Rattle.std.specs.Prelude.{ℕ, ◌≡◌, ◌<◌, ◌≤◌, List, [], ◌++◌, ◌||◌, Bool, false, cond, take, drop, length, Result, Ok, Err, Option, Some, None, Vec, ⊤}
+use Rattle.std.proofs.Common.{Global}
+use Rattle.std.specs.Io.KnownBytes.{Appends}
 use Rattle.status_phrase.specs.Codes.{code_of}
 use Rattle.http_serve.specs.declared.connection.ServeFault.{ServeFault}
 use Rattle.http_serve.specs.declared.connection.ServeFault.TheVariants as ends
@@ -49,14 +51,54 @@ pub record IsLater (offset : ℕ) (reply later : ReplyView) : Type 0 where
 abbrev pub IsCutIn : ℕ → SendFault → Type 0
 IsCutIn size cuts.Write = ⊤
 IsCutIn size cuts.Content = 0 < size
+IsCutIn size (cuts.Rest from total) = ⊤
 
--- the first fact if the reply was written or a write failed, the second if its content couldn't be read to its end
+-- the first fact if the reply was written, a write failed or the rest of its content was left; the second if its content couldn't be read to
+-- its end
 abbrev pub GivesOrFails : Result (Unit {0}) SendFault → (gives fails : Type 0) → Type 0
 GivesOrFails (Ok done) gives fails = gives
 GivesOrFails (Err cuts.Write) gives fails = gives
 GivesOrFails (Err cuts.Content) gives fails = fails
+GivesOrFails (Err (cuts.Rest from total)) gives fails = gives
 
--- the fault of a connection on which this many replies were written in full and the next one was cut
-abbrev pub cut_after : ℕ → SendFault → ServeFault
-cut_after requests cuts.Write = ends.Write requests
-cut_after requests cuts.Content = ends.Content requests
+-- the fault of a connection on which this many replies were written in full and the next one, which may be the last, was cut
+abbrev pub cut_after : ℕ → (close : Bool) → SendFault → ServeFault
+cut_after requests close cuts.Write = ends.Write requests
+cut_after requests close cuts.Content = ends.Content requests
+cut_after requests close (cuts.Rest from total) = ends.Rest requests close from total
+
+-- ---- a reply that stops before the rest of its content
+
+-- the content is read in parts and sent, and the reply holds its first bytes, from of size, and not all
+pub record IsLeft (bare : Bool) (reply : Reply) (from size : ℕ) : Type 0 where
+  pub first : Vec ℕ Global
+  pub parts : reply.content ≡ Parts first size
+  pub from_is : from ≡ length first.items
+  pub some : from < size
+  pub sent : (bare || has_no_content (code_of reply.status)) ≡ false
+
+-- of all bytes of a reply exactly those are written that come before the rest of its content: before its bytes from this one on
+pub record IsStopped (all content : List ℕ) (from size : ℕ) (held holds : Option (List ℕ)) : Type 0 where
+  pub size_is : size ≡ length content
+  pub some : from < size
+  pub front : List ℕ
+  pub whole : all ≡ front ++ drop from content
+  pub written : Appends held holds front
+
+-- a fact about the rest that was left, if that is why the reply is cut
+abbrev pub IfRest : Result (Unit {0}) SendFault → (ℕ → ℕ → Type 0) → Type 0
+IfRest (Ok done) fact = ⊤
+IfRest (Err cuts.Write) fact = ⊤
+IfRest (Err cuts.Content) fact = ⊤
+IfRest (Err (cuts.Rest from size)) fact = fact from size
+
+-- no rest was left
+abbrev pub IsNoRest : SendFault → Type 0
+IsNoRest cuts.Write = ⊤
+IsNoRest cuts.Content = ⊤
+IsNoRest (cuts.Rest from size) = ⊥
+
+-- the bytes that a read returned, or None if it failed
+abbrev pub read_outcome : {E : Type 0} → Result (Unit {0}) E → (bytes : List ℕ) → Option (List ℕ)
+read_outcome (Ok done) bytes = Some bytes
+read_outcome (Err fault) bytes = None

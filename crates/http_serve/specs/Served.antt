@@ -1,10 +1,11 @@
 -- What a connection writes, given what it reads.
-use Rattle.std.specs.Prelude.{◌≡◌, ℕ, ◌+◌, ◌-◌, ◌^◌, ◌<◌, min, List, [], ◌∷◌, ◌++◌, length, take, Option, ⊤, ◌⊎◌}
+use Rattle.std.specs.Prelude.{◌≡◌, ℕ, ◌+◌, ◌-◌, ◌^◌, ◌<◌, min, Bool, List, [], ◌∷◌, ◌++◌, length, take, Option, ⊤, ◌⊎◌}
 use Rattle.std.specs.Io.KnownBytes.{Appends, IsAtEnd}
 use Rattle.httparse.specs.Grammar.{RequestHead}
 use Rattle.http_serve.specs.declared.refusals.Refusal.{Refusal}
 use Rattle.http_serve.specs.Requests.{Request, IsRequest, IsRefused, Begins, Ending, going, closed, asked, refused, Requests}
-use Rattle.http_serve.specs.Requests.{RequestView, request_view}
+use Rattle.http_serve.specs.Requests.{RequestView, request_view, asks_to_close}
+use Rattle.http_serve.specs.Parts.{IsStopped}
 use Rattle.http_serve.specs.Reply.{ReplyView, reply_to, refusal_bytes}
 
 -- a count rises by n, saturating at the maximum of u64
@@ -97,6 +98,29 @@ module _ {S : Type 0} (replies : S → RequestView → ReplyView → S → Type 
     pub replied : IsNext middle rest next new
     pub cut : count < length next
     pub written : Appends between holds (take count next)
+
+-- replies, and those whose content is being read in parts
+module _ {S : Type 0} (replies sends : S → RequestView → ReplyView → S → Type 0) where
+  -- the reply to the request that bytes begin with is written up to the rest of its content; close says whether it is the last one
+  pub record StopsNext (old : S) (bytes : List ℕ) (held : Option (List ℕ)) (close : Bool) (from size : ℕ)
+      (new : S) (holds : Option (List ℕ)) : Type 0 where
+    pub request : Request
+    pub rest : List ℕ
+    pub reply : ReplyView
+    pub is : IsRequest bytes request rest
+    pub replied : replies old (request_view request) reply new
+    pub sent : sends old (request_view request) reply new
+    pub close_is : close ≡ asks_to_close request.head
+    pub stopped : IsStopped (reply_to request reply) reply.content from size held holds
+
+  -- the replies to some whole requests are written, and the next one up to the rest of its content
+  pub record Stops (old : S) (bytes : List ℕ) (held : Option (List ℕ)) (before : ℕ) (close : Bool) (from size : ℕ)
+      (new : S) (holds : Option (List ℕ)) (after : ℕ) : Type 0 where
+    pub middle : S
+    pub rest : List ℕ
+    pub between : Option (List ℕ)
+    pub carries : Carries replies old bytes held before middle rest between after
+    pub next : StopsNext middle rest between close from size new holds
 
 -- anything may follow
 abbrev pub Anything : List ℕ → Type 0

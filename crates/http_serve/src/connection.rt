@@ -7,14 +7,15 @@ ghost use Rattle.http_serve.specs.Requests.{path_of, request_view_at};
 ghost use Rattle.http_serve.specs.Reply.{ReplyView, reply_at, refusal_bytes, has_head_method};
 ghost use Rattle.http_serve.specs.Search.{IsKnown};
 ghost use Rattle.http_serve.specs.Sent.{Sends};
-ghost use Rattle.http_serve.specs.Steps.{IsPaused, IsBroken, IsFinished, IsUnfinished};
+ghost use Rattle.http_serve.specs.Steps.{IsPaused, IsBroken, IsLeftAt, IsFinished, IsUnfinished};
 ghost use Rattle.http_serve.specs.declared.handlers.TheConstants.{PART_SIZE};
 ghost use Rattle.http_serve.specs.declared.replies.TheConstants.{REPLY_SPACE};
 ghost use Rattle.http_serve.specs.declared.connection.ServeFault.TheVariants.{Memory};
-ghost use Rattle.http_serve.specs.Told.{IsServed, IsServedUpTo, HasContent, IsNotMemory, MeetsTurns, KeepsTurns, Serves};
-ghost use Rattle.http_serve.specs.Parts.{GivesOrFails, IsCutIn};
+ghost use Rattle.http_serve.specs.declared.contents.Rests.TheVariants.{Sent};
+ghost use Rattle.http_serve.specs.Told.{IsServed, IsServedUpTo, StopsAtRest, HasContent, IsNotMemory, IsNotRest, MeetsTurns, KeepsTurns, Serves};
+ghost use Rattle.http_serve.specs.Parts.{GivesOrFails, IsCutIn, IsStopped, IfRest, IsNoRest};
 
-use crate::contents::{SendFault, send_reply};
+use crate::contents::{Rests, SendFault, send_reply};
 use crate::fields::position_or_len;
 use crate::frames::{Frame, Next, is_head};
 use crate::refusals::{NO_HEAD, Rejection};
@@ -57,13 +58,28 @@ pub enum ServeFault {
     Memory,
     /// A read failed.
     #[error("a read failed after {requests} replies")]
-    Read { requests: u64 },
+    Read {
+        requests: u64,
+    },
     /// A write failed or took 0 bytes.
     #[error("a write failed after {requests} replies")]
-    Write { requests: u64 },
+    Write {
+        requests: u64,
+    },
     /// The handler couldn't read a content after its first bytes.
     #[error("a content could not be read after {requests} replies")]
-    Content { requests: u64 },
+    Content {
+        requests: u64,
+    },
+    /// No fault of the peer: the next reply is written up to the byte `from` of its content, which has `length` bytes, and the rest is
+    /// the caller's to read and write. `close` says whether the connection ends after it.
+    #[error("the rest of a content was left after {requests} replies")]
+    Rest {
+        requests: u64,
+        close: bool,
+        from: u64,
+        length: u64,
+    },
 }
 
 /// Why answering requests stops.
@@ -101,6 +117,7 @@ fn answer_one<H: Handler, W: Write>(
     part: &mut Vec<u8>,
     bytes: &[u8],
     frame: &Frame,
+    rests: Rests,
 ) -> Result<(), SendFault>
     requires method { IsWithin (length bytes.now) frame.now.method }
     requires target { IsWithin (length bytes.now) frame.now.target }
@@ -114,6 +131,10 @@ fn answer_one<H: Handler, W: Write>(
         (H.fails handler.old (request_view_at bytes.now frame.now) reply handler.new)
         × Sends result (W.contents writer.old) (W.contents writer.new) (reply_at bytes.now frame.now reply) }
     ensures cut { IfErr result (IsCutIn (H.size handler.new)) }
+    ensures stopped { IfRest result (λ from size. (reply : ReplyView) × H.replies handler.old (request_view_at bytes.now frame.now) reply handler.new
+        × H.sends handler.old (request_view_at bytes.now frame.now) reply handler.new
+        × IsStopped (reply_at bytes.now frame.now reply) reply.content from size (W.contents writer.old) (W.contents writer.new)) }
+    ensures whole { rests ≡ Sent → IfErr result IsNoRest }
 {
     let method = frame.method.of(bytes);
     let request = Request {
@@ -132,6 +153,7 @@ fn answer_one<H: Handler, W: Write>(
         &reply,
         frame.close,
         is_head(method),
+        rests,
     )
 }
 
@@ -156,6 +178,7 @@ fn answer_whole<H: Handler, W: Write>(
     writer: &mut W,
     session: &mut Session,
     mut requests: u64,
+    rests: Rests,
 ) -> Result<Pause, ServeFault>
     requires known { IsKnown session.old.input.waiting session.old.search }
     ensures known { OnOk result (IsKnown session.new.input.waiting session.new.search) }
@@ -165,6 +188,9 @@ fn answer_whole<H: Handler, W: Write>(
         handler.new (W.contents writer.new)) }
     ensures content { IfErr result (HasContent (H.size handler.new)) }
     ensures no_memory { IfErr result IsNotMemory }
+    ensures left { IfErr result (λ fault. IsLeftAt H.replies H.sends handler.old session.old.input.waiting (W.contents writer.old) requests fault
+        handler.new (W.contents writer.new)) }
+    ensures whole { rests ≡ Sent → IfErr result IsNotRest }
 {
     'requests: loop {
         let frame = match find_next(session.input.waiting(), &mut session.search) {
@@ -193,9 +219,10 @@ fn answer_whole<H: Handler, W: Write>(
             &mut session.part,
             waiting,
             &frame,
+            rests,
         ) {
             Ok(()) => requests = requests.saturating_add(1),
-            Err(fault) => return Err(fault.after(requests)),
+            Err(fault) => return Err(fault.after(requests, frame.close)),
         }
         if frame.close {
             let end = End::Asked;
@@ -220,6 +247,7 @@ fn finish<W: Write>(
         → IfErr result (λ fault. IsUnfinished session.old.input.waiting head reason.refusal (W.contents writer.old) requests
         fault (W.contents writer.new)) }
     ensures no_memory { IfErr result IsNotMemory }
+    ensures whole { IfErr result IsNotRest }
 {
     if session.input.waiting().is_empty() {
         return Ok(Served {
@@ -243,6 +271,7 @@ fn serve_session<R: Read, W: Write, H: Handler>(
     writer: &mut W,
     handler: &mut H,
     turns: u64,
+    rests: Rests,
 ) -> Result<Served, ServeFault>
     ensures served { IfOk result (λ served. IsServed H.replies handler.old (R.remaining reader.old) (W.contents writer.old) served
         handler.new (R.remaining reader.new) (W.contents writer.new)) }
@@ -252,6 +281,9 @@ fn serve_session<R: Read, W: Write, H: Handler>(
     ensures no_memory { IfErr result IsNotMemory }
     ensures turns { IfOk result (λ served. MeetsTurns R.remaining turns reader.old reader.new served.end) }
     ensures reads { KeepsTurns turns result (R.remaining reader.old) (R.remaining reader.new) }
+    ensures left { IfErr result (λ fault. StopsAtRest H.replies H.sends handler.old (R.remaining reader.old) (W.contents writer.old) fault
+        handler.new (R.remaining reader.new) (W.contents writer.new)) }
+    ensures whole { rests ≡ Sent → IfErr result IsNotRest }
 {
     session.begin();
     let mut requests = 0;
@@ -263,7 +295,7 @@ fn serve_session<R: Read, W: Write, H: Handler>(
         if count == 0 {
             return finish(writer, session, requests, reason);
         }
-        match answer_whole(handler, writer, session, requests)? {
+        match answer_whole(handler, writer, session, requests, rests)? {
             Pause::Ended(served) => return Ok(served),
             Pause::More {
                 requests: answered,
@@ -280,6 +312,32 @@ fn serve_session<R: Read, W: Write, H: Handler>(
 
 /// The maximum number of reads per connection.
 pub const MAX_READS: u64 = 4_294_967_296;
+
+/// Serves a connection with the buffers that are kept, or with new ones.
+fn serve_in<R: Read, W: Write, H: Handler>(
+    buffers: &mut Buffers,
+    reader: &mut R,
+    writer: &mut W,
+    handler: &mut H,
+    turns: u64,
+    rests: Rests,
+) -> Result<Served, ServeFault>
+    ensures serves { Serves H.replies H.fails H.size R.remaining W.contents turns handler.old reader.old writer.old result
+        handler.new reader.new writer.new }
+    // Buffers that are allocated stay so, and then memory can't run out.
+    ensures kept { IsTrue buffers.old.allocated → IfErr result IsNotMemory }
+    ensures keeps { (result ≡ Err Memory) ⊎ IsTrue buffers.new.allocated }
+    ensures left { IfErr result (λ fault. StopsAtRest H.replies H.sends handler.old (R.remaining reader.old) (W.contents writer.old) fault
+        handler.new (R.remaining reader.new) (W.contents writer.new)) }
+    ensures whole { rests ≡ Sent → IfErr result IsNotRest }
+{
+    let Ok(mut session) = buffers.take() else {
+        return Err(ServeFault::Memory);
+    };
+    let outcome = serve_session(&mut session, reader, writer, handler, turns, rests);
+    buffers.keep(session);
+    outcome
+}
 
 /// Serves a connection with at most `turns` reads: one reply per request, in order, and one to invalid input. After `turns` reads,
 /// the whole requests in the bytes read are answered. The first connection allocates the buffers, and those after it use them.
@@ -299,11 +357,32 @@ pub fn serve_with<R: Read, W: Write, H: Handler>(
     // Buffers that are allocated stay so, and then memory can't run out.
     ensures kept { IsTrue buffers.old.allocated → IfErr result IsNotMemory }
     ensures keeps { (result ≡ Err Memory) ⊎ IsTrue buffers.new.allocated }
+    // The rest of a content is never left.
+    ensures whole { IfErr result IsNotRest }
 {
-    let Ok(mut session) = buffers.take() else {
-        return Err(ServeFault::Memory);
-    };
-    let outcome = serve_session(&mut session, reader, writer, handler, turns);
-    buffers.keep(session);
-    outcome
+    serve_in(buffers, reader, writer, handler, turns, Rests::Sent)
+}
+
+/// Serves a connection as `serve_with` does, but stops before the rest of a content: before the bytes of it that the reply doesn't hold.
+/// `Downloads::read_rest` reads these later.
+///
+/// # Errors
+///
+/// Those of `serve_with`, and `Rest`.
+pub fn serve_fronts<R: Read, W: Write, H: Handler>(
+    buffers: &mut Buffers,
+    reader: &mut R,
+    writer: &mut W,
+    handler: &mut H,
+    turns: u64,
+) -> Result<Served, ServeFault>
+    ensures serves { Serves H.replies H.fails H.size R.remaining W.contents turns handler.old reader.old writer.old result
+        handler.new reader.new writer.new }
+    ensures kept { IsTrue buffers.old.allocated → IfErr result IsNotMemory }
+    ensures keeps { (result ≡ Err Memory) ⊎ IsTrue buffers.new.allocated }
+    // With the fault Rest exactly what comes before the rest is written: with the rest it is the whole reply to a whole request.
+    ensures left { IfErr result (λ fault. StopsAtRest H.replies H.sends handler.old (R.remaining reader.old) (W.contents writer.old) fault
+        handler.new (R.remaining reader.new) (W.contents writer.new)) }
+{
+    serve_in(buffers, reader, writer, handler, turns, Rests::Left)
 }

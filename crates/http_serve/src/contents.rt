@@ -1,6 +1,7 @@
 //! Replies whose content is read from the handler in parts.
-ghost use Rattle.std.specs.Prelude.{◌≡◌, ◌≤◌, ◌<◌, ◌+◌, length, take, drop, vec_len, vec_capacity, IfErr, OnOk};
-ghost use Rattle.http_serve.specs.Parts.{GivesOrFails, IsCutIn, IsLater, IsReadable, cut_after, rest_bytes};
+ghost use Rattle.std.specs.Prelude.{◌≡◌, ◌↔◌, ◌≤◌, ◌<◌, ◌+◌, IsTrue, length, take, drop, vec_len, vec_capacity, IfErr, OnOk};
+ghost use Rattle.http_serve.specs.Parts.{GivesOrFails, IsCutIn, IsLater, IsReadable, IsLeft, IsStopped, IfRest, IsNoRest, cut_after, rest_bytes};
+ghost use Rattle.http_serve.specs.declared.contents.Rests.TheVariants.{Sent, Left};
 ghost use Rattle.http_serve.specs.declared.handlers.TheConstants.{PART_SIZE};
 ghost use Rattle.http_serve.specs.declared.replies.TheConstants.{REPLY_SPACE};
 ghost use Rattle.http_serve.specs.Requests.{RequestView};
@@ -20,17 +21,44 @@ pub(crate) enum SendFault {
     Write,
     /// The handler couldn't read the content.
     Content,
+    /// The content of `length` bytes was left from the byte `from` on.
+    Rest { from: u64, length: u64 },
 }
 
 impl SendFault {
-    /// The fault of the connection after `requests` complete replies.
-    pub(crate) fn after(self, requests: u64) -> ServeFault
-        ensures { result ≡ cut_after requests self }
+    /// The fault of the connection after `requests` complete replies. `close` says whether the reply is the last one.
+    pub(crate) fn after(self, requests: u64, close: bool) -> ServeFault
+        ensures { result ≡ cut_after requests close self }
     {
         match self {
             SendFault::Write => ServeFault::Write { requests },
             SendFault::Content => ServeFault::Content { requests },
+            SendFault::Rest { from, length } => ServeFault::Rest {
+                requests,
+                close,
+                from,
+                length,
+            },
         }
+    }
+}
+
+/// What is done with the rest of a content that is read in parts.
+#[derive(Clone, Copy, Debug, PartialEq, Eq)]
+pub(crate) enum Rests {
+    /// It is read and written.
+    Sent,
+    /// It is left to the caller.
+    Left,
+}
+
+/// Whether a content of `length` bytes is left from the byte `from` on.
+fn leaves(rests: Rests, from: u64, length: u64) -> bool
+    ensures { IsTrue result ↔ ((rests ≡ Left) × (from < length)) }
+{
+    match rests {
+        Rests::Sent => false,
+        Rests::Left => from < length,
     }
 }
 
@@ -50,6 +78,7 @@ fn send_part<H: Handler, W: Write>(
         × OnOk result (H.sends old request later handler.new)
         × Sends result (W.contents writer.old) (W.contents writer.new) (take (length part.old) (drop offset later.content)) }
     ensures cut { IfErr result (IsCutIn (H.size handler.new)) }
+    ensures whole { IfErr result IsNoRest }
     ensures size { H.size handler.new ≡ H.size handler.old }
     ensures length { length part.new ≡ length part.old }
 {
@@ -81,6 +110,7 @@ fn send_each_part<H: Handler, W: Write>(
         × GivesOrFails result (H.replies old request later handler.new) (H.fails old request later handler.new)
         × Sends result (W.contents writer.old) (W.contents writer.new) (drop offset later.content) }
     ensures cut { IfErr result (IsCutIn (H.size handler.new)) }
+    ensures whole { IfErr result IsNoRest }
 {
     let mut at = offset;
     while at < size {
@@ -120,19 +150,21 @@ fn send_parts<H: Handler, W: Write>(
         × GivesOrFails result (H.replies old request later handler.new) (H.fails old request later handler.new)
         × Sends result (W.contents writer.old) (W.contents writer.new) (drop offset later.content) }
     ensures cut { IfErr result (IsCutIn (H.size handler.new)) }
+    ensures whole { IfErr result IsNoRest }
 {
     let most = (size - offset).min(PART_SIZE as u64) as usize;
     lengthen(part, most);
     send_each_part(handler, writer, &mut part[..most], offset, size)
 }
 
-/// Writes the rest of the content of a reply, if it is read in parts and sent.
+/// Writes the rest of the content of a reply, if it is read in parts and sent, or leaves it.
 fn send_rest<H: Handler, W: Write>(
     handler: &mut H,
     writer: &mut W,
     part: &mut Vec<u8>,
     reply: &Reply,
     bare: bool,
+    rests: Rests,
 ) -> Result<(), SendFault>
     requires readable { IsReadable (H.size handler.old) reply.now.content }
     requires space { PART_SIZE ≤ vec_capacity part.old }
@@ -143,19 +175,27 @@ fn send_rest<H: Handler, W: Write>(
         × GivesOrFails result (H.replies old request later handler.new) (H.fails old request later handler.new)
         × Sends result (W.contents writer.old) (W.contents writer.new) (rest_bytes bare later.content reply.now) }
     ensures cut { IfErr result (IsCutIn (H.size handler.new)) }
+    // What is left is told exactly, and nothing was written.
+    ensures left { IfRest result (λ from size. IsLeft bare reply.now from size × (handler.new ≡ handler.old) × (writer.new ≡ writer.old)) }
+    ensures whole { rests ≡ Sent → IfErr result IsNoRest }
 {
     if !reply.sends_content(bare) {
         return Ok(());
     }
     match &reply.content {
         Content::Parts { first, length } => {
-            send_parts(handler, writer, part, first.len() as u64, *length)
+            let from = first.len() as u64;
+            let length = *length;
+            if leaves(rests, from, length) {
+                return Err(SendFault::Rest { from, length });
+            }
+            send_parts(handler, writer, part, from, length)
         }
         _ => Ok(()),
     }
 }
 
-/// Writes a reply, or only its head if `bare`. `close` says that it is the last one.
+/// Writes a reply, or only its head if `bare`. `close` says that it is the last one, `rests` whether the rest of a content is written.
 pub(crate) fn send_reply<H: Handler, W: Write>(
     handler: &mut H,
     writer: &mut W,
@@ -164,6 +204,7 @@ pub(crate) fn send_reply<H: Handler, W: Write>(
     reply: &Reply,
     close: bool,
     bare: bool,
+    rests: Rests,
 ) -> Result<(), SendFault>
     requires words { HasShortWords (head_view reply.now) }
     requires readable { IsReadable (H.size handler.old) reply.now.content }
@@ -176,9 +217,14 @@ pub(crate) fn send_reply<H: Handler, W: Write>(
         → (later : ReplyView) × GivesOrFails result (H.replies old request later handler.new) (H.fails old request later handler.new)
         × Sends result (W.contents writer.old) (W.contents writer.new) (reply_bytes close bare later) }
     ensures cut { IfErr result (IsCutIn (H.size handler.new)) }
+    ensures stopped { IfRest result (λ from size. (old : H) (request : RequestView) (view : ReplyView) → IsReply reply.now view
+        → H.replies old request view handler.old → InParts reply.now.content (H.sends old request view handler.old)
+        → H.replies old request view handler.new × H.sends old request view handler.new
+        × IsStopped (reply_bytes close bare view) view.content from size (W.contents writer.old) (W.contents writer.new)) }
+    ensures whole { rests ≡ Sent → IfErr result IsNoRest }
 {
     match send_front(writer, out, reply, close, bare) {
-        Ok(()) => send_rest(handler, writer, part, reply, bare),
+        Ok(()) => send_rest(handler, writer, part, reply, bare, rests),
         Err(_) => Err(SendFault::Write),
     }
 }

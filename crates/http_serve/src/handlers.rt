@@ -1,7 +1,9 @@
 //! The handler of a connection's requests.
-ghost use Rattle.std.specs.Prelude.{◌≡◌, ◌≤◌, ◌+◌, ℕ, length, OnOk, OnErr};
+ghost use Rattle.std.specs.Prelude.{◌≡◌, ◌≤◌, ◌+◌, ℕ, List, Option, length, OnOk, OnErr};
 ghost use Rattle.std.specs.Option.{option_map};
 ghost use Rattle.http_serve.specs.declared.handlers.TheConstants.{PART_SIZE};
+ghost use Rattle.http_serve.specs.declared.handlers.Ticket.{Ticket};
+ghost use Rattle.http_serve.specs.Parts.{read_outcome};
 ghost use Rattle.http_serve.specs.Requests.{RequestView};
 ghost use Rattle.http_serve.specs.Reply.{ReplyView, IsReply, InParts, HasShortWords, head_view, with_part};
 
@@ -74,4 +76,44 @@ pub trait Handler {
             → sends old request (with_part offset part.new reply) self.new × replies old request (with_part offset part.new reply) self.new) }
         ensures unread { OnErr result ((old : Self) (request : RequestView) (reply : ReplyView) → sends old request reply self.old
             → fails old request reply self.new) };
+}
+
+/// Names a content that is read between later replies. Its numbers mean something to the handler alone that gave it.
+#[derive(Clone, Copy, Debug, PartialEq, Eq)]
+pub struct Ticket {
+    /// Which state of its source it is a part of.
+    pub generation: u64,
+    /// Where the source is.
+    pub place: u64,
+    /// The length of the source in bytes.
+    pub total: u64,
+    /// Which byte of the source is the content's first one.
+    pub first: u64,
+}
+
+/// A handler whose contents can be read between later replies: the rest of a content that `serve_fronts` left.
+pub trait Downloads: Handler {
+    /// In the first state bytes of a ticket's content were read from an offset on, or couldn't be, and the second state follows.
+    ghost reads: { Self → Ticket → ℕ → Option (List ℕ) → Self → Type 0 };
+
+    /// The ticket for the content of the last reply.
+    ghost ticket_of: { Self → Ticket };
+
+    /// The ticket for the content of the last reply, which is in parts.
+    fn ticket(&self) -> Ticket
+        ensures { result ≡ ticket_of self.now };
+
+    /// Fills `part` from an offset of a ticket's content. After a fault `part` may hold any bytes.
+    ///
+    /// # Errors
+    ///
+    /// The content isn't there any more, has no such bytes, or can't be read.
+    fn read_rest(
+        &mut self,
+        ticket: Ticket,
+        offset: u64,
+        part: &mut [u8],
+    ) -> Result<(), ContentFault>
+        ensures read { reads self.old ticket offset (read_outcome result part.new) self.new }
+        ensures length { length part.new ≡ length part.old };
 }

@@ -16,9 +16,9 @@ mod searches;
 mod sessions;
 mod writes;
 
-pub use connection::{End, MAX_READS, ServeFault, Served, serve_with};
+pub use connection::{End, MAX_READS, ServeFault, Served, serve_fronts, serve_with};
 pub use frames::MAX_REQUEST;
-pub use handlers::{ContentFault, Handler, PART_SIZE, Request};
+pub use handlers::{ContentFault, Downloads, Handler, PART_SIZE, Request, Ticket};
 pub use inputs::READ_SPACE;
 pub use replies::{Content, ContentRange, MAX_WORD, Reply};
 pub use scans::{Scan, Scanned};

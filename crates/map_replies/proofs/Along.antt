@@ -4,7 +4,7 @@ use Rattle.http_serve.specs.declared.connection.End.{End}
 use Rattle.http_serve.specs.declared.connection.End.TheVariants.{Closed, Asked, Refused, Turns}
 use Rattle.http_serve.specs.declared.connection.Served.{Served}
 use Rattle.http_serve.specs.declared.connection.ServeFault.{ServeFault}
-use Rattle.http_serve.specs.declared.connection.ServeFault.TheVariants.{Memory, Read, Write, Content}
+use Rattle.http_serve.specs.declared.connection.ServeFault.TheVariants.{Memory, Read, Write, Content, Rest}
 use Rattle.http_serve.specs.Requests.{Request, RequestView, Ending, going, closed, asked, refused}
 use Rattle.http_serve.specs.Reply.{ReplyView}
 use Rattle.http_serve.specs.Served.{Answers, AnswersEnd, AnswersAll, AnswersNext, RepliesNext, MayFollow, Carries, Ends, Breaks}
@@ -73,14 +73,19 @@ module _ {S T : Type 0} (replies fails : S → RequestView → ReplyView → S �
         all.2,
       )
 
+  answered_along : (old : S) (bytes out : List ℕ) (new : S) (told : T) → Along old told → AnswersNext replies old bytes out new
+      → Some_along new (λ now. AnswersNext tells told bytes out now)
+  answered_along old bytes out new told along is =
+      let one = step old told _ is.reply new along is.replied in (
+        one.0,
+        record { request = is.request; rest = is.rest; reply = is.reply; is = is.is; replied = one.1; out_is = is.out_is },
+        one.2,
+      )
+
   next_along : (old : S) (bytes : List ℕ) (follow : List ℕ → Type 0) (out : List ℕ) (new : S) (told : T) → Along old told
       → RepliesNext replies follow old bytes out new → Some_along new (λ now. RepliesNext tells follow told bytes out now)
   next_along old bytes follow out new told along (inl is) =
-      let one = step old told _ is.reply new along is.replied in (
-        one.0,
-        inl (record { request = is.request; rest = is.rest; reply = is.reply; is = is.is; replied = one.1; out_is = is.out_is }),
-        one.2,
-      )
+      let one = answered_along old bytes out new told along is in (one.0, inl one.1, one.2)
   next_along old bytes follow out new told along (inr is) = (
     told,
     inr (record { head = is.head; refusal = is.refusal; some = is.some; is = is.is; same = refl; out_is = is.out_is }),
@@ -166,3 +171,5 @@ module _ {S T : Type 0} (replies fails : S → RequestView → ReplyView → S �
       (λ at bytes out then so goes is. next_along at bytes (MayFollow leaves) out then so goes is) old left held requests new leaves holds told along is
   fault_along old left held (Content requests) new leaves holds told along is =
       in_part_along (AnswersNext fails) (AnswersNext tells_cut) failed_along old left held requests new leaves holds told along is
+  fault_along old left held (Rest requests close from size) new leaves holds told along is =
+      in_part_along (AnswersNext replies) (AnswersNext tells) answered_along old left held requests new leaves holds told along is

@@ -12,7 +12,10 @@ use Rattle.tile_service.proofs.Runs.Callers.{HasRun, run_begins, run_on_all, tak
 use Rattle.map_replies.specs.declared.service.MapReplies.{MapReplies}
 use Rattle.tile_service.specs.Service.{status_of}
 use Rattle.map_replies.specs.Meanings.{Means, DiskFailed}
-use Rattle.map_replies.specs.State.{access_of, asked_service, ServiceReplies, ServiceFails, Course, course, Tells, TellsCut}
+use Rattle.map_replies.specs.State.{access_of, asked_service, ServiceReplies, ServiceFails, ServiceReads, Course, course, Tells, TellsCut, TellsRead}
+use Rattle.map_replies.specs.Tickets.{KeepsTickets}
+use Rattle.map_replies.proofs.TicketLemmas.{run_reads}
+use Rattle.http_serve.specs.declared.handlers.Ticket.{Ticket}
 use Rattle.map_replies.proofs.Along.{served_along, fault_along}
 
 module _ {D : Type 0} (sectors : D → ℕ) (honest : D → Type 0) (history : D → History) (faults : D → ℕ) where
@@ -37,6 +40,7 @@ module _ {D : Type 0} (sectors : D → ℕ) (honest : D → Type 0) (history : D
           subst (λ (s : MapReplies D). TakesAll sectors honest history (asked_service s) is.0.0 (asked_service new)) (sym here) is.0.2,
           refl,
           subst (λ (s : MapReplies D). access_of new ≡ access_of s) (sym here) is.1,
+          subst (λ (s : MapReplies D). KeepsTickets honest history s.calls new.calls) (sym here) is.2,
         ),
         (refl, run_on_all sectors honest history (asked_service first) (asked_service old) (asked_service new) so.run is.0.0 along.1 is.0.2),
       )
@@ -56,6 +60,21 @@ module _ {D : Type 0} (sectors : D → ℕ) (honest : D → Type 0) (history : D
               (subst (λ (s : MapReplies D). DiskFailed faults (asked_service s) (asked_service new)) here is.1),
         ),
         one.2,
+      )
+
+  -- a read of a download between two replies
+  pub read_told : (first old : MapReplies D) (so : Course D) (ticket : Ticket) (offset : ℕ) (outcome : Option (List ℕ)) (new : MapReplies D)
+      → GoesAlong first old so → ServiceReads sectors honest history faults old ticket offset outcome new
+      → (more : Course D) × TellsRead sectors honest history faults so ticket offset outcome more × GoesAlong first new more
+  read_told first old so ticket offset outcome new along is =
+      let here : so.replies ≡ old = ap (λ (c : Course D). c.replies) along.0 in (
+        course new so.run,
+        (subst (λ (s : MapReplies D). ServiceReads sectors honest history faults s ticket offset outcome new) (sym here) is, refl),
+        (
+          refl,
+          run_reads sectors honest history (asked_service first) (asked_service old) (asked_service new) so.run along.1
+              is.0.same is.0.disk is.0.up,
+        ),
       )
 
   -- The replies of a connection that was served report a run of the service.

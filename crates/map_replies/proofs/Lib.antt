@@ -2,6 +2,7 @@ pub mod Along
 mod Answering
 mod CheckedEdits
 pub mod Connections
+mod TicketLemmas
 mod PartLemmas
 mod Pushed
 mod SendingLemmas

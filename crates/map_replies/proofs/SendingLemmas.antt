@@ -11,6 +11,7 @@ use Rattle.http_serve.specs.declared.replies.Reply.{Reply}
 use Rattle.http_serve.specs.Reply.{ReplyView, IsWhole, HasShortWords, head_view, InParts, FitsParts, content_bytes, reply_view, with_part}
 use Rattle.http_serve.proofs.HandlerLemmas.{shown_reply, whole_reply, none_in_parts}
 use Rattle.http_serve.proofs.PartLemmas.{in_parts}
+use Rattle.http_serve.specs.Parts.{read_outcome}
 use Rattle.sector_disk.specs.Asked.{OnlyReads}
 use Rattle.sector_disk.specs.Disk.{History, seen, HasFailed}
 use Rattle.sector_disk.proofs.AskedLaws as disks
@@ -30,7 +31,7 @@ use Rattle.map_replies.specs.declared.parts.ArchiveRange.TheVariants.{Whole, Bet
 use Rattle.map_replies.specs.declared.parts.Sending.{Sending}
 use Rattle.map_replies.specs.Meanings.{OrNoMemory, MeansPart, MeansArchive, Answers, AnswersAllowed, AnswersMethod, DiskFailed}
 use Rattle.map_replies.specs.Parts.{range_for, IsPart, start_of, size_of, part_reply}
-use Rattle.map_replies.specs.Sending.{IsAnswered, IsAnswer, IsAnsweredInParts, IsInside, read_outcome, Begins, SendsPart, AnswersPart, IsSending, SendsMethod}
+use Rattle.map_replies.specs.Sending.{IsAnswered, IsAnswer, IsAnsweredInParts, IsInside, Begins, SendsPart, AnswersPart, IsSending, SendsMethod}
 use Rattle.map_replies.specs.Words.{refusal_of, service_refusal}
 use Rattle.map_replies.proofs.Answering.{no_memory_first}
 
@@ -68,7 +69,7 @@ part_same xs part offset is =
     drop_sum a n xs = sym (drop-drop n a xs)
 
 -- a piece of a slice
-slice_inner : (xs piece : List ℕ) (a size offset : ℕ) → offset + length piece ≤ size
+pub slice_inner : (xs piece : List ℕ) (a size offset : ℕ) → offset + length piece ≤ size
     → piece ≡ slice_range xs (a + offset) (a + offset + length piece)
     → piece ≡ take (length piece) (drop offset (slice_range xs a (a + size)))
 slice_inner xs piece a size offset within is =
@@ -123,7 +124,7 @@ inside_end Whole total inside = omega arith
 inside_end (Between first last) total inside = omega (arith, inside.0, inside.1)
 inside_end Beyond total inside = absurd inside
 
-content_of : (part : ArchiveRange) (total : ℕ) (a : List ℕ) → IsInside part total → (part_reply part total a).content ≡ a
+pub content_of : (part : ArchiveRange) (total : ℕ) (a : List ℕ) → IsInside part total → (part_reply part total a).content ≡ a
 content_of Whole total a inside = refl
 content_of (Between first last) total a inside = refl
 content_of Beyond total a inside = absurd inside
@@ -188,7 +189,7 @@ module _ {D : Type 0} (sectors : D → ℕ) (honest : D → Type 0) (history : D
       (λ stored up is_honest. up) at (Some part) (λ archive shows is_honest. no_slice archive part at none)
 
   -- the same archive is shown after a read
-  shows_on : (old new : ServiceView D) (at : ℕ) (outcome : Option (List ℕ)) (archive : List ℕ) → Takes sectors honest history old (read at outcome) new
+  pub shows_on : (old new : ServiceView D) (at : ℕ) (outcome : Option (List ℕ)) (archive : List ℕ) → Takes sectors honest history old (read at outcome) new
       → honest new.disk → ShowsArchive (history old.disk) old archive → ShowsArchive (history new.disk) new archive
   shows_on old new at outcome archive takes is_honest shows =
       subst (λ (h : History). ShowsArchive h new archive) (sym (takes.changes.unwritten is_honest))

@@ -4,4 +4,5 @@ pub mod Parts
 pub mod Sending
 pub mod Served
 pub mod State
+pub mod Tickets
 pub mod Words

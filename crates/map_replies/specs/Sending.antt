@@ -43,11 +43,6 @@ IsInside Beyond total = ⊥
 abbrev pub IsSent : ArchiveRange → (total : ℕ) → Sending → Type 0
 IsSent part total sending = IsInside part total × (sending ≡ record { first = start_of part; length = size_of part total })
 
--- the bytes that a read returned, or None if it failed
-abbrev pub read_outcome : {E : Type 0} → Result (Unit {0}) E → (bytes : List ℕ) → Option (List ℕ)
-read_outcome (Ok done) bytes = Some bytes
-read_outcome (Err fault) bytes = None
-
 module _ {D : Type 0} (sectors : D → ℕ) (honest : D → Type 0) (history : D → History) where
   -- content that is read in parts begins with size bytes that were read from the archive at offset first
   abbrev pub Begins : (old new : ServiceView D) → (first size : ℕ) → Content → Type 0

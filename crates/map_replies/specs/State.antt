@@ -1,5 +1,6 @@
 -- The state of the request handler, regardless of its address in memory.
-use Rattle.std.specs.Prelude.{◌≡◌, ℕ, ◌-◌, min, List, ◌++◌}
+use Rattle.std.specs.Prelude.{◌≡◌, ℕ, ◌-◌, min, List, Option, ◌++◌}
+use Rattle.http_serve.specs.declared.handlers.Ticket.{Ticket}
 use Rattle.http_serve.specs.Requests.{RequestView}
 use Rattle.http_serve.specs.Reply.{ReplyView}
 use Rattle.sector_disk.specs.Disk.{History}
@@ -10,6 +11,7 @@ use Rattle.map_replies.specs.declared.calls.Calls.{Calls}
 use Rattle.map_replies.specs.declared.service.MapReplies.{MapReplies}
 use Rattle.map_replies.specs.Meanings.{Means, asked_for, DiskFailed, Replies}
 use Rattle.map_replies.specs.Sending.{SendsMethod}
+use Rattle.map_replies.specs.Tickets.{ticket_for, KeepsTickets, ReadsRest}
 use Rattle.tile_routes.specs.Methods.{method_on}
 use Rattle.tile_routes.specs.declared.access.Access.{Access}
 
@@ -28,23 +30,33 @@ sent_by calls = min calls.sending.length (calls.service.archive_len - calls.send
 abbrev pub sending_size : {D : Type 0} → MapReplies D → ℕ
 sending_size s = sent_by s.calls
 
+-- the ticket for it
+abbrev pub sending_ticket : {D : Type 0} → MapReplies D → Ticket
+sending_ticket s = ticket_for s.calls
+
 -- over a disk with these sectors, this honesty, this history and this count of faults
 module _ {D : Type 0} (sectors : D → ℕ) (honest : D → Type 0) (history : D → History) (faults : D → ℕ) where
-  -- one reply to one request; the same paths are served as before
+  -- one reply to one request; the same paths are served as before, and tickets are held that were
   abbrev pub ServiceReplies : MapReplies D → RequestView → ReplyView → MapReplies D → Type 0
   ServiceReplies old request reply new =
       Replies sectors honest history faults (access_of old) (asked_service old) request reply (asked_service new) × (access_of new ≡ access_of old)
+      × KeepsTickets honest history old.calls new.calls
 
   -- the same for a reply whose content is being read in parts: the request is for the archive
   abbrev pub ServiceSends : MapReplies D → RequestView → ReplyView → MapReplies D → Type 0
   ServiceSends old request reply new =
       SendsMethod sectors honest history faults (asked_for (access_of old) request) (method_on request.method (asked_for (access_of old) request))
       request.range (asked_service old) new.calls.sending (asked_service new) reply
-      × (access_of new ≡ access_of old)
+      × (access_of new ≡ access_of old) × KeepsTickets honest history old.calls new.calls
 
   -- the same for a reply whose content couldn't be read to its end: the disk has failed
   abbrev pub ServiceFails : MapReplies D → RequestView → ReplyView → MapReplies D → Type 0
   ServiceFails old request reply new = ServiceReplies old request reply new × DiskFailed faults (asked_service old) (asked_service new)
+
+  -- bytes of a ticket's content were read, or couldn't be; the same paths are served as before
+  abbrev pub ServiceReads : MapReplies D → Ticket → ℕ → Option (List ℕ) → MapReplies D → Type 0
+  ServiceReads old ticket offset outcome new =
+      ReadsRest sectors honest history old.calls ticket offset outcome new.calls × (access_of new ≡ access_of old)
 
 -- ---- a connection
 
@@ -58,14 +70,20 @@ course replies run = record { replies = replies; run = run }
 
 module _ {D : Type 0} (sectors : D → ℕ) (honest : D → Type 0) (history : D → History) (faults : D → ℕ) where
   -- One reply to one request: it reports happenings, the service takes them all, and they are appended to the run. The same paths are
-  -- served as before.
+  -- served as before, and tickets are held that were.
   abbrev pub Tells : Course D → RequestView → ReplyView → Course D → Type 0
   Tells old request reply new = (happenings : List Happening)
       × Means (access_of old.replies) (DiskFailed faults (asked_service old.replies) (asked_service new.replies))
       (status_of (asked_service old.replies)) (status_of (asked_service new.replies)) request reply happenings
       × TakesAll sectors honest history (asked_service old.replies) happenings (asked_service new.replies)
       × (new.run ≡ old.run ++ happenings) × (access_of new.replies ≡ access_of old.replies)
+      × KeepsTickets honest history old.replies.calls new.replies.calls
 
   -- the same for a reply whose content couldn't be read to its end: the disk has failed
   abbrev pub TellsCut : Course D → RequestView → ReplyView → Course D → Type 0
   TellsCut old request reply new = Tells old request reply new × DiskFailed faults (asked_service old.replies) (asked_service new.replies)
+
+  -- bytes of a ticket's content were read, or couldn't be: nothing happens
+  abbrev pub TellsRead : Course D → Ticket → ℕ → Option (List ℕ) → Course D → Type 0
+  TellsRead old ticket offset outcome new =
+      ServiceReads sectors honest history faults old.replies ticket offset outcome new.replies × (new.run ≡ old.run)

@@ -5,8 +5,10 @@ ghost use Rattle.sector_disk.specs.Disk.{HasFailed};
 ghost use Rattle.tile_service.specs.Machine.{read};
 ghost use Rattle.tile_service.specs.Runs.{Takes};
 ghost use Rattle.map_replies.specs.Meanings.{OrNoMemory, MeansArchive, Answers, DiskFailed};
-ghost use Rattle.map_replies.specs.Sending.{IsAnsweredInParts, read_outcome, BeginsOrFails, AnswersPart, IsSending};
+ghost use Rattle.http_serve.specs.Parts.{read_outcome};
+ghost use Rattle.map_replies.specs.Sending.{IsAnsweredInParts, BeginsOrFails, AnswersPart, IsSending};
 ghost use Rattle.map_replies.specs.State.{sent_by};
+ghost use Rattle.map_replies.specs.Tickets.{KeepsTickets};
 
 use crate::calls::Calls;
 use crate::fault::RequestFault;
@@ -27,6 +29,7 @@ impl<D: Sectors + Drop> Calls<D> {
             D.faults self.new.service.disk ≡ D.faults self.old.service.disk)) }
         ensures length { IfOk result (λ content. IfSome content (λ bytes. length bytes.items ≡ count)) }
         ensures refused { IfErr result (λ fault. (self.new.service ≡ self.old.service) × (fault ≡ RequestFault.Memory)) }
+        ensures held { KeepsTickets D.honest D.history self.old self.new }
     {
         let Ok(mut bytes) = vec![in self.alloc; 0; count as usize] else {
             return Err(RequestFault::Memory);
@@ -48,6 +51,7 @@ impl<D: Sectors + Drop> Calls<D> {
             D.faults self.new.service.disk ≡ D.faults self.old.service.disk)) }
         ensures sending { IfOk result (λ content. IfSome content (λ _. self.new.sending ≡ record { first = first; length = length })) }
         ensures refused { IfErr result (λ fault. (self.new.service ≡ self.old.service) × (fault ≡ RequestFault.Memory)) }
+        ensures held { KeepsTickets D.honest D.history self.old self.new }
     {
         match self.archive_bytes(first, begin_size(first, length, bare)) {
             Ok(Some(begun)) => {
@@ -69,6 +73,7 @@ impl<D: Sectors + Drop> Calls<D> {
             self.old.service self.new.sending self.new.service) }
         ensures words { IfOk result (λ reply. HasShortWords (head_view reply)) }
         ensures refused { IfErr result (λ fault. (self.new.service ≡ self.old.service) × (fault ≡ RequestFault.Memory)) }
+        ensures held { KeepsTickets D.honest D.history self.old self.new }
     {
         match self.send(0, total, bare) {
             Ok(Some(content)) => Ok(parts::whole(content)),
@@ -92,6 +97,7 @@ impl<D: Sectors + Drop> Calls<D> {
             self.old.service self.new.sending self.new.service) }
         ensures words { IfOk result (λ reply. HasShortWords (head_view reply)) }
         ensures refused { IfErr result (λ fault. (self.new.service ≡ self.old.service) × (fault ≡ RequestFault.Memory)) }
+        ensures held { KeepsTickets D.honest D.history self.old self.new }
     {
         match self.send(first, last + 1 - first, bare) {
             Ok(Some(content)) => Ok(parts::between(first, last, total, content)),
@@ -114,6 +120,7 @@ impl<D: Sectors + Drop> Calls<D> {
             (IsSending D.sectors D.honest D.history D.faults (option_map (λ value. value.now) range.entry)
             self.old.service self.new.sending self.new.service) result }
         ensures words { IfOk result (λ reply. HasShortWords (head_view reply)) }
+        ensures held { KeepsTickets D.honest D.history self.old self.new }
     {
         let total = self.service.archive_len();
         if total == 0 {
@@ -136,6 +143,7 @@ impl<D: Sectors + Drop> Calls<D> {
             (read (self.old.sending.first + offset) (read_outcome result part.new)) self.new.service }
         ensures size { sent_by self.new ≡ sent_by self.old }
         ensures length { length part.new ≡ length part.old }
+        ensures held { KeepsTickets D.honest D.history self.old self.new }
     {
         if part.is_empty() {
             return Ok(());

@@ -6,6 +6,7 @@ ghost use Rattle.tile_routes.specs.Targets.{asked_of};
 ghost use Rattle.tile_service.specs.Service.{status_of};
 ghost use Rattle.map_replies.specs.Meanings.{MeansOnFeature, MeansView, MeansAction, Answers, AnswersAllowed, AnswersMethod, DiskFailed};
 ghost use Rattle.map_replies.specs.Sending.{IsAnswered, IsAnsweredInParts, SendsAllowed, SendsMethod};
+ghost use Rattle.map_replies.specs.Tickets.{KeepsTickets};
 
 use crate::fault::RequestFault;
 use crate::parts::{Sending, is_head, range_for};
@@ -23,6 +24,8 @@ pub(crate) struct Calls<D: Sectors + Drop> {
     pub(crate) service: Service<D>,
     /// What the last reply sends in parts.
     pub(crate) sending: Sending,
+    /// The generation at the last step that may have written an area, or 0: archives before it may be overwritten.
+    pub(crate) oldest: u64,
 }
 
 impl<D: Sectors + Drop> Calls<D> {
@@ -32,6 +35,7 @@ impl<D: Sectors + Drop> Calls<D> {
             (MeansOnFeature (DiskFailed D.faults self.old.service self.new.service) self.old.service.version id method body.now)
             self.old.service self.new.service) result }
         ensures writable { IfOk result IsWhole }
+        ensures held { KeepsTickets D.honest D.history self.old self.new }
     {
         match method {
             Method::Put => self.put(id, body),
@@ -55,6 +59,7 @@ impl<D: Sectors + Drop> Calls<D> {
             (SendsAllowed D.sectors D.honest D.history D.faults (asked_view view) method
             (option_map (λ value. value.now) range.entry) self.old.service self.new.sending self.new.service) result }
         ensures words { IfOk result (λ reply. HasShortWords (head_view reply)) }
+        ensures held { KeepsTickets D.honest D.history self.old self.new }
     {
         match view {
             View::Metadata => self.metadata(),
@@ -70,6 +75,7 @@ impl<D: Sectors + Drop> Calls<D> {
             (status_of self.old.service) (status_of self.new.service) action body.now)
             self.old.service self.new.service) result }
         ensures writable { IfOk result IsWhole }
+        ensures held { KeepsTickets D.honest D.history self.old self.new }
     {
         match action {
             Action::Edits => self.batch(body),
@@ -96,6 +102,7 @@ impl<D: Sectors + Drop> Calls<D> {
             (SendsAllowed D.sectors D.honest D.history D.faults (asked_of target) method
             (option_map (λ value. value.now) range.entry) self.old.service self.new.sending self.new.service) result }
         ensures words { IfOk result (λ reply. HasShortWords (head_view reply)) }
+        ensures held { KeepsTickets D.honest D.history self.old self.new }
     {
         match target {
             Target::Tile(at, format) => self.tile(at, format),
@@ -121,6 +128,7 @@ impl<D: Sectors + Drop> Calls<D> {
             (SendsMethod D.sectors D.honest D.history D.faults (asked_of target) method
             (option_map (λ value. value.now) range.entry) self.old.service self.new.sending self.new.service) result }
         ensures words { IfOk result (λ reply. HasShortWords (head_view reply)) }
+        ensures held { KeepsTickets D.honest D.history self.old self.new }
     {
         match method {
             Ok(method) => self.allowed(target, method, range, body),

@@ -9,6 +9,7 @@ ghost use Rattle.tile_service.specs.Service.{ServiceView};
 ghost use Rattle.map_replies.specs.Meanings.{MeansChecked, MeansCheckedBatch, ReplacesSeen, Answers, DiskFailed};
 ghost use Rattle.map_replies.specs.Sending.{IsAnswered};
 ghost use Rattle.map_replies.specs.declared.replies.TheConstants.{MAX_TEXT};
+ghost use Rattle.map_replies.specs.Tickets.{KeepsTickets};
 
 use crate::bodies::checked_in;
 use crate::calls::Calls;
@@ -28,6 +29,7 @@ impl<D: Sectors + Drop> Calls<D> {
             (record { changes = map change_data changes.items; seen = map seen_data all.now }))
             self.old.service self.new.service (reply_view [] result) }
         ensures writable { IsWhole result }
+        ensures held { KeepsTickets D.honest D.history self.old self.new }
     {
         if let Some(id) = self.service.first_changed(all) {
             return replies::changed(text, id);
@@ -43,6 +45,7 @@ impl<D: Sectors + Drop> Calls<D> {
             (MeansCheckedBatch (DiskFailed D.faults self.old.service self.new.service) self.old.service.version body.now)
             self.old.service self.new.service) result }
         ensures writable { IfOk result IsWhole }
+        ensures held { KeepsTickets D.honest D.history self.old self.new }
     {
         let (changes, seen) = match checked_in(self.alloc, body) {
             Ok(found) => found,

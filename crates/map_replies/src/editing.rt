@@ -3,6 +3,7 @@ ghost use Rattle.std.specs.Prelude.{IfOk};
 ghost use Rattle.http_serve.specs.Reply.{IsWhole};
 ghost use Rattle.map_replies.specs.Meanings.{MeansPut, MeansBatch, MeansDelete, Answers, DiskFailed};
 ghost use Rattle.map_replies.specs.Sending.{IsAnswered};
+ghost use Rattle.map_replies.specs.Tickets.{KeepsTickets};
 
 use crate::bodies::{changes_in, feature_in};
 use crate::calls::Calls;
@@ -19,6 +20,7 @@ impl<D: Sectors + Drop> Calls<D> {
             (MeansPut (DiskFailed D.faults self.old.service self.new.service) self.old.service.version id body.now)
             self.old.service self.new.service) result }
         ensures writable { IfOk result IsWhole }
+        ensures held { KeepsTickets D.honest D.history self.old self.new }
     {
         let feature = match feature_in(self.alloc, body) {
             Ok(feature) => feature,
@@ -38,6 +40,7 @@ impl<D: Sectors + Drop> Calls<D> {
             (MeansBatch (DiskFailed D.faults self.old.service self.new.service) self.old.service.version body.now)
             self.old.service self.new.service) result }
         ensures writable { IfOk result IsWhole }
+        ensures held { KeepsTickets D.honest D.history self.old self.new }
     {
         let changes = match changes_in(self.alloc, body) {
             Ok(changes) => changes,
@@ -56,6 +59,7 @@ impl<D: Sectors + Drop> Calls<D> {
             (MeansDelete (DiskFailed D.faults self.old.service self.new.service) self.old.service.version id)
             self.old.service self.new.service) result }
         ensures writable { IfOk result IsWhole }
+        ensures held { KeepsTickets D.honest D.history self.old self.new }
     {
         let Ok(text) = replies::outcome_space(self.alloc) else {
             return Err(RequestFault::Memory);

@@ -5,6 +5,7 @@ mod archives;
 mod bodies;
 mod calls;
 mod checking;
+mod downloads;
 mod editing;
 mod fault;
 mod parts;
@@ -15,5 +16,6 @@ mod showing;
 mod telling;
 
 pub use checking::replaces_what_was_seen;
+pub use downloads::download_is_of_one_archive;
 pub use fault::RequestFault;
 pub use service::{MapReplies, serve_map, serve_map_turns};

@@ -1,17 +1,29 @@
 //! Requests to publish. Memory for the reply is allocated first, so that the outcome is always reported.
-ghost use Rattle.std.specs.Prelude.{IfOk};
+ghost use Rattle.std.specs.Prelude.{◌≡◌, IfOk};
 ghost use Rattle.http_serve.specs.Reply.{IsWhole};
 ghost use Rattle.tile_service.specs.Machine.{begin, step, cancel};
 ghost use Rattle.tile_service.specs.Service.{status_of};
 ghost use Rattle.map_replies.specs.Meanings.{MeansCall, MeansChange, OrNoMemory, MeansPublish, Answers, DiskFailed};
 ghost use Rattle.map_replies.specs.Sending.{IsAnswered};
 ghost use Rattle.map_replies.specs.Words.{left_reply, cancel_reply};
+ghost use Rattle.map_replies.specs.Tickets.{KeepsTickets, oldest_after};
 
 use crate::calls::Calls;
 use crate::fault::RequestFault;
 use crate::replies;
 use http_serve::Reply;
 use sector_disk::Sectors;
+use tile_service::ServiceFault;
+
+/// The generation at the last step that may have written an area, after a call at this generation. One that is refused writes nothing.
+fn oldest_after<A>(outcome: &Result<A, ServiceFault>, oldest: u64, generation: u64) -> u64
+    ensures { result ≡ oldest_after outcome.now oldest generation }
+{
+    match outcome {
+        Ok(_) | Err(ServiceFault::Device) => generation,
+        Err(_) => oldest,
+    }
+}
 
 impl<D: Sectors + Drop> Calls<D> {
     /// Publishes the whole map.
@@ -21,11 +33,14 @@ impl<D: Sectors + Drop> Calls<D> {
             (status_of self.old.service) (status_of self.new.service)))
             self.old.service self.new.service) result }
         ensures writable { IfOk result IsWhole }
+        ensures held { KeepsTickets D.honest D.history self.old self.new }
     {
         let Ok(text) = replies::outcome_space(self.alloc) else {
             return Err(RequestFault::Memory);
         };
+        let generation = self.service.archive().generation;
         let outcome = self.service.publish();
+        self.oldest = oldest_after(&outcome, self.oldest, generation);
         Ok(replies::published(text, outcome))
     }
 
@@ -34,6 +49,7 @@ impl<D: Sectors + Drop> Calls<D> {
         ensures answered { IsAnswered (Answers D.sectors D.honest D.history (OrNoMemory (MeansCall begin left_reply))
             self.old.service self.new.service) result }
         ensures writable { IfOk result IsWhole }
+        ensures held { KeepsTickets D.honest D.history self.old self.new }
     {
         let Ok(text) = replies::outcome_space(self.alloc) else {
             return Err(RequestFault::Memory);
@@ -48,11 +64,14 @@ impl<D: Sectors + Drop> Calls<D> {
             (OrNoMemory (MeansChange (DiskFailed D.faults self.old.service self.new.service) step left_reply))
             self.old.service self.new.service) result }
         ensures writable { IfOk result IsWhole }
+        ensures held { KeepsTickets D.honest D.history self.old self.new }
     {
         let Ok(text) = replies::outcome_space(self.alloc) else {
             return Err(RequestFault::Memory);
         };
+        let generation = self.service.archive().generation;
         let outcome = self.service.publish_step();
+        self.oldest = oldest_after(&outcome, self.oldest, generation);
         Ok(replies::left(text, outcome))
     }
 
@@ -61,6 +80,7 @@ impl<D: Sectors + Drop> Calls<D> {
         ensures answered { IsAnswered (Answers D.sectors D.honest D.history (OrNoMemory (MeansCall cancel cancel_reply))
             self.old.service self.new.service) result }
         ensures writable { IfOk result IsWhole }
+        ensures held { KeepsTickets D.honest D.history self.old self.new }
     {
         let Ok(text) = replies::outcome_space(self.alloc) else {
             return Err(RequestFault::Memory);

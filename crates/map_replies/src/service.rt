@@ -7,7 +7,8 @@ use crate::calls::Calls;
 use crate::parts::Sending;
 use crate::replies;
 use http_serve::{
-    Buffers, ContentFault, Handler, MAX_READS, Reply, Request, ServeFault, Served, serve_with,
+    Buffers, ContentFault, Downloads, Handler, MAX_READS, Reply, Request, ServeFault, Served,
+    Ticket, serve_with,
 };
 use sector_disk::Sectors;
 use std::alloc::Global;
@@ -30,6 +31,7 @@ impl<D: Sectors + Drop> MapReplies<D> {
     pub fn new(alloc: Global, routes: Routes, access: Access, service: Service<D>) -> MapReplies<D>
         ensures service { asked_service result ≡ service }
         ensures access { access_of result ≡ access }
+        ensures oldest { result.calls.oldest ≡ 0 }
     {
         MapReplies {
             routes,
@@ -41,6 +43,7 @@ impl<D: Sectors + Drop> MapReplies<D> {
                     first: 0,
                     length: 0,
                 },
+                oldest: 0,
             },
         }
     }
@@ -78,6 +81,37 @@ impl<D: Sectors + Drop> Handler for MapReplies<D> {
 
     fn read_content(&mut self, offset: u64, part: &mut [u8]) -> Result<(), ContentFault> {
         self.calls.read_sent(offset, part)
+    }
+}
+
+impl<D: Sectors + Drop> Downloads for MapReplies<D> {
+    ghost use Rattle.std.specs.Prelude.{◌⊎◌, length, IfErr};
+    ghost use Rattle.http_serve.specs.Parts.{read_outcome};
+    ghost use Rattle.map_replies.specs.Meanings.{DiskFailed};
+    ghost use Rattle.map_replies.specs.State.{ServiceReads, asked_service, sending_ticket};
+    ghost use Rattle.map_replies.specs.Tickets.{IsThere};
+
+    ghost reads = { ServiceReads D.sectors D.honest D.history D.faults };
+
+    ghost ticket_of = { sending_ticket };
+
+    fn ticket(&self) -> Ticket {
+        self.calls.ticket()
+    }
+
+    fn read_rest(
+        &mut self,
+        ticket: Ticket,
+        offset: u64,
+        part: &mut [u8],
+    ) -> Result<(), ContentFault>
+        ensures read { ServiceReads D.sectors D.honest D.history D.faults self.old ticket offset (read_outcome result part.new) self.new }
+        ensures length { length part.new ≡ length part.old }
+        // Bytes that are there are read, unless the disk fails.
+        ensures failed { IfErr result (λ fault. DiskFailed D.faults (asked_service self.old) (asked_service self.new)
+            ⊎ (IsThere (asked_service self.old).size self.old.calls.oldest ticket offset (length part.old) → ⊥)) }
+    {
+        self.calls.read_rest(ticket, offset, part)
     }
 }
 

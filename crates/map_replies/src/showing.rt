@@ -11,6 +11,7 @@ ghost use Rattle.tile_service.specs.Service.{status_of};
 ghost use Rattle.map_replies.specs.Meanings.{MeansCall, MeansStatus, OrNoMemory, Answers, DiskFailed};
 ghost use Rattle.map_replies.specs.Sending.{IsAnswered};
 ghost use Rattle.map_replies.specs.Words.{json_reply, shown_reply, content_reply, found_reply, numbered_body, numbered_reply, metadata_reply};
+ghost use Rattle.map_replies.specs.Tickets.{KeepsTickets};
 
 use crate::calls::Calls;
 use crate::fault::RequestFault;
@@ -97,6 +98,7 @@ impl<D: Sectors + Drop> Calls<D> {
         ensures answered { IsAnswered (Answers D.sectors D.honest D.history
             (MeansCall (tile at.z at.x at.y) (shown_reply (content_reply format))) self.old.service self.new.service) result }
         ensures writable { IfOk result IsWhole }
+        ensures held { KeepsTickets D.honest D.history self.old self.new }
     {
         let Ok(content) = self.service.tile(at) else {
             return Err(RequestFault::Memory);
@@ -112,6 +114,7 @@ impl<D: Sectors + Drop> Calls<D> {
         ensures answered { IsAnswered (Answers D.sectors D.honest D.history (MeansCall (look id) (shown_reply found_reply))
             self.old.service self.new.service) result }
         ensures writable { IfOk result IsWhole }
+        ensures held { KeepsTickets D.honest D.history self.old self.new }
     {
         match self.service.feature(id) {
             Some(feature) => feature_value(self.alloc, feature),
@@ -124,6 +127,7 @@ impl<D: Sectors + Drop> Calls<D> {
         ensures answered { IsAnswered (Answers D.sectors D.honest D.history (MeansCall (look_from id) (shown_reply numbered_reply))
             self.old.service self.new.service) result }
         ensures writable { IfOk result IsWhole }
+        ensures held { KeepsTickets D.honest D.history self.old self.new }
     {
         match self.service.feature_from(id) {
             Some((number, feature)) => numbered_value(self.alloc, number, feature),
@@ -137,6 +141,7 @@ impl<D: Sectors + Drop> Calls<D> {
             (OrNoMemory (MeansStatus (DiskFailed D.faults self.old.service self.new.service) (status_of self.new.service)))
             self.old.service self.new.service) result }
         ensures writable { IfOk result IsWhole }
+        ensures held { KeepsTickets D.honest D.history self.old self.new }
     {
         let Ok(text) = telling::status_space(self.alloc) else {
             return Err(RequestFault::Memory);
@@ -151,6 +156,7 @@ impl<D: Sectors + Drop> Calls<D> {
         ensures answered { IsAnswered (Answers D.sectors D.honest D.history (MeansCall metadata (shown_reply metadata_reply))
             self.old.service self.new.service) result }
         ensures writable { IfOk result IsWhole }
+        ensures held { KeepsTickets D.honest D.history self.old self.new }
     {
         match self.service.metadata() {
             Ok(value) => json_value(self.alloc, &value),

@@ -2,6 +2,7 @@
 ghost use Rattle.http_serve.specs.Reply.{IsWhole};
 
 mod crowds;
+mod downloads;
 mod fakes;
 mod lines;
 mod maps;
@@ -9,7 +10,7 @@ mod peers;
 mod peers_in_time;
 mod turns;
 
-use http_serve::{Content, ContentFault, Handler, Reply, Request, Status};
+use http_serve::{Content, ContentFault, Downloads, Handler, Reply, Request, Status, Ticket};
 use std::alloc::Global;
 
 /// Answers each request with how many there were before it: `0`, `1`, `2`, and then `many`.
@@ -46,6 +47,33 @@ impl Handler for Counter {
     }
 
     fn read_content(&mut self, _offset: u64, _part: &mut [u8]) -> Result<(), ContentFault> {
+        Err(ContentFault)
+    }
+}
+
+/// The ticket of handlers whose contents are whole.
+const NO_TICKET: Ticket = Ticket {
+    generation: 0,
+    place: 0,
+    total: 0,
+    first: 0,
+};
+
+impl Downloads for Counter {
+    ghost reads = { λ _ _ _ _ _. Unit {0} };
+
+    ghost ticket_of = { λ _. record { generation = 0; place = 0; total = 0; first = 0 } };
+
+    fn ticket(&self) -> Ticket {
+        NO_TICKET
+    }
+
+    fn read_rest(
+        &mut self,
+        _ticket: Ticket,
+        _offset: u64,
+        _part: &mut [u8],
+    ) -> Result<(), ContentFault> {
         Err(ContentFault)
     }
 }
@@ -92,6 +120,25 @@ impl Handler for Paths {
     }
 
     fn read_content(&mut self, _offset: u64, _part: &mut [u8]) -> Result<(), ContentFault> {
+        Err(ContentFault)
+    }
+}
+
+impl Downloads for Paths {
+    ghost reads = { λ _ _ _ _ _. Unit {0} };
+
+    ghost ticket_of = { λ _. record { generation = 0; place = 0; total = 0; first = 0 } };
+
+    fn ticket(&self) -> Ticket {
+        NO_TICKET
+    }
+
+    fn read_rest(
+        &mut self,
+        _ticket: Ticket,
+        _offset: u64,
+        _part: &mut [u8],
+    ) -> Result<(), ContentFault> {
         Err(ContentFault)
     }
 }

@@ -114,7 +114,7 @@ fn serve_fault_name(fault: ServeFault) -> &'static str {
     match fault {
         ServeFault::Memory => "Memory",
         ServeFault::Read { .. } => "Read",
-        ServeFault::Write { .. } => "Write",
+        ServeFault::Write { .. } | ServeFault::Rest { .. } => "Write",
         ServeFault::Content { .. } => "Device",
     }
 }

@@ -1,7 +1,7 @@
 //! The connections of a port.
 ghost use Rattle.std.specs.Prelude.{◌≡◌, ◌≤◌, List, [], IfSome, OnOk};
-ghost use Rattle.http_listen.specs.Connections.{Stretch, Serves, begun};
-ghost use Rattle.map_replies.specs.State.{asked_service, Tells, TellsCut, course};
+ghost use Rattle.http_listen.specs.Connections.{Event, Serves, begun};
+ghost use Rattle.map_replies.specs.State.{asked_service, Tells, TellsCut, TellsRead, course};
 ghost use Rattle.tile_service.specs.Machine.{Happening};
 ghost use Rattle.tile_service.specs.Runs.{TakesRun};
 
@@ -72,9 +72,9 @@ pub(crate) fn serve_connections<D: Sectors + Drop>(
     service: &mut MapReplies<D>,
     looks: &Looks<'_>,
 ) -> Result<(), CommandFault>
-    ensures all { OnOk result ((served : List Stretch) × (begun served ≡ asked.connections) × (run : List Happening)
+    ensures all { OnOk result ((served : List Event) × (begun served ≡ asked.connections) × (run : List Happening)
         × Serves (Tells D.sectors D.honest D.history D.faults) (TellsCut D.sectors D.honest D.history D.faults)
-        (course service.old []) served (course service.new run)
+        (TellsRead D.sectors D.honest D.history D.faults) (course service.old []) served (course service.new run)
         × TakesRun D.sectors D.honest D.history (asked_service service.old) run (asked_service service.new)) }
 {
     let listener = match listen_on(rt, asked.port) {

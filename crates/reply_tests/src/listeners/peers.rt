@@ -1,7 +1,7 @@
 //! Peers that connect to a listener on this machine.
-use super::{Counter, GET};
+use super::{Counter, GET, NO_TICKET};
 use http_listen::{SystemListener, serve_on};
-use http_serve::{ContentFault, Handler, Reply, Request};
+use http_serve::{ContentFault, Downloads, Handler, Reply, Request, Ticket};
 use std::io::{self, Read, Write};
 use std::net::{Ipv4Addr, Shutdown, SocketAddr, TcpListener, TcpStream};
 use std::test::Fail;
@@ -112,6 +112,25 @@ impl Handler for Asker {
     }
 
     fn read_content(&mut self, _offset: u64, _part: &mut [u8]) -> Result<(), ContentFault> {
+        Err(ContentFault)
+    }
+}
+
+impl Downloads for Asker {
+    ghost reads = { λ _ _ _ _ _. Unit {0} };
+
+    ghost ticket_of = { λ _. record { generation = 0; place = 0; total = 0; first = 0 } };
+
+    fn ticket(&self) -> Ticket {
+        NO_TICKET
+    }
+
+    fn read_rest(
+        &mut self,
+        _ticket: Ticket,
+        _offset: u64,
+        _part: &mut [u8],
+    ) -> Result<(), ContentFault> {
         Err(ContentFault)
     }
 }

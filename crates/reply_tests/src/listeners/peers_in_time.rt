@@ -1,6 +1,7 @@
 //! Peers that act at times, over a clock that waits move on.
 use super::Paths;
 use http_listen::{Change, ListenFault, Places, Waits, serve_on};
+use http_serve::Downloads;
 use std::alloc::Global;
 use std::cell::Cell;
 use std::io::{self, ErrorKind, Read, Write};
@@ -41,7 +42,7 @@ pub(super) struct Peer<'a> {
     /// Whether its stream can be watched.
     pub(super) can_be_watched: bool,
     /// What it is to get.
-    pub(super) wants: &'a str,
+    pub(super) wants: &'a [u8],
     /// How many bytes it has got, when the last one came, and whether one was another one.
     pub(super) got: Cell<usize>,
     pub(super) last: Cell<u64>,
@@ -77,7 +78,7 @@ impl<'a> Peer<'a> {
             quick: usize::MAX,
             rate: 0,
             can_be_watched: true,
-            wants,
+            wants: wants.as_bytes(),
             got: Cell::new(0),
             last: Cell::new(0),
             wrong: Cell::new(false),
@@ -170,7 +171,7 @@ impl<'a> Peer<'a> {
     /// It gets bytes.
     fn take(&self, now: u64, bytes: &[u8]) {
         let got = self.got.get();
-        let wanted = self.wants.as_bytes().get(got..).unwrap_or(&[]);
+        let wanted = self.wants.get(got..).unwrap_or(&[]);
         if !wanted.starts_with(bytes) {
             self.wrong.set(true);
         }
@@ -381,6 +382,22 @@ pub(super) fn serve_until(
     failures: &[i32],
     stops: u64,
 ) -> Outcome {
+    let mut handler = Paths { alloc, answers: 0 };
+    let outcome = serve_with(alloc, peers, failures, stops, &mut handler);
+    Outcome {
+        answers: handler.answers,
+        ..outcome
+    }
+}
+
+/// Serves these peers with this handler.
+pub(super) fn serve_with<H: Downloads>(
+    alloc: Global,
+    peers: &[Peer<'_>],
+    failures: &[i32],
+    stops: u64,
+    handler: &mut H,
+) -> Outcome {
     let (now, accepted, tried, reported) = (Cell::new(0), Cell::new(0), Cell::new(0), Cell::new(0));
     let signals = Cell::new(2);
     let watch = Watch { now: &now };
@@ -394,14 +411,13 @@ pub(super) fn serve_until(
         stops,
         watch,
     };
-    let mut handler = Paths { alloc, answers: 0 };
     let mut log = Vec::new(alloc);
     let count = peers.len() as u64;
-    let ended = serve_on(&watch, alloc, &mut listener, count, &mut handler, &mut log);
+    let ended = serve_on(&watch, alloc, &mut listener, count, handler, &mut log);
     Outcome {
         ended,
         log,
         time: now.get(),
-        answers: handler.answers,
+        answers: 0,
     }
 }

@@ -7,5 +7,6 @@ returns g c = (
   _,
   _,
   _,
-  came g.H.Handler.replies g.H.Handler.fails _ _ _ _ _ _ c.serve_with.result c.serve_with.ensures.serves.served c.serve_with.ensures.serves.fault,
+  came g.H.Handler.replies g.H.Handler.fails _ _ _ _ _ _ c.serve_fronts.result c.serve_fronts.ensures.serves.served
+      c.serve_fronts.ensures.serves.fault,
 )

@@ -1,9 +1,9 @@
 use Rattle.std.proofs.Common.{◌≡◌, ◌∙◌, ap, option_map, subst}
 use Rattle.http_serve.specs.Requests.{RequestView, path_of, request_view_at}
-use Rattle.http_serve.specs.Parts.{GivesOrFails}
+use Rattle.http_serve.specs.Parts.{GivesOrFails, IsStopped}
 use Rattle.http_serve.specs.Reply.{reply_bytes, is_head}
 use Rattle.http_serve.specs.Sent.{Sends}
-use Rattle.http_serve.proofs.PartLemmas.{in_parts}
+use Rattle.http_serve.proofs.PartLemmas.{in_parts, if_rest}
 use Rattle.http_serve.proofs.connection.answer_one.Goals as goal
 
 pub returns-clause-reply : goal.returns-clause-reply
@@ -35,3 +35,34 @@ returns-clause-reply g c =
           (reply_bytes c.args.frame.now.close bare sent.0))
           (c.is_head.ensures ∙ ap is_head c.of-method.ensures) sent.2,
     )
+
+pub returns-clause-stopped : goal.returns-clause-stopped
+returns-clause-stopped g c =
+    let told = c.answer-reply.ensures.replied in
+    let request : RequestView = record {
+      method = c.of-method.result.now;
+      path = c.path_of.result.now;
+      range = option_map (λ range. range.now) c.part_of.result;
+      body = c.of-2.result.now;
+      close = c.args.frame.now.close;
+    } in
+    let same : request ≡ request_view_at c.args.bytes.now c.args.frame.now = λ i. record {
+      method = c.of-method.ensures i;
+      path = (c.path_of.ensures ∙ ap path_of c.of.ensures) i;
+      range = c.part_of.ensures i;
+      body = c.of-2.ensures i;
+      close = c.args.frame.now.close;
+    } in
+    if_rest c.send_reply.result _ _
+    (λ from size left.
+    let stopped = left c.args.handler.now request told.0 told.1 told.2
+    (in_parts c.answer-reply.result.content _ _ (λ both. both.0) told.3) in (
+      told.0,
+      subst (λ (asked : RequestView). g.H.Handler.replies c.args.handler.now asked told.0 c.send_reply.new.handler) same stopped.0,
+      subst (λ (asked : RequestView). g.H.Handler.sends c.args.handler.now asked told.0 c.send_reply.new.handler) same stopped.1,
+      subst
+          (λ bare. IsStopped (reply_bytes c.args.frame.now.close bare told.0) told.0.content from size
+          (g.W.Write.contents c.args.writer.now) (g.W.Write.contents c.send_reply.new.writer))
+          (c.is_head.ensures ∙ ap is_head c.of-method.ensures) stopped.2,
+    ))
+    c.send_reply.ensures.stopped

@@ -3,17 +3,17 @@ use Rattle.std.specs.Io.KnownBytes.{Appends}
 use Rattle.http_serve.specs.declared.frames.Next.TheVariants.{Whole, Refused, More}
 use Rattle.http_serve.specs.declared.connection.ServeFault.{ServeFault}
 use Rattle.http_serve.specs.Frame.{IsNext}
-use Rattle.http_serve.specs.Parts.{GivesOrFails}
-use Rattle.http_serve.specs.Steps.{IsBroken}
-use Rattle.http_serve.specs.Told.{HasContent, IsNotMemory}
+use Rattle.http_serve.specs.Parts.{GivesOrFails, IsStopped, IfRest}
+use Rattle.http_serve.specs.Steps.{IsBroken, IsLeftAt}
+use Rattle.http_serve.specs.Told.{HasContent, IsNotMemory, IsNotRest}
 use Rattle.http_serve.specs.Requests.{asked, refused}
 use Rattle.http_serve.specs.Requests.{request_view_at}
 use Rattle.http_serve.specs.Reply.{ReplyView, refusal_bytes, reply_at}
 use Rattle.http_serve.specs.Served.{Anything, Carries}
 use Rattle.http_serve.proofs.HeadLemmas.{missing_now}
 use Rattle.http_serve.proofs.CarryLemmas.{Ends_push, Breaks_refused, Frame_push, Frame_ends}
-use Rattle.http_serve.proofs.PartLemmas.{cut_content, cut_no_memory}
-use Rattle.http_serve.proofs.ServeLemmas.{cut_breaks}
+use Rattle.http_serve.proofs.PartLemmas.{cut_content, cut_no_memory, cut_whole}
+use Rattle.http_serve.proofs.ServeLemmas.{cut_breaks, cut_left}
 use Rattle.http_serve.proofs.connection.answer_whole.Goals as goal
 
 pub returns-in-More-clause-ok : goal.returns-in-More-clause-ok
@@ -70,11 +70,32 @@ returns-in-Err-answer_one-clause-err g c =
 pub returns-in-Err-answer_one-clause-content : goal.returns-in-Err-answer_one-clause-content
 returns-in-Err-answer_one-clause-content g c =
     subst (λ (fault : ServeFault). HasContent (g.H.Handler.size c.answer_one.new.handler) fault) (sym c.after.ensures)
-    (cut_content (g.H.Handler.size c.answer_one.new.handler) c.requests.requests c.in-Err-answer_one.fault c.in-Err-answer_one.ensures.cut)
+    (cut_content (g.H.Handler.size c.answer_one.new.handler) c.requests.requests c.in-Whole.frame.close c.in-Err-answer_one.fault
+    c.in-Err-answer_one.ensures.cut)
 
 pub returns-in-Err-answer_one-clause-no_memory : goal.returns-in-Err-answer_one-clause-no_memory
 returns-in-Err-answer_one-clause-no_memory g c =
-    subst IsNotMemory (sym c.after.ensures) (cut_no_memory c.requests.requests c.in-Err-answer_one.fault)
+    subst IsNotMemory (sym c.after.ensures) (cut_no_memory c.requests.requests c.in-Whole.frame.close c.in-Err-answer_one.fault)
+
+pub returns-in-Err-answer_one-clause-whole : goal.returns-in-Err-answer_one-clause-whole
+returns-in-Err-answer_one-clause-whole g c = λ sent.
+    subst IsNotRest (sym c.after.ensures)
+    (cut_whole c.requests.requests c.in-Whole.frame.close c.in-Err-answer_one.fault (c.in-Err-answer_one.ensures.whole sent))
+
+pub returns-in-Err-answer_one-clause-left : goal.returns-in-Err-answer_one-clause-left
+returns-in-Err-answer_one-clause-left g c =
+    let frame = c.in-Whole.frame in
+    let input = c.requests.session.input.waiting in
+    let found = subst (λ (t : List ℕ). IsNext t (Whole frame)) c.waiting.ensures c.in-Whole.ensures.next in
+    let left = subst (λ (t : List ℕ). IfRest (Err c.in-Err-answer_one.fault) (λ from size. (reply : ReplyView)
+    × g.H.Handler.replies c.requests.handler (request_view_at t frame) reply c.answer_one.new.handler
+    × g.H.Handler.sends c.requests.handler (request_view_at t frame) reply c.answer_one.new.handler
+    × IsStopped (reply_at t frame reply) reply.content from size (g.W.Write.contents c.requests.writer) (g.W.Write.contents c.answer_one.new.writer)))
+    c.waiting-waiting.ensures c.in-Err-answer_one.ensures.stopped in
+    subst (λ (fault : ServeFault). IsLeftAt g.H.Handler.replies g.H.Handler.sends c.args.handler.now c.args.session.now.input.waiting
+    (g.W.Write.contents c.args.writer.now) c.args.requests fault c.answer_one.new.handler (g.W.Write.contents c.answer_one.new.writer)) (sym c.after.ensures)
+    (cut_left g.H.Handler.replies g.H.Handler.sends _ _ _ c.args.requests _ input _ c.requests.requests frame found.0 _ _
+    c.in-Err-answer_one.fault c.requests.invariant.carries found.1 left)
 
 pub returns-then-frame-clause-ok : goal.returns-then-frame-clause-ok
 returns-then-frame-clause-ok g c =

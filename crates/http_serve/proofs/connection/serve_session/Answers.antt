@@ -4,7 +4,7 @@ use Rattle.http_serve.specs.Search.{IsKnown}
 use Rattle.http_serve.proofs.LineLemmas.{IsKnown-append}
 use Rattle.http_serve.proofs.ServeLemmas.{SoFar_start, SoFar_stops, SoFar_failed_read, SoFar_goes, SoFar_told, SoFar_broken, SoFar_done, SoFar_failed, if_ok}
 use Rattle.http_serve.proofs.ServeLemmas.{if_err, adds_none, adds_one, adds_all, most_start, most_more, other_turns}
-use Rattle.http_serve.proofs.ServeLemmas.{finished_turns, finished_reads, unfinished_content}
+use Rattle.http_serve.proofs.ServeLemmas.{finished_turns, finished_reads, unfinished_content, SoFar_left, not_rest}
 use Rattle.http_serve.proofs.connection.serve_session.Goals as goal
 
 pub loop-turn-init : goal.loop-turn-init
@@ -108,3 +108,15 @@ pub returns-then-count-eq0-clause-content : goal.returns-then-count-eq0-clause-c
 returns-then-count-eq0-clause-content g c =
     if_err c.finish.result _ _ (λ fault. unfinished_content _ _ _ _ _ _ fault _)
     (c.finish.ensures.fault c.loop-turn.invariant.so_far.head c.loop-turn.invariant.so_far.bare)
+
+pub returns-in_err-served-clause-left : goal.returns-in_err-served-clause-left
+returns-in_err-served-clause-left g c =
+    let came = c.in-Ok.ensures.ok in
+    let fault = c.in_err-served.field-0.0 in
+    let same : c.from_residual.result ≡ Err fault = search rules in
+    rw same (SoFar_left g.H.Handler.replies _ _ _ _ _ _ c.loop-turn.requests _ _ c.loop-turn.invariant.so_far came.0 _ came.1 _ _ _ came.2
+    g.H.Handler.sends fault c.in_err-served.ensures.left)
+
+pub returns-then-count-eq0-clause-left : goal.returns-then-count-eq0-clause-left
+returns-then-count-eq0-clause-left g c =
+    if_err c.finish.result _ _ (λ fault whole. not_rest fault _ whole) c.finish.ensures.whole

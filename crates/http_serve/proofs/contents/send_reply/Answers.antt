@@ -1,10 +1,10 @@
 use Rattle.std.proofs.Common.{◌∙◌, ap, sym, subst, length, take, List, ℕ, ◌<◌}
 use Rattle.std.specs.Io.KnownBytes.{Appends}
-use Rattle.http_serve.specs.Parts.{front_bytes, rest_bytes}
+use Rattle.http_serve.specs.Parts.{front_bytes, rest_bytes, IsStopped}
 use Rattle.http_serve.specs.Reply.{ReplyView, reply_bytes}
 use Rattle.http_serve.specs.Sent.{Sends}
 use Rattle.http_serve.proofs.KnownLemmas.{Sent_first, Sends-then}
-use Rattle.http_serve.proofs.PartLemmas.{front_rest}
+use Rattle.http_serve.proofs.PartLemmas.{front_rest, if_rest, left_stopped, left_sends}
 use Rattle.http_serve.proofs.contents.send_reply.Goals as goal
 
 pub returns-in-Ok-clause-sent : goal.returns-in-Ok-clause-sent
@@ -34,3 +34,16 @@ returns-in-Err-clause-sent g c old request view is replied sends =
       subst P (front_rest close bare view.content reply is.1 ∙ ap (λ (r : ReplyView). reply_bytes close bare r) (sym is.0))
           (Sent_first _ _ sent.0 (front_bytes close bare reply) (rest_bytes bare view.content reply) sent.1 sent.2),
     )
+
+pub returns-in-Ok-clause-stopped : goal.returns-in-Ok-clause-stopped
+returns-in-Ok-clause-stopped g c = if_rest c.send_rest.result _ _
+    (λ from size left old request view is replied sends.
+    let reply = c.args.reply.now in
+    let close = c.args.close in
+    let bare = c.args.bare in (
+      subst (λ s. g.H.Handler.replies old request view s) (sym left.1) replied,
+      subst (λ s. g.H.Handler.sends old request view s) (sym left.1) (left_sends bare reply view from size left.0 is _ sends),
+      subst (λ w. IsStopped (reply_bytes close bare view) view.content from size (g.W.Write.contents c.args.writer.now) (g.W.Write.contents w)) (sym left.2)
+          (left_stopped bare reply view from size left.0 is close _ _ c.in-Ok.ensures.sent),
+    ))
+    c.send_rest.ensures.left

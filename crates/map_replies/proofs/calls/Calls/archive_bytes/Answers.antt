@@ -3,6 +3,7 @@ use Rattle.std.proofs.lemmas.List.{take_at}
 use Rattle.tile_service.specs.Machine.{read}
 use Rattle.tile_service.specs.Runs.{Takes}
 use Rattle.map_replies.proofs.SendingLemmas.{gives_bytes, gives_none}
+use Rattle.map_replies.proofs.TicketLemmas.{held_reading}
 use Rattle.map_replies.proofs.calls.Calls.archive_bytes.Goals as goal
 
 pub returns-in-Ok-archive_read-clause-read : goal.returns-in-Ok-archive_read-clause-read
@@ -24,3 +25,15 @@ returns-in-Err-clause-read g c =
     let call = c.archive_read.ensures in
     gives_none d.sectors d.honest d.history c.args.self.now.service c.archive_read.new.self
     call.same call.disk call.up c.args.at
+
+pub returns-in-Ok-archive_read-clause-held : goal.returns-in-Ok-archive_read-clause-held
+returns-in-Ok-archive_read-clause-held g c =
+    let d = g.D.Sectors in
+    λ place first held. held_reading d.sectors d.honest d.history place first c.args.self.now.oldest c.args.self.now.service _ held
+    c.archive_read.ensures.disk (ap (λ s. s.size) c.archive_read.ensures.same) (ap (λ s. s.generation) c.archive_read.ensures.same)
+
+pub returns-in-Err-clause-held : goal.returns-in-Err-clause-held
+returns-in-Err-clause-held g c =
+    let d = g.D.Sectors in
+    λ place first held. held_reading d.sectors d.honest d.history place first c.args.self.now.oldest c.args.self.now.service _ held
+    c.archive_read.ensures.disk (ap (λ s. s.size) c.archive_read.ensures.same) (ap (λ s. s.generation) c.archive_read.ensures.same)

@@ -2,6 +2,11 @@ use Rattle.tile_service.specs.Machine.{step}
 use Rattle.tile_service.proofs.Runs.Callers.{step_step}
 use Rattle.map_replies.specs.Words.{left_reply}
 use Rattle.map_replies.proofs.Answering.{changed_first}
+use Rattle.std.proofs.Common.{ℕ, ap, sym, subst, ◌∙◌}
+use Rattle.tile_service.specs.Tickets.{IsHeld}
+use Rattle.map_replies.specs.Tickets.{oldest_after}
+use Rattle.map_replies.proofs.TicketLemmas.{held_stepped}
+use Rattle.tile_service.proofs.Archive.Tickets.{held_step, takes_rises}
 use Rattle.map_replies.proofs.calls.Calls.publish_step.Goals as goal
 
 pub returns-clause-answered : goal.returns-clause-answered
@@ -12,3 +17,17 @@ returns-clause-answered g c =
     call.failed
     (step_step d.sectors d.honest d.history _ _ c.publish_step-outcome.result call.machine call.size call.disk
     call.refused call.any_moment call.after call.archive)
+
+pub returns-clause-held : goal.returns-clause-held
+returns-clause-held g c =
+    let d = g.D.Sectors in
+    let call = c.publish_step-outcome.ensures in
+    let old = c.args.self.now.service in
+    let takes = step_step d.sectors d.honest d.history old _ c.publish_step-outcome.result call.machine call.size call.disk
+    call.refused call.any_moment call.after call.archive in
+    λ place first held. subst (λ (n : ℕ). IsHeld d.honest d.history place first n c.publish_step-outcome.new.self)
+    (sym (c.oldest_after-self.ensures
+    ∙ ap (λ p. oldest_after c.publish_step-outcome.result c.args.self.now.oldest p.generation) c.archive-generation.ensures.is))
+    (held_stepped d.sectors d.honest d.history c.publish_step-outcome.result place first c.args.self.now.oldest old _ call.refused
+    (held_step d.sectors d.honest d.history place first c.args.self.now.oldest old held _ call.size
+    (takes_rises d.sectors d.honest d.history old _ (step c.publish_step-outcome.result) takes) call.disk.was_honest call.area) held)

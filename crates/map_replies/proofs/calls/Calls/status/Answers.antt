@@ -3,6 +3,7 @@ use Rattle.tile_service.specs.Service.{status_of}
 use Rattle.tile_service.proofs.Runs.Callers.{check_step}
 use Rattle.map_replies.specs.Words.{status_reply}
 use Rattle.map_replies.proofs.Answering.{changed_first}
+use Rattle.tile_service.proofs.Archive.Tickets.{held_check}
 use Rattle.map_replies.proofs.calls.Calls.status.Goals as goal
 use Rattle.std.proofs.Common.{ap, ◌∙◌}
 
@@ -14,3 +15,9 @@ returns-clause-answered g c =
     (c.told.ensures.reply ∙ ap status_reply c.status.ensures) call.failed
     (check_step d.sectors d.honest d.history _ _ c.check.result call.machine (ap (λ s. s.size) call.same) call.disk
     call.refused call.any_moment call.after call.archive)
+
+pub returns-clause-held : goal.returns-clause-held
+returns-clause-held g c =
+    let d = g.D.Sectors in
+    λ place first held. held_check d.sectors d.honest d.history place first c.args.self.now.oldest c.args.self.now.service held
+    c.check.result _ c.check.ensures.same c.check.ensures.disk c.check.ensures.synced

@@ -4,6 +4,7 @@ use Rattle.tile_service.specs.Service.{state_of}
 use Rattle.tile_service.proofs.Runs.Callers.{tile_step}
 use Rattle.map_replies.specs.Words.{shown_reply, content_reply}
 use Rattle.map_replies.proofs.Answering.{called}
+use Rattle.map_replies.proofs.TicketLemmas.{held_reading}
 use Rattle.map_replies.proofs.calls.Calls.tile.Goals as goal
 
 pub returns-in-Ok-tile-clause-answered : goal.returns-in-Ok-tile-clause-answered
@@ -34,3 +35,21 @@ returns-in_default-clause-answered g c =
     called d.sectors d.honest d.history (tile at.z at.x at.y) (shown_reply (content_reply c.args.format)) _ _ no_memory _ refl
     (tile_step d.sectors d.honest d.history _ _ call.same call.disk call.untouched call.up at.z at.x at.y no_memory
     (λ known. (tt, ap (λ s. state_of known s) call.same)))
+
+pub returns-in-Ok-tile-clause-held : goal.returns-in-Ok-tile-clause-held
+returns-in-Ok-tile-clause-held g c =
+    let d = g.D.Sectors in
+    λ place first held. held_reading d.sectors d.honest d.history place first c.args.self.now.oldest c.args.self.now.service _ held
+    c.tile.ensures.disk (ap (λ s. s.size) c.tile.ensures.same) (ap (λ s. s.generation) c.tile.ensures.same)
+
+pub returns-in-Err-clause-held : goal.returns-in-Err-clause-held
+returns-in-Err-clause-held g c =
+    let d = g.D.Sectors in
+    λ place first held. held_reading d.sectors d.honest d.history place first c.args.self.now.oldest c.args.self.now.service _ held
+    c.tile.ensures.disk (ap (λ s. s.size) c.tile.ensures.same) (ap (λ s. s.generation) c.tile.ensures.same)
+
+pub returns-in_default-clause-held : goal.returns-in_default-clause-held
+returns-in_default-clause-held g c =
+    let d = g.D.Sectors in
+    λ place first held. held_reading d.sectors d.honest d.history place first c.args.self.now.oldest c.args.self.now.service _ held
+    c.tile.ensures.disk (ap (λ s. s.size) c.tile.ensures.same) (ap (λ s. s.generation) c.tile.ensures.same)

@@ -1,5 +1,5 @@
 use Rattle.http_serve.proofs.ServeLemmas.{served_input, if_ok}
-use Rattle.http_serve.proofs.connection.serve_with.Goals as goal
+use Rattle.http_serve.proofs.connection.serve_in.Goals as goal
 
 pub returns-clause-serves : goal.returns-clause-serves
 returns-clause-serves g c =

@@ -1,0 +1,117 @@
+//! The rest of a content that a stretch left: it is read part by part, each once the peer has taken the part before.
+ghost use Rattle.std.specs.Prelude.{◌≡◌, ◌≤◌, ◌+◌, ◌++◌, Some, Option, List, ℕ, length, IfOk, MatchOption};
+ghost use Rattle.http_listen.specs.Rests.{rest_after, once_sent};
+
+use crate::outputs::Output;
+use http_serve::{Downloads, End, PART_SIZE, ServeFault, Served, Ticket};
+
+/// The rest of a content, which isn't sent yet.
+#[derive(Clone, Copy, Debug, PartialEq, Eq)]
+pub(crate) struct Unsent {
+    ticket: Ticket,
+    /// How many bytes of the content were read.
+    at: u64,
+    /// How many bytes it has.
+    end: u64,
+}
+
+impl Unsent {
+    /// What is left after a stretch that came to this.
+    pub(crate) fn after<H: Downloads>(
+        outcome: &Result<Served, ServeFault>,
+        handler: &H,
+    ) -> Option<Unsent>
+        ensures { result ≡ rest_after (H.ticket_of handler.now) outcome.now }
+    {
+        match *outcome {
+            Err(ServeFault::Rest { from, length, .. }) => Some(Unsent {
+                ticket: handler.ticket(),
+                at: from,
+                end: length,
+            }),
+            _ => None,
+        }
+    }
+
+    /// What is left once `count` more bytes were read.
+    fn less(self, count: usize) -> Option<Unsent>
+        ensures { MatchOption result (self.end ≤ self.at + count) (λ next. next ≡ record self { at = self.at + count }) }
+    {
+        let left = self.end.saturating_sub(self.at);
+        if count as u64 >= left {
+            return None;
+        }
+        let at = self.at + count as u64;
+        Some(Unsent { at, ..self })
+    }
+
+    /// How many bytes the next part has.
+    fn part_len(self) -> usize
+        ensures { result ≤ PART_SIZE }
+    {
+        self.end.saturating_sub(self.at).min(PART_SIZE as u64) as usize
+    }
+}
+
+/// What a stretch comes to once the rest that it left is sent too.
+pub(crate) fn once_sent(outcome: Result<Served, ServeFault>) -> Result<Served, ServeFault>
+    ensures { result ≡ once_sent outcome }
+{
+    match outcome {
+        Err(
+            ServeFault::Rest {
+                requests,
+                close,
+                ..
+            },
+        ) => Ok(Served {
+            requests: requests.saturating_add(1),
+            end: if close { End::Asked } else { End::Closed },
+        }),
+        other => other,
+    }
+}
+
+/// Fills `part` with the next bytes of a content, and adds them to the replies that wait. Returns what is left then.
+fn add_bytes<H: Downloads>(
+    handler: &mut H,
+    unsent: Unsent,
+    part: &mut [u8],
+    output: &mut Output,
+) -> Result<Option<Unsent>, ServeFault>
+    ensures read { (outcome : Option (List ℕ)) × H.reads handler.old unsent.ticket unsent.at outcome handler.new }
+    ensures added { IfOk result (λ left. (bytes : List ℕ) × H.reads handler.old unsent.ticket unsent.at (Some bytes) handler.new
+        × (output.new ≡ output.old ++ bytes)
+        × MatchOption left (unsent.end ≤ unsent.at + length bytes) (λ next. next ≡ record unsent { at = unsent.at + length bytes })) }
+{
+    match handler.read_rest(unsent.ticket, unsent.at, part) {
+        Ok(()) => {}
+        Err(_) => return Err(ServeFault::Content { requests: 0 }),
+    }
+    if output.add(part, PART_SIZE) {
+        return Ok(unsent.less(part.len()));
+    }
+    Err(ServeFault::Memory)
+}
+
+/// Reads the next part of a content, of at most `PART_SIZE` bytes, and adds it to the replies that wait, of which there are none. Returns
+/// what is left then.
+///
+/// # Errors
+///
+/// `Content` if it can't be read, `Memory` if there is none for it.
+pub(crate) fn add_part<H: Downloads>(
+    handler: &mut H,
+    unsent: Unsent,
+    output: &mut Output,
+) -> Result<Option<Unsent>, ServeFault>
+    ensures read { (outcome : Option (List ℕ)) × H.reads handler.old unsent.ticket unsent.at outcome handler.new }
+    // What is added is what was read by the ticket, and the next part is read behind it.
+    ensures added { IfOk result (λ left. (bytes : List ℕ) × H.reads handler.old unsent.ticket unsent.at (Some bytes) handler.new
+        × (output.new ≡ output.old ++ bytes)
+        × MatchOption left (unsent.end ≤ unsent.at + length bytes) (λ next. next ≡ record unsent { at = unsent.at + length bytes })) }
+{
+    let mut part = [0; PART_SIZE];
+    let count = unsent.part_len();
+    add_bytes(handler, unsent, &mut part[..count], output)
+}

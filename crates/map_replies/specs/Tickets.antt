@@ -1,0 +1,60 @@
+-- The rest of a download, which is read by its ticket between other replies.
+use Rattle.std.specs.Prelude.{◌≡◌, ◌≤◌, ◌+◌, ℕ, List, length, slice_range, Option, IfSome, Result, Ok, Err}
+use Rattle.http_serve.specs.declared.handlers.Ticket.{Ticket}
+use Rattle.sector_disk.specs.Asked.{OnlyReads}
+use Rattle.sector_disk.specs.Disk.{History}
+use Rattle.generations.specs.Areas.{IsSize}
+use Rattle.published_tiles.specs.declared.place.ArchivePlace.{ArchivePlace}
+use Rattle.tile_service.specs.Service.{ServiceView, IsUp, IsPlaceIn, HasArchive, archive_of}
+use Rattle.tile_service.specs.Stored.{Stored}
+use Rattle.tile_service.specs.Tickets.{IsHeld}
+use Rattle.tile_service.specs.declared.fault.ServiceFault.{ServiceFault}
+use Rattle.tile_service.specs.declared.fault.ServiceFault.TheVariants.{Device}
+use Rattle.map_replies.specs.declared.calls.Calls.{Calls}
+
+-- where the archive of a ticket is
+abbrev pub place_of : Ticket → ArchivePlace
+place_of ticket = record { generation = ticket.generation; first = ticket.place; len = ticket.total }
+
+-- the ticket for what the last reply with the archive sends
+abbrev pub ticket_for : {D : Type 0} → Calls D → Ticket
+ticket_for calls = record {
+  generation = (archive_of calls.service).generation;
+  place = (archive_of calls.service).first;
+  total = (archive_of calls.service).len;
+  first = calls.sending.first;
+}
+
+-- On a disk of this size, where no step has written since into the area of a generation from oldest on: these bytes of a ticket's content are
+-- there.
+pub record IsThere (size oldest : ℕ) (ticket : Ticket) (offset count : ℕ) : Type 0 where
+  pub sized : IsSize size
+  pub kept : oldest ≤ ticket.generation
+  pub inside : IsPlaceIn size (place_of ticket)
+  pub within : ticket.first + offset + count ≤ ticket.total
+
+-- the generation at the last step that may have written an area, after a call at this generation: one that is refused writes nothing
+abbrev pub oldest_after : {A : Type 0} → Result A ServiceFault → (oldest generation : ℕ) → ℕ
+oldest_after (Ok done) oldest generation = generation
+oldest_after (Err Device) oldest generation = generation
+oldest_after (Err fault) oldest generation = oldest
+
+-- a ticket that is held is held afterwards too
+abbrev pub KeepsTickets : {D : Type 0} (honest : D → Type 0) (history : D → History) → (old new : Calls D) → Type 0
+KeepsTickets {D} honest history old new = (place : ArchivePlace) (first : ServiceView D)
+    → IsHeld honest history place first old.oldest old.service → IsHeld honest history place first new.oldest new.service
+
+-- Bytes of a ticket's content were read from an offset on, or couldn't be. Nothing changes but what the disk was asked.
+pub record ReadsRest {D : Type 0} (sectors : D → ℕ) (honest : D → Type 0) (history : D → History) (old : Calls D)
+    (ticket : Ticket) (offset : ℕ) (outcome : Option (List ℕ)) (new : Calls D) : Type 0 where
+  pub same : new.service ≡ record old.service { disk = new.service.disk }
+  pub oldest : new.oldest ≡ old.oldest
+  pub sending : new.sending ≡ old.sending
+  pub disk : OnlyReads sectors honest history old.service.disk new.service.disk
+  pub up : (stored : Stored) → IsUp (sectors old.service.disk) (history old.service.disk) stored old.service → honest new.service.disk
+      → IsUp (sectors new.service.disk) (history new.service.disk) stored new.service
+  -- they are read only if they are there
+  pub there : IfSome outcome (λ bytes. IsThere old.service.size old.oldest ticket offset (length bytes))
+  -- they are those of the archive that the disk has in the ticket's place
+  pub shown : (archive : List ℕ) → HasArchive (history old.service.disk) (place_of ticket) archive → honest new.service.disk
+      → IfSome outcome (λ bytes. bytes ≡ slice_range archive (ticket.first + offset) (ticket.first + offset + length bytes))
