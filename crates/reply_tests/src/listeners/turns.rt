@@ -163,13 +163,13 @@ fn slow<'a>(quick: usize, rate: usize, acts: &'a [Act<'a>], wants: &'a str) -> P
     peer
 }
 
-/// A large reply is asked for, and another one before it is sent.
+/// A large reply is asked for after a while, in which the stream is watched for bytes alone, and another one before it is sent.
 const ASKS_BIG_AND_A: [Act<'static>; 2] = [
     (
-        0,
+        100,
         "GET /big HTTP/1.1\r\nhost: x\r\n\r\nGET /a HTTP/1.1\r\nhost: x\r\n\r\n",
     ),
-    (1, ""),
+    (101, ""),
 ];
 
 const ASKS_LATER: [Act<'static>; 3] = [(500, ASKS_B), (600, ASKS_A), (700, "")];
