@@ -1,4 +1,4 @@
--- From the contracts of an archive over a slice, which can't fail to be read.
+-- From the contracts of an archive over a source to the verdict on it.
 use Rattle.std.proofs.Common.{◌≡◌, ℕ, List, Result, Ok, Err, MatchResult, IfErr, inl, inr, ap}
 use Rattle.pm_header.specs.declared.header.Header.{Header}
 use Rattle.pm_directory.specs.declared.entry.DirectoryEntry.{DirectoryEntry}
@@ -25,12 +25,11 @@ memory_from_outside d h unread = elim h [ inl read ↦ absurd (unread read) | in
 pub UnlessOutside-weaker : (P Q : ArchiveFault → Type 0) (d : ArchiveFault) → ((e : ArchiveFault) → P e → Q e) → UnlessOutside P d → UnlessOutside Q d
 UnlessOutside-weaker P Q d f h = λ inside. f d (h inside)
 
--- the opening of a sound archive fails only out of memory
+-- the opening of a sound archive fails only for a reason outside of it
 pub only_at_opening : (bytes : List ℕ) (d : ArchiveFault)
     → ((h : Header) (root : List DirectoryEntry) → HasSections bytes h → IsDirectory (section_bytes h.root bytes) root → IsOutside d)
-    → (d ≡ Read → ⊥) → (report : Report) → IsSound bytes report → d ≡ Memory
-only_at_opening bytes d only unread report sound =
-    let root = sound.archive.entries in memory_from_outside d (only sound.header root.0 sound.archive.sections root.1) unread
+    → (report : Report) → IsSound bytes report → IsOutside d
+only_at_opening bytes d only report sound = let root = sound.archive.entries in only sound.header root.0 sound.archive.sections root.1
 
 pub only_at_judging : (report : Report) (r : Result Report ArchiveFault) → (r ≡ Err Read → ⊥) → MatchResult r (λ found. found ≡ report) IsOutside
     → MatchResult r (λ found. found ≡ report) (λ d. d ≡ Memory)

@@ -1,3 +1,4 @@
 mod Judged
 mod PutLaws
+mod Stored
 mod Written

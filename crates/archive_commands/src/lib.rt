@@ -6,6 +6,7 @@ mod showing;
 mod verdict;
 mod verifying;
 
+pub use pm_archive::ArchiveFault;
 pub use showing::{ShowFault, show};
 pub use verdict::Verdict;
-pub use verifying::verify;
+pub use verifying::{verify, verify_source, verify_stored};

@@ -1,19 +1,28 @@
 //! The commands over an archive in a file.
 
-use crate::fault::CommandFault;
+use crate::fault::{Cause, CommandFault};
+use crate::noted::Noted;
 use crate::regular::open_regular;
 use crate::{Told, ended, refused, refused_file};
-use archive_commands::{Verdict, show, verify};
+use archive_commands::{ArchiveFault, Verdict, show, verify_stored};
 use generations::StoreFault;
-use std::fs::OpenOptions;
-use std::io::{self, Read};
+use sector_disk::{FileDisk, SECTOR_BYTES, SectorFile, Start};
+use std::cell::Cell;
+use std::fs::{File, OpenOptions};
+use std::io::{self, ErrorKind, Read};
+use std::os::unix::fs::FileExt;
 use std::process::ExitCode;
+
+/// Opens a regular file to read it.
+fn opened_to_read(rt: &HostRuntime, path: &str) -> io::Result<File> {
+    let mut how = OpenOptions::new();
+    how.read(true);
+    open_regular(rt, path, &how)
+}
 
 /// The bytes of a regular file.
 fn read_regular(rt: &HostRuntime, path: &str) -> io::Result<Vec<u8>> {
-    let mut how = OpenOptions::new();
-    how.read(true);
-    let mut file = open_regular(rt, path, &how)?;
+    let mut file = opened_to_read(rt, path)?;
     let mut bytes = Vec::new(rt.alloc());
     file.read_to_end(&mut bytes)?;
     Ok(bytes)
@@ -42,13 +51,79 @@ pub(crate) fn show_file(rt: &HostRuntime, path: &str, told: Told) -> anyhow::Res
     }
 }
 
+/// An open file of so many bytes, for reading it in sectors: the last one is filled up with zeros.
+#[derive(Drop)]
+struct PaddedFile {
+    file: File,
+    bytes: u64,
+}
+
+impl PaddedFile {
+    /// Fills the buffer with the bytes from an offset on, and with zeros after the last byte.
+    fn fill(&self, into: &mut [u8], offset: u64) -> io::Result<()> {
+        let there = self.bytes.saturating_sub(offset).min(into.len() as u64) as usize;
+        into[there..].fill(0);
+        self.file.read_exact_at(&mut into[..there], offset)
+    }
+}
+
+impl SectorFile for PaddedFile {
+    fn read_at(&mut self, into: &mut [u8; SECTOR_BYTES], offset: u64) -> io::Result<()> {
+        self.fill(into, offset)
+    }
+
+    fn read_run_at(&mut self, into: &mut [[u8; SECTOR_BYTES]], offset: u64) -> io::Result<()> {
+        self.fill(into.as_flattened_mut(), offset)
+    }
+
+    fn write_at(&mut self, _from: &[[u8; SECTOR_BYTES]], _offset: u64) -> io::Result<()> {
+        Err(ErrorKind::Unsupported.into())
+    }
+
+    fn sync_data(&mut self) -> io::Result<()> {
+        Err(ErrorKind::Unsupported.into())
+    }
+}
+
+/// An open file, and how many bytes it has.
+fn sized_file(rt: &HostRuntime, path: &str) -> io::Result<PaddedFile> {
+    let file = opened_to_read(rt, path)?;
+    let bytes = file.metadata()?.len();
+    Ok(PaddedFile { file, bytes })
+}
+
+/// The verdict on the archive in a file, whatever the file has. It is read in parts, and not kept in memory.
+fn judged<S: Start>(rt: &HostRuntime, path: &str, start: S) -> Result<Verdict, CommandFault> {
+    let file = match sized_file(rt, path) {
+        Ok(file) => file,
+        Err(error) => return Err(CommandFault::File(Some(error))),
+    };
+    let bytes = file.bytes;
+    let Some(rounded) = bytes.checked_add(SECTOR_BYTES as u64 - 1) else {
+        return Err(CommandFault::File(None));
+    };
+    let cause: Cell<Cause> = Cell::new(None);
+    let file = Noted {
+        file,
+        cause: &cause,
+    };
+    match verify_stored(rt.alloc(), &mut FileDisk::new(file, rounded, start), bytes) {
+        Err(ArchiveFault::Read) => Err(CommandFault::File(cause.take())),
+        outcome => Ok(Verdict::of(outcome)),
+    }
+}
+
 /// Verifies an archive, and prints its counts or its first fault.
-pub(crate) fn verify_file(rt: &HostRuntime, path: &str, told: Told) -> anyhow::Result<ExitCode> {
-    let archive = match file_bytes(rt, path) {
-        Ok(archive) => archive,
+pub(crate) fn verify_file<S: Start>(
+    rt: &HostRuntime,
+    path: &str,
+    told: Told,
+    start: S,
+) -> anyhow::Result<ExitCode> {
+    let verdict = match judged(rt, path, start) {
+        Ok(verdict) => verdict,
         Err(fault) => return ended(rt, Err(fault), path, told),
     };
-    let verdict = Verdict::of(verify(rt.alloc(), archive.as_slice()));
     if let Verdict::Unjudged(fault) = verdict {
         return refused_file(rt, fault, path, told);
     }

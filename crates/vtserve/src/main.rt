@@ -172,7 +172,7 @@ fn run(rt: &HostRuntime, matches: &ArgMatches<'_>) -> anyhow::Result<ExitCode> {
         },
         "show" => show_file(rt, path, told),
         "upgrade" => ended(rt, upgrade_file(rt, path, Unknown), path, told),
-        "verify" => verify_file(rt, path, told),
+        "verify" => verify_file(rt, path, told, Unknown),
         _ => Ok(ExitCode::from(2)),
     }
 }
