@@ -111,13 +111,26 @@ fn time_of(rt: &HostRuntime, form: Form, size: usize, count: u64) -> Result<u64,
     Ok(u64::try_from(time.as_micros()).unwrap_or(u64::MAX))
 }
 
-/// The form of which as many bytes take much longer in long heads than in short ones, if there is one. Were a head parsed for each byte, they
+/// How often a form is timed whose long heads seem to be slow: another process may have taken the caches meanwhile.
+const TIMES: u64 = 3;
+
+/// Whether as many bytes take much longer in long heads of a form than in short ones, each time. Were a head parsed for each byte, they
 /// would take eight times as long.
+fn is_slow(rt: &HostRuntime, form: Form) -> Result<bool, Fail> {
+    for _ in 0..TIMES {
+        let short = time_of(rt, form, 1_000, 200)?;
+        let long = time_of(rt, form, 8_000, 25)?;
+        if long / 4 <= short {
+            return Ok(false);
+        }
+    }
+    Ok(true)
+}
+
+/// The form whose long heads are slow, if there is one.
 fn slow_form(rt: &HostRuntime) -> Result<Option<usize>, Fail> {
     for (index, form) in FORMS.iter().enumerate() {
-        let short = time_of(rt, *form, 1_000, 200)?;
-        let long = time_of(rt, *form, 8_000, 25)?;
-        if long / 4 > short {
+        if is_slow(rt, *form)? {
             return Ok(Some(index));
         }
     }
