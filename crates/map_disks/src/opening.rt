@@ -1,9 +1,10 @@
 //! A map opened on a disk: for every disk, and for all that it may have had.
-ghost use Rattle.std.specs.Prelude.{◌≡◌, ◌⊎◌, ℕ, IfErr, IfOk, IfSome};
+ghost use Rattle.std.specs.Prelude.{◌≡◌, ◌⊎◌, ℕ, IfErr, IfOk, IfSome, None};
 ghost use Rattle.sector_disk.specs.Asked.{MayWrite};
 ghost use Rattle.sector_disk.specs.Disk.{seen};
 ghost use Rattle.sector_disk.specs.Disk.History.{synced};
 ghost use Rattle.generations.specs.declared.fault.StoreFault.TheVariants.{Device, Memory};
+ghost use Rattle.generations.specs.Faults.{CountsDevice};
 ghost use Rattle.map_replies.specs.State.{access_of, asked_service};
 ghost use Rattle.tile_service.specs.Opening.{IsOpenFault};
 ghost use Rattle.tile_service.specs.Service.{IsUp};
@@ -26,6 +27,9 @@ pub fn opened_service<D: Sectors + Drop>(
     ensures access { IfOk result (λ replies. access_of replies ≡ access) }
     ensures disk { IfOk result (λ replies. MayWrite D.sectors D.honest disk (asked_service replies).disk) }
     ensures history { IfOk result (λ replies. D.honest (asked_service replies).disk → D.history (asked_service replies).disk ≡ synced (D.history disk)) }
+    // A disk is lost only where memory is missing, and `Device` tells of a call of the disk that failed.
+    ensures gone { IfErr result (λ e. e.0 ≡ None → e.1 ≡ Memory) }
+    ensures failed { IfErr result (λ e. IfSome e.0 (λ left. CountsDevice e.1 (D.faults disk) (D.faults left))) }
     ensures fault { IfErr result (λ e. IfSome e.0 D.honest
         → (e.1 ≡ Device) ⊎ (e.1 ≡ Memory) ⊎ IsOpenFault (D.sectors disk) (seen (D.history disk)) e.1) }
 
