@@ -305,7 +305,7 @@ impl<S: Write> Kept<S> {
             Ok(count) => {
                 self.pace = self.pace_at(now).sent(count);
                 self.turn.since = now;
-                self.turn.ready.writes = !self.sends();
+                self.turn.ready.writes = !self.has_output();
                 Ok(())
             }
             Err(e) if is_passing(&e) => {

@@ -22,6 +22,14 @@ const CANCEL: &str = "POST /publish/cancel HTTP/1.1\r\nhost: x\r\n\r\n";
 
 const DELETE: &str = "DELETE /features/1 HTTP/1.1\r\nhost: x\r\n\r\n";
 
+/// Sets a feature of one point.
+const EDIT: &str = concat!(
+    "PUT /features/9 HTTP/1.1\r\nhost: x\r\ncontent-length: 77\r\n\r\n",
+    "{\"layer\":\"p\",\"minzoom\":0,\"maxzoom\":2,\"geometry\":{\"points\":[[7,9]]},\"tags\":{}}"
+);
+
+const ASKS: [Act<'static>; 2] = [(0, DOWNLOAD), (1, "")];
+
 /// How many points the feature has. Its tile takes about four bytes for each.
 const POINTS: u64 = 2_500;
 
@@ -78,13 +86,10 @@ fn slow<'a>(acts: &'a [Act<'a>], wants: &'a [u8]) -> Peer<'a> {
 
 /// What a slow download came to beside a peer that asks this: whether it is right and whole so far, how many bytes came of how many, and
 /// the log.
-fn beside(alloc: Global, acts: &[Act<'_>]) -> Result<(bool, usize, usize, Vec<u8>), Fail> {
+fn beside(alloc: Global, acts: &[Act<'static>]) -> Result<(bool, usize, usize, Vec<u8>), Fail> {
     let mut map = published(alloc, 8)?;
     let whole = told(alloc, &mut map, DOWNLOAD)?;
-    let asks = [(0, DOWNLOAD), (1, "")];
-    let mut other = Peer::new(0, acts, "");
-    other.wants = &[];
-    let peers = [slow(&asks, &whole), other];
+    let peers = [slow(&ASKS, &whole), Peer::new(0, acts, "")];
     let outcome = serve_with(alloc, &peers, &[], u64::MAX, &mut map);
     let right = !peers[0].wrong.get() && outcome.ended.is_ok();
     Ok((right, peers[0].got.get(), whole.len(), outcome.log))
@@ -93,10 +98,8 @@ fn beside(alloc: Global, acts: &[Act<'_>]) -> Result<(bool, usize, usize, Vec<u8
 /// Edits, steps and one whole publication beside it.
 #[test]
 fn a_download_outlives_a_publication(rt: HostRuntime) -> Result<(), Fail> {
-    let alloc = rt.alloc();
-    let edit = put(alloc, 9)?;
     let acts = [
-        (50, edit.as_str()),
+        (50, EDIT),
         (150, BEGIN),
         (160, STEP),
         (250, DELETE),
@@ -106,7 +109,7 @@ fn a_download_outlives_a_publication(rt: HostRuntime) -> Result<(), Fail> {
         (450, DELETE),
         (451, ""),
     ];
-    let (right, got, size, log) = beside(alloc, &acts)?;
+    let (right, got, size, log) = beside(rt.alloc(), &acts)?;
     assert_eq!(rt; (right, got, size > 131_072), (true, size, true));
     let lines = "connection 2: 8 requests, closed\nconnection 1: 1 requests, closed\n";
     assert_eq!(rt; log.as_slice(), lines.as_bytes());
@@ -116,10 +119,9 @@ fn a_download_outlives_a_publication(rt: HostRuntime) -> Result<(), Fail> {
 /// A second publication cuts it, from its first step on.
 #[test]
 fn a_download_is_cut_by_the_second_publication(rt: HostRuntime) -> Result<(), Fail> {
-    let alloc = rt.alloc();
     for time in [100, 300, 700, 1_000] {
         let acts = [(time, PUBLISH), (time, BEGIN), (time, STEP), (time, "")];
-        let (right, got, size, log) = beside(alloc, &acts)?;
+        let (right, got, size, log) = beside(rt.alloc(), &acts)?;
         assert_eq!(rt; (right, got > 16_384, got < size), (true, true, true));
         let lines = "connection 2: 3 requests, closed\nconnection 1: 0 requests, device\n";
         assert_eq!(rt; log.as_slice(), lines.as_bytes());
@@ -127,23 +129,25 @@ fn a_download_is_cut_by_the_second_publication(rt: HostRuntime) -> Result<(), Fa
     Ok(())
 }
 
+const CHANGES: [Act<'static>; 3] = [(100, EDIT), (110, PUBLISH), (120, "")];
+
+const ASKS_LATER: [Act<'static>; 2] = [(200, DOWNLOAD), (201, "")];
+
 /// Two downloads of different archives at once, each of its own to the last byte.
 #[test]
 fn each_download_is_of_its_own_archive(rt: HostRuntime) -> Result<(), Fail> {
     let alloc = rt.alloc();
     let mut map = published(alloc, 4)?;
     let first = told(alloc, &mut map, DOWNLOAD)?;
-    let edit = put(alloc, 9)?;
-    let asks = [(0, DOWNLOAD), (1, "")];
-    let changes = [(100, edit.as_str()), (110, PUBLISH), (120, "")];
-    let later = [(200, DOWNLOAD), (201, "")];
     let mut same = published(alloc, 4)?;
-    told(alloc, &mut same, edit.as_str())?;
+    told(alloc, &mut same, EDIT)?;
     told(alloc, &mut same, PUBLISH)?;
     let second = told(alloc, &mut same, DOWNLOAD)?;
-    let mut other = Peer::new(0, &changes, "");
-    other.wants = &[];
-    let peers = [slow(&asks, &first), other, slow(&later, &second)];
+    let peers = [
+        slow(&ASKS, &first),
+        Peer::new(0, &CHANGES, ""),
+        slow(&ASKS_LATER, &second),
+    ];
     let outcome = serve_with(alloc, &peers, &[], u64::MAX, &mut map);
     assert_eq!(rt;
         (peers[0].is_right(), peers[2].is_right(), outcome.ended),
