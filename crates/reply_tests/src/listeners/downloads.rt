@@ -62,17 +62,36 @@ fn told(alloc: Global, map: &mut Map, requests: &str) -> Result<Vec<u8>, Fail> {
     Ok(written)
 }
 
-/// A map on a disk of 8,192 sectors, whose archive has this many features.
-fn published(alloc: Global, features: u64) -> Result<Map, Fail> {
+/// Adds this many features to a map, and publishes it.
+fn fill(alloc: Global, map: &mut Map, features: u64) -> Result<(), Fail> {
+    for id in 1..=features {
+        told(alloc, map, put(alloc, id)?.as_str())?;
+    }
+    told(alloc, map, PUBLISH)?;
+    Ok(())
+}
+
+/// A map without features on a disk of 8,192 sectors.
+fn empty_map(alloc: Global) -> Result<Map, Fail> {
+    let routes = Routes::new(alloc)?;
     let mut disk = MemoryDisk::new(alloc, 8_192)?;
     Service::format(&mut disk).ok().ok_or("a format")?;
     let service = Service::open(alloc, disk).ok().ok_or("a service")?;
-    let mut map = MapReplies::new(alloc, Routes::new(alloc)?, Access::Map, service);
-    for id in 1..=features {
-        told(alloc, &mut map, put(alloc, id)?.as_str())?;
+    Ok(MapReplies::new(alloc, routes, Access::Map, service))
+}
+
+/// The archive of a map with this many features, after these requests.
+fn archive_of(
+    alloc: Global,
+    map: &mut Map,
+    features: u64,
+    requests: &[&str],
+) -> Result<Vec<u8>, Fail> {
+    fill(alloc, map, features)?;
+    for request in requests {
+        told(alloc, map, request)?;
     }
-    told(alloc, &mut map, PUBLISH)?;
-    Ok(map)
+    told(alloc, map, DOWNLOAD)
 }
 
 /// One that takes 20,000 bytes at once and 10,000 more in each tenth of a second.
@@ -86,18 +105,37 @@ fn slow<'a>(acts: &'a [Act<'a>], wants: &'a [u8]) -> Peer<'a> {
 
 /// What a slow download came to beside a peer that asks this: whether it is right and whole so far, how many bytes came of how many, and
 /// the log.
-fn beside(alloc: Global, acts: &[Act<'static>]) -> Result<(bool, usize, usize, Vec<u8>), Fail> {
-    let mut map = published(alloc, 8)?;
-    let whole = told(alloc, &mut map, DOWNLOAD)?;
+fn beside(
+    alloc: Global,
+    map: &mut Map,
+    acts: &[Act<'static>],
+) -> Result<(bool, usize, usize, Vec<u8>), Fail> {
+    let whole = archive_of(alloc, map, 8, &[])?;
     let peers = [slow(&ASKS, &whole), Peer::new(0, acts, "")];
-    let outcome = serve_with(alloc, &peers, &[], u64::MAX, &mut map);
+    let outcome = serve_with(alloc, &peers, &[], u64::MAX, map);
     let right = !peers[0].wrong.get() && outcome.ended.is_ok();
     Ok((right, peers[0].got.get(), whole.len(), outcome.log))
 }
 
-/// Edits, steps and one whole publication beside it.
-#[test]
-fn a_download_outlives_a_publication(rt: HostRuntime) -> Result<(), Fail> {
+/// Whether such a download came whole and right, with this log.
+fn is_whole(
+    alloc: Global,
+    map: &mut Map,
+    acts: &[Act<'static>],
+    lines: &str,
+) -> Result<bool, Fail> {
+    let (right, got, size, log) = beside(alloc, map, acts)?;
+    Ok(right && got == size && size > 131_072 && log.as_slice() == lines.as_bytes())
+}
+
+/// Whether it was cut, and was right so far, with this log.
+fn is_cut(alloc: Global, map: &mut Map, acts: &[Act<'static>], lines: &str) -> Result<bool, Fail> {
+    let (right, got, size, log) = beside(alloc, map, acts)?;
+    Ok(right && got > 16_384 && got < size && log.as_slice() == lines.as_bytes())
+}
+
+/// Whether a download is whole beside edits, steps and one whole publication.
+fn is_whole_beside_a_publication(alloc: Global) -> Result<bool, Fail> {
     let acts = [
         (50, EDIT),
         (150, BEGIN),
@@ -109,22 +147,29 @@ fn a_download_outlives_a_publication(rt: HostRuntime) -> Result<(), Fail> {
         (450, DELETE),
         (451, ""),
     ];
-    let (right, got, size, log) = beside(rt.alloc(), &acts)?;
-    assert_eq!(rt; (right, got, size > 131_072), (true, size, true));
     let lines = "connection 2: 8 requests, closed\nconnection 1: 1 requests, closed\n";
-    assert_eq!(rt; log.as_slice(), lines.as_bytes());
+    let mut map = empty_map(alloc)?;
+    is_whole(alloc, &mut map, &acts, lines)
+}
+
+#[test]
+fn a_download_outlives_a_publication(rt: HostRuntime) -> Result<(), Fail> {
+    assert_eq!(rt; is_whole_beside_a_publication(rt.alloc())?, true);
     Ok(())
 }
 
-/// A second publication cuts it, from its first step on.
+/// Whether a second publication at this time cuts a download, from its first step on.
+fn is_cut_at(alloc: Global, time: u64) -> Result<bool, Fail> {
+    let acts = [(time, PUBLISH), (time, BEGIN), (time, STEP), (time, "")];
+    let lines = "connection 2: 3 requests, closed\nconnection 1: 0 requests, device\n";
+    let mut map = empty_map(alloc)?;
+    is_cut(alloc, &mut map, &acts, lines)
+}
+
 #[test]
 fn a_download_is_cut_by_the_second_publication(rt: HostRuntime) -> Result<(), Fail> {
     for time in [100, 300, 700, 1_000] {
-        let acts = [(time, PUBLISH), (time, BEGIN), (time, STEP), (time, "")];
-        let (right, got, size, log) = beside(rt.alloc(), &acts)?;
-        assert_eq!(rt; (right, got > 16_384, got < size), (true, true, true));
-        let lines = "connection 2: 3 requests, closed\nconnection 1: 0 requests, device\n";
-        assert_eq!(rt; log.as_slice(), lines.as_bytes());
+        assert_eq!(rt; is_cut_at(rt.alloc(), time)?, true);
     }
     Ok(())
 }
@@ -133,25 +178,40 @@ const CHANGES: [Act<'static>; 3] = [(100, EDIT), (110, PUBLISH), (120, "")];
 
 const ASKS_LATER: [Act<'static>; 2] = [(200, DOWNLOAD), (201, "")];
 
+/// The archive of a map of four features after these requests.
+fn archive_after(alloc: Global, requests: &[&str]) -> Result<Vec<u8>, Fail> {
+    let mut map = empty_map(alloc)?;
+    archive_of(alloc, &mut map, 4, requests)
+}
+
+/// Whether two downloads from a map of four features, of which the second begins after a publication, are these.
+fn are_these<'a>(
+    alloc: Global,
+    map: &mut Map,
+    first: &'a [u8],
+    second: &'a [u8],
+) -> Result<bool, Fail> {
+    fill(alloc, map, 4)?;
+    let peers = [
+        slow(&ASKS, first),
+        Peer::new(0, &CHANGES, ""),
+        slow(&ASKS_LATER, second),
+    ];
+    let outcome = serve_with(alloc, &peers, &[], u64::MAX, map);
+    Ok(peers[0].is_right() && peers[2].is_right() && outcome.ended.is_ok())
+}
+
+/// The same of a new map.
+fn are_of_their_archives(alloc: Global, first: &[u8], second: &[u8]) -> Result<bool, Fail> {
+    let mut map = empty_map(alloc)?;
+    are_these(alloc, &mut map, first, second)
+}
+
 /// Two downloads of different archives at once, each of its own to the last byte.
 #[test]
 fn each_download_is_of_its_own_archive(rt: HostRuntime) -> Result<(), Fail> {
-    let alloc = rt.alloc();
-    let mut map = published(alloc, 4)?;
-    let first = told(alloc, &mut map, DOWNLOAD)?;
-    let mut same = published(alloc, 4)?;
-    told(alloc, &mut same, EDIT)?;
-    told(alloc, &mut same, PUBLISH)?;
-    let second = told(alloc, &mut same, DOWNLOAD)?;
-    let peers = [
-        slow(&ASKS, &first),
-        Peer::new(0, &CHANGES, ""),
-        slow(&ASKS_LATER, &second),
-    ];
-    let outcome = serve_with(alloc, &peers, &[], u64::MAX, &mut map);
-    assert_eq!(rt;
-        (peers[0].is_right(), peers[2].is_right(), outcome.ended),
-        (true, true, Ok(()))
-    );
+    let first = archive_after(rt.alloc(), &[])?;
+    let second = archive_after(rt.alloc(), &[EDIT, PUBLISH])?;
+    assert_eq!(rt; are_of_their_archives(rt.alloc(), &first, &second)?, true);
     Ok(())
 }
