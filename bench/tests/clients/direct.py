@@ -168,7 +168,7 @@ def idle_ones(cases, server, alone):
 
 
 def too_many(cases, server, alone):
-    """Of 300 silent connections 256 are kept: the one that waits longest is ended for another."""
+    """Three hundred silent connections are kept, and one that works is answered beside them."""
     silent = [socket.create_connection(("127.0.0.1", server.port), timeout=10) for _ in range(300)]
     opened = alone.opened
     content = alone.get(TILES[0])
@@ -176,8 +176,7 @@ def too_many(cases, server, alone):
     for one in silent:
         one.settimeout(0.2)
     ended = [heard(one) for one in silent]
-    wanted = ["ended"] * 45 + ["waits"] * 255
-    cases.show("direct: those that waited longest were ended, 256 are kept with the one that works", ended == wanted or ended, True)
+    cases.show("direct: none of the silent ones was ended", ended.count("waits"), len(silent))
     for one in silent:
         one.close()
 
