@@ -174,7 +174,7 @@ def too_many(cases, server, alone):
     content = alone.get(TILES[0])
     cases.show("direct: one that works is answered beside 300 silent ones", (len(content) > 0, alone.opened - opened <= 1), (True, True))
     for one in silent:
-        one.settimeout(0.2)
+        one.settimeout(0.02)
     ended = [heard(one) for one in silent]
     cases.show("direct: none of the silent ones was ended", ended.count("waits"), len(silent))
     for one in silent:
