@@ -1,2 +1,3 @@
 mod Finds
 mod Joined
+mod Written

@@ -1,5 +1,5 @@
 -- The bytes of an archive, as they were copied to a writer.
-use Rattle.std.specs.Prelude.{◌≡◌, ℕ, List, length, take, drop, Option, Result, MatchResult}
+use Rattle.std.specs.Prelude.{◌≡◌, ◌<◌, ℕ, List, length, take, drop, Option, Result, MatchResult}
 use Rattle.std.specs.Io.KnownBytes.{Appends}
 use Rattle.sector_bytes.specs.Source.{AreItsBytes}
 use Rattle.sector_disk.specs.Disk.{History, HasFailed, seen}
@@ -26,3 +26,8 @@ module _ {D : Type 0} (honest : D → Type 0) (history : D → History) (place :
   abbrev pub CopiesArchive : D → D → Option (List ℕ) → Option (List ℕ) → Type 0
   CopiesArchive old new held holds = (bytes : List ℕ) × (length bytes ≡ place.len) × Appends held holds bytes
       × ((archive : List ℕ) → AreItsBytes place.first place.len archive (seen (history old)) → honest new → bytes ≡ archive)
+
+  -- fewer than count bytes were written, and on an honest disk they are those of the archive at this place, from one on
+  abbrev pub CopiesFewer : D → (at count : ℕ) → D → Option (List ℕ) → Option (List ℕ) → Type 0
+  CopiesFewer old at count new held holds = (bytes : List ℕ) × (length bytes < count) × Appends held holds bytes
+      × ((archive : List ℕ) → AreItsBytes place.first place.len archive (seen (history old)) → honest new → bytes ≡ take (length bytes) (drop at archive))

@@ -1,9 +1,10 @@
 //! The archive, piece by piece.
-ghost use Rattle.std.specs.Prelude.{◌≡◌, ◌≤◌, ◌+◌, length, OnOk};
-ghost use Rattle.archive_export.specs.Copies.{CopiesBytes, CopiesArchive, TellsDevice};
+ghost use Rattle.std.specs.Prelude.{◌≡◌, ◌≤◌, ◌<◌, ◌+◌, length, OnOk, OnErr};
+ghost use Rattle.archive_export.specs.Copies.{CopiesBytes, CopiesArchive, CopiesFewer, TellsDevice};
 ghost use Rattle.generations.specs.Areas.{sectors_of};
 ghost use Rattle.sector_disk.specs.Asked.{OnlyReads};
 
+use crate::writing::write_whole;
 use published_tiles::ArchivePlace;
 use sector_bytes::read_bytes;
 use sector_disk::{DiskFault, Sectors};
@@ -32,6 +33,7 @@ fn copy_piece<D: Sectors, W: Write>(
     piece: &mut [u8],
     into: &mut W,
 ) -> Result<(), CopyFault>
+    requires some { 0 < length piece.old }
     requires within { at + length piece.old ≤ archive.len }
     requires on_disk { archive.first + sectors_of archive.len ≤ D.sectors disk.old }
     ensures disk { OnlyReads D.sectors D.honest D.history disk.old disk.new }
@@ -39,12 +41,14 @@ fn copy_piece<D: Sectors, W: Write>(
     ensures length { length piece.new ≡ length piece.old }
     ensures copied { OnOk result (CopiesBytes D.honest D.history archive disk.old at (length piece.old) disk.new
         (W.contents into.old) (W.contents into.new)) }
+    ensures part { OnErr result (CopiesFewer D.honest D.history archive disk.old at (length piece.old) disk.new
+        (W.contents into.old) (W.contents into.new)) }
 {
     match read_bytes(disk, archive.first, at, piece) {
         Ok(()) => {}
         Err(DiskFault) => return Err(CopyFault::Device),
     }
-    match into.write_all(piece) {
+    match write_whole(into, piece) {
         Ok(()) => Ok(()),
         Err(_) => Err(CopyFault::Write),
     }
@@ -54,7 +58,8 @@ fn copy_piece<D: Sectors, W: Write>(
 ///
 /// # Errors
 ///
-/// `Device` and `Write`. A first part of the archive may have been written then.
+/// `Device` if a read of the disk failed, `Write` if a write did. Less than the archive has been written then, and it is the archive's
+/// first bytes.
 pub fn copy_archive<D: Sectors, W: Write>(
     disk: &mut D,
     archive: ArchivePlace,
@@ -64,6 +69,7 @@ pub fn copy_archive<D: Sectors, W: Write>(
     ensures disk { OnlyReads D.sectors D.honest D.history disk.old disk.new }
     ensures failed { TellsDevice result (D.faults disk.old) (D.faults disk.new) }
     ensures copied { OnOk result (CopiesArchive D.honest D.history archive disk.old disk.new (W.contents into.old) (W.contents into.new)) }
+    ensures part { OnErr result (CopiesFewer D.honest D.history archive disk.old 0 archive.len disk.new (W.contents into.old) (W.contents into.new)) }
 {
     let mut piece = [0; PIECE_SIZE];
     let mut at = 0;
