@@ -7,7 +7,8 @@ ghost use Rattle.feature_model.specs.Data.{EditData, change_data};
 ghost use Rattle.feature_model.specs.Limits.{AreEnough};
 ghost use Rattle.feature_model.specs.Types.{ChangeFitsTypes};
 ghost use Rattle.edit_json.specs.Asked.{asked_data};
-ghost use Rattle.edit_json.specs.Batches.{AskedData, delete_asked, put_asked, asked_number, asked_json, asked_of, asks_json, list_json, HasMembers, BeginsAsked};
+ghost use Rattle.edit_json.specs.Batches.{AskedData, delete_asked, put_asked, asked_number, asked_json, asked_of, asks_json, list_json};
+ghost use Rattle.edit_json.specs.Batches.{HasMembers, BeginsAsked};
 ghost use Rattle.edit_json.specs.Batches.{IsJsonChange, IsBatch, NumbersDiffer, IsFirstAskedFault, IsFirstAsked, IsFirstBatchFault};
 
 use crate::outline::{next_named, read_outline};

@@ -50,13 +50,17 @@ pub line_decides : (a b : Vec World Global) → Decides (pointwise same_point a.
 line_decides a b = pointwise_decides point_decides a.items b.items
 
 pub lines_decide : (a b : Vec (Vec World Global) Global)
-    → Decides (pointwise (λ (l m : Vec World Global). pointwise same_point l.items m.items) a.items b.items) (map (λ l. l.items) a.items ≡ map (λ l. l.items) b.items)
+    → Decides (pointwise (λ (l m : Vec World Global). pointwise same_point l.items m.items) a.items b.items)
+    (map (λ l. l.items) a.items ≡ map (λ l. l.items) b.items)
 lines_decide a b = mapped_decides (λ l m. pointwise same_point l.items m.items) (λ l. l.items) line_decides a.items b.items
 
 pub polygons_decide : (a b : Vec (Vec (Vec World Global) Global) Global)
-    → Decides (pointwise (λ (p q : Vec (Vec World Global) Global). pointwise (λ (l m : Vec World Global). pointwise same_point l.items m.items) p.items q.items) a.items b.items)
+    → Decides (pointwise (λ (p q : Vec (Vec World Global) Global). pointwise (λ (l m : Vec World Global). pointwise same_point l.items m.items) p.items q.items)
+    a.items b.items)
     (map (λ p. map (λ r. r.items) p.items) a.items ≡ map (λ p. map (λ r. r.items) p.items) b.items)
-polygons_decide a b = mapped_decides (λ p q. pointwise (λ l m. pointwise same_point l.items m.items) p.items q.items) (λ p. map (λ r. r.items) p.items) lines_decide a.items b.items
+polygons_decide a b =
+    mapped_decides (λ p q. pointwise (λ l m. pointwise same_point l.items m.items) p.items q.items) (λ p. map (λ r. r.items) p.items) lines_decide
+    a.items b.items
 
 abbrev same_geometry : Geometry → Geometry → Bool
 same_geometry = (geometry_impl.ghosts).eq

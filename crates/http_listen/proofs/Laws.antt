@@ -5,7 +5,8 @@ use Rattle.std.specs.Prelude.{filter, Some}
 use Rattle.http_serve.specs.declared.handlers.Ticket.{Ticket}
 use Rattle.http_serve.specs.Requests.{RequestView}
 use Rattle.http_serve.specs.Reply.{ReplyView}
-use Rattle.http_listen.specs.Connections.{Stretch, Event, at_stretch, at_part, is_first, Happens, Serves, NextStretch, NextPart, IsOverKnown, AreOverKnown, begun}
+use Rattle.http_listen.specs.Connections.{Stretch, Event, at_stretch, at_part, is_first, Happens, Serves, NextStretch, NextPart}
+use Rattle.http_listen.specs.Connections.{IsOverKnown, AreOverKnown, begun}
 
 -- Events over what is known, and then other ones.
 known_both : (front back : List Event) → AreOverKnown front → AreOverKnown back → AreOverKnown (front ++ back)

@@ -25,7 +25,7 @@ impl<S: OpenStream + Drop> Room<S> {
         }
     }
 
-    /// Closes a connection for one that comes, if one may be closed. Otherwise the new one stays in the listener's queue for now.
+    /// Closes a connection for one that comes, if one may be closed. Otherwise the new one stays in the listener's queue until `crowded`.
     fn give_way<L: Waits<Stream = S>, W: Write>(
         &mut self,
         now: Duration,

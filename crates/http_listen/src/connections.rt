@@ -217,8 +217,10 @@ where
     ensures all { OnOk result ((served : List Event) × Serves H.replies H.fails H.reads handler.old served handler.new × (begun served ≡ connections)) }
     ensures fewer { OnErr result ((served : List Event) × Serves H.replies H.fails H.reads handler.old served handler.new × (begun served < connections)) }
     // The bytes of each stretch are known, so what was read is: the requests that were answered are its bytes.
-    ensures known { OnOk result ((served : List Event) × Serves H.replies H.fails H.reads handler.old served handler.new × (begun served ≡ connections) × AreOverKnown served) }
-    ensures fewer_known { OnErr result ((served : List Event) × Serves H.replies H.fails H.reads handler.old served handler.new × (begun served < connections) × AreOverKnown served) }
+    ensures known { OnOk result ((served : List Event) × Serves H.replies H.fails H.reads handler.old served handler.new
+        × (begun served ≡ connections) × AreOverKnown served) }
+    ensures fewer_known { OnErr result ((served : List Event) × Serves H.replies H.fails H.reads handler.old served handler.new
+        × (begun served < connections) × AreOverKnown served) }
 {
     let mut room = Room::new(alloc);
     let mut buffers = Buffers::new(alloc);

@@ -251,7 +251,7 @@ impl<S> Kept<S> {
 }
 
 impl<S: Read> Kept<S> {
-    /// A read failed: nothing came for now, or none will.
+    /// A read failed: nothing has come yet, or nothing will.
     fn not_read(&mut self, error: &io::Error) -> Result<bool, ServeFault> {
         if error.kind() == ErrorKind::WouldBlock {
             self.turn.ready.reads = false;

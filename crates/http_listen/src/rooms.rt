@@ -52,7 +52,7 @@ pub(crate) enum Found<S> {
     Asks(Kept<S>, usize),
     /// The next part of a content is to be read.
     Reads(Kept<S>, Unsent),
-    /// Nothing for now.
+    /// Nothing in this step.
     Nothing,
     /// Nothing any more.
     Over,

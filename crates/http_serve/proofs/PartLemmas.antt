@@ -8,7 +8,8 @@ use Rattle.std.specs.Io.KnownBytes.{Appends}
 use Rattle.http_serve.specs.declared.replies.Content.{Content}
 use Rattle.http_serve.specs.declared.replies.Content.TheVariants.{Empty, Fixed, Whole, Shared, Parts}
 use Rattle.http_serve.specs.declared.replies.Reply.{Reply}
-use Rattle.http_serve.specs.Parts.{front_content, rest_content, front_bytes, rest_bytes, IsLater, IsReadable, IsCutIn, IsLeft, IsStopped, IfRest, IsNoRest, cut_after}
+use Rattle.http_serve.specs.Parts.{front_content, rest_content, front_bytes, rest_bytes, IsLater, IsReadable, IsCutIn, IsLeft, IsStopped}
+use Rattle.http_serve.specs.Parts.{IfRest, IsNoRest, cut_after}
 use Rattle.http_serve.specs.Reply.{ReplyView, HeadView, head_of, head_view, reply_view, content_bytes, content_size, FitsParts, IsReply, InParts, with_part}
 use Rattle.http_serve.specs.Reply.{has_no_content, reply_head, reply_bytes}
 use Rattle.status_phrase.specs.Codes.{code_of}

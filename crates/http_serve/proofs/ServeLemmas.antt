@@ -24,13 +24,15 @@ use Rattle.http_serve.specs.Parts.{GivesOrFails, IsStopped, IfRest, cut_after}
 use Rattle.http_serve.specs.Requests.{Request, Ending, going, closed, asked, refused, EndsAs, IsRefused, Requests}
 use Rattle.http_serve.specs.Requests.{RequestView, request_view_at}
 use Rattle.http_serve.specs.Reply.{ReplyView, reply_at, refusal_bytes, has_head_method}
-use Rattle.http_serve.specs.Served.{RisesBy, reply_count, Answers, AnswersEnd, AnswersAll, AnswersNext, RepliesNext, Carries, Ends, Breaks, Stops, Anything, MayFollow}
+use Rattle.http_serve.specs.Served.{RisesBy, reply_count, Answers, AnswersEnd, AnswersAll, AnswersNext, RepliesNext}
+use Rattle.http_serve.specs.Served.{Carries, Ends, Breaks, Stops, Anything, MayFollow}
 use Rattle.http_serve.specs.Steps.{HasPlainEnd, IsFinished, IsUnfinished, IsBroken, IsLeftAt}
 use Rattle.http_serve.specs.Told.{end_of, IfTurns, IsServed, IsServedTo, IsServedSoFar, IsServedInPart, IsServedUpTo, IsAnswered, LosesAtMost}
 use Rattle.http_serve.specs.Told.{HasContent, IsNotRest, OnRest, StopsAtRest, MeetsTurns, KeepsTurns, AnswersInput}
 use Rattle.http_serve.proofs.HeadLemmas.{empty_no_head, refused_none}
 use Rattle.http_serve.proofs.KnownLemmas.{Appends-then, Consumes-then, Consumes_none}
-use Rattle.http_serve.proofs.CarryLemmas.{Begins-append, Begins-then, Answers-then, Carries_start, Ends_push, Frame_next, Frame_stops, Breaks_at, Breaks_refused}
+use Rattle.http_serve.proofs.CarryLemmas.{Begins-append, Begins-then, Answers-then, Carries_start, Ends_push}
+use Rattle.http_serve.proofs.CarryLemmas.{Frame_next, Frame_stops, Breaks_at, Breaks_refused}
 use Rattle.http_serve.proofs.CarryLemmas.{rises_then, reply_count-append}
 
 finished_other : (end : End) (ending : Ending) (last : List ℕ) → end ≡ end_of ending → HasPlainEnd ending last → end ≢ Turns

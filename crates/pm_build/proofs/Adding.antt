@@ -1,5 +1,6 @@
 -- Tiles with one more after them, and their runs in a builder.
-use Rattle.std.proofs.Common.{◌≡◌, ◌↔◌, ℕ, zero, suc, ◌+◌, ◌<◌, ◌≤◌, List, [], ◌∷◌, ◌++◌, length, get_or, slice_set, true, All, refl, sym, ap, subst, ◌∙◌, arith}
+use Rattle.std.proofs.Common.{◌≡◌, ◌↔◌, ℕ, zero, suc, ◌+◌, ◌<◌, ◌≤◌, List, [], ◌∷◌, ◌++◌, length, get_or, slice_set}
+use Rattle.std.proofs.Common.{true, All, refl, sym, ap, subst, ◌∙◌, arith}
 use Rattle.std.specs.List.{AllByRecursion}
 use Rattle.std.proofs.lemmas.Bool.{false≢true}
 use Rattle.std.proofs.lemmas.List.{length_push, map_push}
@@ -204,7 +205,8 @@ begun cs ds runs more r t grown places lt at first count pushed =
     record {
       views_are = ap (λ (x : List Run). run_views ds x) pushed ∙ map_push (run_view ds) runs r ∙ ap (λ (x : List TileRun). x ++ run_view ds r ∷ []) same
           ∙ ap (λ (v : TileRun). run_views cs runs ++ v ∷ []) view;
-      places = subst (λ (x : List Run). ArePlaces ds x) (sym pushed) (all_push (λ (x : Run). x.place < length ds) runs r (places_more cs ds runs longer places) lt);
+      places = subst (λ (x : List Run). ArePlaces ds x) (sym pushed)
+          (all_push (λ (x : Run). x.place < length ds) runs r (places_more cs ds runs longer places) lt);
     }
 
 -- a tile that continues the last run has the content of that

@@ -169,7 +169,8 @@ front_joined front root metadata leaves contents h (head, header, whole, parts) 
   header,
   whole,
   ap (λ (bs : List ℕ). bs ++ contents) parts ∙ append_assoc head (root ++ (metadata ++ leaves)) contents
-      ∙ ap (λ (bs : List ℕ). head ++ bs) (append_assoc root (metadata ++ leaves) contents ∙ ap (λ (bs : List ℕ). root ++ bs) (append_assoc metadata leaves contents)),
+      ∙ ap (λ (bs : List ℕ). head ++ bs)
+      (append_assoc root (metadata ++ leaves) contents ∙ ap (λ (bs : List ℕ). root ++ bs) (append_assoc metadata leaves contents)),
 )
 
 pub archive_joined : {E : Type 0} (r : Result (Vec ℕ Global) E) (root metadata leaves : List ℕ) (tiles : List Tile) (es : List DirectoryEntry)

@@ -133,11 +133,13 @@ with_repeated cs first (suc more) c ts =
     ∙ ap (λ (x : List (List ℕ)). with_contents x (map (λ (t : Tile). t.1) ts)) (with_again cs c)
 
 with_run : (cs : List (List ℕ)) (r : TileRun) (ts : List Tile) → 0 < r.count
-    → with_contents cs (map (λ (t : Tile). t.1) (repeated r.first r.count r.content ++ ts)) ≡ with_contents (with_content cs r.content) (map (λ (t : Tile). t.1) ts)
+    → with_contents cs (map (λ (t : Tile). t.1) (repeated r.first r.count r.content ++ ts))
+    ≡ with_contents (with_content cs r.content) (map (λ (t : Tile). t.1) ts)
 with_run cs r ts some = by r.count refl some
   where
     by : (n : ℕ) → r.count ≡ n → 0 < n
-        → with_contents cs (map (λ (t : Tile). t.1) (repeated r.first n r.content ++ ts)) ≡ with_contents (with_content cs r.content) (map (λ (t : Tile). t.1) ts)
+        → with_contents cs (map (λ (t : Tile). t.1) (repeated r.first n r.content ++ ts))
+        ≡ with_contents (with_content cs r.content) (map (λ (t : Tile). t.1) ts)
     by zero e some = absurd (omega arith)
     by (suc n) e some = with_repeated cs r.first n r.content ts
 

@@ -7,7 +7,8 @@ use Rattle.std.specs.BTreeMap.{get, Updates, is_at}
 use Rattle.std.specs.Map.{lookup}
 use Rattle.std.specs.declared.cmp.Ordering.TheVariants.{Less, Equal, Greater}
 use Rattle.std.proofs.lemmas.Bool.{cases_lt, cases_eq, ne_eqb}
-use Rattle.std.proofs.lemmas.List.{length-append, length-map, length-take-le, length-drop, append-nil, get_or_append_left, get_or-append-add, get_or-map, take-append-drop, drop-drop, drop_all}
+use Rattle.std.proofs.lemmas.List.{length-append, length-map, length-take-le, length-drop, append-nil, get_or_append_left, get_or-append-add, get_or-map}
+use Rattle.std.proofs.lemmas.List.{take-append-drop, drop-drop, drop_all}
 use Rattle.pm_build.specs.declared.contents.Contents.TheInside.{Inside}
 use Rattle.pm_build.specs.declared.contents.Stored.{Stored}
 use Rattle.pm_build.specs.Different.{content_at, offset_from}
@@ -86,7 +87,8 @@ all_bytes bytes ss h = all_from bytes 0 ss h
 
 -- ---- one more
 
-consecutive_push : (from end : ℕ) (ss : List Stored) (s : Stored) → AreConsecutive from end ss → s.offset ≡ end → AreConsecutive from (end + s.len) (ss ++ s ∷ [])
+consecutive_push : (from end : ℕ) (ss : List Stored) (s : Stored) → AreConsecutive from end ss → s.offset ≡ end
+    → AreConsecutive from (end + s.len) (ss ++ s ∷ [])
 consecutive_push from end [] s h at = (at ∙ sym h, ap (λ (n : ℕ). n + s.len) h)
 consecutive_push from end (r ∷ ss) s h at = (h.0, consecutive_push (from + r.len) end ss s h.1 at)
 
@@ -296,12 +298,13 @@ module _ (old new : Inside) (content : List ℕ) (s : Stored) (hash : ℕ) where
       }
 
 -- a store of the same records, bytes and entries
-pub store_same : (old new : Inside) → IsStore old → new.bytes.items ≡ old.bytes.items → new.stored.items ≡ old.stored.items → new.last.entries ≡ old.last.entries
-    → IsStore new × (contents_view new ≡ contents_view old)
+pub store_same : (old new : Inside) → IsStore old → new.bytes.items ≡ old.bytes.items → new.stored.items ≡ old.stored.items
+    → new.last.entries ≡ old.last.entries → IsStore new × (contents_view new ≡ contents_view old)
 store_same old new is bytes stored entries =
     let view : contents_view new ≡ contents_view old =
     ap (λ (x : List ℕ). contents_in x new.stored.items) bytes ∙ ap (λ (x : List Stored). contents_in old.bytes.items x) stored in
-    let moved : IsStored old.bytes.items old.stored.items old.last.entries = record { consecutive = is.consecutive; chained = is.chained; last_of = is.last_of } in
+    let moved : IsStored old.bytes.items old.stored.items old.last.entries =
+    record { consecutive = is.consecutive; chained = is.chained; last_of = is.last_of } in
     let there = subst (λ (x : List ℕ). IsStored x new.stored.items new.last.entries) (sym bytes)
     (subst (λ (x : List Stored). IsStored old.bytes.items x new.last.entries) (sym stored)
     (subst (λ (x : List (ℕ × ℕ)). IsStored old.bytes.items old.stored.items x) (sym entries) moved)) in

@@ -13,4 +13,6 @@ returns c =
     (sector_joined a.front.items a.contents.items c.part-front.result.now c.part-contents.result.now start c.saturating_sub-behind.result
     (512 - length c.part-front.result.now)
     (c.part-front.ensures.part ∙ ap (λ (bs : List ℕ). take 512 (drop start bs)) c.deref.ensures.value)
-    (c.part-contents.ensures.part ∙ ap (λ (bs : List ℕ). take (512 - length c.part-front.result.now) (drop c.saturating_sub-behind.result bs)) c.deref-2.ensures.value) refl behind)
+    (c.part-contents.ensures.part
+    ∙ ap (λ (bs : List ℕ). take (512 - length c.part-front.result.now) (drop c.saturating_sub-behind.result bs)) c.deref-2.ensures.value)
+    refl behind)

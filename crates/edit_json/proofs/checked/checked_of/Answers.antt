@@ -13,7 +13,8 @@ returns-in-Err-clause-refused c = subst (IsFirstCheckedFault (checks_json (map c
 
 pub changes_of-requires : goal.changes_of-requires
 changes_of-requires c =
-    subst (All HasMembers) (sym (ap (map asked_data) c.deref.ensures.value ∙ c.in-Ok.ensures.plain)) (plain-members (map checked_data c.args.all.now) c.requires)
+    subst (All HasMembers) (sym (ap (map asked_data) c.deref.ensures.value ∙ c.in-Ok.ensures.plain))
+    (plain-members (map checked_data c.args.all.now) c.requires)
 
 pub returns-in-Err-changes_of-clause-refused : goal.returns-in-Err-changes_of-clause-refused
 returns-in-Err-changes_of-clause-refused c =

@@ -17,4 +17,5 @@ pub returns-clause-held : goal.returns-clause-held
 returns-clause-held g c =
     let d = g.D.Sectors in
     λ place first held. held_unasked d.sectors d.honest d.history place first c.args.self.now.oldest c.args.self.now.service _ held
-    (ap (λ s. s.disk) c.publish_cancel-outcome.ensures.same) (ap (λ s. s.size) c.publish_cancel-outcome.ensures.same) (ap (λ s. s.generation) c.publish_cancel-outcome.ensures.same)
+    (ap (λ s. s.disk) c.publish_cancel-outcome.ensures.same) (ap (λ s. s.size) c.publish_cancel-outcome.ensures.same)
+    (ap (λ s. s.generation) c.publish_cancel-outcome.ensures.same)

@@ -32,9 +32,17 @@ returns-in-Ok-clause-replied g c =
     let asked = c.granted-target.ensures.asked ∙ ap (granted c.args.self.now.access) c.target.ensures.asked in (
       told.0,
       told.1,
-      (by_path (λ a m. AnswersMethod d.sectors d.honest d.history d.faults a m range body old new told.0) _ _ _ _ method asked told.2, refl, c.respond.ensures.held),
+      (
+        by_path (λ a m. AnswersMethod d.sectors d.honest d.history d.faults a m range body old new told.0) _ _ _ _ method asked told.2,
+        refl,
+        c.respond.ensures.held,
+      ),
       in_parts c.in-Ok.reply.content _ _ (λ sent. (
-        (by_path (λ a m. SendsMethod d.sectors d.honest d.history d.faults a m range old sending new told.0) _ _ _ _ method asked sent, refl, c.respond.ensures.held),
+        (
+          by_path (λ a m. SendsMethod d.sectors d.honest d.history d.faults a m range old sending new told.0) _ _ _ _ method asked sent,
+          refl,
+          c.respond.ensures.held,
+        ),
         sent_size d.sectors d.honest d.history d.faults _ old _ new told.0 sent.2.1,
       )) told.3,
     )

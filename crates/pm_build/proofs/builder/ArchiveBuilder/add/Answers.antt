@@ -19,9 +19,11 @@ add_tile-requires-clause-end c =
     )
 
 is_same : (c : In-Err)
-    → IsSame c.self.inside (record { runs = c.add_tile.new.runs; contents = c.add_tile.new.contents; addressed = c.self.inside.addressed; alloc = c.self.inside.alloc })
+    → IsSame c.self.inside
+    (record { runs = c.add_tile.new.runs; contents = c.add_tile.new.contents; addressed = c.self.inside.addressed; alloc = c.self.inside.alloc })
 is_same c =
-    same c.self.inside (record { runs = c.add_tile.new.runs; contents = c.add_tile.new.contents; addressed = c.self.inside.addressed; alloc = c.self.inside.alloc })
+    same c.self.inside
+    (record { runs = c.add_tile.new.runs; contents = c.add_tile.new.contents; addressed = c.self.inside.addressed; alloc = c.self.inside.alloc })
     c.self.invariant c.in-Err.ensures.unchanged c.in-Err.ensures.unchanged_contents refl
 
 pub returns-in-Err-clause-many : goal.returns-in-Err-clause-many

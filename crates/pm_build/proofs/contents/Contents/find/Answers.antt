@@ -17,7 +17,8 @@ at-requires c =
 pub loop-next-smaller : goal.loop-next-smaller
 loop-next-smaller c =
     let here = c.loop-next.invariant.there c.in-Some.place c.in-Some.is in
-    falls (contents_view c.self.inside) _ c.in-Some.place _ _ c.in-Some.is (link_at c.self.inside c.in-Some.place c.index.result.now c.self.invariant here.0 c.index.ensures)
+    falls (contents_view c.self.inside) _ c.in-Some.place _ _ c.in-Some.is
+    (link_at c.self.inside c.in-Some.place c.index.result.now c.self.invariant here.0 c.index.ensures)
 
 pub loop-next-preserved : goal.loop-next-preserved
 loop-next-preserved c =

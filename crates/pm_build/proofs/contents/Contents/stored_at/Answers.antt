@@ -9,7 +9,8 @@ pub returns-clause-offset : goal.returns-clause-offset
 returns-clause-offset c =
     let inside = c.self.inside in
     let within = contents_count inside c.args.place c.args.self.now c.self.view_is c.requires in
-    ap (λ (r : Stored). r.offset) c.index.ensures ∙ offset_is inside.bytes.items inside.stored.items c.args.place c.index.result.now c.self.invariant.consecutive within
+    ap (λ (r : Stored). r.offset) c.index.ensures
+    ∙ offset_is inside.bytes.items inside.stored.items c.args.place c.index.result.now c.self.invariant.consecutive within
     ∙ ap (λ (cs : List (List ℕ)). length (concat (take c.args.place cs))) c.self.view_is
 
 pub returns-clause-len : goal.returns-clause-len
