@@ -8,6 +8,7 @@ ghost use Rattle.pm_archive.specs.Answers.{IsOutside, UnlessOutside};
 ghost use Rattle.pm_archive.specs.Sections.{HasSections};
 ghost use Rattle.pm_verify.specs.declared.report.Report.{Report};
 ghost use Rattle.pm_verify.specs.Verified.{IsSound};
+ghost use Rattle.sector_bytes.specs.Counts.{HasRisen, NeverFalls};
 ghost use Rattle.sector_bytes.specs.Source.{AreItsBytes};
 ghost use Rattle.sector_disk.specs.Asked.{OnlyReads};
 ghost use Rattle.sector_disk.specs.Disk.{seen};
@@ -24,15 +25,15 @@ use std::alloc::Global;
 ///
 /// # Errors
 ///
-/// The first fault of the bytes. `Read` if a read of the source fails. `Memory` if an allocation fails, which happens only if the header
+/// The first fault of the bytes. `Read` only if a read of the source failed. `Memory` if an allocation fails, which happens only if the header
 /// and the section bounds are valid.
 pub fn verify_source<B: Bytes + Drop>(alloc: Global, source: B) -> (B, Result<Report, ArchiveFault>)
-    ensures source { Keeps B.count B.holds B.fails B.unchanged source result.0 }
+    ensures source { Keeps B.count B.holds B.unchanged source result.0 }
     ensures found { (bytes : List ℕ) → B.holds result.0 bytes → IfOk result.1 (IsSound bytes) }
     ensures only { (bytes : List ℕ) (report : Report) → B.holds result.0 bytes → IsSound bytes report
         → MatchResult result.1 (λ found. found ≡ report) IsOutside }
     ensures fault { (bytes : List ℕ) → B.holds result.0 bytes → IfErr result.1 (UnlessOutside (FirstFault bytes)) }
-    ensures read { result.1 ≡ Err ArchiveFault.Read → B.fails source }
+    ensures read { result.1 ≡ Err ArchiveFault.Read → B.failed source result.0 }
     ensures memory { (bytes : List ℕ) → B.holds result.0 bytes → result.1 ≡ Err ArchiveFault.Memory → (h : Header) × HasSections bytes h }
 {
     let mut archive = match Archive::open(alloc, source) {
@@ -64,7 +65,7 @@ pub fn verify(alloc: Global, archive: &[u8]) -> Result<Report, ArchiveFault>
 ///
 /// # Errors
 ///
-/// The first fault of the bytes. `Read` if a call of the disk fails. `Memory` if an allocation fails, which happens only if the header and
+/// The first fault of the bytes. `Read` only if a read of the disk failed. `Memory` if an allocation fails, which happens only if the header and
 /// the section bounds are valid.
 pub fn verify_stored<D: Sectors>(
     alloc: Global,
@@ -78,6 +79,8 @@ pub fn verify_stored<D: Sectors>(
         → MatchResult result (λ found. found ≡ report) IsOutside }
     ensures fault { (bytes : List ℕ) → D.honest disk.new → AreItsBytes 0 len bytes (seen (D.history disk.old))
         → IfErr result (UnlessOutside (FirstFault bytes)) }
+    ensures never_falls { NeverFalls (D.faults disk.old) (D.faults disk.new) }
+    ensures read { result ≡ Err ArchiveFault.Read → HasRisen (D.faults disk.old) (D.faults disk.new) }
     ensures memory { (bytes : List ℕ) → D.honest disk.new → AreItsBytes 0 len bytes (seen (D.history disk.old))
         → result ≡ Err ArchiveFault.Memory → (h : Header) × HasSections bytes h }
 {

@@ -19,8 +19,8 @@ pub trait Bytes {
     /// out. A source of which nothing is known has none.
     ghost holds: { Self → List ℕ → Type 0 };
 
-    /// A read of the source may fail.
-    ghost fails: { Self → Type 0 };
+    /// A read failed after the first state, up to the second.
+    ghost failed: { Self → Self → Type 0 };
 
     /// What the source reads from is the same in both, for example the history of a disk. A read keeps this.
     ghost unchanged: { Self → Self → Type 0 };
@@ -34,16 +34,17 @@ pub trait Bytes {
         requires { at + length into.old ≤ count self.old }
         ensures count { count self.new ≡ count self.old }
         ensures held { (bytes : List ℕ) → holds self.new bytes → holds self.old bytes }
-        ensures fails { fails self.new → fails self.old }
         ensures unchanged { unchanged self.old self.new }
         ensures gives { (bytes : List ℕ) → holds self.new bytes → OnOk result (into.new ≡ slice_range bytes at (at + length into.old)) }
-        ensures fault { OnErr result (fails self.old) };
+        ensures fault { OnErr result (failed self.old self.new) };
 
     ghost sized: { (source : Self) (bytes : List ℕ) → holds source bytes → length bytes ≡ count source };
 
     ghost unchanged_itself: { (source : Self) → unchanged source source };
 
     ghost unchanged_on: { (first then last : Self) → unchanged first then → unchanged then last → unchanged first last };
+
+    ghost failed_on: { (first then last : Self) → unchanged first then → failed then last → failed first last };
 }
 
 impl Bytes for &[u8] {
@@ -51,7 +52,7 @@ impl Bytes for &[u8] {
 
     ghost holds = { λ s bytes. s.now ≡ bytes };
 
-    ghost fails = { λ s. ⊥ };
+    ghost failed = { λ old new. ⊥ };
 
     ghost unchanged = { λ old new. new ≡ old };
 
@@ -70,4 +71,6 @@ impl Bytes for &[u8] {
     ghost unchanged_itself = { λ s. refl };
 
     ghost unchanged_on = { λ a b c first then. then ∙ first };
+
+    ghost failed_on = { λ a b c first never. never };
 }

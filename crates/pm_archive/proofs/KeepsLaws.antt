@@ -1,14 +1,21 @@
--- Sources that are unchanged.
-use Rattle.std.proofs.Common.{ℕ, List, ◌∙◌}
+-- Sources that are unchanged, and faults that are passed on.
+use Rattle.std.proofs.Common.{◌≡◌, ℕ, List, Result, Err, ap, ◌∙◌}
 use Rattle.byte_source.specs.Source.{Keeps}
+use Rattle.pm_archive.specs.declared.fault.ArchiveFault.{ArchiveFault}
 
 -- a source that is unchanged twice is unchanged
-pub keeps_on : {S : Type 0} {count : S → ℕ} {holds : S → List ℕ → Type 0} {fails : S → Type 0} {unchanged : S → S → Type 0}
+pub keeps_on : {S : Type 0} {count : S → ℕ} {holds : S → List ℕ → Type 0} {unchanged : S → S → Type 0}
     → ((a b c : S) → unchanged a b → unchanged b c → unchanged a c)
-    → {a b c : S} → Keeps count holds fails unchanged a b → Keeps count holds fails unchanged b c → Keeps count holds fails unchanged a c
+    → {a b c : S} → Keeps count holds unchanged a b → Keeps count holds unchanged b c → Keeps count holds unchanged a c
 keeps_on on {a} {b} {c} first then = record {
   same_count = then.same_count ∙ first.same_count;
   no_others = λ bytes held. first.no_others bytes (then.no_others bytes held);
-  same_faults = λ failed. first.same_faults (then.same_faults failed);
   same_behind = on a b c first.same_behind then.same_behind;
 }
+
+abbrev failing : (T : Type 0) → ArchiveFault → Result T ArchiveFault
+failing T d = Err d
+
+-- a fault that is passed on is still this one
+pub passed_on : (T U : Type 0) (d e : ArchiveFault) → failing U d ≡ failing U e → failing T d ≡ failing T e
+passed_on T U d e is = let same : d ≡ e = cc in ap (failing T) same

@@ -6,6 +6,7 @@ use Rattle.pm_directory.specs.declared.entry.DirectoryEntry.{DirectoryEntry}
 use Rattle.pm_directory.specs.Directory.{IsDirectory}
 use Rattle.pm_archive.specs.declared.limits.TheConstants.{MAX_CACHED_LEAF_BYTES, MAX_CACHED_BYTES}
 use Rattle.pm_archive.specs.Sections.{HasSections, section_bytes}
+use Rattle.pm_archive.specs.Entries.{LiesIn}
 use Rattle.pm_archive.specs.Reading.{directory_of_entry}
 
 -- a leaf directory: the entry that names it, and its entries
@@ -27,6 +28,10 @@ IsLeafOf bytes h leaf = directory_of_entry bytes h leaf.entry ≡ Ok leaf.entrie
 -- each cached leaf directory is the one that its entry names
 abbrev pub AreCachedOf : List ℕ → Header → List LeafView → Type 0
 AreCachedOf bytes h leaves = All (IsLeafOf bytes h) leaves
+
+-- the bytes of each cached leaf directory are inside the section of the leaf directories
+abbrev pub AreInside : Header → List LeafView → Type 0
+AreInside h leaves = All (λ leaf. LiesIn h.leaves leaf.entry) leaves
 
 -- the stored length of a leaf directory in bytes
 abbrev pub leaf_bytes : LeafView → ℕ

@@ -53,14 +53,14 @@ impl<B: Bytes + Drop> Archive<B> {
     /// `Short`, `Magic`, `Version`, `Section`, `Compressed`, `Directory` of the root, the first that applies. `Read` if a read of the
     /// source fails. `Memory` only if the header and the section bounds are valid.
     pub fn open(alloc: Global, source: B) -> Result<Archive<B>, (B, ArchiveFault)>
-        ensures source { IfOk result (λ a. Keeps B.count B.holds B.fails B.unchanged source a.source) }
-        ensures back { IfErr result (λ e. Keeps B.count B.holds B.fails B.unchanged source e.0) }
+        ensures source { IfOk result (λ a. Keeps B.count B.holds B.unchanged source a.source) }
+        ensures back { IfErr result (λ e. Keeps B.count B.holds B.unchanged source e.0) }
         ensures found { IfOk result (λ a. (bytes : List ℕ) → B.holds a.source bytes
             → HasSections bytes a.header × IsDirectory (section_bytes a.header.root bytes) a.root) }
         ensures only { (bytes : List ℕ) (h : Header) (root : List DirectoryEntry) → HasSections bytes h → IsDirectory (section_bytes h.root bytes) root
             → MatchResult result (λ a. B.holds a.source bytes → (a.header ≡ h) × (a.root ≡ root)) (λ e. B.holds e.0 bytes → IsOutside e.1) }
         ensures fault { IfErr result (λ e. (bytes : List ℕ) → B.holds e.0 bytes → UnlessOutside (OpeningHas bytes) e.1) }
-        ensures read { IfErr result (λ e. e.1 ≡ ArchiveFault.Read → B.fails source) }
+        ensures read { IfErr result (λ e. e.1 ≡ ArchiveFault.Read → B.failed source e.0) }
         ensures memory { IfErr result (λ e. (bytes : List ℕ) → B.holds e.0 bytes → e.1 ≡ ArchiveFault.Memory → (h : Header) × HasSections bytes h) }
     {
         let mut source = source;
@@ -98,11 +98,11 @@ impl<B: Bytes + Drop> Archive<B> {
     pub fn metadata(&mut self) -> Result<Vec<u8>, ArchiveFault>
         ensures header { self.new.header ≡ self.old.header }
         ensures root { self.new.root ≡ self.old.root }
-        ensures source { Keeps B.count B.holds B.fails B.unchanged self.old.source self.new.source }
+        ensures source { Keeps B.count B.holds B.unchanged self.old.source self.new.source }
         ensures bytes { (bytes : List ℕ) → B.holds self.new.source bytes → IfOk result (λ v. v.items ≡ section_bytes self.old.header.metadata bytes) }
         ensures len { IfOk result (λ v. length v.items ≡ self.old.header.metadata.length) }
         ensures fault { IfErr result IsOutside }
-        ensures read { result ≡ Err ArchiveFault.Read → B.fails self.old.source }
+        ensures read { result ≡ Err ArchiveFault.Read → B.failed self.old.source self.new.source }
         ensures memory { result ≡ Err ArchiveFault.Memory → 0 < self.old.header.metadata.length }
     {
         let alloc = *self.root.allocator();
@@ -119,13 +119,13 @@ impl<B: Bytes + Drop> Archive<B> {
     pub fn list(&mut self) -> Result<Vec<DirectoryEntry>, ArchiveFault>
         ensures header { self.new.header ≡ self.old.header }
         ensures root { self.new.root ≡ self.old.root }
-        ensures source { Keeps B.count B.holds B.fails B.unchanged self.old.source self.new.source }
+        ensures source { Keeps B.count B.holds B.unchanged self.old.source self.new.source }
         ensures found { (bytes : List ℕ) → B.holds self.new.source bytes → IfOk result (λ tiles. HasEntries bytes self.old.header tiles.items) }
         ensures only { (bytes : List ℕ) (tiles : List DirectoryEntry) → B.holds self.new.source bytes → HasEntries bytes self.old.header tiles
             → MatchResult result (λ listed. listed.items ≡ tiles) IsOutside }
         ensures first { (bytes : List ℕ) → B.holds self.new.source bytes
             → GivesUnless IsOutside (λ tiles. tiles.items) result (list_at bytes self.old.header self.old.root) }
-        ensures read { result ≡ Err ArchiveFault.Read → B.fails self.old.source }
+        ensures read { result ≡ Err ArchiveFault.Read → B.failed self.old.source self.new.source }
         ensures memory { result ≡ Err ArchiveFault.Memory → LiesInside self.old.header (slice_get self.old.root 0) }
     {
         let alloc = *self.root.allocator();
@@ -141,12 +141,12 @@ impl<B: Bytes + Drop> Archive<B> {
     pub fn tile(&mut self, id: u64) -> Result<Option<Vec<u8>>, ArchiveFault>
         ensures header { self.new.header ≡ self.old.header }
         ensures root { self.new.root ≡ self.old.root }
-        ensures source { Keeps B.count B.holds B.fails B.unchanged self.old.source self.new.source }
+        ensures source { Keeps B.count B.holds B.unchanged self.old.source self.new.source }
         ensures content { (bytes : List ℕ) (tiles : List DirectoryEntry) → B.holds self.new.source bytes → HasEntries bytes self.old.header tiles
             → MatchResult result (λ content. option_map (λ v. v.items) content ≡ content_of bytes self.old.header tiles id) IsOutside }
         ensures first { (bytes : List ℕ) → B.holds self.new.source bytes
             → GivesUnless IsOutside (option_map (λ v. v.items)) result (looked_at bytes self.old.header self.old.root id) }
-        ensures read { result ≡ Err ArchiveFault.Read → B.fails self.old.source }
+        ensures read { result ≡ Err ArchiveFault.Read → B.failed self.old.source self.new.source }
         ensures memory { result ≡ Err ArchiveFault.Memory → LiesInside self.old.header (leading_of id self.old.root) }
     {
         let alloc = *self.root.allocator();
@@ -169,10 +169,10 @@ impl<B: Bytes + Drop> Archive<B> {
     pub fn content(&mut self, entry: DirectoryEntry) -> Result<Vec<u8>, ArchiveFault>
         ensures header { self.new.header ≡ self.old.header }
         ensures root { self.new.root ≡ self.old.root }
-        ensures source { Keeps B.count B.holds B.fails B.unchanged self.old.source self.new.source }
+        ensures source { Keeps B.count B.holds B.unchanged self.old.source self.new.source }
         ensures first { (bytes : List ℕ) → B.holds self.new.source bytes
             → GivesUnless IsOutside (λ v. v.items) result (content_of_tile bytes self.old.header entry) }
-        ensures read { result ≡ Err ArchiveFault.Read → B.fails self.old.source }
+        ensures read { result ≡ Err ArchiveFault.Read → B.failed self.old.source self.new.source }
         ensures memory { result ≡ Err ArchiveFault.Memory → LiesIn self.old.header.tiles entry }
     {
         let alloc = *self.root.allocator();

@@ -53,12 +53,12 @@ impl Leaf {
         entry: DirectoryEntry,
     ) -> Result<Leaf, ArchiveFault>
         requires { end_of header.now.leaves ≤ B.count source.old }
-        ensures source { Keeps B.count B.holds B.fails B.unchanged source.old source.new }
+        ensures source { Keeps B.count B.holds B.unchanged source.old source.new }
         ensures entry { IfOk result (λ leaf. leaf.entry ≡ entry) }
         ensures inside { OnOk result (LiesIn header.now.leaves entry) }
         ensures directory { (bytes : List ℕ) → B.holds source.new bytes
             → GivesUnless IsOutside (λ leaf. leaf.entries) result (directory_of_entry bytes header.now entry) }
-        ensures read { result ≡ Err ArchiveFault.Read → B.fails source.old }
+        ensures read { result ≡ Err ArchiveFault.Read → B.failed source.old source.new }
         ensures memory { result ≡ Err ArchiveFault.Memory → LiesIn header.now.leaves entry }
     {
         match directory_of(alloc, source, header, entry) {

@@ -9,7 +9,7 @@ ghost use Rattle.pm_archive.specs.Sections.{end_of};
 ghost use Rattle.pm_archive.specs.Entries.{LiesIn};
 ghost use Rattle.pm_archive.specs.Answers.{IsOutside};
 ghost use Rattle.pm_archive.specs.Looked.{leading_at};
-ghost use Rattle.pm_archive.specs.Lookup.{LeafView, IsLeafOf, AreCachedOf, IsSmall, IsCachedBeside, leaf_bytes, bytes_of, left_beside};
+ghost use Rattle.pm_archive.specs.Lookup.{LeafView, IsLeafOf, AreCachedOf, AreInside, IsSmall, IsCachedBeside, leaf_bytes, bytes_of, left_beside};
 
 use crate::fault::ArchiveFault;
 use crate::leaf::Leaf;
@@ -93,6 +93,7 @@ impl Leaves {
         ensures large { MAX_CACHED_LEAF_BYTES < leaf_bytes leaf → self.new ≡ self.old }
         ensures cached { leaf_bytes leaf ≤ MAX_CACHED_LEAF_BYTES → IsCachedBeside leaf self.old self.new }
         ensures still { (bytes : List ℕ) (h : Header) → IsLeafOf bytes h leaf → AreCachedOf bytes h self.old → AreCachedOf bytes h self.new }
+        ensures inside { (h : Header) → LiesIn h.leaves leaf.entry → AreInside h self.old → AreInside h self.new }
         ensures room { IsSmall self.old → IsSmall self.new }
     {
         let length = leaf.len();
@@ -115,14 +116,15 @@ pub(crate) fn leading_below<B: Bytes>(
     id: u64,
 ) -> Result<Option<DirectoryEntry>, ArchiveFault>
     requires { end_of header.now.leaves ≤ B.count source.old }
-    ensures source { Keeps B.count B.holds B.fails B.unchanged source.old source.new }
+    ensures source { Keeps B.count B.holds B.unchanged source.old source.new }
     ensures still { (bytes : List ℕ) → B.holds source.new bytes → AreCachedOf bytes header.now cached.old → AreCachedOf bytes header.now cached.new }
     ensures room { IsSmall cached.old → IsSmall cached.new }
     ensures first { (bytes : List ℕ) → B.holds source.new bytes → AreCachedOf bytes header.now cached.old
         → GivesUnless IsOutside (λ found. found) result (leading_at bytes header.now id entry) }
-    ensures read { result ≡ Err ArchiveFault.Read → B.fails source.old }
+    ensures read { result ≡ Err ArchiveFault.Read → B.failed source.old source.new }
     ensures memory { result ≡ Err ArchiveFault.Memory → LiesIn header.now.leaves entry }
-    ensures inside { cached.old ≡ [] → OnOk result (LiesIn header.now.leaves entry) }
+    ensures inside { AreInside header.now cached.old → OnOk result (LiesIn header.now.leaves entry) }
+    ensures still_inside { AreInside header.now cached.old → AreInside header.now cached.new }
     // A cached directory isn't read.
     ensures again { (leaf : LeafView) → Contains cached.old leaf → leaf.entry ≡ entry → (source.new ≡ source.old) × (cached.new ≡ cached.old) }
     ensures cached { All (λ leaf. ¬ (leaf.entry ≡ entry)) cached.old → entry.length ≤ MAX_CACHED_LEAF_BYTES

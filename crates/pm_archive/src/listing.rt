@@ -73,10 +73,10 @@ fn leaf_of<B: Bytes>(
     bound: u64,
 ) -> Result<Vec<DirectoryEntry>, ArchiveFault>
     requires { ArePlaced (B.count source.old) header.now }
-    ensures source { Keeps B.count B.holds B.fails B.unchanged source.old source.new }
+    ensures source { Keeps B.count B.holds B.unchanged source.old source.new }
     ensures leaf { (bytes : List ℕ) → B.holds source.new bytes → GivesUnless IsOutside (λ v. v.items) result (leaf_at bytes header.now entry bound) }
     ensures ascending { IfOk result (λ v. IsAscending v.items) }
-    ensures read { result ≡ Err ArchiveFault.Read → B.fails source.old }
+    ensures read { result ≡ Err ArchiveFault.Read → B.failed source.old source.new }
     ensures memory { result ≡ Err ArchiveFault.Memory → LiesIn header.now.leaves entry }
     ensures inside { OnOk result (LiesIn header.now.leaves entry) }
 {
@@ -118,10 +118,10 @@ fn push_listed<B: Bytes>(
     tiles: &mut Vec<DirectoryEntry>,
 ) -> Result<(), ArchiveFault>
     requires { ArePlaced (B.count source.old) header.now }
-    ensures source { Keeps B.count B.holds B.fails B.unchanged source.old source.new }
+    ensures source { Keeps B.count B.holds B.unchanged source.old source.new }
     ensures listed { (bytes : List ℕ) → B.holds source.new bytes
         → GivesUnless IsOutside (λ done. tiles.new.items) result (behind tiles.old.items (lists_at bytes header.now more entry bound)) }
-    ensures read { result ≡ Err ArchiveFault.Read → B.fails source.old }
+    ensures read { result ≡ Err ArchiveFault.Read → B.failed source.old source.new }
     ensures depth { entry.run ≡ 0 → more ≡ 0 → result ≡ Err ArchiveFault.Depth }
     ensures memory { result ≡ Err ArchiveFault.Memory → LiesInside header.now (Some entry) }
     ensures inside { OnOk result (LiesInside header.now (Some entry)) }
@@ -148,10 +148,10 @@ fn push_each<B: Bytes>(
     tiles: &mut Vec<DirectoryEntry>,
 ) -> Result<(), ArchiveFault>
     requires { ArePlaced (B.count source.old) header.now }
-    ensures source { Keeps B.count B.holds B.fails B.unchanged source.old source.new }
+    ensures source { Keeps B.count B.holds B.unchanged source.old source.new }
     ensures listed { (bytes : List ℕ) → B.holds source.new bytes
         → GivesUnless IsOutside (λ done. tiles.new.items) result (behind tiles.old.items (each_at (lists_at bytes header.now more) bound entries.now)) }
-    ensures read { result ≡ Err ArchiveFault.Read → B.fails source.old }
+    ensures read { result ≡ Err ArchiveFault.Read → B.failed source.old source.new }
     ensures memory { result ≡ Err ArchiveFault.Memory → LiesInside header.now (slice_get entries.now 0) }
 {
     for (i, entry) in entries.iter().enumerate() {
@@ -169,9 +169,9 @@ pub(crate) fn entries_below<B: Bytes>(
     root: &[DirectoryEntry],
 ) -> Result<Vec<DirectoryEntry>, ArchiveFault>
     requires { ArePlaced (B.count source.old) header.now }
-    ensures source { Keeps B.count B.holds B.fails B.unchanged source.old source.new }
+    ensures source { Keeps B.count B.holds B.unchanged source.old source.new }
     ensures first { (bytes : List ℕ) → B.holds source.new bytes → GivesUnless IsOutside (λ v. v.items) result (list_at bytes header.now root.now) }
-    ensures read { result ≡ Err ArchiveFault.Read → B.fails source.old }
+    ensures read { result ≡ Err ArchiveFault.Read → B.failed source.old source.new }
     ensures memory { result ≡ Err ArchiveFault.Memory → LiesInside header.now (slice_get root.now 0) }
 {
     let mut tiles = Vec::new(alloc);

@@ -10,7 +10,7 @@ ghost use Rattle.pm_archive.specs.Entries.{LiesIn, LiesInside};
 ghost use Rattle.pm_archive.specs.Reading.{ArePlaced};
 ghost use Rattle.pm_archive.specs.Answers.{IsOutside};
 ghost use Rattle.pm_archive.specs.Looked.{leading_of, reached_at, content_at, looked_at};
-ghost use Rattle.pm_archive.specs.Lookup.{AreCachedOf, IsSmall};
+ghost use Rattle.pm_archive.specs.Lookup.{AreCachedOf, AreInside, IsSmall};
 
 use crate::fault::ArchiveFault;
 use crate::leaf::leading;
@@ -34,16 +34,18 @@ fn tile_entry<B: Bytes>(
     more: u8,
 ) -> Result<Option<DirectoryEntry>, ArchiveFault>
     requires { end_of header.now.leaves ≤ B.count source.old }
-    ensures source { Keeps B.count B.holds B.fails B.unchanged source.old source.new }
+    ensures source { Keeps B.count B.holds B.unchanged source.old source.new }
     ensures still { (bytes : List ℕ) → B.holds source.new bytes → AreCachedOf bytes header.now cached.old → AreCachedOf bytes header.now cached.new }
     ensures room { IsSmall cached.old → IsSmall cached.new }
     ensures first { (bytes : List ℕ) → B.holds source.new bytes → AreCachedOf bytes header.now cached.old
         → GivesUnless IsOutside (λ e. e) result (reached_at bytes header.now id more entry) }
-    ensures read { result ≡ Err ArchiveFault.Read → B.fails source.old }
+    ensures read { result ≡ Err ArchiveFault.Read → B.failed source.old source.new }
     ensures none { entry ≡ None → result ≡ Ok None }
     ensures tile { (tile : DirectoryEntry) → entry ≡ Some tile → 0 < tile.run → result ≡ Ok (Some tile) }
-    ensures inside { cached.old ≡ [] → (leaf : DirectoryEntry) → entry ≡ Some leaf → leaf.run ≡ 0 → OnOk result (LiesIn header.now.leaves leaf) }
-    ensures memory { cached.old ≡ [] → result ≡ Err ArchiveFault.Memory
+    ensures still_inside { AreInside header.now cached.old → AreInside header.now cached.new }
+    ensures inside { AreInside header.now cached.old → (leaf : DirectoryEntry) → entry ≡ Some leaf → leaf.run ≡ 0
+        → OnOk result (LiesIn header.now.leaves leaf) }
+    ensures memory { AreInside header.now cached.old → result ≡ Err ArchiveFault.Memory
         → (leaf : DirectoryEntry) × (entry ≡ Some leaf) × (leaf.run ≡ 0) × (0 < more) × LiesIn header.now.leaves leaf }
 {
     let leaf = match entry {
@@ -69,9 +71,9 @@ fn content_in<B: Bytes>(
     entry: Option<DirectoryEntry>,
 ) -> Result<Option<Vec<u8>>, ArchiveFault>
     requires { end_of header.now.tiles ≤ B.count source.old }
-    ensures source { Keeps B.count B.holds B.fails B.unchanged source.old source.new }
+    ensures source { Keeps B.count B.holds B.unchanged source.old source.new }
     ensures first { (bytes : List ℕ) → B.holds source.new bytes → GivesUnless IsOutside (option_map (λ v. v.items)) result (content_at bytes header.now entry) }
-    ensures read { result ≡ Err ArchiveFault.Read → B.fails source.old }
+    ensures read { result ≡ Err ArchiveFault.Read → B.failed source.old source.new }
     ensures memory { result ≡ Err ArchiveFault.Memory → (tile : DirectoryEntry) × (entry ≡ Some tile) × LiesIn header.now.tiles tile }
 {
     let entry = match entry {
@@ -93,13 +95,14 @@ pub(crate) fn content_below<B: Bytes>(
 ) -> Result<Option<Vec<u8>>, ArchiveFault>
     requires placed { ArePlaced (B.count source.old) header.now }
     requires ascending { IsAscending root.now }
-    ensures source { Keeps B.count B.holds B.fails B.unchanged source.old source.new }
+    ensures source { Keeps B.count B.holds B.unchanged source.old source.new }
     ensures still { (bytes : List ℕ) → B.holds source.new bytes → AreCachedOf bytes header.now cached.old → AreCachedOf bytes header.now cached.new }
     ensures room { IsSmall cached.old → IsSmall cached.new }
     ensures first { (bytes : List ℕ) → B.holds source.new bytes → AreCachedOf bytes header.now cached.old
         → GivesUnless IsOutside (option_map (λ v. v.items)) result (looked_at bytes header.now root.now id) }
-    ensures read { result ≡ Err ArchiveFault.Read → B.fails source.old }
-    ensures memory { cached.old ≡ [] → result ≡ Err ArchiveFault.Memory → LiesInside header.now (leading_of id root.now) }
+    ensures read { result ≡ Err ArchiveFault.Read → B.failed source.old source.new }
+    ensures still_inside { AreInside header.now cached.old → AreInside header.now cached.new }
+    ensures memory { AreInside header.now cached.old → result ≡ Err ArchiveFault.Memory → LiesInside header.now (leading_of id root.now) }
 {
     let entry = tile_entry(
         alloc,

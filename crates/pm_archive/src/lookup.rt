@@ -8,9 +8,10 @@ ghost use Rattle.pm_directory.specs.Directory.{IsAscending, IsDirectory};
 ghost use Rattle.byte_source.specs.Source.{Keeps};
 ghost use Rattle.pm_archive.specs.Sections.{HasSections, section_bytes};
 ghost use Rattle.pm_archive.specs.Archive.{HasContents};
+ghost use Rattle.pm_archive.specs.Entries.{LiesInside};
 ghost use Rattle.pm_archive.specs.Reading.{ArePlaced, OpeningHas};
-ghost use Rattle.pm_archive.specs.Looked.{looked_at};
-ghost use Rattle.pm_archive.specs.Lookup.{LookupView, IsLookupOf, IsSmall};
+ghost use Rattle.pm_archive.specs.Looked.{leading_of, looked_at};
+ghost use Rattle.pm_archive.specs.Lookup.{LookupView, IsLookupOf, AreInside, IsSmall};
 ghost use Rattle.pm_archive.specs.Answers.{IsOutside, UnlessOutside};
 
 use crate::fault::ArchiveFault;
@@ -38,7 +39,7 @@ impl Model for Lookup {
 
     ghost view = { λ l. record { count = l.count; header = l.header; root = l.root.items; leaves = l.leaves } };
 
-    ghost invariant = { λ l. ArePlaced l.count l.header × IsAscending l.root.items × IsSmall l.leaves };
+    ghost invariant = { λ l. ArePlaced l.count l.header × IsAscending l.root.items × IsSmall l.leaves × AreInside l.header l.leaves };
 }
 
 impl Lookup {
@@ -49,14 +50,14 @@ impl Lookup {
     /// `Short`, `Magic`, `Version`, `Section`, `Compressed`, `Directory` of the root, the first that applies. `Read` if a read of the
     /// source fails. `Memory` only if the header and the section bounds are valid.
     pub fn open<B: Bytes>(alloc: Global, source: &mut B) -> Result<Lookup, ArchiveFault>
-        ensures source { Keeps B.count B.holds B.fails B.unchanged source.old source.new }
+        ensures source { Keeps B.count B.holds B.unchanged source.old source.new }
         ensures count { IfOk result (λ l. l.count ≡ B.count source.old) }
         ensures leaves { IfOk result (λ l. l.leaves ≡ []) }
         ensures found { (bytes : List ℕ) → B.holds source.new bytes → IfOk result (IsLookupOf bytes) }
         ensures only { (bytes : List ℕ) (h : Header) (root : List DirectoryEntry) → HasSections bytes h → IsDirectory (section_bytes h.root bytes) root
             → B.holds source.new bytes → MatchResult result (λ l. (l.header ≡ h) × (l.root ≡ root)) IsOutside }
         ensures fault { (bytes : List ℕ) → B.holds source.new bytes → IfErr result (UnlessOutside (OpeningHas bytes)) }
-        ensures read { result ≡ Err ArchiveFault.Read → B.fails source.old }
+        ensures read { result ≡ Err ArchiveFault.Read → B.failed source.old source.new }
         ensures memory { (bytes : List ℕ) → B.holds source.new bytes → result ≡ Err ArchiveFault.Memory → (h : Header) × HasSections bytes h }
     {
         match header_and_root(alloc, source) {
@@ -76,14 +77,15 @@ impl Lookup {
     /// # Errors
     ///
     /// `Directory`, `Depth`, `Place`, the first on the way; none of them if all directories of the source are valid. `Read` if a read of the source
-    /// fails. `Memory`. After an error the cache is still that of the source.
+    /// fails. `Memory` only if an entry of the root directory leads to the id and its bytes are inside their section. After an error the
+    /// cache is still that of the source.
     pub fn tile<B: Bytes>(
         &mut self,
         source: &mut B,
         id: u64,
     ) -> Result<Option<Vec<u8>>, ArchiveFault>
         requires { self.old.count ≡ B.count source.old }
-        ensures source { Keeps B.count B.holds B.fails B.unchanged source.old source.new }
+        ensures source { Keeps B.count B.holds B.unchanged source.old source.new }
         ensures count { self.new.count ≡ self.old.count }
         ensures header { self.new.header ≡ self.old.header }
         ensures root { self.new.root ≡ self.old.root }
@@ -93,7 +95,8 @@ impl Lookup {
             → HasContents bytes content → MatchResult result (λ found. option_map (λ v. v.items) found ≡ content id) IsOutside }
         ensures first { (bytes : List ℕ) → B.holds source.new bytes → IsLookupOf bytes self.old
             → GivesUnless IsOutside (option_map (λ v. v.items)) result (looked_at bytes self.old.header self.old.root id) }
-        ensures read { result ≡ Err ArchiveFault.Read → B.fails source.old }
+        ensures read { result ≡ Err ArchiveFault.Read → B.failed source.old source.new }
+        ensures memory { result ≡ Err ArchiveFault.Memory → LiesInside self.old.header (leading_of id self.old.root) }
     {
         let alloc = *self.root.allocator();
         content_below(

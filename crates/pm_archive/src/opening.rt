@@ -21,10 +21,10 @@ use std::alloc::Global;
 
 // The header with which the bytes begin.
 fn header_in<B: Bytes>(source: &mut B) -> Result<Header, ArchiveFault>
-    ensures source { Keeps B.count B.holds B.fails B.unchanged source.old source.new }
+    ensures source { Keeps B.count B.holds B.unchanged source.old source.new }
     ensures found { (bytes : List ℕ) → B.holds source.new bytes → IfOk result (IsHeader bytes) }
     ensures fault { (bytes : List ℕ) → B.holds source.new bytes → IfErr result (UnlessOutside (OpeningHas bytes)) }
-    ensures read { result ≡ Err ArchiveFault.Read → B.fails source.old }
+    ensures read { result ≡ Err ArchiveFault.Read → B.failed source.old source.new }
     ensures memory { result ≢ Err ArchiveFault.Memory }
 {
     if source.len() < HEADER_BYTES as u64 {
@@ -72,14 +72,14 @@ pub(crate) fn header_and_root<B: Bytes>(
     alloc: Global,
     source: &mut B,
 ) -> Result<(Header, Vec<DirectoryEntry>), ArchiveFault>
-    ensures source { Keeps B.count B.holds B.fails B.unchanged source.old source.new }
+    ensures source { Keeps B.count B.holds B.unchanged source.old source.new }
     ensures placed { IfOk result (λ x. ArePlaced (B.count source.old) x.0) }
     ensures ascending { IfOk result (λ x. IsAscending x.1.items) }
     ensures each { IfOk result (λ x. AllByRecursion IsEntry x.1.items) }
     ensures found { (bytes : List ℕ) → B.holds source.new bytes
         → IfOk result (λ x. HasSections bytes x.0 × IsDirectory (section_bytes x.0.root bytes) x.1.items) }
     ensures fault { (bytes : List ℕ) → B.holds source.new bytes → IfErr result (UnlessOutside (OpeningHas bytes)) }
-    ensures read { result ≡ Err ArchiveFault.Read → B.fails source.old }
+    ensures read { result ≡ Err ArchiveFault.Read → B.failed source.old source.new }
     ensures memory { (bytes : List ℕ) → B.holds source.new bytes → result ≡ Err ArchiveFault.Memory → (h : Header) × HasSections bytes h }
 {
     let header = header_in(source)?;

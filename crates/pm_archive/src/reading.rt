@@ -20,9 +20,9 @@ use std::alloc::Global;
 // Reads the bytes from an offset on, as many as `into` has.
 fn read_into<B: Bytes>(source: &mut B, offset: u64, into: &mut [u8]) -> Result<(), ArchiveFault>
     requires { offset + length into.old ≤ B.count source.old }
-    ensures source { Keeps B.count B.holds B.fails B.unchanged source.old source.new }
+    ensures source { Keeps B.count B.holds B.unchanged source.old source.new }
     ensures bytes { (bytes : List ℕ) → B.holds source.new bytes → OnOk result (into.new ≡ slice_range bytes offset (offset + length into.old)) }
-    ensures fault { IfErr result (λ fault. (fault ≡ ArchiveFault.Read) × B.fails source.old) }
+    ensures fault { IfErr result (λ fault. (fault ≡ ArchiveFault.Read) × B.failed source.old source.new) }
 {
     match source.read_at(offset, into) {
         Ok(()) => Ok(()),
@@ -38,11 +38,11 @@ pub(crate) fn bytes_at<B: Bytes>(
     count: u64,
 ) -> Result<Vec<u8>, ArchiveFault>
     requires { offset + count ≤ B.count source.old }
-    ensures source { Keeps B.count B.holds B.fails B.unchanged source.old source.new }
+    ensures source { Keeps B.count B.holds B.unchanged source.old source.new }
     ensures bytes { (bytes : List ℕ) → B.holds source.new bytes → IfOk result (λ v. v.items ≡ slice_range bytes offset (offset + count)) }
     ensures len { IfOk result (λ v. length v.items ≡ count) }
     ensures fault { IfErr result IsOutside }
-    ensures read { result ≡ Err ArchiveFault.Read → B.fails source.old }
+    ensures read { result ≡ Err ArchiveFault.Read → B.failed source.old source.new }
     ensures memory { result ≡ Err ArchiveFault.Memory → 0 < count }
 {
     let mut bytes = match Vec::with_capacity(alloc, count as usize) {
@@ -73,12 +73,12 @@ pub(crate) fn directory_from<B: Bytes>(
     length: u64,
 ) -> Result<Vec<DirectoryEntry>, ArchiveFault>
     requires { offset + length ≤ B.count source.old }
-    ensures source { Keeps B.count B.holds B.fails B.unchanged source.old source.new }
+    ensures source { Keeps B.count B.holds B.unchanged source.old source.new }
     ensures directory { (bytes : List ℕ) → B.holds source.new bytes
         → GivesUnless IsOutside (λ v. v.items) result (directory_or_fault offset (directory_at (slice_range bytes offset (offset + length)))) }
     ensures ascending { IfOk result (λ v. IsAscending v.items) }
     ensures each { IfOk result (λ v. AllByRecursion IsEntry v.items) }
-    ensures read { result ≡ Err ArchiveFault.Read → B.fails source.old }
+    ensures read { result ≡ Err ArchiveFault.Read → B.failed source.old source.new }
 {
     let bytes = bytes_at(alloc, source, offset, length)?;
     match read_directory(alloc, &bytes) {
@@ -121,11 +121,11 @@ pub(crate) fn directory_of<B: Bytes>(
     entry: DirectoryEntry,
 ) -> Result<Vec<DirectoryEntry>, ArchiveFault>
     requires { end_of header.now.leaves ≤ B.count source.old }
-    ensures source { Keeps B.count B.holds B.fails B.unchanged source.old source.new }
+    ensures source { Keeps B.count B.holds B.unchanged source.old source.new }
     ensures directory { (bytes : List ℕ) → B.holds source.new bytes → GivesUnless IsOutside (λ v. v.items) result (directory_of_entry bytes header.now entry) }
     ensures ascending { IfOk result (λ v. IsAscending v.items) }
     ensures each { IfOk result (λ v. AllByRecursion IsEntry v.items) }
-    ensures read { result ≡ Err ArchiveFault.Read → B.fails source.old }
+    ensures read { result ≡ Err ArchiveFault.Read → B.failed source.old source.new }
     ensures memory { result ≡ Err ArchiveFault.Memory → LiesIn header.now.leaves entry }
     ensures inside { OnOk result (LiesIn header.now.leaves entry) }
 {
@@ -142,9 +142,9 @@ pub(crate) fn content_of<B: Bytes>(
     entry: DirectoryEntry,
 ) -> Result<Vec<u8>, ArchiveFault>
     requires { end_of header.now.tiles ≤ B.count source.old }
-    ensures source { Keeps B.count B.holds B.fails B.unchanged source.old source.new }
+    ensures source { Keeps B.count B.holds B.unchanged source.old source.new }
     ensures content { (bytes : List ℕ) → B.holds source.new bytes → GivesUnless IsOutside (λ v. v.items) result (content_of_tile bytes header.now entry) }
-    ensures read { result ≡ Err ArchiveFault.Read → B.fails source.old }
+    ensures read { result ≡ Err ArchiveFault.Read → B.failed source.old source.new }
     ensures memory { result ≡ Err ArchiveFault.Memory → LiesIn header.now.tiles entry }
 {
     let offset = offset_of(source, header.tiles, entry)?;

@@ -53,12 +53,12 @@ fn check_tile<B: Bytes + Drop>(
 ) -> Result<(), ArchiveFault>
     ensures header { archive.new.header ≡ archive.old.header }
     ensures root { archive.new.root ≡ archive.old.root }
-    ensures source { Keeps B.count B.holds B.fails B.unchanged archive.old.source archive.new.source }
+    ensures source { Keeps B.count B.holds B.unchanged archive.old.source archive.new.source }
     ensures tile { (bytes : List ℕ) → B.holds archive.new.source bytes → LiesIn archive.old.header.tiles entry
         → OnOk result (HasTile bytes archive.old.header entry) }
     ensures fault { (bytes : List ℕ) → B.holds archive.new.source bytes → LiesIn archive.old.header.tiles entry
         → IfErr result (UnlessOutside (IsTileFault bytes archive.old.header entry)) }
-    ensures read { result ≡ Err ArchiveFault.Read → B.fails archive.old.source }
+    ensures read { result ≡ Err ArchiveFault.Read → B.failed archive.old.source archive.new.source }
 {
     let content = archive.content(entry)?;
     match is_tile(alloc, &content) {
@@ -76,14 +76,14 @@ fn check_once<B: Bytes + Drop>(
 ) -> Result<(), ArchiveFault>
     ensures header { archive.new.header ≡ archive.old.header }
     ensures root { archive.new.root ≡ archive.old.root }
-    ensures source { Keeps B.count B.holds B.fails B.unchanged archive.old.source archive.new.source }
+    ensures source { Keeps B.count B.holds B.unchanged archive.old.source archive.new.source }
     ensures tile { (bytes : List ℕ) → B.holds archive.new.source bytes → LiesIn archive.old.header.tiles entry
         → AreRead bytes archive.old.header spans.old → OnOk result (HasTile bytes archive.old.header entry) }
     ensures spans { (bytes : List ℕ) → B.holds archive.new.source bytes → LiesIn archive.old.header.tiles entry
         → AreRead bytes archive.old.header spans.old → OnOk result (AreRead bytes archive.old.header spans.new) }
     ensures fault { (bytes : List ℕ) → B.holds archive.new.source bytes → LiesIn archive.old.header.tiles entry
         → AreRead bytes archive.old.header spans.old → IfErr result (UnlessOutside (IsTileFault bytes archive.old.header entry)) }
-    ensures read { result ≡ Err ArchiveFault.Read → B.fails archive.old.source }
+    ensures read { result ≡ Err ArchiveFault.Read → B.failed archive.old.source archive.new.source }
 {
     let span = (entry.offset, entry.length);
     if spans.contains(&span) {
@@ -104,12 +104,12 @@ pub(crate) fn check_tiles<B: Bytes + Drop>(
 ) -> Result<(), ArchiveFault>
     ensures header { archive.new.header ≡ archive.old.header }
     ensures root { archive.new.root ≡ archive.old.root }
-    ensures source { Keeps B.count B.holds B.fails B.unchanged archive.old.source archive.new.source }
+    ensures source { Keeps B.count B.holds B.unchanged archive.old.source archive.new.source }
     ensures each { (bytes : List ℕ) → B.holds archive.new.source bytes → AllByRecursion (LiesIn archive.old.header.tiles) tiles.now
         → OnOk result (AllByRecursion (HasTile bytes archive.old.header) tiles.now) }
     ensures fault { (bytes : List ℕ) → B.holds archive.new.source bytes → AllByRecursion (LiesIn archive.old.header.tiles) tiles.now
         → IfErr result (UnlessOutside (IsFirstTileFault bytes archive.old.header tiles.now)) }
-    ensures read { result ≡ Err ArchiveFault.Read → B.fails archive.old.source }
+    ensures read { result ≡ Err ArchiveFault.Read → B.failed archive.old.source archive.new.source }
 {
     let mut spans = BTreeSet::new(alloc);
     for entry in tiles {

@@ -29,11 +29,11 @@ fn check_metadata<B: Bytes + Drop>(
 ) -> Result<(), ArchiveFault>
     ensures header { archive.new.header ≡ archive.old.header }
     ensures root { archive.new.root ≡ archive.old.root }
-    ensures source { Keeps B.count B.holds B.fails B.unchanged archive.old.source archive.new.source }
+    ensures source { Keeps B.count B.holds B.unchanged archive.old.source archive.new.source }
     ensures found { (bytes : List ℕ) → B.holds archive.new.source bytes → OnOk result (IsMetadata (section_bytes archive.old.header.metadata bytes)) }
     ensures fault { (bytes : List ℕ) → B.holds archive.new.source bytes → IfErr result (UnlessOutside (IsMetadataFault bytes archive.old.header)) }
     ensures some { OnOk result (0 < archive.old.header.metadata.length) }
-    ensures read { result ≡ Err ArchiveFault.Read → B.fails archive.old.source }
+    ensures read { result ≡ Err ArchiveFault.Read → B.failed archive.old.source archive.new.source }
     ensures memory { result ≡ Err ArchiveFault.Memory → 0 < archive.old.header.metadata.length }
 {
     let metadata = archive.metadata()?;
@@ -70,12 +70,12 @@ fn check_vector_tiles<B: Bytes + Drop>(
 ) -> Result<(), ArchiveFault>
     ensures header { archive.new.header ≡ archive.old.header }
     ensures root { archive.new.root ≡ archive.old.root }
-    ensures source { Keeps B.count B.holds B.fails B.unchanged archive.old.source archive.new.source }
+    ensures source { Keeps B.count B.holds B.unchanged archive.old.source archive.new.source }
     ensures each { (bytes : List ℕ) → B.holds archive.new.source bytes → AllByRecursion (LiesIn archive.old.header.tiles) tiles.now
         → OnOk result (AreVector archive.old.header → AllByRecursion (HasTile bytes archive.old.header) tiles.now) }
     ensures fault { (bytes : List ℕ) → B.holds archive.new.source bytes → AllByRecursion (LiesIn archive.old.header.tiles) tiles.now
         → IfErr result (UnlessOutside (λ d. AreVector archive.old.header × IsFirstTileFault bytes archive.old.header tiles.now d)) }
-    ensures read { result ≡ Err ArchiveFault.Read → B.fails archive.old.source }
+    ensures read { result ≡ Err ArchiveFault.Read → B.failed archive.old.source archive.new.source }
 {
     let header = archive.header();
     if header.kind != VECTOR_TILES || header.compression != NOT_COMPRESSED {
@@ -88,11 +88,11 @@ fn check_vector_tiles<B: Bytes + Drop>(
 fn verdict<B: Bytes + Drop>(alloc: Global, archive: &mut Archive<B>) -> Result<Report, ArchiveFault>
     ensures header { archive.new.header ≡ archive.old.header }
     ensures root { archive.new.root ≡ archive.old.root }
-    ensures source { Keeps B.count B.holds B.fails B.unchanged archive.old.source archive.new.source }
+    ensures source { Keeps B.count B.holds B.unchanged archive.old.source archive.new.source }
     ensures found { (bytes : List ℕ) → B.holds archive.new.source bytes → IfOk result (IsVerified bytes archive.old.header archive.old.root) }
     ensures fault { (bytes : List ℕ) → B.holds archive.new.source bytes
         → IfErr result (UnlessOutside (VerifyingHas bytes archive.old.header archive.old.root)) }
-    ensures read { result ≡ Err ArchiveFault.Read → B.fails archive.old.source }
+    ensures read { result ≡ Err ArchiveFault.Read → B.failed archive.old.source archive.new.source }
     ensures memory { result ≡ Err ArchiveFault.Memory → 0 < archive.old.header.metadata.length }
 {
     let header = archive.header();
@@ -117,13 +117,13 @@ pub fn verify<B: Bytes + Drop>(
 ) -> Result<Report, ArchiveFault>
     ensures header { archive.new.header ≡ archive.old.header }
     ensures root { archive.new.root ≡ archive.old.root }
-    ensures source { Keeps B.count B.holds B.fails B.unchanged archive.old.source archive.new.source }
+    ensures source { Keeps B.count B.holds B.unchanged archive.old.source archive.new.source }
     ensures found { (bytes : List ℕ) → B.holds archive.new.source bytes → IfOk result (IsSound bytes) }
     ensures only { (bytes : List ℕ) (report : Report) → B.holds archive.new.source bytes → IsSound bytes report
         → MatchResult result (λ told. told ≡ report) IsOutside }
     ensures fault { (bytes : List ℕ) → B.holds archive.new.source bytes
         → IfErr result (UnlessOutside (VerifyingHas bytes archive.old.header archive.old.root)) }
-    ensures read { result ≡ Err ArchiveFault.Read → B.fails archive.old.source }
+    ensures read { result ≡ Err ArchiveFault.Read → B.failed archive.old.source archive.new.source }
     ensures memory { result ≡ Err ArchiveFault.Memory → 0 < archive.old.header.metadata.length }
 {
     // The header and the root directory are those of the bytes.

@@ -1,11 +1,11 @@
 //! The cached look-up of an archive.
-ghost use Rattle.std.specs.Prelude.{◌≡◌, ◌↔◌, ◌≤◌, ◌+◌, ℕ, List, Option, IfOk, IfErr, IsTrue, MatchResult, option_map};
+ghost use Rattle.std.specs.Prelude.{◌≡◌, ◌↔◌, ◌≤◌, ◌+◌, ℕ, List, Option, Err, IfOk, IfErr, IsTrue, MatchResult, option_map};
 ghost use Rattle.generations.specs.Areas.{sectors_of};
 ghost use Rattle.pm_archive.specs.Answers.{IsOutside};
 ghost use Rattle.pm_archive.specs.Archive.{HasContents};
 ghost use Rattle.pm_archive.specs.Lookup.{IsLookupOf};
 ghost use Rattle.byte_source.specs.Source.{Keeps};
-ghost use Rattle.sector_bytes.specs.Counts.{NeverFalls};
+ghost use Rattle.sector_bytes.specs.Counts.{HasRisen, NeverFalls};
 ghost use Rattle.sector_bytes.specs.Source.{AreItsBytes};
 ghost use Rattle.sector_disk.specs.Asked.{OnlyReads};
 ghost use Rattle.sector_disk.specs.Disk.{seen};
@@ -49,10 +49,11 @@ impl Opened {
         archive: ArchivePlace,
     ) -> Result<Opened, ArchiveFault>
         requires { archive.len ≡ B.count source.old }
-        ensures source { Keeps B.count B.holds B.fails B.unchanged source.old source.new }
+        ensures source { Keeps B.count B.holds B.unchanged source.old source.new }
         ensures archive { IfOk result (λ o. o.archive ≡ archive) }
         ensures found { (bytes : List ℕ) → B.holds source.new bytes → IfOk result (λ o. IsLookupOf bytes o.lookup) }
         ensures fault { (bytes : List ℕ) (content : ℕ → Option (List ℕ)) → B.holds source.new bytes → HasContents bytes content → IfErr result IsOutside }
+        ensures read { result ≡ Err ArchiveFault.Read → B.failed source.old source.new }
     {
         match Lookup::open(alloc, source) {
             Ok(lookup) => Ok(Opened { archive, lookup }),
@@ -63,11 +64,12 @@ impl Opened {
     /// The content of a tile id.
     fn tile<B: Bytes>(&mut self, source: &mut B, id: u64) -> Result<Option<Vec<u8>>, ArchiveFault>
         requires { self.old.archive.len ≡ B.count source.old }
-        ensures source { Keeps B.count B.holds B.fails B.unchanged source.old source.new }
+        ensures source { Keeps B.count B.holds B.unchanged source.old source.new }
         ensures archive { self.new.archive ≡ self.old.archive }
         ensures still { (bytes : List ℕ) → B.holds source.new bytes → IsLookupOf bytes self.old.lookup → IsLookupOf bytes self.new.lookup }
         ensures content { (bytes : List ℕ) (content : ℕ → Option (List ℕ)) → B.holds source.new bytes → IsLookupOf bytes self.old.lookup
             → HasContents bytes content → MatchResult result (λ found. option_map (λ v. v.items) found ≡ content id) IsOutside }
+        ensures read { result ≡ Err ArchiveFault.Read → B.failed source.old source.new }
     {
         self.lookup.tile(source, id)
     }
@@ -82,11 +84,12 @@ fn look_up<B: Bytes>(
     id: u64,
 ) -> Result<Option<Vec<u8>>, ArchiveFault>
     requires { archive.len ≡ B.count source.old }
-    ensures source { Keeps B.count B.holds B.fails B.unchanged source.old source.new }
+    ensures source { Keeps B.count B.holds B.unchanged source.old source.new }
     ensures still { (bytes : List ℕ) → B.holds source.new bytes → IsOpenedOf archive bytes opened.old → IsOpenedOf archive bytes opened.new }
     ensures up_to { (last : ℕ) → IsOpenedUpTo last opened.old → archive.generation ≤ last → IsOpenedUpTo last opened.new }
     ensures content { (bytes : List ℕ) (content : ℕ → Option (List ℕ)) → B.holds source.new bytes → IsOpenedOf archive bytes opened.old
         → HasContents bytes content → MatchResult result (λ found. option_map (λ v. v.items) found ≡ content id) IsOutside }
+    ensures read { result ≡ Err ArchiveFault.Read → B.failed source.old source.new }
 {
     if let Some(kept) = opened {
         if kept.is_of(archive) {
@@ -116,6 +119,7 @@ pub(crate) fn read_tile<D: Sectors>(
     ensures content { (bytes : List ℕ) (content : ℕ → Option (List ℕ)) → D.honest disk.new
         → AreItsBytes archive.first archive.len bytes (seen (D.history disk.old)) → IsOpenedOf archive bytes opened.old
         → HasContents bytes content → MatchResult result (λ found. option_map (λ v. v.items) found ≡ content id) IsOutside }
+    ensures read { result ≡ Err ArchiveFault.Read → HasRisen (D.faults disk.old) (D.faults disk.new) }
 {
     let mut source = SectorBytes::new(disk, archive.first, archive.len);
     let content = look_up(alloc, &mut source, archive, opened, id);

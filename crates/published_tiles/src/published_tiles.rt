@@ -1,12 +1,12 @@
 //! Tiles of the archives of a disk.
-ghost use Rattle.std.specs.Prelude.{◌≡◌, ◌≤◌, ◌+◌, ℕ, List, MatchResult, option_map};
+ghost use Rattle.std.specs.Prelude.{◌≡◌, ◌≤◌, ◌+◌, ℕ, List, Err, MatchResult, option_map};
 ghost use Rattle.area_content.specs.Tiles.{IsArchiveOfMap};
 ghost use Rattle.feature_store.specs.Content.{IsTileContent};
 ghost use Rattle.feature_store.specs.Layers.{layers};
 ghost use Rattle.feature_store.specs.Store.{FeatureMap};
 ghost use Rattle.generations.specs.Areas.{sectors_of};
 ghost use Rattle.pm_archive.specs.Answers.{IsOutside};
-ghost use Rattle.sector_bytes.specs.Counts.{NeverFalls};
+ghost use Rattle.sector_bytes.specs.Counts.{HasRisen, NeverFalls};
 ghost use Rattle.sector_bytes.specs.Source.{AreItsBytes};
 ghost use Rattle.sector_disk.specs.Asked.{OnlyReads};
 ghost use Rattle.sector_disk.specs.Disk.{seen};
@@ -52,7 +52,8 @@ impl PublishedTiles {
     ///
     /// # Errors
     ///
-    /// `Read` or `Memory`; if the stored bytes aren't an archive, the fault that was found. The look-up is still valid for the archive.
+    /// `Read`, only if a read of the disk failed, or `Memory`; if the stored bytes aren't an archive, the fault that was found. The look-up
+    /// is still valid for the archive.
     pub fn tile<D: Sectors>(
         &mut self,
         disk: &mut D,
@@ -68,6 +69,7 @@ impl PublishedTiles {
         ensures still { (bytes : List ℕ) → D.honest disk.new
             → AreItsBytes archive.first archive.len bytes (seen (D.history disk.old)) → ArePublished self.old archive bytes
             → ArePublished self.new archive bytes }
+        ensures read { result ≡ Err ArchiveFault.Read → HasRisen (D.faults disk.old) (D.faults disk.new) }
     {
         if archive.len == 0 {
             return Ok(None);

@@ -1,5 +1,6 @@
 -- The count of faults over several calls.
-use Rattle.std.proofs.Common.{◌≡◌, inl, inr, ℕ, ◌+◌, arith}
+use Rattle.std.proofs.Common.{◌≡◌, inl, inr, ℕ, ◌+◌, Result, Ok, Err, OnErr, arith}
+use Rattle.sector_disk.specs.Asked.{TellsFailure}
 use Rattle.sector_disk.specs.Disk.{HasFailed}
 use Rattle.sector_bytes.specs.Counts.{HasReached, HasRisen, NeverFalls}
 
@@ -18,6 +19,11 @@ risen_count old new (inr last) n is = inr last
 pub failed_risen : (old new : ℕ) → HasFailed old new → HasRisen old new
 failed_risen old new (inl lt) = inl (omega (arith, lt))
 failed_risen old new (inr last) = inr (omega (arith, last))
+
+-- after an error the count has risen
+pub told_risen : {T E : Type 0} (result : Result T E) (old new : ℕ) → TellsFailure result old new → OnErr result (HasRisen old new)
+told_risen (Ok done) old new same = tt
+told_risen (Err fault) old new failed = failed_risen old new failed
 
 -- a count that rises, and then doesn't fall, has risen
 pub risen_on : (old middle new : ℕ) → HasRisen old middle → NeverFalls middle new → HasRisen old new

@@ -1,10 +1,10 @@
 -- The bytes of sectors as a source.
 use Rattle.std.specs.Prelude.{◌≡◌, ℕ, List, Option, length}
-use Rattle.std.proofs.Common.{refl, ◌∙◌}
+use Rattle.std.proofs.Common.{inl, inr, refl, arith, ◌∙◌}
 use Rattle.std.specs.Borrow.{MutBor}
 use Rattle.sector_disk.specs.Disk.{History, Image}
 use Rattle.sector_bytes.specs.Bytes.{StandsIn}
-use Rattle.sector_bytes.specs.Counts.{NeverFalls}
+use Rattle.sector_bytes.specs.Counts.{HasReached, HasRisen, NeverFalls}
 
 -- Bytes in consecutive sectors, as contracts see them: the disk, the first of the sectors, how many bytes there are, and which of the
 -- sectors was read last, if any.
@@ -52,3 +52,13 @@ module _ {D : Type 0} {sectors : D → ℕ} {honest : D → Type 0} {history : D
     same_history = λ is. then.same_history is ∙ first.same_history (then.was_honest is);
     never_falls = λ n is. then.never_falls n (first.never_falls n is);
   }
+
+  -- calls of which one failed, after others
+  pub untouched_risen : (old middle new : SourceView D) → IsUntouched sectors honest history faults old middle
+      → HasRisen (faults middle.disk.now) (faults new.disk.now) → HasRisen (faults old.disk.now) (faults new.disk.now)
+  untouched_risen old middle new first (inr last) = inr last
+  untouched_risen old middle new first (inl high) = from (first.never_falls (faults old.disk.now) (inl (omega arith)))
+    where
+      from : HasReached (faults old.disk.now) (faults middle.disk.now) → HasRisen (faults old.disk.now) (faults new.disk.now)
+      from (inl low) = inl (omega (arith, low, high))
+      from (inr last) = inr (omega (arith, last, high))

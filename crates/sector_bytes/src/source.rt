@@ -2,7 +2,8 @@
 ghost use Rattle.std.specs.Prelude.{◌≡◌, ◌≤◌, ◌<◌, ◌+◌, ◌^◌, length, OnOk, IfSome, Some, slice_range};
 ghost use Rattle.generations.specs.Areas.{sectors_of};
 ghost use Rattle.sector_bytes.specs.Bytes.{bytes_from, AreWhole};
-ghost use Rattle.sector_bytes.specs.Source.{SourceView, AreItsBytes, IsUntouched, untouched_none, untouched_on};
+ghost use Rattle.sector_bytes.specs.Counts.{HasRisen};
+ghost use Rattle.sector_bytes.specs.Source.{SourceView, AreItsBytes, IsUntouched, untouched_none, untouched_on, untouched_risen};
 ghost use Rattle.sector_disk.specs.Asked.{TellsFailure};
 ghost use Rattle.sector_disk.specs.Disk.{seen};
 ghost use Rattle.sector_disk.specs.declared.disk.TheConstants.{SECTOR_BYTES};
@@ -127,7 +128,7 @@ impl<'a, D: Sectors> Bytes for SectorBytes<'a, D> {
 
     ghost holds = { λ s bytes. D.honest s.disk.now × AreItsBytes s.first s.len bytes (seen (D.history s.disk.now)) };
 
-    ghost fails = { λ s. Unit {0} };
+    ghost failed = { λ old new. HasRisen (D.faults old.disk.now) (D.faults new.disk.now) };
 
     ghost unchanged = { IsUntouched D.sectors D.honest D.history D.faults };
 
@@ -144,4 +145,6 @@ impl<'a, D: Sectors> Bytes for SectorBytes<'a, D> {
     ghost unchanged_itself = { λ s. untouched_none s };
 
     ghost unchanged_on = { λ a b c first then. untouched_on first then };
+
+    ghost failed_on = { λ first then last same risen. untouched_risen first then last same risen };
 }

@@ -30,3 +30,7 @@ pub returns-clause-fault : goal.returns-clause-fault
 returns-clause-fault g c = rw c.into_source.ensures (λ bytes holds.
     let found = c.in-Ok.ensures.found bytes (c.verify-judged.ensures.source.no_others bytes holds) in
     fault_at_judging bytes c.in-Ok.archive.header c.in-Ok.archive.root found.0 found.1 c.verify-judged.result (c.verify-judged.ensures.fault bytes holds))
+
+pub returns-clause-read : goal.returns-clause-read
+returns-clause-read g c =
+    rw c.into_source.ensures (λ e. g.met.B.Bytes.failed_on _ _ _ c.in-Ok.ensures.source.same_behind (c.verify-judged.ensures.read e))

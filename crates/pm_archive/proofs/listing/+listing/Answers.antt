@@ -49,3 +49,11 @@ push_listed-returns-in_err-entries-clause-listed g t c =
     rw (p.1, p.2) (λ bytes held.
     leaf_fault bytes c.args.header.now c.args.more c.args.entry c.args.bound c.args.tiles.now.items c.in_err-entries.field-0.0
     c.if-more-eq0.false c.if-entry-gt0.false (c.in_err-entries.ensures.leaf bytes held))
+
+pub push_each-returns-in_err-push_listed-clause-read : goal.push_each-returns-in_err-push_listed-clause-read
+push_each-returns-in_err-push_listed-clause-read g t c =
+    let p = err_from_is_err_and c.from_residual.result c.from_residual.ensures.1 in
+    rw (p.1, p.2) (λ e. g.met.B.Bytes.failed_on _ _ _ c.loop-i.invariant.source.same_behind (c.in_err-push_listed.ensures.read e))
+
+pub push_listed-returns-clause-read : goal.push_listed-returns-clause-read
+push_listed-returns-clause-read g t c e = g.met.B.Bytes.failed_on _ _ _ c.in_ok-entries.ensures.source.same_behind (c.push_each.ensures.read e)

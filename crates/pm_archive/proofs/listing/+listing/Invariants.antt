@@ -14,7 +14,7 @@ decreases-push_listed g l = 2 * l.more
 -- the source is as it was, what the other entries list comes after what there is now, and the first one that was listed is inside
 abbrev pub invariant-push_each-loop-i : goal.invariant-push_each-loop-i
 invariant-push_each-loop-i g l = record {
-  source : Keeps g.B.Bytes.count g.B.Bytes.holds g.B.Bytes.fails g.B.Bytes.unchanged l.initial.source l.source;
+  source : Keeps g.B.Bytes.count g.B.Bytes.holds g.B.Bytes.unchanged l.initial.source l.source;
   listed : (bytes : List ℕ) → g.B.Bytes.holds l.source bytes
       → behind l.initial.tiles.items (each_at (lists_at bytes l.header l.more) l.bound l.entries)
       ≡ behind l.tiles.items (each_at (lists_at bytes l.header l.more) l.bound (drop l.i l.entries));

@@ -16,3 +16,6 @@ returns-in_err-below-clause-first g t c =
     rw (p.1, p.2) (λ bytes holds cached. rw c.in-Some.is
     (reached_fault bytes c.args.header.now c.args.id c.args.more c.in-Some.leaf c.in_err-below.field-0.0 c.if-leaf-gt0.false c.if-more-eq0.false
     (c.in_err-below.ensures.first bytes holds cached)))
+
+pub returns-clause-read : goal.returns-clause-read
+returns-clause-read g t c e = g.met.B.Bytes.failed_on _ _ _ c.in_ok-below.ensures.source.same_behind (c.tile_entry.ensures.read e)

@@ -14,3 +14,6 @@ returns-in_err-entry-clause-first g c =
     let p = err_from_is_err_and c.from_residual.result c.from_residual.ensures.1 in
     rw (p.1, p.2) (λ bytes holds cached. looked_fault bytes c.args.header.now c.args.id c.args.root.now c.leading.result c.leading.ensures
     c.in_err-entry.field-0.0 (c.in_err-entry.ensures.first bytes holds cached))
+
+pub returns-clause-read : goal.returns-clause-read
+returns-clause-read g c e = g.met.B.Bytes.failed_on _ _ _ c.in_ok-entry.ensures.source.same_behind (c.content_in.ensures.read e)

@@ -1,6 +1,7 @@
 use Rattle.std.proofs.Common.{◌≡◌, length, refl, sym, ◌∙◌}
 use Rattle.std.proofs.lemmas.Bool.{false≢true}
 use Rattle.std.proofs.lemmas.Result.{err_from_is_err_and}
+use Rattle.pm_archive.proofs.KeepsLaws.{passed_on}
 use Rattle.pm_archive.proofs.OpenedLaws.{misplaced_fault, compressed_fault, has_sections, root_read, root_refused}
 use Rattle.pm_archive.proofs.opening.header_and_root.Goals as goal
 
@@ -38,3 +39,8 @@ returns-in_err-root-clause-fault g c =
     let has = has_sections bytes c.in_ok-header.header c.len.result all (c.in_ok-header.ensures.found bytes header) c.in_default.ensures.none
     (c.if-not-has_plain_directories.ensures.0 refl) in
     root_refused bytes c.in_ok-header.header c.in_err-root.field-0.0 has (c.in_err-root.ensures.directory bytes holds))
+
+pub returns-in_err-root-clause-read : goal.returns-in_err-root-clause-read
+returns-in_err-root-clause-read g c =
+    let p = err_from_is_err_and c.from_residual-in_err-root.result c.from_residual-in_err-root.ensures.1 in
+    rw (p.1, p.2) (λ e. g.met.B.Bytes.failed_on _ _ _ c.in_ok-header.ensures.source.same_behind (c.in_err-root.ensures.read (passed_on _ _ _ _ e)))

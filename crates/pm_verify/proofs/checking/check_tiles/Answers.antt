@@ -1,4 +1,5 @@
 use Rattle.std.proofs.Common.{get_or, ◌∙◌}
+use Rattle.std.proofs.lemmas.Result.{err_from_is_err_and}
 use Rattle.pm_archive.specs.Entries.{LiesIn}
 use Rattle.pm_archive.proofs.KeepsLaws.{keeps_on}
 use Rattle.pm_verify.specs.Verified.{HasTile}
@@ -27,3 +28,8 @@ loop-entry-preserved g c =
           (same_tile bytes (get_or es i _) h now was.header _ (checked.tile bytes holds)
           (at_index (LiesIn h.tiles) es i _ c.loop-entry-test.true lies) (was.spans bytes (before bytes holds) lies)) rest);
     }
+
+pub returns-in_err-check_once-clause-read : goal.returns-in_err-check_once-clause-read
+returns-in_err-check_once-clause-read g c =
+    let p = err_from_is_err_and c.from_residual.result c.from_residual.ensures.1 in
+    rw (p.1, p.2) (λ e. g.met.B.Bytes.failed_on _ _ _ c.loop-entry.invariant.keeps.same_behind (c.in_err-check_once.ensures.read e))

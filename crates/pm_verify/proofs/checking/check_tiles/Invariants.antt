@@ -11,7 +11,7 @@ abbrev pub invariant-loop-entry : goal.invariant-loop-entry
 invariant-loop-entry g l = record {
   header : l.archive.header ≡ l.fn.archive.header;
   root : l.archive.root ≡ l.fn.archive.root;
-  keeps : Keeps g.B.Bytes.count g.B.Bytes.holds g.B.Bytes.fails g.B.Bytes.unchanged l.fn.archive.source l.archive.source;
+  keeps : Keeps g.B.Bytes.count g.B.Bytes.holds g.B.Bytes.unchanged l.fn.archive.source l.archive.source;
   spans : (bytes : List ℕ) → g.B.Bytes.holds l.archive.source bytes → AllByRecursion (LiesIn l.fn.archive.header.tiles) l.tiles
       → AreRead bytes l.fn.archive.header l.spans;
   each : (bytes : List ℕ) → g.B.Bytes.holds l.archive.source bytes → AllByRecursion (LiesIn l.fn.archive.header.tiles) l.tiles

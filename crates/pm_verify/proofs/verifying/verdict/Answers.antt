@@ -8,6 +8,7 @@ use Rattle.pm_archive.specs.Reading.{list_at}
 use Rattle.pm_archive.specs.Answers.{UnlessOutside}
 use Rattle.pm_archive.proofs.CountedListed.{listed_fit, listed_inside}
 use Rattle.pm_metadata.specs.Archive.{HasCounts}
+use Rattle.pm_archive.proofs.KeepsLaws.{passed_on}
 use Rattle.pm_verify.specs.Verified.{AreVector, HasTile}
 use Rattle.pm_verify.specs.VerifiedPieces.{IsCountFault, IsFirstTileFault}
 use Rattle.pm_verify.proofs.VerifiedFaults.{same_listed, other_listing, other_count, other_tile}
@@ -81,3 +82,15 @@ returns-in_err-check_vector_tiles-clause-fault g c =
     other_tile bytes h root tiles (checked.found bytes checking) listed counts d
     (subst (λ (k : Header). AllByRecursion (LiesIn k.tiles) tiles → UnlessOutside (λ f. AreVector k × IsFirstTileFault bytes k tiles f) d) same
     (c.in_err-check_vector_tiles.ensures.fault bytes holds) (listed_inside bytes h root tiles listed)))
+
+pub returns-in_err-listed-clause-read : goal.returns-in_err-listed-clause-read
+returns-in_err-listed-clause-read g c =
+    let p = err_from_is_err_and c.from_residual-in_err-listed.result c.from_residual-in_err-listed.ensures.1 in
+    rw (p.1, p.2) (λ e. g.met.B.Bytes.failed_on _ _ _ c.in_ok-check_metadata.ensures.source.same_behind (c.in_err-listed.ensures.read (passed_on _ _ _ _ e)))
+
+pub returns-in_err-check_vector_tiles-clause-read : goal.returns-in_err-check_vector_tiles-clause-read
+returns-in_err-check_vector_tiles-clause-read g c =
+    let p = err_from_is_err_and c.from_residual-in_err-check_vector_tiles.result c.from_residual-in_err-check_vector_tiles.ensures.1 in
+    rw (p.1, p.2) (λ e.
+    let before = g.met.B.Bytes.unchanged_on _ _ _ c.in_ok-check_metadata.ensures.source.same_behind c.in_ok-listed.ensures.source.same_behind in
+    g.met.B.Bytes.failed_on _ _ _ before (c.in_err-check_vector_tiles.ensures.read (passed_on _ _ _ _ e)))

@@ -16,3 +16,6 @@ returns-in_err-made-clause-content g c =
 pub returns-clause-content : goal.returns-clause-content
 returns-clause-content g c bytes content holds opened archive =
     c.tile-content.ensures.content bytes content holds (c.in_ok-made.ensures.found bytes (c.tile-content.ensures.source.no_others bytes holds)) archive
+
+pub returns-clause-read : goal.returns-clause-read
+returns-clause-read g c e = g.met.B.Bytes.failed_on _ _ _ c.in_ok-made.ensures.source.same_behind (c.tile-content.ensures.read e)

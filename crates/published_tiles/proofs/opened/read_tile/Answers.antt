@@ -1,5 +1,5 @@
 use Rattle.std.proofs.Common.{ℕ, rules, sym, subst}
-use Rattle.sector_bytes.specs.Counts.{HasReached}
+use Rattle.sector_bytes.specs.Counts.{HasReached, HasRisen}
 use Rattle.sector_bytes.proofs.Laws.{still_there}
 use Rattle.published_tiles.proofs.PublishedLaws.{made}
 use Rattle.published_tiles.proofs.opened.read_tile.Goals as goal
@@ -23,3 +23,10 @@ returns-clause-never_falls g c n is =
     subst (λ (d : _). HasReached n (g.D.Sectors.faults d)) (sym c.new-source.ensures.disk) is in
     let after : HasReached n (g.D.Sectors.faults last.disk.now) = c.look_up-content.ensures.source.same_behind.never_falls n before in
     subst (λ (k : ℕ). HasReached n k) (search rules) after
+
+pub returns-clause-read : goal.returns-clause-read
+returns-clause-read g c e =
+    let last = c.look_up-content.new.source in
+    let risen : HasRisen (g.D.Sectors.faults c.args.disk.now) (g.D.Sectors.faults last.disk.now) =
+    subst (λ (d : _). HasRisen (g.D.Sectors.faults d) (g.D.Sectors.faults last.disk.now)) c.new-source.ensures.disk (c.look_up-content.ensures.read e) in
+    subst (λ (k : ℕ). HasRisen (g.D.Sectors.faults c.args.disk.now) k) (search rules) risen

@@ -1,14 +1,15 @@
-use Rattle.std.proofs.Common.{◌≡◌, ℕ, List, Ok, MatchResult, option_map, sym, subst}
+use Rattle.std.proofs.Common.{◌≡◌, ℕ, List, Ok, Err, MatchResult, option_map, sym, subst}
 use Rattle.reader.specs.Reading.{GivesUnless}
 use Rattle.reader.proofs.Steps.{gives_found}
 use Rattle.pm_directory.specs.declared.entry.DirectoryEntry.{DirectoryEntry}
 use Rattle.pm_archive.specs.Source.{ArchiveView}
-use Rattle.pm_archive.specs.Entries.{HasEntries}
+use Rattle.pm_archive.specs.Entries.{HasEntries, LiesInside}
 use Rattle.pm_archive.specs.Archive.{content_of}
 use Rattle.pm_archive.specs.Answers.{IsOutside}
-use Rattle.pm_archive.specs.Looked.{looked_at}
+use Rattle.pm_archive.specs.declared.fault.ArchiveFault.TheVariants.{Memory}
+use Rattle.pm_archive.specs.Looked.{leading_of, looked_at}
 use Rattle.pm_archive.proofs.ListedSteps.{inside_or_outside}
-use Rattle.pm_archive.proofs.LookupLaws.{looked_below, none_cached}
+use Rattle.pm_archive.proofs.LookupLaws.{looked_below, none_cached, none_inside}
 use Rattle.pm_archive.proofs.archive.Archive.tile.Goals as goal
 
 pub returns-clause-content : goal.returns-clause-content
@@ -34,3 +35,9 @@ returns-clause-first g c =
     subst (λ (root : List DirectoryEntry). GivesUnless IsOutside (option_map (λ v. v.items)) c.content_below.result
     (looked_at bytes h root c.args.id)) c.deref.ensures.value
     (c.content_below.ensures.first bytes holds (none_cached bytes h c.none-cached.result c.none-cached.ensures)))
+
+pub returns-clause-memory : goal.returns-clause-memory
+returns-clause-memory g c =
+    subst (λ (a : ArchiveView g.row.B.Denot). c.content_below.result ≡ Err Memory → LiesInside a.header (leading_of c.args.id a.root)) c.self.view_is
+    (λ e. subst (λ (root : List DirectoryEntry). LiesInside c.self.inside.header (leading_of c.args.id root)) c.deref.ensures.value
+    (c.content_below.ensures.memory (none_inside c.self.inside.header c.none-cached.result c.none-cached.ensures) e))

@@ -1,10 +1,12 @@
-use Rattle.std.proofs.Common.{◌≡◌, ℕ, List, Ok, Option, MatchResult, option_map, sym, subst}
+use Rattle.std.proofs.Common.{◌≡◌, ℕ, List, Ok, Err, Option, MatchResult, option_map, sym, subst}
 use Rattle.reader.specs.Reading.{GivesUnless}
 use Rattle.reader.proofs.Steps.{gives_found}
 use Rattle.pm_directory.specs.declared.entry.DirectoryEntry.{DirectoryEntry}
 use Rattle.pm_archive.specs.Archive.{HasContents}
 use Rattle.pm_archive.specs.Answers.{IsOutside}
-use Rattle.pm_archive.specs.Looked.{looked_at}
+use Rattle.pm_archive.specs.declared.fault.ArchiveFault.TheVariants.{Memory}
+use Rattle.pm_archive.specs.Entries.{LiesInside}
+use Rattle.pm_archive.specs.Looked.{leading_of, looked_at}
 use Rattle.pm_archive.specs.Lookup.{LookupView, IsLookupOf}
 use Rattle.pm_archive.proofs.ListedSteps.{inside_or_outside}
 use Rattle.pm_archive.proofs.LookupLaws.{looked_content}
@@ -30,3 +32,9 @@ returns-clause-first g c =
     subst (λ (root : List DirectoryEntry). GivesUnless IsOutside (option_map (λ v. v.items)) c.content_below.result
     (looked_at bytes c.self.inside.header root c.args.id)) c.deref.ensures.value
     (c.content_below.ensures.first bytes holds of.leaves))
+
+pub returns-clause-memory : goal.returns-clause-memory
+returns-clause-memory g c =
+    subst (λ (l : LookupView). c.content_below.result ≡ Err Memory → LiesInside l.header (leading_of c.args.id l.root)) c.self.view_is
+    (λ e. subst (λ (root : List DirectoryEntry). LiesInside c.self.inside.header (leading_of c.args.id root)) c.deref.ensures.value
+    (c.content_below.ensures.memory c.self.invariant.3 e))
