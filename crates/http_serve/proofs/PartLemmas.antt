@@ -9,14 +9,14 @@ use Rattle.http_serve.specs.declared.replies.Content.{Content}
 use Rattle.http_serve.specs.declared.replies.Content.TheVariants.{Empty, Fixed, Whole, Shared, Parts}
 use Rattle.http_serve.specs.declared.replies.Reply.{Reply}
 use Rattle.http_serve.specs.Parts.{front_content, rest_content, front_bytes, rest_bytes, IsLater, IsReadable, IsCutIn, IsLeft, IsStopped}
-use Rattle.http_serve.specs.Parts.{IfRest, IsNoRest, cut_after}
+use Rattle.http_serve.specs.Parts.{IfRest, IsNoRest, IsNoContentFault, cut_after}
 use Rattle.http_serve.specs.Reply.{ReplyView, HeadView, head_of, head_view, reply_view, content_bytes, content_size, FitsParts, IsReply, InParts, with_part}
 use Rattle.http_serve.specs.Reply.{has_no_content, reply_head, reply_bytes}
 use Rattle.status_phrase.specs.Codes.{code_of}
 use Rattle.http_serve.specs.Requests.{RequestView}
 use Rattle.http_serve.specs.declared.contents.SendFault.{SendFault}
 use Rattle.http_serve.specs.declared.contents.SendFault.TheVariants as cuts
-use Rattle.http_serve.specs.Told.{HasContent, IsNotMemory, IsNotRest}
+use Rattle.http_serve.specs.Told.{HasContent, IsNotMemory, IsNotRest, IsNotContent}
 use Rattle.http_serve.proofs.KnownLemmas.{Appends-then, Appends_none}
 
 -- one more part after those so far
@@ -239,6 +239,12 @@ pub cut_whole : (requests : ℕ) (close : Bool) (fault : SendFault) → IsNoRest
 cut_whole requests close cuts.Write is = tt
 cut_whole requests close cuts.Content is = tt
 cut_whole requests close (cuts.Rest from total) is = is
+
+-- and Content only if a read of the content failed
+pub cut_unread : (requests : ℕ) (close : Bool) (fault : SendFault) → IsNoContentFault fault → IsNotContent (cut_after requests close fault)
+cut_unread requests close cuts.Write is = tt
+cut_unread requests close cuts.Content is = is
+cut_unread requests close (cuts.Rest from total) is = tt
 
 -- ---- a rest that is left
 

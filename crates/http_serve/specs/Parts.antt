@@ -98,6 +98,12 @@ IsNoRest cuts.Write = ⊤
 IsNoRest cuts.Content = ⊤
 IsNoRest (cuts.Rest from size) = ⊥
 
+-- no read of the content failed
+abbrev pub IsNoContentFault : SendFault → Type 0
+IsNoContentFault cuts.Write = ⊤
+IsNoContentFault cuts.Content = ⊥
+IsNoContentFault (cuts.Rest from size) = ⊤
+
 -- the bytes that a read returned, or None if it failed
 abbrev pub read_outcome : {E : Type 0} → Result (Unit {0}) E → (bytes : List ℕ) → Option (List ℕ)
 read_outcome (Ok done) bytes = Some bytes

@@ -68,6 +68,14 @@ IsNotRest (Write requests) = ⊤
 IsNotRest (Content requests) = ⊤
 IsNotRest (Rest requests close from size) = ⊥
 
+-- the fault isn't Content
+abbrev pub IsNotContent : ServeFault → Type 0
+IsNotContent Memory = ⊤
+IsNotContent (Read requests) = ⊤
+IsNotContent (Write requests) = ⊤
+IsNotContent (Content requests) = ⊥
+IsNotContent (Rest requests close from size) = ⊤
+
 -- a fact about the rest of a content that was left, if that is the fault
 abbrev pub OnRest : ServeFault → (ℕ → Bool → ℕ → ℕ → Type 0) → Type 0
 OnRest Memory fact = ⊤

@@ -11,9 +11,9 @@ ghost use Rattle.http_serve.specs.Steps.{IsPaused, IsBroken, IsLeftAt, IsFinishe
 ghost use Rattle.http_serve.specs.declared.handlers.TheConstants.{PART_SIZE};
 ghost use Rattle.http_serve.specs.declared.replies.TheConstants.{REPLY_SPACE};
 ghost use Rattle.http_serve.specs.declared.connection.ServeFault.TheVariants.{Memory};
-ghost use Rattle.http_serve.specs.declared.contents.Rests.TheVariants.{Sent};
-ghost use Rattle.http_serve.specs.Told.{IsServed, IsServedUpTo, StopsAtRest, HasContent, IsNotMemory, IsNotRest, MeetsTurns, KeepsTurns, Serves};
-ghost use Rattle.http_serve.specs.Parts.{GivesOrFails, IsCutIn, IsStopped, IfRest, IsNoRest};
+ghost use Rattle.http_serve.specs.declared.contents.Rests.TheVariants.{Sent, Left};
+ghost use Rattle.http_serve.specs.Told.{IsServed, IsServedUpTo, StopsAtRest, HasContent, IsNotMemory, IsNotRest, IsNotContent, MeetsTurns, KeepsTurns, Serves};
+ghost use Rattle.http_serve.specs.Parts.{GivesOrFails, IsCutIn, IsStopped, IfRest, IsNoRest, IsNoContentFault};
 
 use crate::contents::{Rests, SendFault, send_reply};
 use crate::fields::position_or_len;
@@ -135,6 +135,7 @@ fn answer_one<H: Handler, W: Write>(
         × H.sends handler.old (request_view_at bytes.now frame.now) reply handler.new
         × IsStopped (reply_at bytes.now frame.now reply) reply.content from size (W.contents writer.old) (W.contents writer.new)) }
     ensures whole { rests ≡ Sent → IfErr result IsNoRest }
+    ensures unread { rests ≡ Left → IfErr result IsNoContentFault }
 {
     let method = frame.method.of(bytes);
     let request = Request {
@@ -191,6 +192,7 @@ fn answer_whole<H: Handler, W: Write>(
     ensures left { IfErr result (λ fault. IsLeftAt H.replies H.sends handler.old session.old.input.waiting (W.contents writer.old) requests fault
         handler.new (W.contents writer.new)) }
     ensures whole { rests ≡ Sent → IfErr result IsNotRest }
+    ensures unread { rests ≡ Left → IfErr result IsNotContent }
 {
     'requests: loop {
         let frame = match find_next(session.input.waiting(), &mut session.search) {
@@ -248,6 +250,7 @@ fn finish<W: Write>(
         fault (W.contents writer.new)) }
     ensures no_memory { IfErr result IsNotMemory }
     ensures whole { IfErr result IsNotRest }
+    ensures unread { IfErr result IsNotContent }
 {
     if session.input.waiting().is_empty() {
         return Ok(Served {
@@ -284,6 +287,7 @@ fn serve_session<R: Read, W: Write, H: Handler>(
     ensures left { IfErr result (λ fault. StopsAtRest H.replies H.sends handler.old (R.remaining reader.old) (W.contents writer.old) fault
         handler.new (R.remaining reader.new) (W.contents writer.new)) }
     ensures whole { rests ≡ Sent → IfErr result IsNotRest }
+    ensures unread { rests ≡ Left → IfErr result IsNotContent }
 {
     session.begin();
     let mut requests = 0;
@@ -330,6 +334,7 @@ fn serve_in<R: Read, W: Write, H: Handler>(
     ensures left { IfErr result (λ fault. StopsAtRest H.replies H.sends handler.old (R.remaining reader.old) (W.contents writer.old) fault
         handler.new (R.remaining reader.new) (W.contents writer.new)) }
     ensures whole { rests ≡ Sent → IfErr result IsNotRest }
+    ensures unread { rests ≡ Left → IfErr result IsNotContent }
 {
     let Ok(mut session) = buffers.take() else {
         return Err(ServeFault::Memory);
@@ -368,7 +373,7 @@ pub fn serve_with<R: Read, W: Write, H: Handler>(
 ///
 /// # Errors
 ///
-/// Those of `serve_with`, and `Rest`.
+/// Those of `serve_with`, but for `Content`, and `Rest`.
 pub fn serve_fronts<R: Read, W: Write, H: Handler>(
     buffers: &mut Buffers,
     reader: &mut R,
@@ -383,6 +388,8 @@ pub fn serve_fronts<R: Read, W: Write, H: Handler>(
     // With the fault Rest exactly what comes before the rest is written: with the rest it is the whole reply to a whole request.
     ensures left { IfErr result (λ fault. StopsAtRest H.replies H.sends handler.old (R.remaining reader.old) (W.contents writer.old) fault
         handler.new (R.remaining reader.new) (W.contents writer.new)) }
+    // No content is read here, so none fails.
+    ensures unread { IfErr result IsNotContent }
 {
     serve_in(buffers, reader, writer, handler, turns, Rests::Left)
 }

@@ -1,6 +1,7 @@
 //! Replies whose content is read from the handler in parts.
 ghost use Rattle.std.specs.Prelude.{◌≡◌, ◌↔◌, ◌≤◌, ◌<◌, ◌+◌, IsTrue, length, take, drop, vec_len, vec_capacity, IfErr, OnOk};
-ghost use Rattle.http_serve.specs.Parts.{GivesOrFails, IsCutIn, IsLater, IsReadable, IsLeft, IsStopped, IfRest, IsNoRest, cut_after, rest_bytes};
+ghost use Rattle.http_serve.specs.Parts.{GivesOrFails, IsCutIn, IsLater, IsReadable, IsLeft, IsStopped, IfRest};
+ghost use Rattle.http_serve.specs.Parts.{IsNoRest, IsNoContentFault, cut_after, rest_bytes};
 ghost use Rattle.http_serve.specs.declared.contents.Rests.TheVariants.{Sent, Left};
 ghost use Rattle.http_serve.specs.declared.handlers.TheConstants.{PART_SIZE};
 ghost use Rattle.http_serve.specs.declared.replies.TheConstants.{REPLY_SPACE};
@@ -111,6 +112,7 @@ fn send_each_part<H: Handler, W: Write>(
         × Sends result (W.contents writer.old) (W.contents writer.new) (drop offset later.content) }
     ensures cut { IfErr result (IsCutIn (H.size handler.new)) }
     ensures whole { IfErr result IsNoRest }
+    ensures some { IfErr result (λ _. offset < size) }
 {
     let mut at = offset;
     while at < size {
@@ -151,6 +153,7 @@ fn send_parts<H: Handler, W: Write>(
         × Sends result (W.contents writer.old) (W.contents writer.new) (drop offset later.content) }
     ensures cut { IfErr result (IsCutIn (H.size handler.new)) }
     ensures whole { IfErr result IsNoRest }
+    ensures some { IfErr result (λ _. offset < size) }
 {
     let most = (size - offset).min(PART_SIZE as u64) as usize;
     lengthen(part, most);
@@ -178,6 +181,7 @@ fn send_rest<H: Handler, W: Write>(
     // What is left is told exactly, and nothing was written.
     ensures left { IfRest result (λ from size. IsLeft bare reply.now from size × (handler.new ≡ handler.old) × (writer.new ≡ writer.old)) }
     ensures whole { rests ≡ Sent → IfErr result IsNoRest }
+    ensures unread { rests ≡ Left → IfErr result IsNoContentFault }
 {
     if !reply.sends_content(bare) {
         return Ok(());
@@ -222,6 +226,7 @@ pub(crate) fn send_reply<H: Handler, W: Write>(
         → H.replies old request view handler.new × H.sends old request view handler.new
         × IsStopped (reply_bytes close bare view) view.content from size (W.contents writer.old) (W.contents writer.new)) }
     ensures whole { rests ≡ Sent → IfErr result IsNoRest }
+    ensures unread { rests ≡ Left → IfErr result IsNoContentFault }
 {
     match send_front(writer, out, reply, close, bare) {
         Ok(()) => send_rest(handler, writer, part, reply, bare, rests),

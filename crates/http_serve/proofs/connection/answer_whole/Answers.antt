@@ -5,14 +5,14 @@ use Rattle.http_serve.specs.declared.connection.ServeFault.{ServeFault}
 use Rattle.http_serve.specs.Frame.{IsNext}
 use Rattle.http_serve.specs.Parts.{GivesOrFails, IsStopped, IfRest}
 use Rattle.http_serve.specs.Steps.{IsBroken, IsLeftAt}
-use Rattle.http_serve.specs.Told.{HasContent, IsNotMemory, IsNotRest}
+use Rattle.http_serve.specs.Told.{HasContent, IsNotMemory, IsNotRest, IsNotContent}
 use Rattle.http_serve.specs.Requests.{asked, refused}
 use Rattle.http_serve.specs.Requests.{request_view_at}
 use Rattle.http_serve.specs.Reply.{ReplyView, refusal_bytes, reply_at}
 use Rattle.http_serve.specs.Served.{Anything, Carries}
 use Rattle.http_serve.proofs.HeadLemmas.{missing_now}
 use Rattle.http_serve.proofs.CarryLemmas.{Ends_push, Breaks_refused, Frame_push, Frame_ends}
-use Rattle.http_serve.proofs.PartLemmas.{cut_content, cut_no_memory, cut_whole}
+use Rattle.http_serve.proofs.PartLemmas.{cut_content, cut_no_memory, cut_whole, cut_unread}
 use Rattle.http_serve.proofs.ServeLemmas.{cut_breaks, cut_left}
 use Rattle.http_serve.proofs.connection.answer_whole.Goals as goal
 
@@ -81,6 +81,11 @@ pub returns-in-Err-answer_one-clause-whole : goal.returns-in-Err-answer_one-clau
 returns-in-Err-answer_one-clause-whole g c = λ sent.
     subst IsNotRest (sym c.after.ensures)
     (cut_whole c.requests.requests c.in-Whole.frame.close c.in-Err-answer_one.fault (c.in-Err-answer_one.ensures.whole sent))
+
+pub returns-in-Err-answer_one-clause-unread : goal.returns-in-Err-answer_one-clause-unread
+returns-in-Err-answer_one-clause-unread g c = λ left.
+    subst IsNotContent (sym c.after.ensures)
+    (cut_unread c.requests.requests c.in-Whole.frame.close c.in-Err-answer_one.fault (c.in-Err-answer_one.ensures.unread left))
 
 pub returns-in-Err-answer_one-clause-left : goal.returns-in-Err-answer_one-clause-left
 returns-in-Err-answer_one-clause-left g c =
