@@ -73,7 +73,7 @@ LENGTHS = [
     (object_with(tags='{"a":"<1024:v>"}'), None), (object_with(tags='{"a":"<1025:v>"}'), "E7 Value"),
     (object_with(tags="{" + ",".join(f'"{k}":{k}' for k in range(10, 74)) + "}"), None),
     (object_with(tags="{" + ",".join(f'"{k}":{k}' for k in range(10, 75)) + "}"), "E6 Tags"),
-    (object_with(geometry='{"points":[[0,0]<65534:,[0,0]>]}'), None), (object_with(geometry='{"points":[[0,0]<65535:,[0,0]>]}'), "E5 Geometry"),
+    (object_with(geometry='{"points":[[0,0]<65534:,[0,0]>]}'), "E8 Long"), (object_with(geometry='{"points":[[0,0]<65535:,[0,0]>]}'), "E5 Geometry"),
 ]
 # The longest text of points of one layer with a name of one byte, and one point more.
 LONGEST = [(object_with(geometry='{"points":[[0,0]<4092:,[0,0]>]}'), None), (object_with(geometry='{"points":[[0,0]<4093:,[0,0]>]}'), "E8 Long"),

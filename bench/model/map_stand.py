@@ -38,7 +38,7 @@ def shown(number, feature):
 
 
 def json(rest):
-    return features.compact(features.feature_of(expanded(rest)))
+    return shown(0, features.feature_of(expanded(rest)))
 
 
 def numbered(rest):
@@ -66,6 +66,7 @@ def covers(rest):
     zoom, feature = numbered(rest)
     if zoom > MAX_ZOOM:
         raise features.Fault("E4 Zoom")
+    features.check(0, feature)
     (x0, x1), (y0, y1) = tiles.covered(feature, zoom)
     return f"{x0} to {x1}, {y0} to {y1}"
 

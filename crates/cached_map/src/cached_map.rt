@@ -3,10 +3,12 @@
 ghost use Rattle.std.specs.Prelude.{◌≡◌, ◌↔◌, ◌≢◌, ◌<◌, ◌≤◌, ◌+◌, ℕ, List, [], ◌∷◌, length, map, All, true, Some, None};
 ghost use Rattle.std.specs.Prelude.{IsSome, IsTrue, IfOk, IfSome, OnOk, OnErr};
 ghost use Rattle.feature_model.specs.Data.{put, delete, change_data};
+ghost use Rattle.feature_model.specs.Limits.{IsAllowedChange};
 ghost use Rattle.feature_model.specs.Spelled.{spelled_changes};
 ghost use Rattle.feature_model.specs.Types.{IsChange};
 ghost use Rattle.feature_store.specs.Content.{IsTileContent};
 ghost use Rattle.feature_store.specs.Layers.{layers};
+ghost use Rattle.feature_store.specs.Prepared.{prepared_data};
 ghost use Rattle.feature_store.specs.Store.{FeatureMap, feature_at, with_feature, without_feature, changed, edited, snapshot, puts_in};
 ghost use Rattle.feature_store.specs.declared.limit.TheConstants.{TEXTS_END};
 ghost use Rattle.tile_cache.specs.Cells.{stale_cells};
@@ -17,7 +19,7 @@ ghost use Rattle.cached_map.specs.Cached.{with_box, marks_of, marks_after, WasMa
 
 use bytes::Bytes;
 use feature_model::{Change, WorldBox};
-use feature_store::Store;
+use feature_store::{Prepared, Store};
 use hilbert_id::TileAt;
 use std::alloc::{AllocError, Global};
 use std::marker::Model;
@@ -57,24 +59,23 @@ fn mark_some(touched: &mut TouchGrid, bounds: Option<WorldBox>, number: u64)
 }
 
 /// Makes a change by an edit of this number, and marks what it touches. It allocates nothing.
-fn make_one(store: &mut Store, touched: &mut TouchGrid, change: Change, number: u64)
-    requires change { IsChange (change_data change) }
-    requires room { puts_in (change_data change ∷ []) ≤ store.old.spare }
-    requires texts { length (snapshot (changed store.old.features (change_data change))) < TEXTS_END }
-    ensures map { store.new.features ≡ changed store.old.features (change_data change) }
-    ensures spare { store.old.spare ≤ store.new.spare + puts_in (change_data change ∷ []) }
+fn make_one(store: &mut Store, touched: &mut TouchGrid, change: Prepared, number: u64)
+    requires room { puts_in (prepared_data change ∷ []) ≤ store.old.spare }
+    requires texts { length (snapshot (changed store.old.features (prepared_data change))) < TEXTS_END }
+    ensures map { store.new.features ≡ changed store.old.features (prepared_data change) }
+    ensures spare { store.old.spare ≤ store.new.spare + puts_in (prepared_data change ∷ []) }
     ensures marks { (marks : List Mark) → Remembers touched.old marks
-        → Remembers touched.new (marks_of store.old.features (change_data change) number marks) }
+        → Remembers touched.new (marks_of store.old.features (prepared_data change) number marks) }
     ensures stays { (marks : List Mark) (first : List ℕ) → StaysElsewhere marks first touched.old
-        → StaysElsewhere (marks_of store.old.features (change_data change) number marks) first touched.new }
+        → StaysElsewhere (marks_of store.old.features (prepared_data change) number marks) first touched.new }
 {
     match change {
-        Change::Put { id, feature } => {
-            let boxes = store.place(id, feature);
+        Prepared::Put(stored) => {
+            let boxes = store.place(stored);
             mark_some(touched, boxes.before, number);
             touched.mark(&boxes.after, number);
         }
-        Change::Delete { id } => {
+        Prepared::Delete { id } => {
             let bounds = store.remove(id);
             mark_some(touched, bounds, number);
         }
@@ -82,15 +83,14 @@ fn make_one(store: &mut Store, touched: &mut TouchGrid, change: Change, number: 
 }
 
 /// Makes changes by an edit of this number, from the first to the last, and marks what they touch.
-fn make_each(store: &mut Store, touched: &mut TouchGrid, changes: Vec<Change>, number: u64)
-    requires changes { All IsChange (map change_data changes.items) }
-    requires room { puts_in (map change_data changes.items) ≤ store.old.spare }
-    requires texts { length (snapshot store.old.features) + length (spelled_changes (map change_data changes.items)) < TEXTS_END }
-    ensures map { store.new.features ≡ edited store.old.features (map change_data changes.items) }
+fn make_each(store: &mut Store, touched: &mut TouchGrid, changes: Vec<Prepared>, number: u64)
+    requires room { puts_in (map prepared_data changes.items) ≤ store.old.spare }
+    requires texts { length (snapshot store.old.features) + length (spelled_changes (map prepared_data changes.items)) < TEXTS_END }
+    ensures map { store.new.features ≡ edited store.old.features (map prepared_data changes.items) }
     ensures marks { (marks : List Mark) → Remembers touched.old marks
-        → Remembers touched.new (marks_after store.old.features (map change_data changes.items) number marks) }
+        → Remembers touched.new (marks_after store.old.features (map prepared_data changes.items) number marks) }
     ensures stays { (marks : List Mark) (first : List ℕ) → StaysElsewhere marks first touched.old
-        → StaysElsewhere (marks_after store.old.features (map change_data changes.items) number marks) first touched.new }
+        → StaysElsewhere (marks_after store.old.features (map prepared_data changes.items) number marks) first touched.new }
 {
     for change in changes {
         make_one(store, touched, change, number);
@@ -166,32 +166,45 @@ impl CachedMap {
         self.touched.stale(number)
     }
 
-    /// Reserves memory for each feature that the changes put, so that an edit of them allocates nothing.
-    pub fn room_all(&mut self, changes: &[Change]) -> Result<(), AllocError>
+    /// The changes as the map keeps them, and memory for each feature that they set, so that an edit of them allocates nothing. The only
+    /// error is out of memory.
+    pub fn prepare(&mut self, changes: &[Change]) -> Result<Vec<Prepared>, AllocError>
+        requires { All IsAllowedChange (map change_data changes.now) }
         ensures same { self.new ≡ record self.old { spare = self.new.spare } }
+        ensures prepared { IfOk result (λ v. map prepared_data v.items ≡ map change_data changes.now) }
         ensures room { OnOk result (puts_in (map change_data changes.now) ≤ self.new.spare) }
         ensures kept { self.old.spare ≤ self.new.spare }
-        ensures missing { OnErr result (self.new.spare < puts_in (map change_data changes.now)) }
     {
-        self.store.room_all(changes)
+        self.store.prepare(changes)
+    }
+
+    /// Reserves memory for each feature that the changes set, so that an edit of them allocates nothing. It fails only if memory for fewer
+    /// was there.
+    pub fn room_for(&mut self, changes: &[Prepared]) -> Result<(), AllocError>
+        ensures same { self.new ≡ record self.old { spare = self.new.spare } }
+        ensures room { OnOk result (puts_in (map prepared_data changes.now) ≤ self.new.spare) }
+        ensures kept { self.old.spare ≤ self.new.spare }
+        ensures missing { OnErr result (self.new.spare < puts_in (map prepared_data changes.now)) }
+    {
+        self.store.room_for(changes)
     }
 
     /// Makes the changes of an edit of this number, from the first to the last. It allocates nothing.
     ///
     /// The boxes that each change's feature had before and has after it are marked with the number; no other cell's number changes, and
     /// no cached tile is dropped.
-    pub fn make_edit(&mut self, changes: Vec<Change>, number: u64)
-        requires changes { All IsChange (map change_data changes.items) }
-        requires room { puts_in (map change_data changes.items) ≤ self.old.spare }
-        requires texts { length (snapshot self.old.features) + length (spelled_changes (map change_data changes.items)) < TEXTS_END }
+    pub fn make_edit(&mut self, changes: Vec<Prepared>, number: u64)
+        requires changes { All IsChange (map prepared_data changes.items) }
+        requires room { puts_in (map prepared_data changes.items) ≤ self.old.spare }
+        requires texts { length (snapshot self.old.features) + length (spelled_changes (map prepared_data changes.items)) < TEXTS_END }
         requires later { self.old.last < number }
-        ensures map { self.new.features ≡ edited self.old.features (map change_data changes.items) }
+        ensures map { self.new.features ≡ edited self.old.features (map prepared_data changes.items) }
         ensures last { self.new.last ≡ number }
         ensures marks { (marks : List Mark) → Remembers self.old.touched marks
-            → Remembers self.new.touched (marks_after self.old.features (map change_data changes.items) number marks) }
-        ensures stays { StaysElsewhere (marks_after self.old.features (map change_data changes.items) number []) self.old.touched self.new.touched }
+            → Remembers self.new.touched (marks_after self.old.features (map prepared_data changes.items) number marks) }
+        ensures stays { StaysElsewhere (marks_after self.old.features (map prepared_data changes.items) number []) self.old.touched self.new.touched }
         // A tile of which no marked box touches a cell keeps its newest edit.
-        ensures clear { (z x y n : ℕ) → IsClear (marks_after self.old.features (map change_data changes.items) number []) z x y
+        ensures clear { (z x y n : ℕ) → IsClear (marks_after self.old.features (map prepared_data changes.items) number []) z x y
             → IsNewestOf self.old.touched z x y n → IsNewestOf self.new.touched z x y n }
         ensures now { WasMap self.new.features self.new.touched self.new.last self.new.last self.new.features }
         ensures since { (n : ℕ) (was : FeatureMap) → WasMap self.old.features self.old.touched self.old.last n was

@@ -13,7 +13,7 @@ use Rattle.feature_model.specs.Seen.{SeenData}
 use Rattle.edit_json.specs.declared.checked.Checked.{Checked}
 use Rattle.edit_json.specs.Asked.{asked_data}
 use Rattle.edit_json.specs.Json.{name_bytes}
-use Rattle.edit_json.specs.Faults.{IsFeature, IsFirstJsonFault}
+use Rattle.edit_json.specs.Faults.{IsFirstJsonFault}
 use Rattle.edit_json.specs.Batches.{AskedData, put_asked, delete_asked, asked_number, asked_of, list_json, IsBatch, HasMembers, Asks, Begins, IsFirstBatchFault}
 use Rattle.edit_json.specs.Checked.{CheckedData, checked_data, with_was, checked_json, HasCheckedMembers, checks_json, AsksChecked, plain, plain_json}
 use Rattle.edit_json.specs.Checked.{IsWas, Were, IsChecked, IsFirstWas, BeginsChecked, IsFirstCheckedFault}

@@ -1,31 +1,56 @@
 -- Members that are put in the order of their keys stand in that order.
-use Rattle.std.proofs.Common.{◌≡◌, ℕ, zero, suc, ◌<◌, List, [], ◌∷◌, length, get_or, take, Less, Greater, nat_cmp, refl, sym, ap, ◌∙◌, ◌+◌, add-one, arith}
+use Rattle.std.proofs.Common.{◌≡◌, ℕ, List, [], ◌∷◌, ◌++◌, map, Less, Greater, nat_cmp, refl, sym, ap, subst, ◌∙◌}
 use Rattle.std.specs.Ordering.{ordering_reverse}
 use Rattle.std.specs.Cmp.Lexicographic.{slice_cmp}
 use Rattle.std.specs.List.{AllByRecursion}
 use Rattle.std.specs.List.Sorted.{IsStrictlySortedBy}
 use Rattle.std.proofs.lemmas.Cmp.{nat_list_cmp_total}
+use Rattle.std.proofs.lemmas.List.{append-nil, append_assoc, map-append}
+use Rattle.std.proofs.lemmas.List.Elements.{All-head, All-tail}
 use Rattle.serde_json.specs.Data.{Data, Members, put, member}
 use Rattle.feature_model.specs.Data.{TagData}
-use Rattle.feature_model.specs.Limits.{keys_of, HasAscendingKeys}
+use Rattle.feature_model.specs.Limits.{keys_of, HasAscendingKeys, ValueFits, ValuesFit}
+use Rattle.feature_text.specs.declared.tags.TagText.{TagText}
+use Rattle.feature_text.specs.Views.{value_view, tag_view}
 use Rattle.edit_json.specs.Json.{value_json, tags_json}
 
-key_above : (k : List ℕ) (ts : List TagData) (i : ℕ) (d : TagData) → i < length ts → AllByRecursion (λ y. slice_cmp nat_cmp k y ≡ Less) (keys_of ts)
-    → slice_cmp nat_cmp (get_or ts i d).key k ≡ Greater
-key_above k [] i d l h = absurd (omega arith)
-key_above k (t ∷ ts) zero d l h = nat_list_cmp_total.antisymm t.key k ∙ ap ordering_reverse h.0
-key_above k (t ∷ ts) (suc i) d l h = key_above k ts i d (omega arith) h.1
+key_above : (k : List ℕ) (ts : List TagData) (t : TagData) (rest : List TagData)
+    → AllByRecursion (λ y. slice_cmp nat_cmp k y ≡ Less) (keys_of (ts ++ t ∷ rest)) → slice_cmp nat_cmp t.key k ≡ Greater
+key_above k [] t rest h = nat_list_cmp_total.antisymm t.key k ∙ ap ordering_reverse h.0
+key_above k (u ∷ ts) t rest h = key_above k ts t rest h.1
 
-pub put-next : (ts : List TagData) (i : ℕ) (d : TagData) → i < length ts → HasAscendingKeys ts
-    → put (get_or ts i d).key (value_json (get_or ts i d).value) (tags_json (take i ts)) ≡ tags_json (take (suc i) ts)
+put_last : (ts : List TagData) (t : TagData) (rest : List TagData) → HasAscendingKeys (ts ++ t ∷ rest)
+    → put t.key (value_json t.value) (tags_json ts) ≡ tags_json (ts ++ t ∷ [])
 unfolding IsStrictlySortedBy
-put-next [] i d l h = absurd (omega arith)
-put-next (t ∷ ts) zero d l h = refl
-put-next (t ∷ ts) (suc i) d l h = rw (key_above t.key ts i d (omega arith) h.0) (ap (member t.key (value_json t.value)) (put-next ts i d (omega arith) h.1))
+put_last [] t rest h = refl
+put_last (u ∷ ts) t rest h = rw (key_above u.key ts t rest h.0) (ap (member u.key (value_json u.value)) (put_last ts t rest h.1))
 
--- a loop that puts one tag after the other
-pub put-here : (ts : List TagData) (i : ℕ) (t : TagData) (k : List ℕ) (d : Data) (ms : Members) → i < length ts → HasAscendingKeys ts → get_or ts i t ≡ t
-    → k ≡ t.key → d ≡ value_json t.value → ms ≡ tags_json (take i ts) → put k d ms ≡ tags_json (take (i + 1) ts)
-put-here ts i t k d ms l h e a b m =
-    let n = put-next ts i t l h in
-    rw (a, b, m, add-one, ← n) (ap (λ u. put u.key (value_json u.value) (tags_json (take i ts))) (sym e))
+value_between : (ts : List TagData) (t : TagData) (rest : List TagData) → ValuesFit (ts ++ t ∷ rest) → ValueFits t.value
+value_between [] t rest h = All-head (λ (u : TagData). ValueFits u.value) t rest h
+value_between (u ∷ ts) t rest h = value_between ts t rest (All-tail (λ (v : TagData). ValueFits v.value) u (ts ++ t ∷ rest) h)
+
+-- the tags so far, and those that are left
+parts_are : (ts rest left whole : List TagData) (t : TagData) → left ≡ t ∷ rest → ts ++ left ≡ whole → ts ++ t ∷ rest ≡ whole
+parts_are ts rest left whole t first all = ap (λ l. ts ++ l) (sym first) ∙ all
+
+-- the first of those that are left fits
+pub value_there : (ts rest left whole : List TagData) (t : TagData) → left ≡ t ∷ rest → ts ++ left ≡ whole → ValuesFit whole → ValueFits t.value
+value_there ts rest left whole t first all fit = value_between ts t rest (subst ValuesFit (sym (parts_are ts rest left whole t first all)) fit)
+
+pub parts_over : (ts left whole : List TagData) → left ≡ [] → ts ++ left ≡ whole → ts ≡ whole
+parts_over ts left whole none all = sym (append-nil ts) ∙ ap (λ l. ts ++ l) (sym none) ∙ all
+
+module _ (ys : List TagText) (x : TagText) (rest left whole : List TagData) where
+  pub parts_next : left ≡ tag_view x ∷ rest → map tag_view ys ++ left ≡ whole → map tag_view (ys ++ x ∷ []) ++ rest ≡ whole
+  parts_next first all =
+      ap (λ l. l ++ rest) (map-append tag_view ys (x ∷ [])) ∙ append_assoc (map tag_view ys) (tag_view x ∷ []) rest
+      ∙ parts_are (map tag_view ys) rest left whole (tag_view x) first all
+
+  -- a loop that puts one tag after the other
+  pub put_next : (d : Data) (before after : Members) → left ≡ tag_view x ∷ rest → map tag_view ys ++ left ≡ whole → HasAscendingKeys whole
+      → d ≡ value_json (value_view x.value) → before ≡ tags_json (map tag_view ys) → after ≡ put x.key.now d before
+      → after ≡ tags_json (map tag_view (ys ++ x ∷ []))
+  put_next d before after first all order value so_far more =
+      more ∙ ap (λ e. put x.key.now e before) value ∙ ap (put x.key.now (value_json (value_view x.value))) so_far
+      ∙ put_last (map tag_view ys) (tag_view x) rest (subst HasAscendingKeys (sym (parts_are (map tag_view ys) rest left whole (tag_view x) first all)) order)
+      ∙ ap tags_json (sym (map-append tag_view ys (x ∷ [])))

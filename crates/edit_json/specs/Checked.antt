@@ -6,7 +6,7 @@ use Rattle.feature_model.specs.declared.fault.EditFault.{EditFault}
 use Rattle.feature_model.specs.declared.fault.EditFault.TheVariants as faults
 use Rattle.feature_model.specs.Data.{FeatureData, EditData}
 use Rattle.feature_model.specs.Seen.{SeenData}
-use Rattle.edit_json.specs.Json.{name_bytes, OutlineData, json_of}
+use Rattle.edit_json.specs.Json.{name_bytes, OutlineData}
 use Rattle.edit_json.specs.Faults.{IsFeature, IsOutline, IsFirstJsonFault}
 use Rattle.edit_json.specs.declared.checked.Checked.{Checked}
 use Rattle.edit_json.specs.Asked.{asked_data}

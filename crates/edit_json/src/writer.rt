@@ -1,20 +1,21 @@
 //! A feature's JSON value.
 
-ghost use Rattle.std.specs.Prelude.{◌≡◌, map, IfOk};
+ghost use Rattle.std.specs.Prelude.{◌≡◌, IfOk};
 ghost use Rattle.serde_json.specs.Data.{object, member, no_members};
 ghost use Rattle.serde_json.specs.View.{view};
-ghost use Rattle.feature_model.specs.Data.{geometry_data, value_data, tag_data, feature_data};
 ghost use Rattle.feature_model.specs.Limits.{HasAscendingKeys, TagsFit, ValueFits, ValuesFit};
+ghost use Rattle.feature_text.specs.Views.{points_view, lines_view, polygons_view, geometry_view, value_view, tags_view, feature_view};
 ghost use Rattle.edit_json.specs.Json.{point_json, points_json, lines_json, polygons_json, shape_of, shape_json, value_json, tags_json, json_of};
 
-use feature_model::{EditValue, Feature, Geometry, Tag, World};
+use feature_model::World;
+use feature_text::{FeatureText, GeometryText, Lines, Points, Polygons, Tags, ValueText};
 use serde_json::value::Map;
 use serde_json::{Value, put};
 use std::alloc::{AllocError, Global};
 
 /// A point as `[x,y]`.
-fn point_value(alloc: Global, point: &World) -> Result<Value, AllocError>
-    ensures { IfOk result (λ v. view v ≡ point_json point.now) }
+fn point_value(alloc: Global, point: World) -> Result<Value, AllocError>
+    ensures { IfOk result (λ v. view v ≡ point_json point) }
 {
     let mut pair = Vec::with_capacity(alloc, 2)?;
     pair.push(Value::from(point.x))?;
@@ -23,10 +24,10 @@ fn point_value(alloc: Global, point: &World) -> Result<Value, AllocError>
 }
 
 /// A list of points.
-fn points_value(alloc: Global, points: &[World]) -> Result<Value, AllocError>
-    ensures { IfOk result (λ v. view v ≡ points_json points.now) }
+fn points_value(alloc: Global, points: Points<'_>) -> Result<Value, AllocError>
+    ensures { IfOk result (λ v. view v ≡ points_json (points_view points.entry)) }
 {
-    let mut list = Vec::with_capacity(alloc, points.len())?;
+    let mut list = Vec::new(alloc);
     for point in points {
         list.push(point_value(alloc, point)?)?;
     }
@@ -34,10 +35,10 @@ fn points_value(alloc: Global, points: &[World]) -> Result<Value, AllocError>
 }
 
 /// A list of lines or rings.
-fn lines_value(alloc: Global, lines: &[Vec<World>]) -> Result<Value, AllocError>
-    ensures { IfOk result (λ v. view v ≡ lines_json (map (λ l. l.items) lines.now)) }
+fn lines_value(alloc: Global, lines: Lines<'_>) -> Result<Value, AllocError>
+    ensures { IfOk result (λ v. view v ≡ lines_json (lines_view lines.entry)) }
 {
-    let mut list = Vec::with_capacity(alloc, lines.len())?;
+    let mut list = Vec::new(alloc);
     for line in lines {
         list.push(points_value(alloc, line)?)?;
     }
@@ -45,11 +46,10 @@ fn lines_value(alloc: Global, lines: &[Vec<World>]) -> Result<Value, AllocError>
 }
 
 /// A list of polygons.
-fn polygons_value(alloc: Global, polygons: &[Vec<Vec<World>>]) -> Result<Value, AllocError>
-    ensures { IfOk result (λ v. view v
-        ≡ polygons_json (map (λ p. map (λ r. r.items) p.items) polygons.now)) }
+fn polygons_value(alloc: Global, polygons: Polygons<'_>) -> Result<Value, AllocError>
+    ensures { IfOk result (λ v. view v ≡ polygons_json (polygons_view polygons.entry)) }
 {
-    let mut list = Vec::with_capacity(alloc, polygons.len())?;
+    let mut list = Vec::new(alloc);
     for rings in polygons {
         list.push(lines_value(alloc, rings)?)?;
     }
@@ -67,59 +67,54 @@ fn object_of(alloc: Global, name: &str, value: Value) -> Result<Value, AllocErro
 
 /// The list of a geometry under the name of its kind.
 #[tactic(auto, unfolding(crate::specs::Json::name_bytes))]
-fn geometry_value(alloc: Global, geometry: &Geometry) -> Result<Value, AllocError>
-    ensures { IfOk result (λ v. view v ≡ shape_json (shape_of (geometry_data geometry.now))) }
+fn geometry_value(alloc: Global, geometry: GeometryText<'_>) -> Result<Value, AllocError>
+    ensures { IfOk result (λ v. view v ≡ shape_json (shape_of (geometry_view geometry.entry))) }
 {
     match geometry {
-        Geometry::Points(points) => object_of(alloc, "points", points_value(alloc, points)?),
-        Geometry::Lines(lines) => object_of(alloc, "lines", lines_value(alloc, lines)?),
-        Geometry::Polygons(polygons) => {
+        GeometryText::Points(points) => object_of(alloc, "points", points_value(alloc, points)?),
+        GeometryText::Lines(lines) => object_of(alloc, "lines", lines_value(alloc, lines)?),
+        GeometryText::Polygons(polygons) => {
             object_of(alloc, "polygons", polygons_value(alloc, polygons)?)
         },
     }
 }
 
 /// The value of a tag.
-fn tag_value(alloc: Global, value: &EditValue) -> Result<Value, AllocError>
-    requires { ValueFits (value_data value.now) }
-    ensures { IfOk result (λ v. view v ≡ value_json (value_data value.now)) }
+fn tag_value(alloc: Global, value: ValueText<'_>) -> Result<Value, AllocError>
+    requires { ValueFits (value_view value) }
+    ensures { IfOk result (λ v. view v ≡ value_json (value_view value.entry)) }
 {
     match value {
-        EditValue::Text(text) => Value::try_from_str(alloc, text.as_str()),
-        EditValue::Natural(number) => Ok(Value::from(*number)),
-        EditValue::Negative(number) => Ok(Value::from(*number)),
-        EditValue::Truth(truth) => Ok(Value::from(*truth)),
+        ValueText::Text(text) => Value::try_from_str(alloc, text),
+        ValueText::Natural(number) => Ok(Value::from(number)),
+        ValueText::Negative(number) => Ok(Value::from(number)),
+        ValueText::Truth(truth) => Ok(Value::from(truth)),
     }
 }
 
 /// A member for each tag.
-fn tags_value(alloc: Global, tags: &[Tag]) -> Result<Value, AllocError>
-    requires ascending { HasAscendingKeys (map tag_data tags.now) }
-    requires values { ValuesFit (map tag_data tags.now) }
-    ensures { IfOk result (λ v. view v ≡ object (tags_json (map tag_data tags.now))) }
+fn tags_value(alloc: Global, tags: Tags<'_>) -> Result<Value, AllocError>
+    requires ascending { HasAscendingKeys (tags_view tags) }
+    requires values { ValuesFit (tags_view tags) }
+    ensures { IfOk result (λ v. view v ≡ object (tags_json (tags_view tags.entry))) }
 {
     let mut members = Map::new(alloc);
     for tag in tags {
-        put(
-            &mut members,
-            alloc,
-            tag.key.as_str(),
-            tag_value(alloc, &tag.value)?,
-        )?;
+        put(&mut members, alloc, tag.key, tag_value(alloc, tag.value)?)?;
     }
     Ok(Value::Object(members))
 }
 
 /// The one JSON value of a feature.
 #[tactic(auto, unfolding(crate::specs::Json::name_bytes))]
-pub fn feature_to_json(alloc: Global, feature: &Feature) -> Result<Value, AllocError>
-    requires tags { TagsFit (feature_data feature.now).tags }
-    requires values { ValuesFit (feature_data feature.now).tags }
-    ensures { IfOk result (λ v. view v ≡ json_of (feature_data feature.now)) }
+pub fn feature_to_json(alloc: Global, feature: FeatureText<'_>) -> Result<Value, AllocError>
+    requires tags { TagsFit (feature_view feature).tags }
+    requires values { ValuesFit (feature_view feature).tags }
+    ensures { IfOk result (λ v. view v ≡ json_of (feature_view feature.entry)) }
 {
-    let geometry = geometry_value(alloc, &feature.geometry)?;
-    let layer = Value::try_from_str(alloc, feature.layer.as_str())?;
-    let tags = tags_value(alloc, &feature.tags)?;
+    let geometry = geometry_value(alloc, feature.geometry)?;
+    let layer = Value::try_from_str(alloc, feature.layer)?;
+    let tags = tags_value(alloc, feature.tags)?;
     let mut members = Map::new(alloc);
     put(&mut members, alloc, "geometry", geometry)?;
     put(&mut members, alloc, "layer", layer)?;

@@ -52,14 +52,14 @@ unfolding byte_at
 byte_no_memory [] is = cc
 byte_no_memory (b ∷ bytes) is = cc
 
-cond_no_memory : {A : Type 0} (b : Bool) (p q : Part A) → p ≢ Err Memory → q ≢ Err Memory → cond b p q ≢ Err Memory
+pub cond_no_memory : {A : Type 0} (b : Bool) (p q : Part A) → p ≢ Err Memory → q ≢ Err Memory → cond b p q ≢ Err Memory
 cond_no_memory true p q p_never q_never = p_never
 cond_no_memory false p q p_never q_never = q_never
 
 ok_no_memory : {A : Type 0} (x : A × List ℕ) → ◌≢◌ {A = Part A} (Ok x) (Err Memory)
 ok_no_memory x is = cc
 
-bad_no_memory : {A : Type 0} → ◌≢◌ {A = Part A} (Err Bad) (Err Memory)
+pub bad_no_memory : {A : Type 0} → ◌≢◌ {A = Part A} (Err Bad) (Err Memory)
 bad_no_memory is = cc
 
 text_no_memory : (len : ℕ) (bytes : List ℕ) → text_at len bytes ≢ Err Memory
@@ -69,7 +69,7 @@ text_no_memory len bytes = if_no_memory _ _ (front_no_memory len bytes)
 pub count_no_memory : (bytes : List ℕ) → change_count_at bytes ≢ Err Memory
 count_no_memory bytes = if_no_memory _ _ (byte_no_memory bytes)
 
-name_no_memory : (bytes : List ℕ) → name_at bytes ≢ Err Memory
+pub name_no_memory : (bytes : List ℕ) → name_at bytes ≢ Err Memory
 unfolding name_at
 name_no_memory bytes = then_no_memory _ _ (if_no_memory _ _ (byte_no_memory bytes)) text_no_memory
 

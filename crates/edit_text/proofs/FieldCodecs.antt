@@ -56,7 +56,7 @@ pub front_long : (n : ℕ) (bytes : List ℕ) → n ≤ length bytes → front_a
 unfolding front_at
 front_long n bytes l = ap (λ b. cond b (Err Cut) (Ok (take n bytes, drop n bytes))) (le-ltb (length bytes) n l)
 
-front_found : (n : ℕ) (bytes xs rest : List ℕ) → (length bytes < n) ⊎ (n ≤ length bytes) → front_at n bytes ≡ Ok (xs, rest)
+pub front_found : (n : ℕ) (bytes xs rest : List ℕ) → (length bytes < n) ⊎ (n ≤ length bytes) → front_at n bytes ≡ Ok (xs, rest)
     → (length xs ≡ n) × (bytes ≡ xs ++ rest)
 front_found n bytes xs rest (inl l) e = let short = front_short n bytes l in absurd (cc)
 front_found n bytes xs rest (inr l) e =
@@ -129,7 +129,7 @@ codec_text n = codec_if (front_at n) (λ xs. xs) (λ xs. length xs ≡ n) (EndsW
 name_len_passes : (len : ℕ) → 1 ≤ len → len ≤ MAX_NAME_BYTES → nat_le 1 len && nat_le len MAX_NAME_BYTES ≡ true
 name_len_passes len low high = grind (arith, nat_tests)
 
-name_len_fits : (len : ℕ) → nat_le 1 len && nat_le len MAX_NAME_BYTES ≡ true → (1 ≤ len) × (len ≤ MAX_NAME_BYTES)
+pub name_len_fits : (len : ℕ) → nat_le 1 len && nat_le len MAX_NAME_BYTES ≡ true → (1 ≤ len) × (len ≤ MAX_NAME_BYTES)
 name_len_fits len t = grind (arith, nat_tests)
 
 pub codec_name : Codec name_at spelled_name (λ xs. IsName xs × IsUtf8 xs) EndsInName

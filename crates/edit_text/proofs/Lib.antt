@@ -1,4 +1,7 @@
 pub mod ChangeCodecs
+pub mod CheckedChanges
+pub mod CheckedLists
+pub mod CheckedTags
 pub mod Codecs
 pub mod Decoded
 pub mod EditCodecs
@@ -13,6 +16,7 @@ pub mod Many
 pub mod ManyCodec
 pub mod NewNumbers
 pub mod NextKey
+pub mod NoMemory
 pub mod PointLists
 pub mod Recorded
 pub mod ShapeCodecs

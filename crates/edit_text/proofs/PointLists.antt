@@ -32,7 +32,7 @@ four_cut bytes l =
     ap (λ b. read_as (from_le_bytes w32) (cond b (Err Cut) front)) (lt-ltb (length bytes) 4 l)
 
 -- the point in the first eight bytes
-first_point : List ℕ → World
+pub first_point : List ℕ → World
 first_point bytes = record { x = four bytes; y = four (drop 4 bytes) }
 
 point_whole : (bytes : List ℕ) → 8 ≤ length bytes → point_at bytes ≡ Ok (first_point bytes, drop 4 (drop 4 bytes))
@@ -51,7 +51,7 @@ point_cut bytes l = elim (cases_lt (length bytes) 4) [
       ∙ ap (read_as (λ y. record { x = four bytes; y = y })) (four_cut (drop 4 bytes) (omega (arith, length-drop 4 bytes)))
 ]
 
-many_more : (count : ℕ) (done : List World) (bytes : List ℕ) → 8 ≤ length bytes
+pub many_more : (count : ℕ) (done : List World) (bytes : List ℕ) → 8 ≤ length bytes
     → many_at (λ _. point_at) (suc count) done bytes ≡ many_at (λ _. point_at) count (done ++ first_point bytes ∷ []) (drop 4 (drop 4 bytes))
 unfolding repeated
 many_more count done bytes l = ap (goes_on (λ _. point_at) count done) (point_whole bytes l)
@@ -98,7 +98,7 @@ if_by : {A : Type 0} (test : A → Bool) (x y : A × List ℕ) (b : Bool) → te
 if_by test x y true passes is = ((cc), passes)
 if_by test x y false passes is = absurd (cc)
 
-if_ok : {A : Type 0} (test : A → Bool) (part : Part A) (y : A × List ℕ) → read_if test part ≡ Ok y → (part ≡ Ok y) × (test y.0 ≡ true)
+pub if_ok : {A : Type 0} (test : A → Bool) (part : Part A) (y : A × List ℕ) → read_if test part ≡ Ok y → (part ≡ Ok y) × (test y.0 ≡ true)
 if_ok {A} test (Ok x) y is =
     let both = if_by test x y (test x.0) refl is in
     ((λ i. Ok (both.0 i)), subst (λ (z : A × List ℕ). test z.0 ≡ true) both.0 both.1)

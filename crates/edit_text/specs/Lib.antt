@@ -1,3 +1,4 @@
+pub mod Checking
 pub mod Cut
 pub mod Decoding
 pub mod Reading

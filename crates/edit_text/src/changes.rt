@@ -16,7 +16,7 @@ use std::alloc::Global;
 
 /// The first and the last zoom.
 #[tactic(auto, unfolding(crate::specs::Reading::zooms_at))]
-fn read_zooms(bytes: &[u8]) -> Result<((u8, u8), &[u8]), TextFault>
+pub(crate) fn read_zooms(bytes: &[u8]) -> Result<((u8, u8), &[u8]), TextFault>
     ensures { Reads (λ r. (r.0, r.1.now)) result (zooms_at bytes.now) }
 {
     let (first, rest) = read_byte(bytes)?;
@@ -59,7 +59,10 @@ fn is_next(changes: &[Change], number: u64) -> bool
 
 /// The number of the change after these.
 #[tactic(auto, unfolding(crate::specs::Reading::next_number_at))]
-fn read_next_number<'a>(changes: &[Change], bytes: &'a [u8]) -> Result<(u64, &'a [u8]), TextFault>
+pub(crate) fn read_next_number<'a>(
+    changes: &[Change],
+    bytes: &'a [u8],
+) -> Result<(u64, &'a [u8]), TextFault>
     ensures { Reads (λ r. (r.0, r.1.now)) result (next_number_at (map change_data changes.now) bytes.entry.now) }
 {
     let (number, rest) = read_number(bytes)?;

@@ -14,7 +14,7 @@ use feature_model::{Change, Edit, MAX_EDIT_BYTES};
 use std::alloc::Global;
 
 /// The most bytes of the text of a change.
-const MAX_CHANGE_BYTES: usize = MAX_EDIT_BYTES as usize;
+pub(crate) const MAX_CHANGE_BYTES: usize = MAX_EDIT_BYTES as usize;
 
 /// The most bytes of the text of an edit: its count, and the texts of its changes.
 const MAX_BYTES: usize = 1 + MAX_CHANGE_BYTES;

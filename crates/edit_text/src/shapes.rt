@@ -15,10 +15,10 @@ use feature_model::{
 use std::alloc::Global;
 
 /// The bytes of a point.
-const POINT_LEN: usize = 8;
+pub(crate) const POINT_LEN: usize = 8;
 
 /// A count of at least `least`, and at most `MAX_ELEMENTS`.
-fn read_count(bytes: &[u8], least: usize) -> Result<(u16, &[u8]), TextFault>
+pub(crate) fn read_count(bytes: &[u8], least: usize) -> Result<(u16, &[u8]), TextFault>
     ensures { Reads (λ r. (r.0, r.1.now)) result (count_at least bytes.now) }
 {
     let (count, rest) = read_u16(bytes)?;

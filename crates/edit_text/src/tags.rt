@@ -16,7 +16,7 @@ use std::alloc::Global;
 
 /// The bits of a number below 0: the first of them is set.
 #[tactic(auto, unfolding(crate::specs::Reading::negative_at))]
-fn read_negative(bytes: &[u8]) -> Result<(u64, &[u8]), TextFault>
+pub(crate) fn read_negative(bytes: &[u8]) -> Result<(u64, &[u8]), TextFault>
     ensures { Reads (λ r. (r.0, r.1.now)) result (negative_at bytes.now) }
 {
     let (bits, rest) = read_u64(bytes)?;
@@ -60,7 +60,7 @@ fn read_value(alloc: Global, bytes: &[u8]) -> Result<(EditValue, &[u8]), TextFau
 }
 
 /// Whether a key comes before another, byte by byte.
-fn is_before(key: &str, other: &str) -> bool
+pub(crate) fn is_before(key: &str, other: &str) -> bool
     ensures { result ≡ is_lt (slice_cmp nat_cmp key.now other.now) }
 {
     key < other
@@ -107,7 +107,7 @@ fn read_each_tag(alloc: Global, count: u8, bytes: &[u8]) -> Result<(Vec<Tag>, &[
 }
 
 /// How many tags there are: at most `MAX_TAGS`.
-fn read_tag_count(bytes: &[u8]) -> Result<(u8, &[u8]), TextFault>
+pub(crate) fn read_tag_count(bytes: &[u8]) -> Result<(u8, &[u8]), TextFault>
     ensures { Reads (λ r. (r.0, r.1.now)) result (tag_count_at bytes.now) }
 {
     let (count, rest) = read_byte(bytes)?;

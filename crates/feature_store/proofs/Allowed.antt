@@ -1,6 +1,6 @@
 -- The features of a map are within the limits.
-use Rattle.std.proofs.Common.{◌≡◌, ⊎_elim, ℕ, Bool, false, true, cond, [], ◌∷◌, sym, subst, arith, Option, Some, None}
-use Rattle.std.specs.Prelude.{nat_le, IfSome, option_map}
+use Rattle.std.proofs.Common.{◌≡◌, ⊎_elim, ℕ, Bool, false, true, cond, [], ◌∷◌, sym, subst, arith, Some}
+use Rattle.std.specs.Prelude.{nat_le, IfSome}
 use Rattle.std.specs.List.{All}
 use Rattle.std.specs.Ordering.{nat_cmp}
 use Rattle.std.specs.BTreeMap.{is_at}
@@ -51,9 +51,3 @@ found_from (e ∷ m) id edits =
 pub allowed_from : (m : FeatureMap) (id : ℕ) → IsMap m → IfSome (feature_from m id) (λ e. IsAllowed e.0 e.1)
 unfolding feature_from
 allowed_from m id is_map = found_from m id is_map.edits
-
--- what holds of the value of each item holds of the item
-pub of_value : {A B : Type 0} (value : A → B) (Holds : B → Type 0) (item : Option A) → IfSome (option_map value item) Holds
-    → IfSome item (λ a. Holds (value a))
-of_value value Holds None holds = tt
-of_value value Holds (Some a) holds = holds

@@ -25,14 +25,15 @@ use Rattle.feature_store.specs.Store.{FeatureMap, feature_at, with_feature, with
 
 -- ---- lists of the same entries
 
--- whether two entries are equal
-same : IndexEntry → IndexEntry → Bool
+-- whether two entries are equal, as their `==` has it
+abbrev pub same : IndexEntry → IndexEntry → Bool
 same a b =
-    a.id == b.id && a.span.bounds.x0 == b.span.bounds.x0 && a.span.bounds.x1 == b.span.bounds.x1 && a.span.bounds.y0 == b.span.bounds.y0
-    && a.span.bounds.y1 == b.span.bounds.y1 && a.span.minzoom == b.span.minzoom && a.span.maxzoom == b.span.maxzoom
+    a.id == b.id
+    && ((a.span.bounds.x0 == b.span.bounds.x0
+    && (a.span.bounds.x1 == b.span.bounds.x1 && (a.span.bounds.y0 == b.span.bounds.y0 && a.span.bounds.y1 == b.span.bounds.y1)))
+    && (a.span.minzoom == b.span.minzoom && a.span.maxzoom == b.span.maxzoom))
 
 same_is : (a b : IndexEntry) → same a b ≡ true → a ≡ b
-unfolding same
 same_is a b h =
     let id : a.id ≡ b.id = grind (arith, nat_tests) in
     let left : a.span.bounds.x0 ≡ b.span.bounds.x0 = grind (arith, nat_tests) in
@@ -47,7 +48,6 @@ same_is a b h =
     }
 
 same_self : (a : IndexEntry) → same a a ≡ true
-unfolding same
 same_self a = grind (arith, nat_tests)
 
 -- 1 where it is the entry
@@ -170,6 +170,26 @@ pub nothing_taken : (m : FeatureMap) (id : ℕ) (es : List IndexEntry) → featu
 unfolding feature_at without_feature
 nothing_taken m id es none indexed = subst (λ n. IsIndexed n es) (sym (removed_none m id none)) indexed
 
+-- with an entry in the place of another one
+pub exchanged : (es mid new : List IndexEntry) (old entry : IndexEntry) (b : Bool) → (Contains es old → b ≡ true) → OnTrue b (IsPermutation es (old ∷ mid))
+    → IsPermutation (entry ∷ mid) new → (rest : List IndexEntry) → IsPermutation es (old ∷ rest) → IsPermutation (entry ∷ rest) new
+exchanged es mid new old entry true is taken pushed rest parted =
+    same_entries (entry ∷ rest) new
+    (λ f. omega (
+      arith,
+      sum_by-cons f entry rest,
+      sum_by_popped f old es rest parted,
+      sum_by_popped f old es mid taken,
+      sum_by_pushed f entry mid new pushed,
+    ))
+exchanged es mid new old entry false is taken pushed rest parted =
+    absurd (false≢true (is (contains_counted old es (omega (arith, sum_by_popped (one_at old) old es rest parted, one_at_self old)))))
+
+pub left_there : (es : List IndexEntry) (old entry : IndexEntry) → true ≡ same old entry → (rest : List IndexEntry) → IsPermutation es (old ∷ rest)
+    → IsPermutation (entry ∷ rest) es
+left_there es old entry is rest parted =
+    subst (λ x. IsPermutation (x ∷ rest) es) (same_is old entry (sym is)) (IsPermutation-sym es (old ∷ rest) parted)
+
 -- with an entry more, it has what the map with the number's feature has
 pub put_in : (m : FeatureMap) (id : ℕ) (v : FeatureData) (es more : List IndexEntry) → Ascends m → IsIndexed (without_feature m id) es
     → IsPermutation (index_entry (id, v) ∷ es) more → IsIndexed (with_feature m id v) more
@@ -182,3 +202,19 @@ put_in m id v es more up indexed pushed =
       sum_by-IsPermutation f (map index_entry (remove_entry (is_at (nat_cmp id)) m)) es indexed,
       sum_by_pushed f (index_entry (id, v)) es more pushed,
     ))
+
+-- a number without a feature is given one
+pub put_first : (m : FeatureMap) (id : ℕ) (f : FeatureData) (es more : List IndexEntry) → Ascends m → feature_at m id ≡ None → IsIndexed m es
+    → IsPermutation (index_entry (id, f) ∷ es) more → IsIndexed (with_feature m id f) more
+put_first m id f es more up none indexed pushed = put_in m id f es more up (nothing_taken m id es none indexed) pushed
+
+-- a number's feature is replaced
+pub put_over : (m : FeatureMap) (id : ℕ) (v f : FeatureData) (es more : List IndexEntry) → Ascends m → feature_at m id ≡ Some v → IsIndexed m es
+    → ((rest : List IndexEntry) → IsPermutation es (index_entry (id, v) ∷ rest) → IsPermutation (index_entry (id, f) ∷ rest) more)
+    → IsIndexed (with_feature m id f) more
+put_over m id v f es more up found indexed pushed =
+    let x = index_entry (id, v) in
+    let there = has_entry m id v es found indexed in
+    let rest = remove es there.0 in
+    let parted : IsPermutation es (x ∷ rest) = IsPermutation-remove es there.0 x there.1 (sym there.2) in
+    put_in m id f rest more up (taken_away m id v es rest found indexed parted) (pushed rest parted)

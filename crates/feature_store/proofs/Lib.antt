@@ -3,6 +3,8 @@ mod Allowed
 mod Boxes
 mod Chosen
 mod Entries
+mod Finished
+mod Gathers
 mod Kept
 pub mod LimitNumbers
 mod Listed
@@ -17,6 +19,7 @@ mod Zooms
 pub mod Laws
 pub mod Maps
 pub mod Puts
+pub mod RecordTexts
 pub mod Snapshots
 pub mod Texts
 pub mod Unique

@@ -111,13 +111,13 @@ with_behind m id f behind = set_behind m id f behind
 
 -- ---- maps one after the other
 
-pub All-front : (m n : FeatureMap) → All IsEditOf (m ++ n) → All IsEditOf m
-All-front [] n all = All-nil IsEditOf
-All-front (e ∷ m) n all = All-cons IsEditOf e m (All-head IsEditOf e (m ++ n) all) (All-front m n (All-tail IsEditOf e (m ++ n) all))
+pub All-front : {A : Type 0} (P : A → Type 0) (m n : List A) → All P (m ++ n) → All P m
+All-front P [] n all = All-nil P
+All-front P (e ∷ m) n all = All-cons P e m (All-head P e (m ++ n) all) (All-front P m n (All-tail P e (m ++ n) all))
 
-pub All-behind : (m n : FeatureMap) → All IsEditOf (m ++ n) → All IsEditOf n
-All-behind [] n all = all
-All-behind (e ∷ m) n all = All-behind m n (All-tail IsEditOf e (m ++ n) all)
+pub All-behind : {A : Type 0} (P : A → Type 0) (m n : List A) → All P (m ++ n) → All P n
+All-behind P [] n all = all
+All-behind P (e ∷ m) n all = All-behind P m n (All-tail P e (m ++ n) all)
 
 pub snapshot_both : (m n : FeatureMap) → snapshot (m ++ n) ≡ snapshot m ++ snapshot n
 unfolding snapshot
@@ -146,22 +146,12 @@ text_behind e text len begins long =
     let all = take_all (length text - len) (drop len text) (omega (arith, length-drop len text)) in
     begins.1.1 ∙ ap (λ r. spelled_change e ++ r) (sym (all ∙ behind))
 
--- what is told of a text, for the edit in front takes a feature away
-pub deleted_in_front : (id : ℕ) (text : List ℕ) → BeginsWithChange (delete id) text
-    → (Bad ≡ Memory) ⊎ ((Bad ≡ Bad) × ((e : ℕ × FeatureData) → BeginsWithChange (put e.0 e.1) text → ⊥))
-deleted_in_front id text deleted = inr (
-  refl,
-  λ e begins.
-      let both = one_change (delete id) (put e.0 e.1) deleted.1.0 begins.1.0 deleted.0 begins.0 (sym deleted.1.1 ∙ begins.1.1) in
-      let same : delete id ≡ put e.0 e.1 = both.0 in cc,
-)
-
 -- what is told of a text that isn't decoded
 pub not_decoded : {T : Type 0} (d memory : T) (r : SnapshotFault) (text : List ℕ) → (r ≡ Memory) ⊎ (r ≡ Bad) → (d ≡ memory → r ≡ Memory)
-    → ((e : ChangeData) → BeginsWithChange e text → d ≡ memory)
+    → ((e : ℕ × FeatureData) → BeginsWithChange (put e.0 e.1) text → d ≡ memory)
     → (r ≡ Memory) ⊎ ((r ≡ Bad) × ((e : ℕ × FeatureData) → BeginsWithChange (put e.0 e.1) text → ⊥))
 not_decoded d memory r text (inl out) told only = inl out
-not_decoded d memory r text (inr bad) told only = inr (bad, λ e begins. let out = told (only (put e.0 e.1) begins) in cc)
+not_decoded d memory r text (inr bad) told only = inr (bad, λ e begins. let out = told (only e begins) in cc)
 
 -- The text is the snapshot of these entries, and something is left: their numbers ascend, and they keep the limits.
 pub record IsRead (m : FeatureMap) (rest text : List ℕ) : Type 0 where
@@ -217,7 +207,7 @@ pub no_text : (m : FeatureMap) (rest text : List ℕ) → IsRead m rest text →
     → ((e : ℕ × FeatureData) → BeginsWithChange (put e.0 e.1) rest → ⊥) → IsNoSnapshot text
 no_text m rest text read some none n is_map same =
     let on = goes_on m n rest read.edits is_map.edits (same ∙ read.whole) in
-    by on.0 on.2 (All-behind m on.0 (subst (All IsEditOf) on.1 is_map.edits))
+    by on.0 on.2 (All-behind IsEditOf m on.0 (subst (All IsEditOf) on.1 is_map.edits))
   where
     by : (tail : FeatureMap) → snapshot tail ≡ rest → All IsEditOf tail → ⊥
     by [] left all = omega (arith, ap length left, none_takes, some)
@@ -234,7 +224,7 @@ pub not_behind : (m : FeatureMap) (e : ℕ × FeatureData) (rest behind text : L
     → (IsBehind m e.0 → ⊥) → IsNoSnapshot text
 not_behind m e rest behind text read is begins low n is_map same =
     let on = goes_on m n rest read.edits is_map.edits (same ∙ read.whole) in
-    by on.0 on.2 (All-behind m on.0 (subst (All IsEditOf) on.1 is_map.edits)) (subst Ascends on.1 is_map.ascending)
+    by on.0 on.2 (All-behind IsEditOf m on.0 (subst (All IsEditOf) on.1 is_map.edits)) (subst Ascends on.1 is_map.ascending)
   where
     by : (tail : FeatureMap) → snapshot tail ≡ rest → All IsEditOf tail → Ascends (m ++ tail) → ⊥
     by [] left all ascends =

@@ -4,7 +4,6 @@ use Rattle.std.proofs.Common.{arith, inl, inr, Option, Some, None, IfSome, Vec, 
 use Rattle.std.specs.Prelude.{IfNone, OnErr}
 use Rattle.std.specs.Option.{option_map}
 use Rattle.std.proofs.lemmas.Bool.{cases_lt}
-use Rattle.std.proofs.lemmas.List.{length-map}
 use Rattle.feature_model.specs.declared.limits.TheConstants.{MAX_ZOOM}
 use Rattle.hilbert_id.specs.Curve.{IsTileId}
 use Rattle.hilbert_id.specs.declared.tile_at.TileAt.{TileAt}
@@ -148,11 +147,3 @@ on_err (Err e) p = p
 -- the tile that is found has the id
 pub tile_found : (found : Option TileAt) (at : TileAt) (id : ℕ) → found ≡ Some at → IfSome found (λ t. IsTileId t.z t.x t.y id) → IsTileId at.z at.x at.y id
 tile_found found at id is has = subst (λ o. IfSome o (λ t. IsTileId t.z t.x t.y id)) is has
-
--- where there are no views there are no layers, and else there are some
-pub no_layers : {X : Type 0} (view : X → LayerView) (xs : List X) (ls : List LayerView) → map view xs ≡ ls → length xs ≡ 0 → ls ≡ []
-no_layers view [] ls same none = sym same
-no_layers view (x ∷ xs) ls same none = absurd (omega (arith, none))
-
-pub some_layers : {X : Type 0} (view : X → LayerView) (xs : List X) (ls : List LayerView) → map view xs ≡ ls → 0 < length xs → 0 < length ls
-some_layers view xs ls same some = omega (arith, some, length-map xs view, ap length same)

@@ -1,23 +1,29 @@
 -- How a store keeps its map.
-use Rattle.std.specs.Prelude.{ℕ, List, map, min}
-use Rattle.std.specs.Borrow.{Bor}
-use Rattle.feature_model.specs.declared.feature.Feature.{Feature}
-use Rattle.feature_model.specs.Data.{FeatureData, feature_data}
+use Rattle.std.specs.Prelude.{◌≡◌, ℕ, List, All, map, min}
+use Rattle.feature_model.specs.Data.{FeatureData}
 use Rattle.feature_store.specs.declared.store.Store.TheInside.{Inside}
 use Rattle.feature_store.specs.Indexed.{IsIndexed}
 use Rattle.feature_store.specs.Store.{FeatureMap, StoreView, IsMap}
 
--- an entry without where it lies in memory
-abbrev pub entry_data : ℕ × Feature → ℕ × FeatureData
-entry_data e = (e.0, feature_data e.1)
+-- a feature, and the number that its text gives it to
+abbrev pub Stored : Type 0
+Stored = ℕ × FeatureData
 
--- a number with a reference to its feature, without where that lies in memory
-abbrev pub numbered_data : ℕ × Bor Feature → ℕ × FeatureData
-numbered_data e = (e.0, feature_data e.1.now)
+-- the feature
+abbrev pub stored_data : Stored → FeatureData
+stored_data s = s.1
+
+-- an entry without the number of its text
+abbrev pub entry_data : ℕ × Stored → ℕ × FeatureData
+entry_data e = (e.0, stored_data e.1)
 
 -- the map that entries keep
-abbrev pub entries_data : List (ℕ × Feature) → FeatureMap
+abbrev pub entries_data : List (ℕ × Stored) → FeatureMap
 entries_data es = map entry_data es
+
+-- the text of an entry gives the feature to the entry's number
+abbrev pub IsOwn : ℕ × Stored → Type 0
+IsOwn e = e.1.0 ≡ e.0
 
 -- the features by number, and for how many more both the numbers and the index have room
 abbrev pub store_view : Inside → StoreView
@@ -26,4 +32,5 @@ store_view s = record { features = entries_data s.features.entries; spare = min 
 -- the index has what the map has
 pub record IsStore (s : Inside) : Type 0 where
   pub is_map : IsMap (entries_data s.features.entries)
+  pub own : All IsOwn s.features.entries
   pub indexed : IsIndexed (entries_data s.features.entries) s.index.entries

@@ -1,5 +1,5 @@
 -- The layers of a tile.
-use Rattle.std.specs.Prelude.{◌≡◌, ℕ, ◌<◌, ◌^◌, ◌&&◌, Bool, nat_le, nat_lt, List, [], ◌∷◌, length, map, All, Contains}
+use Rattle.std.specs.Prelude.{◌≡◌, ℕ, ◌<◌, ◌^◌, ◌&&◌, Bool, nat_le, nat_lt, List, [], ◌∷◌, ◌++◌, length, map, All, Contains}
 use Rattle.std.specs.Prelude.{Option, Some, None, IsSome, option_map, filter_map, if◌then◌else◌}
 use Rattle.std.specs.Ordering.{nat_cmp, match_ordering}
 use Rattle.std.specs.Str.{bytes_eq}
@@ -9,8 +9,17 @@ use Rattle.feature_model.specs.Data.{FeatureData}
 use Rattle.feature_model.specs.declared.limits.TheConstants.{MAX_ZOOM}
 use Rattle.mvt_layer.specs.declared.layers.TheConstants.{CURRENT_VERSION, DEFAULT_EXTENT}
 use Rattle.mvt_layer.specs.Tile.{FeatureView, LayerView}
-use Rattle.tile_cutter.specs.Cut.{feature_cut}
+use Rattle.geometry_commands.specs.Shapes.{ShapeView}
+use Rattle.tile_cutter.specs.Cut.{feature_cut, shown_with}
 use Rattle.feature_store.specs.Store.{FeatureMap}
+
+-- a feature with this number and this shape
+abbrev pub numbered : ℕ → FeatureData → ShapeView → FeatureView
+numbered id f shape = record (shown_with f.tags shape) { id = Some id }
+
+-- the features of each name, with one more for the name of its layer
+abbrev pub added_to : (List ℕ → List FeatureView) → List ℕ → FeatureView → List ℕ → List FeatureView
+added_to fs layer f name = if bytes_eq layer name then fs name ++ f ∷ [] else fs name
 
 -- what the tile shows of a feature, with its number as id
 abbrev pub numbered_cut : ℕ → ℕ → ℕ → ℕ × FeatureData → Option FeatureView

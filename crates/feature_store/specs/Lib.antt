@@ -6,6 +6,8 @@ pub mod Indexed
 pub mod Inside
 pub mod Layers
 pub mod Left
+pub mod Prepared
+pub mod Records
 pub mod Snapshots
 pub mod Store
 pub mod Tiles

@@ -2,23 +2,20 @@
 ghost use Rattle.std.specs.Prelude.{◌≡◌, ◌≤◌, ◌+◌, ℕ, IfOk, OnErr, IfSome, IfNone, option_map};
 ghost use Rattle.feature_model.specs.declared.limits.TheConstants.{MAX_ZOOM};
 ghost use Rattle.hilbert_id.specs.Curve.{IsTileId};
-ghost use Rattle.mvt_layer.specs.Tile.{layer_views};
-ghost use Rattle.mvt_write.specs.CanWrite.{CanWriteAll};
-ghost use Rattle.feature_store.specs.Content.{IsTileContent};
 ghost use Rattle.feature_store.specs.Indexed.{ShowsAll};
 ghost use Rattle.feature_store.specs.Inside.{entries_data};
 ghost use Rattle.feature_store.specs.Layers.{layers};
 ghost use Rattle.feature_store.specs.Store.{IsMap};
 ghost use Rattle.feature_store.specs.Tiles.{HasPlace, IsBytesAt, IsNextTile, IsStep, ShowsNothing, ShowsNothingFrom, tile_bytes};
 
+use crate::cutter::Cutter;
 use crate::feature_boxes::FeatureBoxes;
 use crate::gathered::gather;
-use crate::layers::listed;
+use crate::layers::written;
 use crate::tiles_left::TilesLeft;
-use feature_model::{Feature, MAX_ZOOM};
+use feature_model::MAX_ZOOM;
+use feature_text::StoredFeature;
 use hilbert_id::{TileAt, tile_of};
-use mvt_layer::Layer;
-use mvt_write::write_tile;
 use number_map::NumberMap;
 use std::alloc::{AllocError, Global};
 use std::marker::Model;
@@ -34,6 +31,7 @@ pub struct Tiles<'a> {
     left: TilesLeft,
     /// No such tile has this id or a greater one.
     from: u64,
+    cutter: Cutter,
     alloc: Global,
 }
 
@@ -49,40 +47,28 @@ impl<'a> Model for Tiles<'a> {
     ghost invariant = { IsWalk };
 }
 
-/// The layers of a tile, by the numbers of the features of which it shows something, and maybe of others.
-pub(crate) fn tile_layers<'a>(
+/// The bytes of a tile, or `None` if it shows nothing, by the numbers of the features of which it shows something, and maybe of others.
+pub(crate) fn tile_of_numbers(
     alloc: Global,
-    features: &'a NumberMap<Feature>,
+    cutter: &mut Cutter,
+    features: &NumberMap<StoredFeature>,
     numbers: &[u64],
     at: TileAt,
-) -> Result<Vec<Layer<'a>>, AllocError>
+) -> Result<Option<Vec<u8>>, AllocError>
     requires zoom { at.z ≤ MAX_ZOOM }
     requires map { IsMap (entries_data features.now.entries) }
     requires shown { ShowsAll (entries_data features.now.entries) at.z at.x at.y numbers.now }
-    ensures layers { IfOk result (λ v. layer_views v.items ≡ layers (entries_data features.now.entries) at.z at.x at.y) }
-    ensures can_write { IfOk result (λ v. CanWriteAll (layer_views v.items)) }
+    ensures { IfOk result (λ o. option_map (λ v. v.items) o ≡ tile_bytes (layers (entries_data features.now.entries) at.z at.x at.y)) }
 {
-    let gathered = gather(alloc, features, numbers, at)?;
-    listed(alloc, gathered)
+    let gathered = gather(alloc, cutter, features, numbers, at)?;
+    written(alloc, gathered)
 }
 
-/// The bytes of a tile with these layers, or `None` if there are no layers.
-pub(crate) fn written(alloc: Global, layers: &[Layer<'_>]) -> Result<Option<Vec<u8>>, AllocError>
-    requires { CanWriteAll (layer_views layers.now) }
-    ensures bytes { IfOk result (λ o. option_map (λ v. v.items) o ≡ tile_bytes (layer_views layers.now)) }
-    ensures content { IfOk result (λ o. IsTileContent (layer_views layers.now) (option_map (λ v. v.items) o)) }
-{
-    if layers.is_empty() {
-        return Ok(None);
-    }
-    let bytes = write_tile(alloc, layers)?;
-    Ok(Some(bytes))
-}
-
-/// The bytes of the tile of an id, if it shows something, by the numbers as for its layers.
+/// The bytes of the tile of an id, if it shows something, by the numbers as above.
 fn bytes_at(
     alloc: Global,
-    features: &NumberMap<Feature>,
+    cutter: &mut Cutter,
+    features: &NumberMap<StoredFeature>,
     numbers: &[u64],
     id: u64,
 ) -> Result<Option<Vec<u8>>, AllocError>
@@ -92,15 +78,14 @@ fn bytes_at(
     ensures { IfOk result (λ o. IsBytesAt (entries_data features.now.entries) id (option_map (λ v. v.items) o)) }
 {
     let at = tile_of(id).unwrap();
-    let layers = tile_layers(alloc, features, numbers, at)?;
-    written(alloc, &layers)
+    tile_of_numbers(alloc, cutter, features, numbers, at)
 }
 
 impl<'a> Tiles<'a> {
     /// The tiles of a map. The only error is out of memory.
     pub(crate) fn of(
         alloc: Global,
-        features: &'a NumberMap<Feature>,
+        features: &'a NumberMap<StoredFeature>,
     ) -> Result<Tiles<'a>, AllocError>
         requires { IsMap (entries_data features.now.entries) }
         ensures map { IfOk result (λ tiles. tiles.features ≡ entries_data features.entry.now.entries) }
@@ -112,6 +97,7 @@ impl<'a> Tiles<'a> {
             map,
             left,
             from: 0,
+            cutter: Cutter::new(alloc),
             alloc,
         })
     }
@@ -129,7 +115,8 @@ impl<'a> Tiles<'a> {
             return Ok(None);
         };
         let id = *id;
-        let bytes = bytes_at(self.alloc, self.map.features(), numbers, id)?;
+        let features = self.map.features();
+        let bytes = bytes_at(self.alloc, &mut self.cutter, features, numbers, id)?;
         self.left.next = None;
         self.from = id + 1;
         Ok(Some((id, bytes)))

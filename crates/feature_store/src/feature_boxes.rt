@@ -6,11 +6,12 @@ ghost use Rattle.number_map.specs.Blocks.{joined};
 ghost use Rattle.tile_walk.specs.Boxes.{AreTilesOf};
 ghost use Rattle.feature_store.specs.Boxes.{boxes_at, boxes_in};
 ghost use Rattle.feature_store.specs.Indexed.{index_entry};
-ghost use Rattle.feature_store.specs.Inside.{entry_data, entries_data};
+ghost use Rattle.feature_store.specs.Inside.{entries_data};
 
 use crate::indexed::index_entry;
 use box_index::IndexEntry;
-use feature_model::{Feature, MAX_ZOOM};
+use feature_model::MAX_ZOOM;
+use feature_text::StoredFeature;
 use number_map::{Block, Entry, NumberMap};
 use std::alloc::{AllocError, Global};
 use std::marker::Model;
@@ -20,7 +21,7 @@ use tile_walk::{Numbered, Walk};
 /// The features of a map, and the bounding box and the zooms of each, by ascending number.
 #[derive(Debug, Drop)]
 pub(crate) struct FeatureBoxes<'a> {
-    features: &'a NumberMap<Feature>,
+    features: &'a NumberMap<StoredFeature>,
     boxes: Vec<IndexEntry>,
 }
 
@@ -37,17 +38,23 @@ impl<'a> Model for FeatureBoxes<'a> {
 }
 
 /// Appends the boxes of entries.
-fn append_entries(boxes: &mut Vec<IndexEntry>, entries: &[Entry<Feature>]) -> Result<(), AllocError>
+fn append_entries(
+    boxes: &mut Vec<IndexEntry>,
+    entries: &[Entry<StoredFeature>],
+) -> Result<(), AllocError>
     ensures { OnOk result (boxes.new.items ≡ boxes.old.items ++ map index_entry (entries_data entries.now)) }
 {
     for entry in entries {
-        boxes.push(index_entry(entry.0, &entry.1))?;
+        boxes.push(index_entry(entry.0, entry.1.view()))?;
     }
     Ok(())
 }
 
 /// Appends the boxes of blocks of entries.
-fn append_blocks(boxes: &mut Vec<IndexEntry>, blocks: &[Block<Feature>]) -> Result<(), AllocError>
+fn append_blocks(
+    boxes: &mut Vec<IndexEntry>,
+    blocks: &[Block<StoredFeature>],
+) -> Result<(), AllocError>
     ensures { OnOk result (boxes.new.items ≡ boxes.old.items ++ map index_entry (entries_data (joined blocks.now))) }
 {
     for block in blocks {
@@ -90,7 +97,7 @@ impl<'a> FeatureBoxes<'a> {
     /// The features of a map with their boxes. The only error is out of memory.
     pub(crate) fn of(
         alloc: Global,
-        features: &'a NumberMap<Feature>,
+        features: &'a NumberMap<StoredFeature>,
     ) -> Result<FeatureBoxes<'a>, AllocError>
         ensures { IfOk result (λ b. b ≡ entries_data features.entry.now.entries) }
     {
@@ -100,7 +107,7 @@ impl<'a> FeatureBoxes<'a> {
     }
 
     /// The features.
-    pub(crate) fn features(&self) -> &NumberMap<Feature>
+    pub(crate) fn features(&self) -> &NumberMap<StoredFeature>
         ensures { entries_data result.now.entries ≡ self.now }
     {
         self.features

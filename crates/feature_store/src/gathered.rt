@@ -1,96 +1,121 @@
-//! What a tile shows of the features of a map, by layer.
+//! What a tile shows of the features of a map, written layer by layer.
 
-ghost use Rattle.std.specs.Prelude.{◌≡◌, ℕ, ◌≤◌, List, ◌∷◌, ◌++◌, [], All, OnOk, IfOk, option_map};
-ghost use Rattle.feature_model.specs.Data.{feature_data};
-ghost use Rattle.feature_model.specs.Limits.{IsAllowed};
-ghost use Rattle.mvt_layer.specs.Tile.{feature_view};
-ghost use Rattle.feature_store.specs.Gathered.{gathered_for, more_for, HasNoEmpty};
+ghost use Rattle.std.specs.Prelude.{ℕ, ◌≤◌, List, ◌∷◌, ◌++◌, [], All, map, OnOk, IfOk};
+ghost use Rattle.feature_model.specs.Limits.{IsAllowed, ValueFits};
+ghost use Rattle.feature_text.specs.Views.{tags_view, feature_view};
+ghost use Rattle.geometry_commands.specs.Shapes.{ShapeView};
+ghost use Rattle.mvt_layer.specs.Tile.{FeatureView};
+ghost use Rattle.mvt_write.specs.Writes.{Writes};
+ghost use Rattle.tile_cutter.specs.Cut.{shown_tag};
+ghost use Rattle.tile_cutter.specs.Put.{IsPut};
+ghost use Rattle.feature_store.specs.Gathered.{Gathers};
 ghost use Rattle.feature_store.specs.Indexed.{ShowsAll};
-ghost use Rattle.feature_store.specs.Inside.{entries_data};
-ghost use Rattle.feature_store.specs.Layers.{numbered_cut, cuts_of};
+ghost use Rattle.feature_store.specs.Inside.{entries_data, stored_data};
+ghost use Rattle.feature_store.specs.Layers.{numbered, added_to, cuts_of};
 ghost use Rattle.feature_store.specs.Store.{IsMap, entry_at};
 
-use feature_model::{Feature, MAX_ZOOM};
+use crate::cutter::Cutter;
+use feature_model::MAX_ZOOM;
+use feature_text::{FeatureText, StoredFeature, Tags};
+use geometry_commands::{PackedShape, ShapeKind};
 use hilbert_id::TileAt;
-use mvt_layer::TileFeature;
+use mvt_write::LayerWriter;
 use number_map::NumberMap;
 use std::alloc::{AllocError, Global};
 use std::collections::BTreeMap;
-use tile_cutter::cut;
+use tile_cutter::{put_cut, shown_value};
 
-/// The features of each layer, by its name.
-pub(crate) type Gathered<'a> = BTreeMap<&'a str, Vec<TileFeature<'a>>>;
+/// The layers, by their names.
+pub(crate) type Gathered<'a> = BTreeMap<&'a str, LayerWriter<'a>>;
 
-/// What the tile shows of a feature, with its number as id.
-fn shown<'a>(
-    alloc: Global,
-    id: u64,
-    feature: &'a Feature,
-    at: TileAt,
-) -> Result<Option<TileFeature<'a>>, AllocError>
-    requires zoom { at.z ≤ MAX_ZOOM }
-    requires allowed { IsAllowed id (feature_data feature.now) }
-    ensures cut { IfOk result (λ o. option_map feature_view o ≡ numbered_cut at.z at.x at.y (id, feature_data feature.now)) }
+/// Adds the tags of the feature that comes next.
+fn put_tags<'a>(writer: &mut LayerWriter<'a>, tags: Tags<'a>) -> Result<(), AllocError>
+    requires { All (λ t. ValueFits t.value) (tags_view tags) }
+    ensures { OnOk result ((name : List ℕ) (fs : List FeatureView)
+        → Writes writer.old name fs [] → Writes writer.new name fs (map shown_tag (tags_view tags.entry))) }
 {
-    match cut(alloc, feature, at)? {
-        Some(feature) => Ok(Some(TileFeature {
-            id: Some(id),
-            ..feature
-        })),
-        None => Ok(None),
+    for tag in tags {
+        writer.put_tag(tag.key, shown_value(tag.value))?;
     }
-}
-
-/// Appends a feature to those of its layer.
-fn add<'a>(
-    gathered: &mut Gathered<'a>,
-    layer: &'a str,
-    feature: TileFeature<'a>,
-) -> Result<(), AllocError>
-    ensures added { OnOk result
-        ((name : List ℕ) → gathered_for gathered.new name ≡ more_for (gathered_for gathered.old name) name layer.now (feature_view feature.entry)) }
-    ensures no_empty { OnOk result (HasNoEmpty gathered.old → HasNoEmpty gathered.new) }
-{
-    gathered.entry(layer)?.or_default().push(feature)?;
     Ok(())
 }
 
-/// Appends what the tile shows of a feature to what it shows of those before.
+/// Adds a feature of this number, whose shape is packed.
+fn put_feature<'a>(
+    writer: &mut LayerWriter<'a>,
+    id: u64,
+    feature: FeatureText<'a>,
+    kind: ShapeKind,
+    shape: &PackedShape,
+) -> Result<(), AllocError>
+    requires { IsAllowed id (feature_view feature) }
+    ensures { OnOk result ((name : List ℕ) (fs : List FeatureView) (s : ShapeView)
+        → Writes writer.old name fs [] → IsPut shape.now kind s
+        → Writes writer.new name (fs ++ numbered id (feature_view feature.entry) s ∷ []) []) }
+{
+    put_tags(writer, feature.tags)?;
+    writer.put_feature(Some(id), kind, &shape.bytes)
+}
+
+/// Adds a feature to its layer, which is begun with its first feature.
+fn add<'a>(
+    alloc: Global,
+    gathered: &mut Gathered<'a>,
+    id: u64,
+    feature: FeatureText<'a>,
+    kind: ShapeKind,
+    shape: &PackedShape,
+) -> Result<(), AllocError>
+    requires { IsAllowed id (feature_view feature) }
+    ensures { OnOk result ((fs : List ℕ → List FeatureView) (s : ShapeView)
+        → Gathers gathered.old fs → IsPut shape.now kind s
+        → Gathers gathered.new (added_to fs (feature_view feature.entry).layer (numbered id (feature_view feature.entry) s))) }
+{
+    if let Some(writer) = gathered.get_mut(feature.layer) {
+        return put_feature(writer, id, feature, kind, shape);
+    }
+    let mut writer = LayerWriter::new(alloc, feature.layer)?;
+    put_feature(&mut writer, id, feature, kind, shape)?;
+    gathered.insert(feature.layer, writer)?;
+    Ok(())
+}
+
+/// Adds what the tile shows of a feature to what it shows of those before.
 fn add_shown<'a>(
     alloc: Global,
+    cutter: &mut Cutter,
     gathered: &mut Gathered<'a>,
     id: u64,
-    feature: &'a Feature,
+    feature: FeatureText<'a>,
     at: TileAt,
 ) -> Result<(), AllocError>
     requires zoom { at.z ≤ MAX_ZOOM }
-    requires allowed { IsAllowed id (feature_data feature.now) }
-    ensures added { OnOk result ((name : List ℕ)
-        → gathered_for gathered.new name ≡ gathered_for gathered.old name ++ cuts_of ((id, feature_data feature.now) ∷ []) name at.z at.x at.y) }
-    ensures no_empty { OnOk result (HasNoEmpty gathered.old → HasNoEmpty gathered.new) }
+    requires allowed { IsAllowed id (feature_view feature) }
+    ensures { OnOk result ((fs : List ℕ → List FeatureView) → Gathers gathered.old fs
+        → Gathers gathered.new (λ name. fs name ++ cuts_of ((id, feature_view feature.entry) ∷ []) name at.z at.x at.y)) }
 {
-    if let Some(shown) = shown(alloc, id, feature, at)? {
-        add(gathered, feature.layer.as_str(), shown)?;
-    }
-    Ok(())
+    let Some(kind) = put_cut(&mut cutter.shape, &mut cutter.chain, feature, at)? else {
+        return Ok(());
+    };
+    add(alloc, gathered, id, feature, kind, &cutter.shape)
 }
 
 /// The same of a number, which may have no feature.
 fn add_number<'a>(
     alloc: Global,
+    cutter: &mut Cutter,
     gathered: &mut Gathered<'a>,
-    features: &'a NumberMap<Feature>,
+    features: &'a NumberMap<StoredFeature>,
     number: u64,
     at: TileAt,
 ) -> Result<(), AllocError>
     requires zoom { at.z ≤ MAX_ZOOM }
-    requires allowed { All (λ e. IsAllowed e.0 (feature_data e.1)) features.now.entries }
-    ensures added { OnOk result ((name : List ℕ) → gathered_for gathered.new name
-        ≡ gathered_for gathered.old name ++ cuts_of (entry_at (entries_data features.now.entries) number) name at.z at.x at.y) }
-    ensures no_empty { OnOk result (HasNoEmpty gathered.old → HasNoEmpty gathered.new) }
+    requires allowed { All (λ e. IsAllowed e.0 (stored_data e.1)) features.now.entries }
+    ensures { OnOk result ((fs : List ℕ → List FeatureView) → Gathers gathered.old fs
+        → Gathers gathered.new (λ name. fs name ++ cuts_of (entry_at (entries_data features.now.entries) number) name at.z at.x at.y)) }
 {
-    if let Some(feature) = features.get(number) {
-        add_shown(alloc, gathered, number, feature, at)?;
+    if let Some(stored) = features.get(number) {
+        add_shown(alloc, cutter, gathered, number, stored.view(), at)?;
     }
     Ok(())
 }
@@ -98,19 +123,19 @@ fn add_number<'a>(
 /// What the tile shows of the features, by the numbers of those of which it shows something, and maybe of others.
 pub(crate) fn gather<'a>(
     alloc: Global,
-    features: &'a NumberMap<Feature>,
+    cutter: &mut Cutter,
+    features: &'a NumberMap<StoredFeature>,
     numbers: &[u64],
     at: TileAt,
 ) -> Result<Gathered<'a>, AllocError>
     requires zoom { at.z ≤ MAX_ZOOM }
     requires map { IsMap (entries_data features.now.entries) }
     requires shown { ShowsAll (entries_data features.now.entries) at.z at.x at.y numbers.now }
-    ensures cuts { IfOk result (λ g. (name : List ℕ) → gathered_for g name ≡ cuts_of (entries_data features.now.entries) name at.z at.x at.y) }
-    ensures no_empty { IfOk result HasNoEmpty }
+    ensures { IfOk result (λ g. Gathers g (λ name. cuts_of (entries_data features.now.entries) name at.z at.x at.y)) }
 {
     let mut gathered = BTreeMap::new(alloc);
     for number in numbers {
-        add_number(alloc, &mut gathered, features, *number, at)?;
+        add_number(alloc, cutter, &mut gathered, features, *number, at)?;
     }
     Ok(gathered)
 }

@@ -1,19 +1,25 @@
 //! What the index by boxes has of a feature.
-ghost use Rattle.std.specs.Prelude.{◌≡◌, ◌≤◌, IfOk, option_map};
-ghost use Rattle.feature_model.specs.Data.{feature_data, geometry_data};
+ghost use Rattle.std.specs.Prelude.{◌≡◌, ◌≤◌, ◌<◌, ◌+◌, ℕ, List, ◌∷◌, IfOk, option_map};
+ghost use Rattle.std.specs.List.Sorted.{IsPermutation};
+ghost use Rattle.box_index.specs.declared.entry.IndexEntry.{IndexEntry};
+ghost use Rattle.feature_model.specs.Data.{FeatureData};
+ghost use Rattle.feature_text.specs.Views.{feature_view};
+ghost use Rattle.number_map.specs.Blocks.{Ascends};
 ghost use Rattle.tile_cutter.specs.WorldBox.{bounding_box};
 ghost use Rattle.feature_store.specs.Indexed.{index_entry, IsIndexed, ShowsAll};
-ghost use Rattle.feature_store.specs.Store.{FeatureMap, IsMap, feature_at, without_feature};
+ghost use Rattle.feature_store.specs.Inside.{stored_data};
+ghost use Rattle.feature_store.specs.Store.{FeatureMap, IsMap, feature_at, with_feature, without_feature};
 
 use box_index::{BoxIndex, IndexEntry, Span};
-use feature_model::{Feature, MAX_ZOOM, WorldBox};
+use feature_model::{MAX_ZOOM, WorldBox};
+use feature_text::{FeatureText, StoredFeature};
 use hilbert_id::TileAt;
 use std::alloc::{AllocError, Global};
 use tile_cutter::{bounding_box, tile_box};
 
 /// The number of a feature, its bounding box and its zooms.
-pub(crate) fn index_entry(id: u64, feature: &Feature) -> IndexEntry
-    ensures { result ≡ index_entry (id, feature_data feature.now) }
+pub(crate) fn index_entry(id: u64, feature: FeatureText<'_>) -> IndexEntry
+    ensures { result ≡ index_entry (id, feature_view feature.entry) }
 {
     IndexEntry {
         id,
@@ -29,20 +35,60 @@ pub(crate) fn index_entry(id: u64, feature: &Feature) -> IndexEntry
 pub(crate) fn take_entry(
     index: &mut BoxIndex,
     id: u64,
-    feature: Option<Feature>,
+    stored: Option<StoredFeature>,
 ) -> Option<WorldBox>
-    ensures bounds { result ≡ option_map (λ f. bounding_box (geometry_data f.geometry)) feature }
-    ensures indexed { (m : FeatureMap) → option_map feature_data feature ≡ feature_at m id
+    ensures bounds { result ≡ option_map (λ s. bounding_box (stored_data s).geometry) stored }
+    ensures indexed { (m : FeatureMap) → option_map stored_data stored ≡ feature_at m id
         → IsIndexed m index.old.entries → IsIndexed (without_feature m id) index.new.entries }
     ensures spare { index.old.spare ≤ index.new.spare }
 {
-    match feature {
-        Some(feature) => {
-            let entry = index_entry(id, &feature);
+    match stored {
+        Some(stored) => {
+            let entry = index_entry(id, stored.view());
             index.remove(&entry);
             Some(entry.span.bounds)
         }
         None => None,
+    }
+}
+
+/// Puts an entry in the place of another one. An equal one is left where it is.
+fn exchange(index: &mut BoxIndex, old: &IndexEntry, entry: IndexEntry)
+    requires { 0 < index.old.spare }
+    ensures entries { (rest : List IndexEntry) → IsPermutation index.old.entries (old.now ∷ rest)
+        → IsPermutation (entry ∷ rest) index.new.entries }
+    ensures spare { index.old.spare ≤ index.new.spare + 1 }
+{
+    if *old == entry {
+        return;
+    }
+    index.remove(old);
+    index.insert(entry);
+}
+
+/// Puts the entry of a number's feature into the index, in the place of that of the feature before, if there was one, and returns the
+/// bounding box of that feature.
+pub(crate) fn set_entry(
+    index: &mut BoxIndex,
+    entry: IndexEntry,
+    replaced: Option<StoredFeature>,
+) -> Option<WorldBox>
+    requires { 0 < index.old.spare }
+    ensures bounds { result ≡ option_map (λ s. bounding_box (stored_data s).geometry) replaced }
+    ensures indexed { (m : FeatureMap) (id : ℕ) (f : FeatureData) → entry ≡ index_entry (id, f) → Ascends m
+        → option_map stored_data replaced ≡ feature_at m id → IsIndexed m index.old.entries → IsIndexed (with_feature m id f) index.new.entries }
+    ensures spare { index.old.spare ≤ index.new.spare + 1 }
+{
+    match replaced {
+        Some(stored) => {
+            let old = index_entry(entry.id, stored.view());
+            exchange(index, &old, entry);
+            Some(old.span.bounds)
+        }
+        None => {
+            index.insert(entry);
+            None
+        }
     }
 }
 

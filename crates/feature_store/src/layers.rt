@@ -1,32 +1,25 @@
 //! The layers of a tile, in the order of their names.
 
-ghost use Rattle.std.specs.Prelude.{◌≡◌, IfOk};
-ghost use Rattle.std.specs.Ordering.{nat_cmp};
-ghost use Rattle.std.specs.Cmp.Lexicographic.{slice_cmp};
-ghost use Rattle.std.specs.BTreeMap.{IsOrdered};
-ghost use Rattle.mvt_layer.specs.Tile.{layer_views};
-ghost use Rattle.feature_store.specs.Gathered.{layers_of};
+ghost use Rattle.std.specs.Prelude.{◌≡◌, ℕ, true, IfOk, option_map};
+ghost use Rattle.feature_store.specs.Gathered.{Gathers};
+ghost use Rattle.feature_store.specs.Layers.{cuts_of, is_tile, layers};
+ghost use Rattle.feature_store.specs.Store.{FeatureMap};
+ghost use Rattle.feature_store.specs.Tiles.{tile_bytes};
 
 use crate::gathered::Gathered;
-use mvt_layer::{CURRENT_VERSION, DEFAULT_EXTENT, Layer};
 use std::alloc::{AllocError, Global};
 
-/// What is gathered as layers, in the order of their names.
-pub(crate) fn listed<'a>(
-    alloc: Global,
-    gathered: Gathered<'a>,
-) -> Result<Vec<Layer<'a>>, AllocError>
-    ensures layers { IfOk result (λ v. layer_views v.items ≡ layers_of gathered.entry) }
-    ensures ordered { IfOk result (λ _. IsOrdered (λ a b. slice_cmp nat_cmp a.now b.now) gathered.entry) }
+/// What is gathered as the bytes of a tile, or `None` if that is nothing.
+pub(crate) fn written(alloc: Global, gathered: Gathered<'_>) -> Result<Option<Vec<u8>>, AllocError>
+    ensures { IfOk result (λ o. (m : FeatureMap) (z x y : ℕ) → Gathers gathered.entry (λ name. cuts_of m name z x y) → is_tile z x y ≡ true
+        → option_map (λ v. v.items) o ≡ tile_bytes (layers m z x y)) }
 {
-    let mut layers = Vec::with_capacity(alloc, gathered.len())?;
-    for (name, features) in gathered {
-        layers.push(Layer {
-            name,
-            version: CURRENT_VERSION,
-            extent: DEFAULT_EXTENT,
-            features,
-        })?;
+    if gathered.is_empty() {
+        return Ok(None);
     }
-    Ok(layers)
+    let mut out = Vec::new(alloc);
+    for (_name, writer) in gathered {
+        writer.finish(&mut out)?;
+    }
+    Ok(Some(out))
 }

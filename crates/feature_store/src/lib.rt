@@ -3,6 +3,7 @@
 
 mod all_tiles;
 mod appended;
+mod cutter;
 mod fault;
 mod feature_boxes;
 mod gathered;
@@ -10,6 +11,8 @@ mod indexed;
 mod layers;
 mod limit;
 mod placed;
+mod prepared;
+mod records;
 mod snapshot_texts;
 mod store;
 mod tiles_left;
@@ -18,4 +21,6 @@ pub use all_tiles::{Tile, Tiles};
 pub use fault::SnapshotFault;
 pub use limit::TEXTS_END;
 pub use placed::PlacedBoxes;
+pub use prepared::Prepared;
+pub use records::{read_record, record_of};
 pub use store::Store;

@@ -1,9 +1,9 @@
 //! The snapshot of a map: the texts of its features, by ascending number.
 ghost use Rattle.std.specs.Prelude.{◌≡◌, ◌⊎◌, ◌<◌, ◌↔◌, ◌++◌, ℕ, All, IfOk, IfErr, OnOk, length};
-ghost use Rattle.feature_model.specs.Data.{FeatureData, feature_data, put};
+ghost use Rattle.feature_model.specs.Data.{FeatureData, put};
 ghost use Rattle.edit_text.specs.Decoding.{BeginsWithChange};
 ghost use Rattle.number_map.specs.Blocks.{joined};
-ghost use Rattle.feature_store.specs.Inside.{entry_data, entries_data};
+ghost use Rattle.feature_store.specs.Inside.{IsOwn, entries_data};
 ghost use Rattle.feature_store.specs.Snapshots.{IsEditOf, IsNoSnapshot};
 ghost use Rattle.feature_store.specs.Store.{entry_text, snapshot};
 ghost use Rattle.feature_store.specs.declared.fault.SnapshotFault.TheVariants.{Bad, Memory};
@@ -13,18 +13,18 @@ use crate::appended::append;
 use crate::fault::SnapshotFault;
 use crate::limit::TEXTS_END;
 use crate::store::Store;
-use edit_text::{TextFault, append_put, decode_change};
-use feature_model::{Change, Feature};
+use edit_text::TextFault;
+use feature_text::StoredFeature;
 use number_map::{Block, Entry};
 use std::alloc::{AllocError, Global};
 
 /// Adds the texts of entries to the end of a vector.
-fn append_texts(out: &mut Vec<u8>, entries: &[Entry<Feature>]) -> Result<(), AllocError>
-    requires { All IsEditOf (entries_data entries.now) }
+fn append_texts(out: &mut Vec<u8>, entries: &[Entry<StoredFeature>]) -> Result<(), AllocError>
+    requires { All IsOwn entries.now }
     ensures { OnOk result (out.new.items ≡ out.old.items ++ snapshot (entries_data entries.now)) }
 {
     for entry in entries {
-        append_put(out, entry.0, &entry.1)?;
+        out.extend_from_slice(entry.1.text())?;
     }
     Ok(())
 }
@@ -32,9 +32,9 @@ fn append_texts(out: &mut Vec<u8>, entries: &[Entry<Feature>]) -> Result<(), All
 /// Adds the texts of blocks of entries to the end of a vector.
 pub(crate) fn append_block_texts(
     out: &mut Vec<u8>,
-    blocks: &[Block<Feature>],
+    blocks: &[Block<StoredFeature>],
 ) -> Result<(), AllocError>
-    requires { All IsEditOf (entries_data (joined blocks.now)) }
+    requires { All IsOwn (joined blocks.now) }
     ensures { OnOk result (out.new.items ≡ out.old.items ++ snapshot (entries_data (joined blocks.now))) }
 {
     for block in blocks {
@@ -56,17 +56,14 @@ fn to_snapshot_fault(fault: TextFault) -> SnapshotFault
 
 /// The feature whose text is in front, with its number, and the bytes after it.
 #[tactic(auto, using(crate::proofs::Snapshots::text_behind, crate::proofs::Snapshots::text_within))]
-fn read_entry(alloc: Global, text: &[u8]) -> Result<(Entry<Feature>, &[u8]), SnapshotFault>
-    ensures edit { IfOk result (λ r. IsEditOf (entry_data r.0)) }
-    ensures text { IfOk result (λ r. text.now ≡ entry_text (entry_data r.0) ++ r.1.now) }
+fn read_entry(alloc: Global, text: &[u8]) -> Result<(StoredFeature, &[u8]), SnapshotFault>
+    ensures edit { IfOk result (λ r. IsEditOf r.0) }
+    ensures text { IfOk result (λ r. text.now ≡ entry_text r.0 ++ r.1.now) }
     ensures fault { IfErr result (λ fault. (fault ≡ Memory)
         ⊎ ((fault ≡ Bad) × ((e : ℕ × FeatureData) → BeginsWithChange (put e.0 e.1) text.now → ⊥))) }
 {
-    match decode_change(alloc, text) {
-        Ok((edit, len)) => match edit {
-            Change::Put { id, feature } => Ok(((id, feature), &text[len..])),
-            Change::Delete { .. } => Err(SnapshotFault::Bad),
-        },
+    match StoredFeature::read(alloc, text) {
+        Ok((stored, len)) => Ok((stored, &text[len..])),
         Err(fault) => Err(to_snapshot_fault(fault)),
     }
 }
@@ -82,12 +79,13 @@ pub(crate) fn read_map(alloc: Global, text: &[u8]) -> Result<Store, SnapshotFaul
     let mut end = 0;
     let mut rest = text;
     while !rest.is_empty() {
-        let (entry, behind) = read_entry(alloc, rest)?;
-        if entry.0 < end {
+        let (stored, behind) = read_entry(alloc, rest)?;
+        let id = stored.id();
+        if id < end {
             return Err(SnapshotFault::Bad);
         }
-        end = entry.0 + 1;
-        append(&mut store, entry.0, entry.1)?;
+        end = id + 1;
+        append(&mut store, stored)?;
         rest = behind;
     }
     Ok(store)

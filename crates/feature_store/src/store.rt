@@ -1,43 +1,44 @@
 //! The map: features by number, and an index of their boxes.
 
-ghost use Rattle.std.specs.Prelude.{◌≡◌, ◌⊎◌, ℕ, [], ◌∷◌, ◌+◌, ◌*◌, ◌<◌, ◌≤◌, ◌≢◌, ◌↔◌, length, map, Some, IsSome, IfSome, None, IfOk, IfErr};
-ghost use Rattle.std.specs.Prelude.{OnOk, OnErr, IsTrue, option_map};
-ghost use Rattle.feature_model.specs.Data.{feature_data, geometry_data, put, change_data};
-ghost use Rattle.feature_model.specs.Limits.{IsAllowed};
-ghost use Rattle.feature_model.specs.Types.{IsChange};
-ghost use Rattle.mvt_layer.specs.Tile.{layer_views};
-ghost use Rattle.mvt_write.specs.CanWrite.{CanWriteAll};
+ghost use Rattle.std.specs.Prelude.{◌≡◌, ◌⊎◌, ℕ, [], ◌+◌, ◌<◌, ◌≤◌, ◌≢◌, ◌↔◌, length, map, Some, IsSome, IfSome, None, IfOk, IfErr};
+ghost use Rattle.std.specs.Prelude.{All, OnOk, OnErr, IsTrue, option_map};
+ghost use Rattle.feature_model.specs.Data.{change_data};
+ghost use Rattle.feature_model.specs.Limits.{IsAllowed, IsAllowedChange};
+ghost use Rattle.feature_text.specs.Views.{feature_view};
 ghost use Rattle.number_map.specs.Blocks.{joined};
 ghost use Rattle.tile_cutter.specs.WorldBox.{bounding_box};
 ghost use Rattle.feature_store.specs.Content.{IsTileContent};
-ghost use Rattle.feature_store.specs.Inside.{entries_data, numbered_data};
+ghost use Rattle.feature_store.specs.Inside.{entries_data};
 ghost use Rattle.feature_store.specs.Layers.{layers};
+ghost use Rattle.feature_store.specs.Prepared.{prepared_data};
 ghost use Rattle.feature_store.specs.Snapshots.{IsNoSnapshot};
 ghost use Rattle.feature_store.specs.Tiles.{tile_bytes};
 ghost use Rattle.feature_store.specs.declared.fault.SnapshotFault.TheVariants.{Bad, Memory};
 ghost use Rattle.feature_store.specs.Store.{IsMap, HasRoom, feature_at, box_at, feature_from, greatest_id, with_feature, without_feature, snapshot, puts_in};
 
-use crate::all_tiles::{Tiles, tile_layers, written};
+use crate::all_tiles::{Tiles, tile_of_numbers};
+use crate::cutter::Cutter;
 use crate::fault::SnapshotFault;
-use crate::indexed::{index_entry, numbers_near, take_entry};
+use crate::indexed::{index_entry, numbers_near, set_entry, take_entry};
 use crate::limit::TEXTS_END;
 use crate::placed::PlacedBoxes;
+use crate::prepared::{Prepared, count_puts, prepare_each};
 use crate::snapshot_texts::{append_block_texts, read_map};
 use box_index::BoxIndex;
-use feature_model::{Change, Feature, MAX_ZOOM, WorldBox};
+use feature_model::{Change, MAX_ZOOM, WorldBox};
+use feature_text::{FeatureText, StoredFeature};
 use hilbert_id::TileAt;
-use mvt_layer::Layer;
 use number_map::{Block, NumberMap};
 use std::alloc::{AllocError, Global};
 use std::marker::Model;
 
-/// A map from numbers to features that keep the limits of a feature. The texts of all of them, as the journal and a
-/// snapshot have them, are fewer than `TEXTS_END` bytes together.
+/// A map from numbers to features that keep the limits of a feature. Each is kept as its text, as the journal and a snapshot
+/// have it. The texts of all of them are fewer than `TEXTS_END` bytes together.
 ///
 /// An index has the bounding box and the zooms of each feature, so that a tile looks at those near it alone.
 #[derive(Debug, Drop)]
 pub struct Store {
-    features: NumberMap<Feature>,
+    features: NumberMap<StoredFeature>,
     index: BoxIndex,
     alloc: Global,
 }
@@ -52,28 +53,6 @@ impl Model for Store {
     ghost view = { store_view };
 
     ghost invariant = { IsStore };
-}
-
-/// 1 for a change that sets a feature, else 0.
-fn puts_of(change: &Change) -> usize
-    ensures exact { result ≡ puts_in (change_data change.now ∷ []) }
-    ensures most { result ≤ 1 }
-{
-    match change {
-        Change::Put { .. } => 1,
-        Change::Delete { .. } => 0,
-    }
-}
-
-/// How many of the changes set a feature.
-fn count_puts(changes: &[Change]) -> usize
-    ensures { result ≡ puts_in (map change_data changes.now) }
-{
-    let mut count = 0;
-    for change in changes {
-        count += puts_of(change);
-    }
-    count
 }
 
 impl Store {
@@ -103,20 +82,23 @@ impl Store {
     }
 
     /// The feature with this number, by two binary searches.
-    pub fn get(&self, id: u64) -> Option<&Feature>
-        ensures found { option_map (λ f. feature_data f.now) result ≡ feature_at self.now.features id }
-        ensures allowed { IfSome result (λ f. IsAllowed id (feature_data f.now)) }
+    pub fn get(&self, id: u64) -> Option<FeatureText<'_>>
+        ensures found { option_map feature_view result ≡ feature_at self.now.features id }
+        ensures allowed { IfSome result (λ f. IsAllowed id (feature_view f)) }
     {
-        self.features.get(id)
+        match self.features.get(id) {
+            Some(stored) => Some(stored.view()),
+            None => None,
+        }
     }
 
     /// The first feature with this number or a greater one, and its number, by the searches of `get`.
-    pub fn first_from(&self, id: u64) -> Option<(u64, &Feature)>
-        ensures found { option_map numbered_data result ≡ feature_from self.now.features id }
-        ensures allowed { IfSome result (λ e. IsAllowed e.0 (feature_data e.1.now)) }
+    pub fn first_from(&self, id: u64) -> Option<(u64, FeatureText<'_>)>
+        ensures found { option_map (λ e. (e.0, feature_view e.1)) result ≡ feature_from self.now.features id }
+        ensures allowed { IfSome result (λ e. IsAllowed e.0 (feature_view e.1)) }
     {
         match self.features.first_from(id) {
-            Some(entry) => Some((entry.0, &entry.1)),
+            Some(entry) => Some((entry.0, entry.1.view())),
             None => None,
         }
     }
@@ -129,7 +111,7 @@ impl Store {
     }
 
     /// The features by ascending number, in blocks.
-    pub fn blocks(&self) -> &[Block<Feature>]
+    pub fn blocks(&self) -> &[Block<StoredFeature>]
         ensures { entries_data (joined result.now) ≡ self.now.features }
     {
         self.features.blocks()
@@ -148,44 +130,49 @@ impl Store {
         self.index.room()
     }
 
-    /// Makes room for `count` features more, of any numbers. It fails only if there is room for fewer.
-    fn room_for(&mut self, count: usize) -> Result<(), AllocError>
+    /// Makes room for each feature that the changes set, so that they can be made without memory, one after the other. It fails only if
+    /// there is room for fewer.
+    pub fn room_for(&mut self, changes: &[Prepared]) -> Result<(), AllocError>
         ensures map { self.new.features ≡ self.old.features }
-        ensures room { OnOk result (count ≤ self.new.spare) }
+        ensures room { OnOk result (puts_in (map prepared_data changes.now) ≤ self.new.spare) }
         ensures kept { self.old.spare ≤ self.new.spare }
-        ensures missing { OnErr result (self.new.spare < count) }
+        ensures missing { OnErr result (self.new.spare < puts_in (map prepared_data changes.now)) }
     {
+        let count = count_puts(changes);
         self.features.room_for(count)?;
         self.index.room_for(count)
     }
 
-    /// Makes room for each feature that the changes set, so that they can be made without memory, one after the other.
-    pub fn room_all(&mut self, changes: &[Change]) -> Result<(), AllocError>
+    /// The changes as the map keeps them, with room for each feature that they set, so that they can be made without memory, one after
+    /// the other. The only error is out of memory.
+    pub fn prepare(&mut self, changes: &[Change]) -> Result<Vec<Prepared>, AllocError>
+        requires { All IsAllowedChange (map change_data changes.now) }
         ensures map { self.new.features ≡ self.old.features }
+        ensures prepared { IfOk result (λ v. map prepared_data v.items ≡ map change_data changes.now) }
         ensures room { OnOk result (puts_in (map change_data changes.now) ≤ self.new.spare) }
         ensures kept { self.old.spare ≤ self.new.spare }
-        ensures missing { OnErr result (self.new.spare < puts_in (map change_data changes.now)) }
     {
-        self.room_for(count_puts(changes))
+        let prepared = prepare_each(self.alloc, changes)?;
+        self.room_for(&prepared)?;
+        Ok(prepared)
     }
 
-    /// Gives the number this feature, whatever feature it had, and returns the bounding boxes of both. It allocates nothing.
-    pub fn place(&mut self, id: u64, feature: Feature) -> PlacedBoxes
-        requires edit { IsChange (put id (feature_data feature)) }
+    /// Gives the number its feature, whatever feature it had, and returns the bounding boxes of both. It allocates nothing.
+    pub fn place(&mut self, stored: StoredFeature) -> PlacedBoxes
         requires room { HasRoom self.old }
-        requires texts { length (snapshot (with_feature self.old.features id (feature_data feature))) < TEXTS_END }
-        ensures before { result.before ≡ box_at self.old.features id }
-        ensures after { result.after ≡ bounding_box (geometry_data feature.geometry) }
-        ensures map { self.new.features ≡ with_feature self.old.features id (feature_data feature) }
+        requires texts { length (snapshot (with_feature self.old.features stored.0 stored.1)) < TEXTS_END }
+        ensures before { result.before ≡ box_at self.old.features stored.0 }
+        ensures after { result.after ≡ bounding_box stored.1.geometry }
+        ensures map { self.new.features ≡ with_feature self.old.features stored.0 stored.1 }
         ensures spare { self.old.spare ≤ self.new.spare + 1 }
-        ensures here { feature_at self.new.features id ≡ Some (feature_data feature) }
-        ensures others { (n : ℕ) → n ≢ id → feature_at self.new.features n ≡ feature_at self.old.features n }
+        ensures here { feature_at self.new.features stored.0 ≡ Some stored.1 }
+        ensures others { (n : ℕ) → n ≢ stored.0 → feature_at self.new.features n ≡ feature_at self.old.features n }
     {
-        let entry = index_entry(id, &feature);
+        let id = stored.id();
+        let entry = index_entry(id, stored.view());
         let after = entry.span.bounds;
-        let replaced = self.features.insert(id, feature);
-        let before = take_entry(&mut self.index, id, replaced);
-        self.index.insert(entry);
+        let replaced = self.features.insert(id, stored);
+        let before = set_entry(&mut self.index, entry, replaced);
         PlacedBoxes { before, after }
     }
 
@@ -203,31 +190,21 @@ impl Store {
         take_entry(&mut self.index, id, removed)
     }
 
-    /// The layers of a tile: names ascend byte by byte, and the features of a layer by number, each with its number as id
-    /// (Mapbox Vector Tile 2.1, 4.1 and 4.2). A layer of which the tile shows nothing is left out; above the greatest zoom
-    /// there is none.
+    /// The bytes of a tile (Mapbox Vector Tile 2.1), or `None` if it shows nothing. The names of its layers ascend byte by byte, and
+    /// the features of a layer by number, each with its number as id (4.1 and 4.2). A layer of which the tile shows nothing is left
+    /// out; above the greatest zoom there is none.
     ///
-    /// It looks at the features whose bounding box meets the tile's; the layers borrow names, keys and texts from them. The only
-    /// error is out of memory.
-    pub fn layers(&self, at: TileAt) -> Result<Vec<Layer<'_>>, AllocError>
-        ensures layers { IfOk result (λ v. layer_views v.items ≡ layers self.now.features at.z at.x at.y) }
-        // They can be written as a tile.
-        ensures can_write { IfOk result (λ v. CanWriteAll (layer_views v.items)) }
-    {
-        if at.z > MAX_ZOOM {
-            return Ok(Vec::new(self.alloc));
-        }
-        let numbers = numbers_near(self.alloc, &self.index, at)?;
-        tile_layers(self.alloc, &self.features, &numbers, at)
-    }
-
-    /// The bytes of a tile (Mapbox Vector Tile 2.1), or `None` if it shows nothing: those of its layers. The only error is out of memory.
+    /// It looks at the features whose bounding box meets the tile's. The only error is out of memory.
     pub fn tile(&self, at: TileAt) -> Result<Option<Vec<u8>>, AllocError>
         ensures bytes { IfOk result (λ o. option_map (λ v. v.items) o ≡ tile_bytes (layers self.now.features at.z at.x at.y)) }
         ensures content { IfOk result (λ o. IsTileContent (layers self.now.features at.z at.x at.y) (option_map (λ v. v.items) o)) }
     {
-        let layers = self.layers(at)?;
-        written(self.alloc, &layers)
+        if at.z > MAX_ZOOM {
+            return Ok(None);
+        }
+        let numbers = numbers_near(self.alloc, &self.index, at)?;
+        let mut cutter = Cutter::new(self.alloc);
+        tile_of_numbers(self.alloc, &mut cutter, &self.features, &numbers, at)
     }
 
     /// The tiles that show something of the map, in ascending order of their ids, each with its bytes (Mapbox Vector Tile 2.1) and

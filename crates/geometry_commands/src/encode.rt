@@ -16,7 +16,7 @@ use pb_wire::zigzag;
 use std::alloc::{AllocError, Global};
 
 /// The way along one axis, zigzag encoded.
-fn way(from: i64, to: i64) -> u32
+pub(crate) fn way(from: i64, to: i64) -> u32
     requires { IsShort (to -ℤ from) }
     ensures { result ≡ zigzagged (to -ℤ from) }
 {

@@ -5,9 +5,11 @@ mod command;
 mod decoding;
 mod encode;
 mod kinds;
+mod packed;
 mod point;
 
 pub use decoding::{GeometryFault, decode};
 pub use encode::{encode_lines, encode_points, encode_rings};
 pub use kinds::{Shape, ShapeKind};
+pub use packed::PackedShape;
 pub use point::Pt;

@@ -1,8 +1,7 @@
 -- Features that are summed up in turn.
-use Rattle.std.proofs.Common.{◌≡◌, ℕ, ◌<◌, ◌+◌, min, max, List, [], ◌∷◌, ◌++◌, length, get_or, take, map, Bool, true, false, Option, Some, None}
+use Rattle.std.proofs.Common.{◌≡◌, ℕ, ◌<◌, ◌+◌, min, max, List, [], ◌∷◌, ◌++◌, length, get_or, take, Bool, true, false, Option, Some, None}
 use Rattle.std.proofs.Common.{refl, sym, ap, subst, ◌∙◌, arith, if◌then◌else◌}
 use Rattle.std.specs.Str.{bytes_eq}
-use Rattle.std.specs.String.{string_bytes}
 use Rattle.std.specs.List.{cons_option}
 use Rattle.std.specs.Option.{unwrap_or, option_map, option_and_then}
 use Rattle.std.specs.Ordering.{nat_cmp}
@@ -14,10 +13,8 @@ use Rattle.std.proofs.lemmas.List.{take_more, append-nil, map-append}
 use Rattle.std.proofs.lemmas.List.Concat.{flat_map-append}
 use Rattle.std.proofs.lemmas.List.Elements.{filter_map-append}
 use Rattle.number_map.specs.Blocks.{joined as all_of}
-use Rattle.feature_model.specs.declared.feature.Feature.{Feature}
-use Rattle.feature_model.specs.declared.feature.Tag.{Tag}
-use Rattle.feature_model.specs.Data.{FeatureData, TagData, tag_data, value_data}
-use Rattle.feature_store.specs.Inside.{entry_data, entries_data}
+use Rattle.feature_model.specs.Data.{FeatureData, TagData}
+use Rattle.feature_store.specs.Inside.{Stored, entry_data, entries_data}
 use Rattle.feature_store.specs.Store.{FeatureMap}
 use Rattle.map_metadata.specs.declared.field_kind.FieldKind.{FieldKind}
 use Rattle.map_metadata.specs.declared.field_kind.FieldKind.TheVariants.{Text, Number, Truth}
@@ -54,26 +51,21 @@ features_in-append m n name = filter_map-append (λ e. if bytes_eq e.1.layer nam
 kinds_in-append : (fs gs : List FeatureData) (key : List ℕ) → kinds_in (fs ++ gs) key ≡ kinds_in fs key ++ kinds_in gs key
 kinds_in-append fs gs key = flat_map-append (λ f. kinds_of f.tags key) fs gs
 
--- the kind of a key, once a value more is taken in
-one_tag : (b : Bool) (o : Option FieldKind) (k : FieldKind)
-    → (if b then Some (with_kind o k) else o) ≡ with_kinds o (cons_option (if b then Some k else None) [])
-one_tag true o k = refl
-one_tag false o k = refl
+-- the kind of a key, once a value more is taken in, and those of the values that are left
+one_tag : (b : Bool) (o : Option FieldKind) (k : FieldKind) (ks : List FieldKind)
+    → with_kinds (if b then Some (with_kind o k) else o) ks ≡ with_kinds o (cons_option (if b then Some k else None) ks)
+one_tag true o k ks = refl
+one_tag false o k ks = refl
 
--- the kinds of the first tags, and of one more
-pub tags_more : (ts : List Tag) (i : ℕ) (t : Tag) (key name : List ℕ) (kind : FieldKind) (o p q : Option FieldKind) → i < length ts → t ≡ get_or ts i t
-    → key ≡ string_bytes t.key → kind ≡ kind_of (value_data t.value)
-    → p ≡ with_kinds o (kinds_of (map tag_data (take i ts)) name) → q ≡ (if bytes_eq key name then Some (with_kind p kind) else p)
-    → q ≡ with_kinds o (kinds_of (map tag_data (take (i + 1) ts)) name)
-tags_more ts i t key name kind o p q lt is key_is kind_is before after =
-    after ∙ ap (λ k. if bytes_eq k name then Some (with_kind p kind) else p) key_is
-    ∙ ap (λ k. if bytes_eq (string_bytes t.key) name then Some (with_kind p k) else p) kind_is
-    ∙ one_tag (bytes_eq (string_bytes t.key) name) p (kind_of (value_data t.value))
-    ∙ ap (λ r. with_kinds r (kinds_of (tag_data t ∷ []) name)) before
-    ∙ sym (with_kinds-append o (kinds_of (map tag_data (take i ts)) name) (kinds_of (tag_data t ∷ []) name))
-    ∙ ap (with_kinds o) (sym (kinds_of-append (map tag_data (take i ts)) (tag_data t ∷ []) name))
-    ∙ ap (λ us. with_kinds o (kinds_of us name)) (sym (map-append tag_data (take i ts) (t ∷ [])))
-    ∙ ap (λ us. with_kinds o (kinds_of (map tag_data us) name)) (ap (λ u. take i ts ++ u ∷ []) is ∙ sym (take_more ts i t lt))
+-- the kinds of one tag more, and of the tags that are left
+pub tags_more : (left rest : List TagData) (t : TagData) (name : List ℕ) (kind : FieldKind) (p q whole : Option FieldKind) → left ≡ t ∷ rest
+    → kind ≡ kind_of t.value → q ≡ (if bytes_eq t.key name then Some (with_kind p kind) else p)
+    → with_kinds p (kinds_of left name) ≡ whole → with_kinds q (kinds_of rest name) ≡ whole
+tags_more left rest t name kind p q whole first kind_is after so_far =
+    ap (λ o. with_kinds o (kinds_of rest name)) after
+    ∙ ap (λ k. with_kinds (if bytes_eq t.key name then Some (with_kind p k) else p) (kinds_of rest name)) kind_is
+    ∙ one_tag (bytes_eq t.key name) p (kind_of t.value) (kinds_of rest name)
+    ∙ ap (λ ts. with_kinds p (kinds_of ts name)) (sym first) ∙ so_far
 
 -- ---- one feature
 
@@ -162,12 +154,15 @@ sums_more b c m n first second = record {
       ∙ ap (λ fs. with_kinds None (kinds_in fs key)) (sym (features_in-append m n name));
 }
 
-pub entries_more : (a b c : Layers) (es : List (ℕ × Feature)) (i : ℕ) (e : ℕ × Feature) → i < length es → e ≡ get_or es i e
-    → Adds a b (entries_data (take i es)) → Adds b c (entry_data e ∷ []) → Adds a c (entries_data (take (i + 1) es))
-entries_more a b c es i e lt is first second =
-    rw (take_more es i e lt, ← is, map-append) (adds_more a b c (entries_data (take i es)) (entry_data e ∷ []) first second)
+-- the first entries, and the feature of one more
+pub entries_more : (a b c : Layers) (es : List (ℕ × Stored)) (i : ℕ) (e : ℕ × Stored) (f : FeatureData) → i < length es → e ≡ get_or es i e
+    → f ≡ (entry_data e).1 → Adds a b (entries_data (take i es)) → Adds b c ((0, f) ∷ []) → Adds a c (entries_data (take (i + 1) es))
+entries_more a b c es i e f lt is shown first second =
+    let of_entry = subst (λ g. Adds b c ((0, g) ∷ [])) shown second in
+    rw (take_more es i e lt, ← is, map-append)
+    (adds_more a b c (entries_data (take i es)) (entry_data e ∷ []) first (record { zooms = of_entry.zooms; kinds = of_entry.kinds }))
 
-pub blocks_more : (b c : Layers) (bs : List (List (ℕ × Feature))) (i : ℕ) (es there : List (ℕ × Feature)) → i < length bs → es ≡ get_or bs i es
+pub blocks_more : (b c : Layers) (bs : List (List (ℕ × Stored))) (i : ℕ) (es there : List (ℕ × Stored)) → i < length bs → es ≡ get_or bs i es
     → there ≡ es → SumsUp b (entries_data (all_of (take i bs))) → Adds b c (entries_data there) → SumsUp c (entries_data (all_of (take (i + 1) bs)))
 blocks_more b c bs i es there lt is same first second =
     rw (take_more bs i es lt, ← is, flat_map-append, append-nil, map-append)

@@ -1,11 +1,11 @@
 //! What the values of a key are.
 
 ghost use Rattle.std.specs.Prelude.{◌≡◌};
-ghost use Rattle.feature_model.specs.Data.{value_data};
+ghost use Rattle.feature_text.specs.Views.{value_view};
 ghost use Rattle.map_metadata.specs.Fields.{kind_of, kind_name};
 ghost use Rattle.map_metadata.specs.Summaries.{joined};
 
-use feature_model::EditValue;
+use feature_text::ValueText;
 
 /// The kind of a value, or of all values of a key.
 #[derive(Clone, Copy, Debug, PartialEq, Eq)]
@@ -17,13 +17,13 @@ pub(crate) enum FieldKind {
 
 impl FieldKind {
     /// The kind of a value.
-    pub(crate) fn of(value: &EditValue) -> FieldKind
-        ensures { result ≡ kind_of (value_data value.now) }
+    pub(crate) fn of(value: ValueText<'_>) -> FieldKind
+        ensures { result ≡ kind_of (value_view value.entry) }
     {
         match value {
-            EditValue::Text(_) => FieldKind::Text,
-            EditValue::Natural(_) | EditValue::Negative(_) => FieldKind::Number,
-            EditValue::Truth(_) => FieldKind::Truth,
+            ValueText::Text(_) => FieldKind::Text,
+            ValueText::Natural(_) | ValueText::Negative(_) => FieldKind::Number,
+            ValueText::Truth(_) => FieldKind::Truth,
         }
     }
 

@@ -1,15 +1,15 @@
 //! What metadata says of the layers, summed up in one pass over the features.
 
-ghost use Rattle.std.specs.Prelude.{◌≡◌, ℕ, List, [], ◌∷◌, min, max, map, Some, OnOk, IfOk, if◌then◌else◌};
+ghost use Rattle.std.specs.Prelude.{◌≡◌, ℕ, List, [], ◌∷◌, min, max, Some, OnOk, IfOk, if◌then◌else◌};
 ghost use Rattle.std.specs.Str.{bytes_eq};
-ghost use Rattle.feature_model.specs.Data.{feature_data, tag_data};
+ghost use Rattle.feature_text.specs.Views.{tags_view, feature_view};
 ghost use Rattle.number_map.specs.Blocks.{joined};
-ghost use Rattle.feature_store.specs.Inside.{entry_data, entries_data};
+ghost use Rattle.feature_store.specs.Inside.{entries_data};
 ghost use Rattle.map_metadata.specs.Fields.{kinds_of, features_in, kinds_in};
 ghost use Rattle.map_metadata.specs.Summaries.{kind_at, with_kind, with_kinds, with_features, zooms_in, kind_in, Adds, SumsUp};
 
 use crate::field_kind::FieldKind;
-use feature_model::{Feature, Tag};
+use feature_text::{FeatureText, StoredFeature, Tags};
 use number_map::{Block, Entry};
 use std::alloc::{AllocError, Global};
 use std::collections::BTreeMap;
@@ -39,26 +39,26 @@ fn add_kind<'a>(fields: &mut Fields<'a>, key: &'a str, kind: FieldKind) -> Resul
 }
 
 /// Takes in the values of tags.
-fn add_tags<'a>(fields: &mut Fields<'a>, tags: &'a [Tag]) -> Result<(), AllocError>
-    ensures { OnOk result ((name : List ℕ) → kind_at fields.new name ≡ with_kinds (kind_at fields.old name) (kinds_of (map tag_data tags.now) name)) }
+fn add_tags<'a>(fields: &mut Fields<'a>, tags: Tags<'a>) -> Result<(), AllocError>
+    ensures { OnOk result ((name : List ℕ) → kind_at fields.new name ≡ with_kinds (kind_at fields.old name) (kinds_of (tags_view tags.entry) name)) }
 {
     for tag in tags {
-        add_kind(fields, tag.key.as_str(), FieldKind::of(&tag.value))?;
+        add_kind(fields, tag.key, FieldKind::of(tag.value))?;
     }
     Ok(())
 }
 
 impl<'a> LayerSummary<'a> {
     /// Takes in a feature.
-    fn add(&mut self, feature: &'a Feature) -> Result<(), AllocError>
-        ensures minzoom { OnOk result (self.new.minzoom ≡ min self.old.minzoom (feature_data feature.now).minzoom) }
-        ensures maxzoom { OnOk result (self.new.maxzoom ≡ max self.old.maxzoom (feature_data feature.now).maxzoom) }
+    fn add(&mut self, feature: FeatureText<'a>) -> Result<(), AllocError>
+        ensures minzoom { OnOk result (self.new.minzoom ≡ min self.old.minzoom (feature_view feature.entry).minzoom) }
+        ensures maxzoom { OnOk result (self.new.maxzoom ≡ max self.old.maxzoom (feature_view feature.entry).maxzoom) }
         ensures kinds { OnOk result ((key : List ℕ)
-            → kind_at self.new.fields key ≡ with_kinds (kind_at self.old.fields key) (kinds_of (feature_data feature.now).tags key)) }
+            → kind_at self.new.fields key ≡ with_kinds (kind_at self.old.fields key) (kinds_of (feature_view feature.entry).tags key)) }
     {
         self.minzoom = self.minzoom.min(feature.minzoom);
         self.maxzoom = self.maxzoom.max(feature.maxzoom);
-        add_tags(&mut self.fields, &feature.tags)
+        add_tags(&mut self.fields, feature.tags)
     }
 }
 
@@ -66,19 +66,19 @@ impl<'a> LayerSummary<'a> {
 fn add_feature<'a>(
     alloc: Global,
     layers: &mut Layers<'a>,
-    feature: &'a Feature,
+    feature: FeatureText<'a>,
 ) -> Result<(), AllocError>
     ensures zooms { OnOk result ((name : List ℕ) → zooms_in layers.new name
-        ≡ with_features (zooms_in layers.old name) (features_in ((0, feature_data feature.now) ∷ []) name)) }
+        ≡ with_features (zooms_in layers.old name) (features_in ((0, feature_view feature.entry) ∷ []) name)) }
     ensures kinds { OnOk result ((name key : List ℕ) → kind_in layers.new name key
-        ≡ with_kinds (kind_in layers.old name key) (kinds_in (features_in ((0, feature_data feature.now) ∷ []) name) key)) }
+        ≡ with_kinds (kind_in layers.old name key) (kinds_in (features_in ((0, feature_view feature.entry) ∷ []) name) key)) }
 {
     let empty = LayerSummary {
         minzoom: feature.minzoom,
         maxzoom: feature.maxzoom,
         fields: BTreeMap::new(alloc),
     };
-    let layer = layers.entry(feature.layer.as_str())?.or_insert(empty);
+    let layer = layers.entry(feature.layer)?.or_insert(empty);
     layer.add(feature)?;
     Ok(())
 }
@@ -87,12 +87,12 @@ fn add_feature<'a>(
 fn add_entries<'a>(
     alloc: Global,
     layers: &mut Layers<'a>,
-    entries: &'a [Entry<Feature>],
+    entries: &'a [Entry<StoredFeature>],
 ) -> Result<(), AllocError>
     ensures { OnOk result (Adds layers.old layers.new (entries_data entries.now)) }
 {
     for entry in entries {
-        add_feature(alloc, layers, &entry.1)?;
+        add_feature(alloc, layers, entry.1.view())?;
     }
     Ok(())
 }
@@ -100,7 +100,7 @@ fn add_entries<'a>(
 /// The layers of the features in blocks.
 pub(crate) fn summed_up<'a>(
     alloc: Global,
-    blocks: &'a [Block<Feature>],
+    blocks: &'a [Block<StoredFeature>],
 ) -> Result<Layers<'a>, AllocError>
     ensures { IfOk result (λ layers. SumsUp layers (entries_data (joined blocks.now))) }
 {

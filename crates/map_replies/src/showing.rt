@@ -1,8 +1,8 @@
 //! Reads of the map.
 ghost use Rattle.std.specs.Prelude.{◌≡◌, [], false, Some, IfOk, IfErr};
 ghost use Rattle.edit_json.specs.Json.{json_of};
-ghost use Rattle.feature_model.specs.Data.{feature_data};
 ghost use Rattle.feature_model.specs.Limits.{FeatureFits};
+ghost use Rattle.feature_text.specs.Views.{feature_view};
 ghost use Rattle.http_serve.specs.Reply.{reply_view, IsWhole};
 ghost use Rattle.serde_json.specs.View.{view};
 ghost use Rattle.serde_json.specs.Written.{has_float, compact_text};
@@ -18,7 +18,7 @@ use crate::fault::RequestFault;
 use crate::{replies, telling};
 use decimal_number::{MAX_DIGITS, push_number, push_text};
 use edit_json::feature_to_json;
-use feature_model::Feature;
+use feature_text::FeatureText;
 use hilbert_id::TileAt;
 use http_serve::Reply;
 use sector_disk::Sectors;
@@ -40,9 +40,9 @@ fn json_value(alloc: Global, value: &Value) -> Result<Reply, RequestFault>
 }
 
 /// The reply with a feature.
-fn feature_value(alloc: Global, feature: &Feature) -> Result<Reply, RequestFault>
-    requires { FeatureFits (feature_data feature.now) }
-    ensures reply { IfOk result (λ reply. reply_view [] reply ≡ found_reply (Some (feature_data feature.now))) }
+fn feature_value(alloc: Global, feature: FeatureText<'_>) -> Result<Reply, RequestFault>
+    requires { FeatureFits (feature_view feature) }
+    ensures reply { IfOk result (λ reply. reply_view [] reply ≡ found_reply (Some (feature_view feature.entry))) }
     ensures writable { IfOk result IsWhole }
     ensures fault { IfErr result (λ fault. fault ≡ RequestFault.Memory) }
 {
@@ -53,9 +53,9 @@ fn feature_value(alloc: Global, feature: &Feature) -> Result<Reply, RequestFault
 }
 
 /// The text of a feature.
-fn feature_text(alloc: Global, feature: &Feature) -> Result<Vec<u8>, AllocError>
-    requires { FeatureFits (feature_data feature.now) }
-    ensures { IfOk result (λ text. text.items ≡ compact_text (json_of (feature_data feature.now))) }
+fn feature_text(alloc: Global, feature: FeatureText<'_>) -> Result<Vec<u8>, AllocError>
+    requires { FeatureFits (feature_view feature) }
+    ensures { IfOk result (λ text. text.items ≡ compact_text (json_of (feature_view feature.entry))) }
 {
     let value = feature_to_json(alloc, feature)?;
     Ok(value.to_vec(alloc)?)
@@ -77,9 +77,9 @@ fn numbered_body(alloc: Global, feature: &[u8], id: u64) -> Result<Vec<u8>, Allo
 }
 
 /// The reply with a feature and its id.
-fn numbered_value(alloc: Global, id: u64, feature: &Feature) -> Result<Reply, RequestFault>
-    requires { FeatureFits (feature_data feature.now) }
-    ensures reply { IfOk result (λ reply. reply_view [] reply ≡ numbered_reply (Some (id, feature_data feature.now))) }
+fn numbered_value(alloc: Global, id: u64, feature: FeatureText<'_>) -> Result<Reply, RequestFault>
+    requires { FeatureFits (feature_view feature) }
+    ensures reply { IfOk result (λ reply. reply_view [] reply ≡ numbered_reply (Some (id, feature_view feature.entry))) }
     ensures writable { IfOk result IsWhole }
     ensures fault { IfErr result (λ fault. fault ≡ RequestFault.Memory) }
 {

@@ -1,9 +1,14 @@
 //! Lines about one feature.
+ghost use Rattle.std.specs.Prelude.{IfOk};
+ghost use Rattle.feature_model.specs.Limits.{FeatureFits, IsAllowed};
+ghost use Rattle.feature_text.specs.Views.{feature_view};
+
 use crate::limits::batch_text;
 use crate::lines::Line;
 use edit_json::{batch_from_json, checked_from_json, feature_from_json, feature_to_json};
 use edit_text::encode_change;
-use feature_model::{Change, EditFault, Feature, MAX_ZOOM, Seen, check, copy};
+use feature_model::{Change, EditFault, Feature, MAX_ZOOM, Seen, check};
+use feature_text::{FeatureText, StoredFeature};
 use script_bytes::{expanded, number_in, parted};
 use serde_json::Value;
 use std::alloc::{AllocError, Global};
@@ -47,19 +52,33 @@ pub(crate) fn feature_in(alloc: Global, text: &str) -> Result<Feature, Refusal> 
     }
 }
 
-/// A feature's copy as JSON, or the limit that it breaks.
-pub(crate) fn shown(alloc: Global, id: u64, feature: &Feature) -> Result<String, AllocError> {
-    if let Err(fault) = check(id, feature) {
-        return fault.to_string(alloc);
-    }
-    let same = copy(alloc, feature)?;
-    feature_to_json(alloc, &same)?.to_string(alloc)
+/// The feature as the text of this number, or the limit that it breaks.
+fn stored(alloc: Global, id: u64, feature: &Feature) -> Result<StoredFeature, EditFault>
+    ensures { IfOk result (λ s. IsAllowed s.0 s.1) }
+{
+    check(id, feature)?;
+    Ok(StoredFeature::of(alloc, id, feature)?)
 }
 
-/// What is written of a JSON value that is read.
+/// A feature that is kept as its text, as JSON.
+pub(crate) fn kept(alloc: Global, feature: FeatureText<'_>) -> Result<String, AllocError>
+    requires { FeatureFits (feature_view feature) }
+{
+    feature_to_json(alloc, feature)?.to_string(alloc)
+}
+
+/// A feature as JSON, by way of its text, or the limit that it breaks.
+fn shown(alloc: Global, id: u64, feature: &Feature) -> Result<String, AllocError> {
+    match stored(alloc, id, feature) {
+        Ok(stored) => kept(alloc, stored.view()),
+        Err(fault) => fault.to_string(alloc),
+    }
+}
+
+/// What is written of a JSON value that is read, as the feature of number 0.
 fn rewritten(alloc: Global, value: &Value) -> Result<String, AllocError> {
     match feature_from_json(alloc, value) {
-        Ok(feature) => feature_to_json(alloc, &feature)?.to_string(alloc),
+        Ok(feature) => shown(alloc, 0, &feature),
         Err(fault) => fault.to_string(alloc),
     }
 }
@@ -154,7 +173,11 @@ fn covered(alloc: Global, zoom: u64, feature: &Feature) -> Result<String, AllocE
     if zoom > u64::from(MAX_ZOOM) {
         return EditFault::Zoom.to_string(alloc);
     }
-    let range = tiles_met(bounding_box(feature), zoom as u8);
+    let stored = match stored(alloc, 0, feature) {
+        Ok(stored) => stored,
+        Err(fault) => return fault.to_string(alloc),
+    };
+    let range = tiles_met(bounding_box(stored.view()), zoom as u8);
     format!(in alloc;
         "{} to {}, {} to {}",
         range.x0, range.x1, range.y0, range.y1

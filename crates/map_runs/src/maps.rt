@@ -5,7 +5,7 @@ ghost use Rattle.feature_model.specs.Spelled.{spelled_changes};
 ghost use Rattle.feature_model.specs.Types.{IsChange};
 ghost use Rattle.feature_model.specs.declared.limits.TheConstants.{MAX_EDIT_BYTES};
 
-use crate::features::{feature_in, shown};
+use crate::features::{feature_in, kept};
 use crate::lines::{Line, byte};
 use cached_map::CachedMap;
 use edit_text::{decode, encode_change};
@@ -13,8 +13,7 @@ use feature_model::{Change, Edit, Feature, check};
 use feature_store::Store;
 use hilbert_id::TileAt;
 use map_metadata::{metadata, metadata_text};
-use mvt_layer::Layer;
-use mvt_write::write_tile;
+use mvt_layer::{Layer, read_tile};
 use script_bytes::{number_in, parted, short};
 use std::alloc::{AllocError, Global};
 
@@ -78,8 +77,8 @@ fn make(alloc: Global, map: &mut CachedMap, edit: Edit) -> Result<String, AllocE
     if map.store().len() > MOST {
         return String::from_str(alloc, "too many features");
     }
-    map.room_all(&edit.changes)?;
-    map.make_edit(edit.changes, number);
+    let changes = map.prepare(&edit.changes)?;
+    map.make_edit(changes, number);
     edited(alloc, number, map)
 }
 
@@ -96,7 +95,7 @@ fn make_text(alloc: Global, map: &mut CachedMap, text: &str) -> Result<String, A
 /// The feature of a number.
 fn look(alloc: Global, store: &Store, id: u64) -> Result<String, AllocError> {
     match store.get(id) {
-        Some(feature) => shown(alloc, id, feature),
+        Some(feature) => kept(alloc, feature),
         None => String::from_str(alloc, "none"),
     }
 }
@@ -118,9 +117,10 @@ fn tile(alloc: Global, map: &mut CachedMap, at: TileAt) -> Result<String, AllocE
 
 /// A tile that is cut anew, kept or not: no bytes where it shows nothing.
 fn anew(alloc: Global, store: &Store, at: TileAt) -> Result<String, AllocError> {
-    let layers = store.layers(at)?;
-    let bytes = write_tile(alloc, &layers)?;
-    hex::encode(alloc, bytes.as_slice())
+    match store.tile(at)? {
+        Some(bytes) => hex::encode(alloc, bytes.as_slice()),
+        None => Ok(String::new(alloc)),
+    }
 }
 
 /// A layer's name, version, extent, and the numbers of its features.
@@ -134,12 +134,21 @@ fn listed<'a>(alloc: Global, layer: &Layer<'a>) -> Result<Listed<'a>, AllocError
     Ok((layer.name, layer.version, layer.extent, ids))
 }
 
-fn layers(alloc: Global, store: &Store, at: TileAt) -> Result<String, AllocError> {
+fn all_listed(alloc: Global, layers: &[Layer<'_>]) -> Result<String, AllocError> {
     let mut all = Vec::new(alloc);
-    for layer in &store.layers(at)? {
+    for layer in layers {
         all.push(listed(alloc, layer)?)?;
     }
     format!(in alloc; "{all:?}")
+}
+
+/// The layers that a tile's bytes have, none where it shows nothing.
+fn layers(alloc: Global, store: &Store, at: TileAt) -> Result<String, AllocError> {
+    let bytes = store.tile(at)?.unwrap_or(Vec::new(alloc));
+    match read_tile(alloc, &bytes) {
+        Ok(layers) => all_listed(alloc, &layers),
+        Err(fault) => format!(in alloc; "{fault:?}"),
+    }
 }
 
 /// All tiles, each with its id.

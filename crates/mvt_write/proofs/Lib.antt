@@ -1,8 +1,7 @@
-mod FeatureSteps
 mod FeaturesRead
 pub mod Integers
 pub mod Laws
-mod LayerSteps
+pub mod LayerSteps
 mod LayersRead
 pub mod Lengths
 pub mod LimitNumbers
@@ -12,3 +11,4 @@ pub mod Names
 mod Pooled
 mod TagSteps
 mod ValuesRead
+mod WriterSteps

@@ -1,6 +1,6 @@
 -- Pools, entry by entry.
 use Rattle.std.proofs.Common.{Ordering, is_eq, ◌≡◌, ℕ, ◌+◌, ◌<◌, ◌≤◌, Bool, true, false, cond, get_or, not, ◌||◌, eqb, List, [], ◌∷◌, ◌++◌, length, map}
-use Rattle.std.proofs.Common.{refl, sym, ap, subst, ◌∙◌, append_assoc, append-nil, arith}
+use Rattle.std.proofs.Common.{refl, sym, ap, subst, ◌∙◌, append-nil, arith}
 use Rattle.std.specs.declared.cmp.Ordering.TheVariants.{Equal}
 use Rattle.std.specs.Prelude.{filter, Option, Some, None, All, slice_get}
 use Rattle.std.specs.Option.{unwrap_or}
@@ -16,7 +16,7 @@ use Rattle.std.proofs.lemmas.Option.{slice_get-get_or}
 use Rattle.std.proofs.lemmas.List.Folds.{list_any-append, position_or_len_push, prefix_len-append}
 use Rattle.std.proofs.lemmas.Map.Views.{any-filter_same}
 use Rattle.std.proofs.lemmas.Slice.Eq.{bytes_eq-Decides}
-use Rattle.mvt_write.specs.Pools.{pool_of, index_of, has_entry, with_entry, index_in, AddsUses}
+use Rattle.mvt_write.specs.Pools.{pool_of, index_of, has_entry, with_entry, index_in}
 
 -- a test that is passed is passed before the end
 first_within : (test : List ℕ → Bool) (held : List ℕ) (pool : List (List ℕ)) (b : Bool) → test held ≡ b
@@ -279,28 +279,6 @@ index_of-append pool more entry has =
     let within : position_or_len (λ held. bytes_eq held entry) pool < length pool = index_within pool entry has in
     let apart : eqb (position_or_len (λ held. bytes_eq held entry) pool) (length pool) ≡ false = grind (arith, nat_tests, within) in
     prefix_len-append (λ held. not (bytes_eq held entry)) pool more ∙ rw apart refl
-
--- ---- uses of a pool
-
-pub adds_entry : (old new : List (List ℕ)) (entry : List ℕ) → new ≡ with_entry old entry → AddsUses old new (entry ∷ [])
-adds_entry old new entry step =
-    let more = grows old entry in
-    record {
-      grows = (more.0, step ∙ more.1);
-      pool = λ uses is. step ∙ ap (λ (pool : List (List ℕ)). with_entry pool entry) is ∙ sym (pool_of-push uses entry);
-    }
-
--- uses behind uses
-pub adds_more : (first then last us vs all : List (List ℕ)) → AddsUses first then us → AddsUses then last vs → all ≡ us ++ vs → AddsUses first last all
-adds_more first then last us vs all before after is = record {
-  grows = (
-    before.grows.0 ++ after.grows.0,
-    after.grows.1 ∙ ap (λ (pool : List (List ℕ)). pool ++ after.grows.0) before.grows.1
-        ∙ append_assoc first before.grows.0 after.grows.0,
-  );
-  pool = λ uses start. after.pool (uses ++ us) (before.pool uses start)
-      ∙ ap pool_of (append_assoc uses us vs ∙ ap (λ (ws : List (List ℕ)). uses ++ ws) (sym is));
-}
 
 -- ---- what a pool holds
 

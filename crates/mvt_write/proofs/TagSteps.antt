@@ -1,28 +1,20 @@
 -- Tags, one after the other.
-use Rattle.std.proofs.Common.{Bor, ◌≡◌, ℕ, eqb, false, true, List, [], ◌∷◌, ◌++◌, length, map, refl, sym, ap, ap₂, subst, ◌∙◌, append_assoc, append-nil}
+use Rattle.std.proofs.Common.{Bor, ◌≡◌, ℕ, true, List, [], ◌∷◌, ◌++◌, refl, sym, ap, ap₂, subst, ◌∙◌, append_assoc, append-nil}
 use Rattle.std.specs.List.{flat_map}
 use Rattle.std.proofs.lemmas.Grind.{flat_map-append}
-use Rattle.std.proofs.lemmas.List.{map-append}
 use Rattle.pb_wire.specs.Varint.{varint}
 use Rattle.mvt_layer.specs.declared.tile.TagValue.{TagValue}
 use Rattle.mvt_layer.specs.Tile.{Tagged, tag_view}
-use Rattle.mvt_write.specs.Pools.{index_of, has_entry, with_entry, AddsUses}
-use Rattle.mvt_write.specs.Written.{value_written, tag_indices, tags_written, packed_field}
-use Rattle.mvt_write.proofs.Pooled.{has-with_entry, grows, index_of-append, adds_entry, adds_more}
+use Rattle.mvt_write.specs.Pools.{index_of, has_entry, with_entry}
+use Rattle.mvt_write.specs.Written.{value_written, tag_indices}
+use Rattle.mvt_write.proofs.Pooled.{has-with_entry, grows, index_of-append}
 
 -- a tag of the list, as the items of a loop are
 abbrev pub the_tag : Bor (List ℕ) × TagValue → Tagged
 the_tag t = (t.0.now, tag_view t.1)
 
--- one use more
-pub used_more : {X : Type 0} (f : X → List ℕ) (old pool new : List (List ℕ)) (xs more : List X) (x : X) → AddsUses old pool (map f xs)
-    → new ≡ with_entry pool (f x) → more ≡ xs ++ x ∷ [] → AddsUses old new (map f more)
-used_more {X} f old pool new xs more x before step is =
-    adds_more old pool new (map f xs) (f x ∷ []) (map f more) before (adds_entry pool new (f x) step)
-    (ap (λ (ys : List X). map f ys) is ∙ map-append f xs (x ∷ []))
-
 -- the pool once an entry was added, with later entries, is the pool before with some
-later : (pool after : List (List ℕ)) (entry : List ℕ) (rest : List (List ℕ)) → after ≡ with_entry pool entry
+pub later : (pool after : List (List ℕ)) (entry : List ℕ) (rest : List (List ℕ)) → after ≡ with_entry pool entry
     → (more : List (List ℕ)) × (after ++ rest ≡ pool ++ more)
 later pool after entry rest step =
     let more = grows pool entry in
@@ -55,9 +47,3 @@ indices_more keys keys_after values values_after tags more t bytes after before 
     ∙ ap (λ (ns : List ℕ). flat_map varint ns) (flat_map-append (λ u. index_of all_keys u.0 ∷ index_of all_values (value_written u.1) ∷ []) tags (t ∷ []))
     ∙ flat_map-append varint (tag_indices all_keys all_values tags) (tag_indices all_keys all_values (t ∷ [])) in
     written ∙ ap₂ (λ (a b : List ℕ). a ++ b) front (sym last) ∙ sym whole
-
--- the field of tags, where there are some
-pub tags_field : (keys values : List (List ℕ)) (tags : List Tagged) → eqb (length tags) 0 ≡ false
-    → tags_written keys values tags ≡ packed_field 2 (tag_indices keys values tags)
-tags_field keys values [] some = absurd (cc)
-tags_field keys values (t ∷ ts) some = refl

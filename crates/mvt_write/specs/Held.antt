@@ -1,18 +1,12 @@
 -- What the pools of a layer hold, as it is written.
 use Rattle.std.specs.Prelude.{ℕ, List, map}
-use Rattle.mvt_layer.specs.Tile.{Tagged, bytes_of}
+use Rattle.mvt_layer.specs.Tile.{bytes_of}
 use Rattle.mvt_write.specs.declared.tag_pools.TagPools.{TagPools}
-use Rattle.mvt_write.specs.Pools.{AddsUses}
 use Rattle.mvt_write.specs.Values.{value_view}
-use Rattle.mvt_write.specs.Written.{value_written, keys_used, values_used}
+use Rattle.mvt_write.specs.Written.{value_written}
 
 abbrev pub held_keys : TagPools → List (List ℕ)
 held_keys pools = bytes_of pools.keys.entries.items
 
 abbrev pub held_values : TagPools → List (List ℕ)
 held_values pools = map (λ v. value_written (value_view v)) pools.values.entries.items
-
--- the new pools are the old ones once these tags were used
-pub record AddsTags (old new : TagPools) (tags : List Tagged) : Type 0 where
-  pub keys : AddsUses (held_keys old) (held_keys new) (keys_used tags)
-  pub values : AddsUses (held_values old) (held_values new) (values_used tags)

@@ -2,6 +2,8 @@ pub mod CanWrite
 pub mod Distinct
 pub mod Fits
 pub mod Held
+pub mod Parts
 pub mod Pools
 pub mod Values
+pub mod Writes
 pub mod Written

@@ -1,5 +1,5 @@
 -- Pools: keys and values that a layer holds once and refers to by index.
-use Rattle.std.specs.Prelude.{◌≡◌, ℕ, not, Bool, List, [], ◌∷◌, ◌++◌, filter, Option, Some, None, if◌then◌else◌}
+use Rattle.std.specs.Prelude.{ℕ, not, Bool, List, [], ◌∷◌, ◌++◌, filter, Option, Some, None, if◌then◌else◌}
 use Rattle.std.specs.List.{list_any, position_or_len}
 use Rattle.std.specs.Str.{bytes_eq}
 
@@ -23,8 +23,3 @@ with_entry pool entry = if has_entry pool entry then pool else pool ++ entry ∷
 -- the index of the entry, where the pool holds it
 abbrev pub index_in : List (List ℕ) → List ℕ → Option ℕ
 index_in pool entry = if has_entry pool entry then Some (index_of pool entry) else None
-
--- the new pool is the old one with more entries, and holds these uses after those of the old one
-pub record AddsUses (old new more : List (List ℕ)) : Type 0 where
-  pub grows : (added : List (List ℕ)) × (new ≡ old ++ added)
-  pub pool : (uses : List (List ℕ)) → old ≡ pool_of uses → new ≡ pool_of (uses ++ more)

@@ -1,25 +1,36 @@
-//! Features.
+//! The messages of features.
 
-ghost use Rattle.std.specs.Prelude.{◌≡◌, ◌++◌, List, ℕ, All, ◌<◌, ◌^◌, IfSome, IfOk, OnOk, map};
-ghost use Rattle.std.specs.List.{flat_map};
-ghost use Rattle.geometry_commands.specs.Encodable.{CanSpell};
-ghost use Rattle.geometry_commands.specs.Shapes.{shape_view, shape_spelled, kind_of, IsShape};
-ghost use Rattle.mvt_layer.specs.Tile.{feature_view};
-ghost use Rattle.mvt_write.specs.CanWrite.{CanWriteFeature};
-ghost use Rattle.mvt_write.specs.Fits.{FitsFeature};
-ghost use Rattle.mvt_write.specs.Held.{held_keys, held_values, AddsTags};
-ghost use Rattle.mvt_write.specs.Written.{id_written, kind_number, bytes_field, feature_written, tags_of};
+ghost use Rattle.std.specs.Prelude.{◌≡◌, ◌++◌, ◌<◌, ◌^◌, IfSome, OnOk};
+ghost use Rattle.mvt_write.specs.Parts.{type_of, tags_head, geometry_head, message_of};
+ghost use Rattle.mvt_write.specs.Written.{id_written, bytes_field};
 
-use crate::field::{put_bytes, put_number, put_packed};
-use crate::tag_pools::TagPools;
-use crate::tags::put_tags;
-use geometry_commands::{Shape, encode_lines, encode_points, encode_rings};
-use mvt_layer::TileFeature;
+use crate::field::{put_head, put_joined, put_number};
+use geometry_commands::ShapeKind;
 use mvt_layer::field_numbers::{
-    FEATURE_GEOMETRY, FEATURE_ID, FEATURE_TYPE, LAYER_FEATURES, LINESTRING_TYPE, POINT_TYPE,
-    POLYGON_TYPE, UNKNOWN_TYPE,
+    FEATURE_GEOMETRY, FEATURE_ID, FEATURE_TAGS, FEATURE_TYPE, LAYER_FEATURES, LINESTRING_TYPE,
+    POINT_TYPE, POLYGON_TYPE, UNKNOWN_TYPE,
 };
 use std::alloc::{AllocError, Global};
+
+/// The bytes that a head has room for at first: those of an id of 64 bits, and of the number and the length of a field.
+const FIRST_HEAD_BYTES: usize = 24;
+
+/// Memory for what a feature's message has before its tags and before its geometry, used again for each feature.
+#[derive(Drop)]
+pub(crate) struct FeatureHeads {
+    tags: Vec<u8>,
+    geometry: Vec<u8>,
+}
+
+impl FeatureHeads {
+    /// No bytes, and room for most heads.
+    pub fn new(alloc: Global) -> Result<Self, AllocError> {
+        Ok(FeatureHeads {
+            tags: Vec::with_capacity(alloc, FIRST_HEAD_BYTES)?,
+            geometry: Vec::with_capacity(alloc, FIRST_HEAD_BYTES)?,
+        })
+    }
+}
 
 /// Appends the field of a feature's id, if it has one.
 fn put_id(out: &mut Vec<u8>, id: Option<u64>) -> Result<(), AllocError>
@@ -32,80 +43,61 @@ fn put_id(out: &mut Vec<u8>, id: Option<u64>) -> Result<(), AllocError>
     }
 }
 
-/// The type of a geometry (Mapbox Vector Tile 2.1, 4.3.4).
-fn geometry_type(shape: &Shape) -> u64
-    ensures { result ≡ kind_number (shape_view shape.now) }
+/// The number of a geometry's type (Mapbox Vector Tile 2.1, 4.3.4).
+fn type_number(kind: ShapeKind) -> u64
+    ensures { result ≡ type_of kind }
 {
-    match shape {
-        Shape::Raw(_) => UNKNOWN_TYPE,
-        Shape::Points(_) => POINT_TYPE,
-        Shape::Lines(_) => LINESTRING_TYPE,
-        Shape::Rings(_) => POLYGON_TYPE,
+    match kind {
+        ShapeKind::Unknown => UNKNOWN_TYPE,
+        ShapeKind::Points => POINT_TYPE,
+        ShapeKind::Lines => LINESTRING_TYPE,
+        ShapeKind::Polygons => POLYGON_TYPE,
     }
 }
 
-/// The integers of a geometry.
-fn geometry_integers(alloc: Global, shape: &Shape) -> Result<Vec<u32>, AllocError>
-    requires { CanSpell (shape_view shape.now) }
-    ensures spelled { IfOk result (λ v. v.items ≡ shape_spelled (shape_view shape.now)) }
-    ensures shape { IfOk result (λ v. IsShape (kind_of (shape_view shape.now)) v.items (shape_view shape.now)) }
+/// Replaces `head` with what a feature's message has before the packed indices of its tags.
+fn start_tags(head: &mut Vec<u8>, id: Option<u64>, tags: &[u8]) -> Result<(), AllocError>
+    ensures written { OnOk result (head.new.items ≡ tags_head id tags.now) }
+    ensures fits { IfSome id (λ id. id < 2 ^ 64) }
 {
-    match shape {
-        Shape::Points(points) => encode_points(alloc, points),
-        Shape::Lines(lines) => encode_lines(alloc, lines),
-        Shape::Rings(rings) => encode_rings(alloc, rings),
-        Shape::Raw(_) => unreachable!(),
+    head.clear();
+    put_id(head, id)?;
+    if tags.is_empty() {
+        return Ok(());
     }
+    put_head(head, FEATURE_TAGS, tags.len())
 }
 
-/// Replaces `message` with the message of a feature (Mapbox Vector Tile 2.1, 4.2). Its tags are added to the pools of its
-/// layer. `packed` is overwritten.
-#[tactic(auto, unfolding(crate::specs::Written::feature_written))]
-fn write_message<'a>(
-    alloc: Global,
-    message: &mut Vec<u8>,
-    packed: &mut Vec<u8>,
-    pools: &mut TagPools<'a>,
-    feature: &TileFeature<'a>,
-) -> Result<(), AllocError>
-    requires { CanWriteFeature (feature_view feature.now) }
-    ensures pools { OnOk result (AddsTags pools.old pools.new (feature_view feature.now).tags) }
-    // Entries that are added later change nothing.
-    ensures written { OnOk result
-        ((later_keys later_values : List (List ℕ))
-        → message.new.items ≡ feature_written (held_keys pools.new ++ later_keys) (held_values pools.new ++ later_values) (feature_view feature.now)) }
-    ensures fits { OnOk result (FitsFeature (feature_view feature.now)) }
+/// Replaces `head` with what a feature's message has between the indices and the packed integers of its geometry.
+fn start_geometry(head: &mut Vec<u8>, kind: ShapeKind, geometry: &[u8]) -> Result<(), AllocError>
+    ensures { OnOk result (head.new.items ≡ geometry_head kind geometry.now) }
 {
-    message.clear();
-    put_id(message, feature.id)?;
-    put_tags(packed, message, pools, &feature.tags)?;
-    put_number(message, FEATURE_TYPE, geometry_type(&feature.shape))?;
-    let integers = geometry_integers(alloc, &feature.shape)?;
-    put_packed(packed, message, FEATURE_GEOMETRY, &integers)?;
-    Ok(())
+    head.clear();
+    put_number(head, FEATURE_TYPE, type_number(kind))?;
+    put_head(head, FEATURE_GEOMETRY, geometry.len())
 }
 
-/// Appends the fields of features, whose tags are added to the pools.
-pub(crate) fn put_features<'a>(
-    alloc: Global,
+/// Appends the message of a feature (Mapbox Vector Tile 2.1, 4.2) as a field of its layer, by the packed indices of its tags and
+/// the packed integers of its geometry.
+pub(crate) fn put_message(
     out: &mut Vec<u8>,
-    pools: &mut TagPools<'a>,
-    features: &[TileFeature<'a>],
+    heads: &mut FeatureHeads,
+    id: Option<u64>,
+    tags: &[u8],
+    kind: ShapeKind,
+    geometry: &[u8],
 ) -> Result<(), AllocError>
-    requires { All CanWriteFeature (map feature_view features.now) }
-    ensures pools { OnOk result (AddsTags pools.old pools.new (tags_of (map feature_view features.now))) }
-    ensures written { OnOk result
-        ((later_keys later_values : List (List ℕ))
-        → out.new.items ≡ out.old.items
-        ++ flat_map (λ f. bytes_field LAYER_FEATURES (feature_written (held_keys pools.new ++ later_keys) (held_values pools.new ++ later_values) f))
-        (map feature_view features.now)) }
-    ensures fits { OnOk result (All FitsFeature (map feature_view features.now)) }
+    ensures written { OnOk result (out.new.items ≡ out.old.items ++ bytes_field LAYER_FEATURES (message_of id tags.now kind geometry.now)) }
+    ensures fits { IfSome id (λ id. id < 2 ^ 64) }
 {
-    let mut message = Vec::new(alloc);
-    let mut packed = Vec::new(alloc);
-    for feature in features {
-        write_message(alloc, &mut message, &mut packed, pools, feature)?;
-        put_bytes(out, LAYER_FEATURES, &message)?;
-    }
-    Ok(())
+    start_tags(&mut heads.tags, id, tags)?;
+    start_geometry(&mut heads.geometry, kind, geometry)?;
+    put_joined(
+        out,
+        LAYER_FEATURES,
+        &heads.tags,
+        tags,
+        &heads.geometry,
+        geometry,
+    )
 }

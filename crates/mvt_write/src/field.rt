@@ -3,18 +3,39 @@
 ghost use Rattle.std.specs.Prelude.{◌≡◌, ◌*◌, ◌+◌, ◌<◌, ◌^◌, ◌++◌, OnOk};
 ghost use Rattle.std.specs.List.{flat_map};
 ghost use Rattle.pb_wire.specs.Varint.{varint};
-ghost use Rattle.mvt_write.specs.Written.{number_field, bytes_field, packed_field};
+ghost use Rattle.mvt_write.specs.Parts.{field_head};
+ghost use Rattle.mvt_write.specs.Written.{number_field, bytes_field};
 
 use pb_wire::{WIRE_LEN, WIRE_VARINT, put_varint};
 use std::alloc::AllocError;
+
+/// Appends a number in its shortest encoding, which is mostly one byte.
+pub(crate) fn put_short(out: &mut Vec<u8>, n: u64) -> Result<(), AllocError>
+    ensures { OnOk result (out.new.items ≡ out.old.items ++ varint n) }
+{
+    if n < 128 {
+        out.push(n as u8)?;
+        return Ok(());
+    }
+    put_varint(out, n)
+}
 
 /// Appends a field that is a number.
 pub(crate) fn put_number(out: &mut Vec<u8>, number: u32, n: u64) -> Result<(), AllocError>
     requires { number < 2 ^ 29 }
     ensures { OnOk result (out.new.items ≡ out.old.items ++ number_field number n) }
 {
-    put_varint(out, 8 * u64::from(number) + WIRE_VARINT)?;
-    put_varint(out, n)
+    put_short(out, 8 * u64::from(number) + WIRE_VARINT)?;
+    put_short(out, n)
+}
+
+/// Appends what a field of this many bytes has before them.
+pub(crate) fn put_head(out: &mut Vec<u8>, number: u32, len: usize) -> Result<(), AllocError>
+    requires { number < 2 ^ 29 }
+    ensures { OnOk result (out.new.items ≡ out.old.items ++ field_head number len) }
+{
+    put_short(out, 8 * u64::from(number) + WIRE_LEN)?;
+    put_short(out, len as u64)
 }
 
 /// Appends a field that is bytes.
@@ -22,32 +43,38 @@ pub(crate) fn put_bytes(out: &mut Vec<u8>, number: u32, bytes: &[u8]) -> Result<
     requires { number < 2 ^ 29 }
     ensures { OnOk result (out.new.items ≡ out.old.items ++ bytes_field number bytes.now) }
 {
-    put_varint(out, 8 * u64::from(number) + WIRE_LEN)?;
-    put_varint(out, bytes.len() as u64)?;
+    put_head(out, number, bytes.len())?;
     out.extend_from_slice(bytes)
 }
 
-/// Appends the numbers one after the other.
-fn put_numbers(out: &mut Vec<u8>, numbers: &[u32]) -> Result<(), AllocError>
-    ensures { OnOk result (out.new.items ≡ out.old.items ++ flat_map varint numbers.now) }
-{
-    for n in numbers {
-        put_varint(out, u64::from(*n))?;
-    }
-    Ok(())
-}
-
-/// Appends a field of packed numbers. `packed` is overwritten.
-pub(crate) fn put_packed(
-    packed: &mut Vec<u8>,
+/// Appends a field that is the bytes of four parts.
+pub(crate) fn put_joined(
     out: &mut Vec<u8>,
     number: u32,
-    numbers: &[u32],
+    a: &[u8],
+    b: &[u8],
+    c: &[u8],
+    d: &[u8],
 ) -> Result<(), AllocError>
     requires { number < 2 ^ 29 }
-    ensures { OnOk result (out.new.items ≡ out.old.items ++ packed_field number numbers.now) }
+    ensures { OnOk result (out.new.items ≡ out.old.items ++ bytes_field number (a.now ++ (b.now ++ (c.now ++ d.now)))) }
+{
+    // Were the sum above 64 bits, no memory would hold the parts, and one of the steps below would fail.
+    let len = (a.len().wrapping_add(b.len())).wrapping_add(c.len().wrapping_add(d.len()));
+    put_head(out, number, len)?;
+    out.extend_from_slice(a)?;
+    out.extend_from_slice(b)?;
+    out.extend_from_slice(c)?;
+    out.extend_from_slice(d)
+}
+
+/// Replaces `packed` with the numbers, one after the other.
+pub(crate) fn pack_numbers(packed: &mut Vec<u8>, numbers: &[u32]) -> Result<(), AllocError>
+    ensures { OnOk result (packed.new.items ≡ flat_map varint numbers.now) }
 {
     packed.clear();
-    put_numbers(packed, numbers)?;
-    put_bytes(out, number, packed)
+    for n in numbers {
+        put_varint(packed, u64::from(*n))?;
+    }
+    Ok(())
 }

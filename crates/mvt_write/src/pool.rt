@@ -15,6 +15,9 @@ use std::collections::BTreeMap;
 /// The number of slots for recent entries.
 const RECENT: usize = 512;
 
+/// How many numbers a slot can have. An entry whose index isn't below it isn't recalled.
+const SLOT_NUMBERS: usize = 65_536;
+
 /// The slot of the recent entries for an entry of this code: the code is multiplied by an odd number that spreads it.
 fn place_of(code: u64) -> usize
     ensures { result < RECENT }
@@ -40,8 +43,8 @@ fn number_of<K: Ord + Copy>(
 pub(crate) struct Pool<T: FieldData> {
     pub entries: Vec<T>,
     indices: BTreeMap<T, usize>,
-    /// For each slot the index of the entry that was used there last, or any number.
-    recent: [usize; RECENT],
+    /// For each slot the index of the entry that was used there last, in 16 bits, or any number.
+    recent: Box<[u16; RECENT]>,
     ghost indexed: { (entry : T) → get T.cmp indices entry ≡ index_in (map T.spelled entries.items) (T.spelled entry) },
     ghost placed: { (index : ℕ) → index < length entries.items
         → index_of (map T.spelled entries.items) (slice_index_or (map T.spelled entries.items) index []) ≡ index },
@@ -50,14 +53,14 @@ pub(crate) struct Pool<T: FieldData> {
 impl<T: FieldData> Pool<T> {
     /// No entries.
     #[tactic(auto, unfolding(crate::specs::Pools::has_entry))]
-    pub fn new(alloc: Global) -> Self
-        ensures { result.entries.items ≡ [] }
+    pub fn new(alloc: Global) -> Result<Self, AllocError>
+        ensures { IfOk result (λ pool. pool.entries.items ≡ []) }
     {
-        Pool {
+        Ok(Pool {
             entries: Vec::new(alloc),
             indices: BTreeMap::new(alloc),
-            recent: [0; RECENT],
-        }
+            recent: Box::new(alloc, [0; RECENT])?,
+        })
     }
 
     /// The index of an entry that was used lately. Not each of them is recalled.
@@ -66,7 +69,7 @@ impl<T: FieldData> Pool<T> {
         ensures index { IfSome result (λ i. index_of (map T.spelled self.now.entries.items) (T.spelled entry) ≡ i) }
         ensures held { OnSome result (has_entry (map T.spelled self.now.entries.items) (T.spelled entry) ≡ true) }
     {
-        let index = self.recent[place];
+        let index = usize::from(self.recent[place]);
         if index >= self.entries.len() {
             return None;
         }
@@ -100,18 +103,22 @@ impl<T: FieldData> Pool<T> {
             return Ok(index);
         }
         let index = self.found(entry)?;
-        self.recent[place] = index;
+        self.recent[place] = (index % SLOT_NUMBERS) as u16;
         Ok(index)
     }
 
-    /// Appends each entry as a field.
-    pub fn put(&self, alloc: Global, out: &mut Vec<u8>, number: u32) -> Result<(), AllocError>
+    /// Appends each entry as a field. `message` is overwritten.
+    pub fn put(
+        &self,
+        message: &mut Vec<u8>,
+        out: &mut Vec<u8>,
+        number: u32,
+    ) -> Result<(), AllocError>
         requires { number < 2 ^ 29 }
         ensures { OnOk result (out.new.items ≡ out.old.items ++ flat_map (bytes_field number) (map T.spelled self.now.entries.items)) }
     {
-        let mut message = Vec::new(alloc);
         for &entry in &self.entries {
-            entry.put(&mut message, out, number)?;
+            entry.put(message, out, number)?;
         }
         Ok(())
     }

@@ -13,29 +13,29 @@ pub(crate) struct TagPools<'a> {
 }
 
 impl<'a> TagPools<'a> {
-    ghost use Rattle.std.specs.Prelude.{◌≡◌, [], ◌++◌, OnOk};
+    ghost use Rattle.std.specs.Prelude.{◌≡◌, [], ◌++◌, IfOk, OnOk};
     ghost use Rattle.std.specs.List.{flat_map};
     ghost use Rattle.mvt_write.specs.Held.{held_keys, held_values};
     ghost use Rattle.mvt_write.specs.Written.{bytes_field};
 
     /// No keys and no values.
-    pub fn new(alloc: Global) -> Self
-        ensures keys { held_keys result ≡ [] }
-        ensures values { held_values result ≡ [] }
+    pub fn new(alloc: Global) -> Result<Self, AllocError>
+        ensures keys { IfOk result (λ pools. held_keys pools ≡ []) }
+        ensures values { IfOk result (λ pools. held_values pools ≡ []) }
     {
-        TagPools {
-            keys: Pool::new(alloc),
-            values: Pool::new(alloc),
-        }
+        Ok(TagPools {
+            keys: Pool::new(alloc)?,
+            values: Pool::new(alloc)?,
+        })
     }
 
-    /// Appends the fields of the keys, and then those of the values.
-    pub fn put(&self, alloc: Global, out: &mut Vec<u8>) -> Result<(), AllocError>
+    /// Appends the fields of the keys, and then those of the values. `message` is overwritten.
+    pub fn put(&self, message: &mut Vec<u8>, out: &mut Vec<u8>) -> Result<(), AllocError>
         ensures { OnOk result
             (out.new.items ≡ out.old.items
             ++ (flat_map (bytes_field LAYER_KEYS) (held_keys self.now) ++ flat_map (bytes_field LAYER_VALUES) (held_values self.now))) }
     {
-        self.keys.put(alloc, out, LAYER_KEYS)?;
-        self.values.put(alloc, out, LAYER_VALUES)
+        self.keys.put(message, out, LAYER_KEYS)?;
+        self.values.put(message, out, LAYER_VALUES)
     }
 }

@@ -6,10 +6,8 @@ ghost use Rattle.mvt_layer.specs.Reads.{ReadsAs};
 ghost use Rattle.mvt_write.specs.Written.{written};
 ghost use Rattle.mvt_write.specs.CanWrite.{CanWriteAll};
 
-use crate::field::put_bytes;
-use crate::layer::layer_bytes;
+use crate::layer::put_layer;
 use mvt_layer::Layer;
-use mvt_layer::field_numbers::TILE_LAYERS;
 use std::alloc::{AllocError, Global};
 
 /// The one encoding of the layers (Mapbox Vector Tile 2.1, 4): fields in ascending number, numbers in their shortest
@@ -26,8 +24,7 @@ pub fn write_tile(alloc: Global, layers: &[Layer<'_>]) -> Result<Vec<u8>, AllocE
 {
     let mut out = Vec::new(alloc);
     for layer in layers {
-        let bytes = layer_bytes(alloc, layer)?;
-        put_bytes(&mut out, TILE_LAYERS, &bytes)?;
+        put_layer(alloc, &mut out, layer)?;
     }
     Ok(out)
 }

@@ -1,6 +1,6 @@
 -- Twice the area of a ring: how large its parts are, and how they add up.
-use Rattle.std.proofs.Common.{Bool, true, false, cond, not, ◌&&◌, Some, take, ◌-◌, nat_le, suc, get_or, drop}
-use Rattle.std.proofs.Common.{◌≡◌, ℕ, ℤ, ◌+◌, List, [], ◌∷◌, ◌++◌, map, length, refl, pos, negsuc, neg_ℤ, unsigned_abs, ◌*◌, ◌^◌, ◌<◌}
+use Rattle.std.proofs.Common.{Bool, true, false, cond, not, ◌&&◌, Some, take, ◌-◌, nat_le, suc}
+use Rattle.std.proofs.Common.{◌≡◌, ℕ, ℤ, List, [], ◌∷◌, ◌++◌, map, length, refl, pos, negsuc, neg_ℤ, unsigned_abs, ◌*◌, ◌^◌, ◌<◌}
 use Rattle.std.proofs.Common.{◌≤◌, ◌≤ℤ◌, ◌+ℤ◌, ◌*ℤ◌, ◌-ℤ◌, FitsSigned, to_z, of_z, w64, sym, ap, ◌∙◌, arith}
 use Rattle.std.proofs.Math.Nat.{mul-le-mul}
 use Rattle.std.proofs.lemmas.Int.{ints, to_z-of_z, unsigned_abs-mul, fits_signed_from_abs}
@@ -12,7 +12,7 @@ use Rattle.feature_model.specs.declared.feature.World.{World}
 use Rattle.geometry_commands.specs.Shapes.{last_of}
 use Rattle.tile_cutter.specs.Cut.{segments, cross, twice_area, is_ring, tile_points, tile_ring}
 use Rattle.tile_cutter.specs.Passes.{is_same_position, returns_to_start}
-use Rattle.tile_cutter.proofs.Passes.{left_after, same_place, stands_at, stands_next, stands_end, tile_points_are}
+use Rattle.tile_cutter.proofs.Passes.{left_after, same_place, stands_at, stands_item, stands_over, tile_points_are}
 use Rattle.tile_cutter.proofs.Ways.{ring_opened}
 use Rattle.tile_cutter.specs.Range.{IsWithin}
 use mir.Syntax.{w128}
@@ -186,15 +186,14 @@ sum_fits i s u few low high within =
     let u_is = is_128 u (omega (arith, ints)) (omega (arith, ints)) in
     rw u_is (fits_128 (s +ℤ u) (omega (arith, ints)) (omega (arith, ints)))
 
-module _ (zoom column row : ℕ) (others : List World) (i : ℕ) (s u whole : ℤ) (from start : Pt) where
+module _ (zoom column row : ℕ) (left : List World) (s u whole : ℤ) (from start : Pt) where
   -- the next point
-  pub area_next : (to : Pt) (d : World) → i < length others → to ≡ stands_at zoom column row (get_or others i d) → u ≡ cross (from, to)
-      → area_along s from (map (stands_at zoom column row) (drop i others)) start ≡ whole
-      → area_along (s +ℤ u) to (map (stands_at zoom column row) (drop (i + 1) others)) start ≡ whole
-  area_next to d lt to_is u_is so_far =
-      rw u_is (stands_next (λ (r : List Pt). area_along s from r start) zoom column row others i to d whole lt to_is so_far)
+  pub area_item : (rest : List World) (x : World) (to : Pt) → left ≡ x ∷ rest → to ≡ stands_at zoom column row x → u ≡ cross (from, to)
+      → area_along s from (map (stands_at zoom column row) left) start ≡ whole
+      → area_along (s +ℤ u) to (map (stands_at zoom column row) rest) start ≡ whole
+  area_item rest x to first to_is u_is so_far =
+      rw u_is (stands_item (λ (r : List Pt). area_along s from r start) zoom column row left rest x to whole first to_is so_far)
 
   -- the way back to the first
-  pub area_ends : length others ≤ i → u ≡ cross (from, start) → area_along s from (map (stands_at zoom column row) (drop i others)) start ≡ whole
-      → s +ℤ u ≡ whole
-  area_ends past u_is so_far = rw u_is (stands_end (λ (r : List Pt). area_along s from r start) zoom column row others i whole past so_far)
+  pub area_over : left ≡ [] → u ≡ cross (from, start) → area_along s from (map (stands_at zoom column row) left) start ≡ whole → s +ℤ u ≡ whole
+  area_over none u_is so_far = rw u_is (stands_over (λ (r : List Pt). area_along s from r start) zoom column row left whole none so_far)

@@ -7,6 +7,9 @@ pub mod Kept
 pub mod LimitNumbers
 pub mod Outside
 pub mod Passes
+pub mod PutLists
+pub mod PutPoints
+pub mod PutShapes
 pub mod RingBoxes
 pub mod Shown
 pub mod Sizes
@@ -15,3 +18,4 @@ pub mod Turned
 pub mod Ways
 pub mod WorldBox
 pub mod Zooms
+pub mod TextPasses

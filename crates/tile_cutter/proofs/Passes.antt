@@ -1,11 +1,10 @@
--- One pass over a list of points: each is looked at once, with the one before it.
-use Rattle.std.proofs.Common.{◌≡◌, ℕ, ◌*◌, ◌==◌, Bool, true, false, cond, not, ◌&&◌, List, [], ◌∷◌, ◌++◌, Option, Some, None, map, drop, get_or, length, ◌+◌}
-use Rattle.std.proofs.Common.{◌<◌, ◌≤◌, pos, ◌-ℤ◌, add-one, refl, sym, ap, ◌∙◌, append_assoc, arith}
+-- One pass over the points that an iterator gives: each is looked at once, with the one before it.
+use Rattle.std.proofs.Common.{◌≡◌, ℕ, ◌*◌, ◌==◌, Bool, true, false, cond, not, ◌&&◌, List, [], ◌∷◌, ◌++◌, Option, Some, None, map}
+use Rattle.std.proofs.Common.{pos, ◌-ℤ◌, refl, sym, ap, ◌∙◌, append_assoc, arith}
 use Rattle.std.specs.Prelude.{All, filter}
 use Rattle.std.specs.List.{dedup_from}
 use Rattle.std.specs.Ordering.{int_eq}
-use Rattle.std.proofs.Math.Seq.{drop-cons}
-use Rattle.std.proofs.lemmas.List.{append-nil, drop_all}
+use Rattle.std.proofs.lemmas.List.{append-nil}
 use Rattle.std.proofs.lemmas.List.Elements.{All-nil, All-push}
 use Rattle.std.proofs.lemmas.Int.{ints}
 use Rattle.std.proofs.lemmas.Bool.Decides.{Decides-int_eq, Decides-eqb, Decides-and, Decides-like, same_from_decides}
@@ -75,44 +74,38 @@ tile_points_are zoom column row (p ∷ ps) =
     ap (λ rest. stands_at zoom column row p ∷ left_after (Some (stands_at zoom column row p)) rest) (sym (map_twice zoom column row ps))
     ∙ sym (positions_after column row (quantised zoom p) (map (quantised zoom) ps))
 
--- the next point of a list
-next_stands : (zoom column row : ℕ) (ps : List World) (i : ℕ) (here : Pt) (d : World) → i < length ps → here ≡ stands_at zoom column row (get_or ps i d)
-    → map (stands_at zoom column row) (drop i ps) ≡ here ∷ map (stands_at zoom column row) (drop (i + 1) ps)
-next_stands zoom column row ps i here d lt e = rw (e, add-one) (ap (map (stands_at zoom column row)) (drop-cons ps i d lt))
+-- a pass at the next point of those that are left, and at the end
+pub stands_item : {X : Type 0} (F : List Pt → X) (zoom column row : ℕ) (left rest : List World) (x : World) (here : Pt) (whole : X) → left ≡ x ∷ rest
+    → here ≡ stands_at zoom column row x → F (map (stands_at zoom column row) left) ≡ whole → F (here ∷ map (stands_at zoom column row) rest) ≡ whole
+stands_item F zoom column row left rest x here whole first at so_far =
+    rw at (ap (λ ps. F (map (stands_at zoom column row) ps)) (sym first) ∙ so_far)
 
--- a pass at the next point of a list, and at the list's end
-pub stands_next : {X : Type 0} (F : List Pt → X) (zoom column row : ℕ) (ps : List World) (i : ℕ) (here : Pt) (d : World) (whole : X) → i < length ps
-    → here ≡ stands_at zoom column row (get_or ps i d) → F (map (stands_at zoom column row) (drop i ps)) ≡ whole
-    → F (here ∷ map (stands_at zoom column row) (drop (i + 1) ps)) ≡ whole
-stands_next F zoom column row ps i here d whole lt e so_far = ap F (sym (next_stands zoom column row ps i here d lt e)) ∙ so_far
-
-pub stands_end : {X : Type 0} (F : List Pt → X) (zoom column row : ℕ) (ps : List World) (i : ℕ) (whole : X) → length ps ≤ i
-    → F (map (stands_at zoom column row) (drop i ps)) ≡ whole → F [] ≡ whole
-stands_end F zoom column row ps i whole past so_far = ap (λ r. F (map (stands_at zoom column row) r)) (sym (drop_all i ps past)) ∙ so_far
+pub stands_over : {X : Type 0} (F : List Pt → X) (zoom column row : ℕ) (left : List World) (whole : X) → left ≡ []
+    → F (map (stands_at zoom column row) left) ≡ whole → F [] ≡ whole
+stands_over F zoom column row left whole none so_far = ap (λ ps. F (map (stands_at zoom column row) ps)) (sym none) ∙ so_far
 
 -- ---- a pass that keeps points
 
 -- what such a pass leaves of a list, after a point that is there or not: each point that passes the test
-pub record IsPass (keeps : Option Pt → Pt → Bool) (left : Option Pt → List Pt → List Pt) : Type 0 where
-  pub none : (before : Option Pt) → left before [] ≡ []
-  pub more : (before : Option Pt) (p : Pt) (ps : List Pt) → left before (p ∷ ps) ≡ cond (keeps before p) (p ∷ left (Some p) ps) (left (Some p) ps)
+pub record IsPass (keeps : Option Pt → Pt → Bool) (after : Option Pt → List Pt → List Pt) : Type 0 where
+  pub none : (before : Option Pt) → after before [] ≡ []
+  pub more : (before : Option Pt) (p : Pt) (ps : List Pt) → after before (p ∷ ps) ≡ cond (keeps before p) (p ∷ after (Some p) ps) (after (Some p) ps)
 
--- what was kept of the first points, all of them points of the tile, is the whole with what the others leave
-pub record HasKept (left : Option Pt → List Pt → List Pt) (zoom column row : ℕ) (ps : List World) (whole kept : List Pt) (before : Option Pt) (i : ℕ) : Type 0
-  where
-    pub joined : kept ++ left before (map (stands_at zoom column row) (drop i ps)) ≡ whole
-    pub of_tile : All (IsOfTile column row) kept
+-- what was kept so far, all of them points of the tile, is the whole with what the points that are left leave
+pub record HasKept (after : Option Pt → List Pt → List Pt) (zoom column row : ℕ) (left : List World) (whole kept : List Pt) (before : Option Pt) : Type 0 where
+  pub joined : kept ++ after before (map (stands_at zoom column row) left) ≡ whole
+  pub of_tile : All (IsOfTile column row) kept
 
-pub pass_begins : (left : Option Pt → List Pt → List Pt) (zoom column row : ℕ) (ps : List World) (whole : List Pt)
-    → left None (map (stands_at zoom column row) ps) ≡ whole → HasKept left zoom column row ps whole [] None 0
-pass_begins left zoom column row ps whole is = record { joined = is; of_tile = All-nil (IsOfTile column row) }
+pub pass_begins : (after : Option Pt → List Pt → List Pt) (zoom column row : ℕ) (ps : List World) (whole : List Pt)
+    → after None (map (stands_at zoom column row) ps) ≡ whole → HasKept after zoom column row ps whole [] None
+pass_begins after zoom column row ps whole is = record { joined = is; of_tile = All-nil (IsOfTile column row) }
 
-module _ (keeps : Option Pt → Pt → Bool) (left : Option Pt → List Pt → List Pt) (pass : IsPass keeps left) where
+module _ (keeps : Option Pt → Pt → Bool) (after : Option Pt → List Pt → List Pt) (pass : IsPass keeps after) where
   -- one point more
-  one_more : (before : Option Pt) (here : Pt) (rest kept whole : List Pt) (b : Bool) → keeps before here ≡ b → kept ++ left before (here ∷ rest) ≡ whole
-      → cond b (kept ++ here ∷ []) kept ++ left (Some here) rest ≡ whole
+  one_more : (before : Option Pt) (here : Pt) (rest kept whole : List Pt) (b : Bool) → keeps before here ≡ b → kept ++ after before (here ∷ rest) ≡ whole
+      → cond b (kept ++ here ∷ []) kept ++ after (Some here) rest ≡ whole
   one_more before here rest kept whole true is so_far =
-      append_assoc kept (here ∷ []) (left (Some here) rest) ∙ ap (λ r. kept ++ r) (sym (rw is at (pass.more before here rest))) ∙ so_far
+      append_assoc kept (here ∷ []) (after (Some here) rest) ∙ ap (λ r. kept ++ r) (sym (rw is at (pass.more before here rest))) ∙ so_far
   one_more before here rest kept whole false is so_far = ap (λ r. kept ++ r) (sym (rw is at (pass.more before here rest))) ∙ so_far
 
   all_more : (column row : ℕ) (here : Pt) (kept : List Pt) (b : Bool) → All (IsOfTile column row) kept → IsOfTile column row here
@@ -120,22 +113,21 @@ module _ (keeps : Option Pt → Pt → Bool) (left : Option Pt → List Pt → L
   all_more column row here kept true all is = All-push (IsOfTile column row) kept here all is
   all_more column row here kept false all is = all
 
-  pub pass_next : (zoom column row : ℕ) (ps : List World) (whole kept kept' : List Pt) (before : Option Pt) (i : ℕ) (here : Pt) (d : World)
-      → HasKept left zoom column row ps whole kept before i → i < length ps → here ≡ stands_at zoom column row (get_or ps i d) → IsOfTile column row here
-      → kept' ≡ cond (keeps before here) (kept ++ here ∷ []) kept → HasKept left zoom column row ps whole kept' (Some here) (i + 1)
-  pass_next zoom column row ps whole kept kept' before i here d so_far lt at of_tile is =
-      let rest = map (stands_at zoom column row) (drop (i + 1) ps) in
-      let here_left = stands_next (λ (r : List Pt). kept ++ left before r) zoom column row ps i here d whole lt at so_far.joined in
+  pub pass_item : (zoom column row : ℕ) (left rest : List World) (x : World) (whole kept kept' : List Pt) (before : Option Pt) (here : Pt)
+      → HasKept after zoom column row left whole kept before → left ≡ x ∷ rest → here ≡ stands_at zoom column row x → IsOfTile column row here
+      → kept' ≡ cond (keeps before here) (kept ++ here ∷ []) kept → HasKept after zoom column row rest whole kept' (Some here)
+  pass_item zoom column row left rest x whole kept kept' before here so_far first at of_tile is =
+      let here_left = stands_item (λ (r : List Pt). kept ++ after before r) zoom column row left rest x here whole first at so_far.joined in
       record {
-        joined = rw is (one_more before here rest kept whole (keeps before here) refl here_left);
+        joined = rw is (one_more before here (map (stands_at zoom column row) rest) kept whole (keeps before here) refl here_left);
         of_tile = rw is (all_more column row here kept (keeps before here) so_far.of_tile of_tile);
       }
 
-  pub pass_ends : (zoom column row : ℕ) (ps : List World) (whole kept : List Pt) (before : Option Pt) (i : ℕ)
-      → HasKept left zoom column row ps whole kept before i → length ps ≤ i → kept ≡ whole
-  pass_ends zoom column row ps whole kept before i so_far past =
+  pub pass_over : (zoom column row : ℕ) (left : List World) (whole kept : List Pt) (before : Option Pt)
+      → HasKept after zoom column row left whole kept before → left ≡ [] → kept ≡ whole
+  pass_over zoom column row left whole kept before so_far none =
       sym (append-nil kept) ∙ ap (λ r. kept ++ r) (sym (pass.none before))
-      ∙ stands_end (λ (r : List Pt). kept ++ left before r) zoom column row ps i whole past so_far.joined
+      ∙ stands_over (λ (r : List Pt). kept ++ after before r) zoom column row left whole none so_far.joined
 
 -- ---- points
 

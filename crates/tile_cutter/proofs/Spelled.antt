@@ -1,5 +1,5 @@
 -- What a tile shows can be written: from point to point no way is longer than 32 bits hold.
-use Rattle.std.proofs.Common.{◌≡◌, ℕ, ℤ, ◌^◌, ◌<◌, ◌≤◌, ◌-ℤ◌, suc, ◌==◌, Bool, true, false, cond, Vec, vec_len, Global, List, [], ◌∷◌, Some, None, length, refl}
+use Rattle.std.proofs.Common.{◌≡◌, ℕ, ℤ, ◌^◌, ◌<◌, ◌≤◌, ◌-ℤ◌, suc, ◌==◌, Bool, true, false, cond, Vec, vec_len, Global, List, [], ◌∷◌, Some, length, refl}
 use Rattle.std.proofs.Common.{arith}
 use Rattle.std.specs.Prelude.{All, filter}
 use Rattle.std.proofs.lemmas.Int.{ints}
@@ -21,20 +21,20 @@ use Rattle.tile_cutter.specs.Range.{IsOfSide, IsOfTile, IsDrawable}
 side_short : (at : ℕ) (u v : ℤ) → IsOfSide at u → IsOfSide at v → IsShort (v -ℤ u)
 side_short at u v u_is v_is = (omega (arith, ints), omega (arith, ints))
 
-near_in_tile : (column row : ℕ) (p q : Pt) → IsOfTile column row p → IsOfTile column row q → IsNear p q
+pub near_in_tile : (column row : ℕ) (p q : Pt) → IsOfTile column row p → IsOfTile column row q → IsNear p q
 near_in_tile column row p q p_is q_is = (side_short column p.x q.x p_is.across q_is.across, side_short row p.y q.y p_is.down q_is.down)
 
-all_near : (column row : ℕ) (p : Pt) (qs : List Pt) → IsOfTile column row p → All (IsOfTile column row) qs → AreNear p qs
+pub all_near : (column row : ℕ) (p : Pt) (qs : List Pt) → IsOfTile column row p → All (IsOfTile column row) qs → AreNear p qs
 all_near column row p [] p_is all = tt
 all_near column row p (q ∷ qs) p_is all =
     let here = All-head (IsOfTile column row) q qs all in
     (near_in_tile column row p q p_is here, all_near column row q qs here (All-tail (IsOfTile column row) q qs all))
 
-last_of_tile : (column row : ℕ) (p : Pt) (qs : List Pt) → IsOfTile column row p → All (IsOfTile column row) qs → IsOfTile column row (last_of p qs)
+pub last_of_tile : (column row : ℕ) (p : Pt) (qs : List Pt) → IsOfTile column row p → All (IsOfTile column row) qs → IsOfTile column row (last_of p qs)
 last_of_tile column row p [] p_is all = p_is
 last_of_tile column row p (q ∷ qs) p_is all = last_of_tile column row q qs (All-head (IsOfTile column row) q qs all) (All-tail (IsOfTile column row) q qs all)
 
-lines_spell : (closed : Bool) (column row : ℕ) (from : Pt) (ls : List (List Pt)) → IsOfTile column row from → All (IsDrawable closed column row) ls
+pub lines_spell : (closed : Bool) (column row : ℕ) (from : Pt) (ls : List (List Pt)) → IsOfTile column row from → All (IsDrawable closed column row) ls
     → CanSpellLines closed from ls
 lines_spell closed column row from [] from_is all = tt
 lines_spell closed column row from (l ∷ ls) from_is all =
@@ -45,7 +45,7 @@ lines_spell closed column row from (l ∷ ls) from_is all =
     )
 
 -- the origin is in the world of each tile
-origin_of_tile : (zoom column row : ℕ) → zoom ≤ MAX_ZOOM → column < 2 ^ zoom → row < 2 ^ zoom → IsOfTile column row origin
+pub origin_of_tile : (zoom column row : ℕ) → zoom ≤ MAX_ZOOM → column < 2 ^ zoom → row < 2 ^ zoom → IsOfTile column row origin
 origin_of_tile zoom column row allowed across down =
     let columns = side_low zoom column allowed across in
     let rows = side_low zoom row allowed down in
@@ -69,26 +69,19 @@ spelled_points zoom column row ps allowed across down some few all = record {
 
 -- ---- a shape, where something is left
 
-pub none_left : {X V : Type 0} (shape : List X → ShapeView) (v : Vec V Global) (xs ys : List X) → (vec_len v == 0) ≡ true → length xs ≡ length v.items → xs ≡ ys
-    → None ≡ unless_empty shape ys
-none_left shape v [] ys empty same e = rw (← e) refl
-none_left shape v (x ∷ xs) ys empty same e =
-    let none = (Decides-eqb (vec_len v) 0).0 empty in
-    absurd (omega (arith, same, v.ok.0))
-
 pub some_length : {V : Type 0} (v : Vec V Global) → (vec_len v == 0) ≡ false → 0 < length v.items
 some_length v some =
     let ne = not_from_Decides (vec_len v == 0) (Decides-eqb (vec_len v) 0) some in
     omega (arith, v.ok.0)
 
+pub none_length : {V : Type 0} (v : Vec V Global) → (vec_len v == 0) ≡ true → length v.items ≡ 0
+none_length v empty =
+    let none = (Decides-eqb (vec_len v) 0).0 empty in
+    omega (arith, v.ok.0)
+
 pub some_left : {X : Type 0} (shape : List X → ShapeView) (xs ys : List X) → 0 < length xs → xs ≡ ys → Some (shape xs) ≡ unless_empty shape ys
 some_left shape [] ys lt e = absurd (omega arith)
 some_left shape (x ∷ xs) ys lt e = rw (← e) refl
-
--- lists of points as a shape
-pub no_lists : (shape : List (List Pt) → ShapeView) (v : Vec (Vec Pt Global) Global) (ys : List (List Pt)) → (vec_len v == 0) ≡ true → lists_of v.items ≡ ys
-    → None ≡ unless_empty shape ys
-no_lists shape v ys empty is = none_left shape v (lists_of v.items) ys empty (length-map v.items (λ l. l.items)) is
 
 pub some_lists : (shape : List (List Pt) → ShapeView) (v : Vec (Vec Pt Global) Global) (ys : List (List Pt)) → (vec_len v == 0) ≡ false → lists_of v.items ≡ ys
     → Some (shape (lists_of v.items)) ≡ unless_empty shape ys

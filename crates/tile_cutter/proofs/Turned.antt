@@ -1,13 +1,12 @@
 -- Rings the way round that they have to go.
-use Rattle.std.proofs.Common.{◌≡◌, ℕ, ◌^◌, ◌<◌, suc, pos, int_lt, nat_le, Bool, true, false, cond, not, ◌&&◌, List, [], ◌∷◌, ◌++◌, Option, Some, None, map}
+use Rattle.std.proofs.Common.{◌≡◌, ℕ, ◌^◌, ◌<◌, suc, pos, int_lt, nat_le, Bool, true, false, cond, not, ◌&&◌, List, [], ◌∷◌, ◌++◌, Some, None, map}
 use Rattle.std.proofs.Common.{reverse}
-use Rattle.std.proofs.Common.{length, refl, sym, ap, ◌∙◌, append_assoc, subst, arith}
-use Rattle.std.specs.Prelude.{All, IfSome, Vec, filter, flat_map, option_map, option_to_list}
+use Rattle.std.proofs.Common.{length, refl, ap, arith}
+use Rattle.std.specs.Prelude.{All, filter, flat_map, option_to_list}
 use mathlib.Core.List.{reverse_aux}
 use Rattle.std.specs.Ordering.{int_eq}
-use Rattle.std.specs.declared.alloc.Global.{Global}
-use Rattle.std.proofs.lemmas.List.{append-nil, length-reverse}
-use Rattle.std.proofs.lemmas.List.Elements.{All-nil, All-cons, All-head, All-tail, All-push}
+use Rattle.std.proofs.lemmas.List.{length-reverse}
+use Rattle.std.proofs.lemmas.List.Elements.{All-nil, All-cons, All-head, All-tail}
 use Rattle.std.proofs.lemmas.Bool.Decides.{nat_tests}
 use Rattle.feature_model.specs.declared.feature.World.{World}
 use Rattle.geometry_commands.specs.declared.point.Pt.{Pt}
@@ -58,22 +57,6 @@ pub wound_drawable : (column row : ℕ) (role : Role) (ps : List Pt) → length 
 wound_drawable column row Outer ps few of_tile = either_way column row ps (is_ring ps) (int_lt (twice_area ps) (pos 0)) few of_tile refl
 wound_drawable column row Inner ps few of_tile = either_way column row ps (is_ring ps) (int_lt (pos 0) (twice_area ps)) few of_tile refl
 
--- a ring that is shown, as code has it
-pub some_drawable : (column row : ℕ) (o : Option (Vec Pt Global)) (s : Option (List Pt)) → option_map (λ v. v.items) o ≡ s
-    → All (IsDrawable true column row) (option_to_list s) → IfSome o (λ v. IsDrawable true column row v.items)
-some_drawable column row None s is all = tt
-some_drawable column row (Some v) s is all =
-    let first = subst (λ t. All (IsDrawable true column row) (option_to_list t)) (sym is) all in
-    All-head (IsDrawable true column row) v.items [] first
-
--- with it, lists of points that can be written
-pub with_drawable : (column row : ℕ) (o : Option (Vec Pt Global)) (before after : List (List Pt))
-    → after ≡ before ++ option_to_list (option_map (λ v. v.items) o)
-    → IfSome o (λ v. IsDrawable true column row v.items) → All (IsDrawable true column row) before → All (IsDrawable true column row) after
-with_drawable column row None before after is some all = subst (All (IsDrawable true column row)) (sym (is ∙ append-nil before)) all
-with_drawable column row (Some v) before after is some all =
-    subst (All (IsDrawable true column row)) (sym is) (All-push (IsDrawable true column row) before v.items all some)
-
 -- inner rings, one after the other
 pub inner_rings_are : (zoom column row : ℕ) (rs : List (List World))
     → flat_map (λ r. option_to_list (shown_ring Inner (tile_ring zoom column row r))) rs ≡ inner_rings zoom column row rs
@@ -92,7 +75,7 @@ inner_rings_are zoom column row (r ∷ rs) = go (is_ring (tile_ring zoom column 
 
 -- ---- a polygon by its outer ring
 
-polygon_shown : (zoom column row : ℕ) (outer : List World) (inners : List (List World)) (ring : List Pt)
+pub polygon_shown : (zoom column row : ℕ) (outer : List World) (inners : List (List World)) (ring : List Pt)
     → shown_ring Outer (tile_ring zoom column row outer) ≡ Some ring
     → polygon_cut zoom column row (outer ∷ inners) ≡ ring ∷ inner_rings zoom column row inners
 unfolding polygon_cut
@@ -105,7 +88,7 @@ polygon_shown zoom column row outer inners ring e = go (meets_box (tile_ring zoo
     go false true none = cc
     go false false none = cc
 
-polygon_hidden : (zoom column row : ℕ) (outer : List World) (inners : List (List World)) → shown_ring Outer (tile_ring zoom column row outer) ≡ None
+pub polygon_hidden : (zoom column row : ℕ) (outer : List World) (inners : List (List World)) → shown_ring Outer (tile_ring zoom column row outer) ≡ None
     → polygon_cut zoom column row (outer ∷ inners) ≡ []
 unfolding polygon_cut
 polygon_hidden zoom column row outer inners e = go (meets_box (tile_ring zoom column row outer)) (is_ring (tile_ring zoom column row outer)) e
@@ -116,19 +99,3 @@ polygon_hidden zoom column row outer inners e = go (meets_box (tile_ring zoom co
     go true false none = refl
     go false true none = refl
     go false false none = refl
-
--- the rings of a polygon whose outer ring is shown, after others
-pub rings_appended : (zoom column row : ℕ) (polygon : List (List World)) (outer : List World) (inners : List (List World)) (ring : List Pt)
-    (done more all : List (List Pt))
-    → polygon ≡ outer ∷ inners → shown_ring Outer (tile_ring zoom column row outer) ≡ Some ring → more ≡ done ++ ring ∷ []
-    → all ≡ more ++ inner_rings zoom column row inners
-    → all ≡ done ++ polygon_cut zoom column row polygon
-rings_appended zoom column row polygon outer inners ring done more all polygon_is some more_is all_is =
-    let shown : polygon_cut zoom column row polygon ≡ ring ∷ inner_rings zoom column row inners = ap (polygon_cut zoom column row) polygon_is
-    ∙ polygon_shown zoom column row outer inners ring some in
-    rw (all_is, more_is, shown) (append_assoc done (ring ∷ []) (inner_rings zoom column row inners))
-
-pub nothing_appended : (zoom column row : ℕ) (polygon : List (List World)) (outer : List World) (inners : List (List World)) (done : List (List Pt))
-    → polygon ≡ outer ∷ inners → shown_ring Outer (tile_ring zoom column row outer) ≡ None → done ≡ done ++ polygon_cut zoom column row polygon
-nothing_appended zoom column row polygon outer inners done polygon_is none =
-    rw (polygon_is, polygon_hidden zoom column row outer inners none) (sym (append-nil done))

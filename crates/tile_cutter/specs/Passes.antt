@@ -1,5 +1,5 @@
 -- What a pass over a list of points does at each.
-use Rattle.std.specs.Prelude.{◌-◌, ◌&&◌, not, Bool, false, Option, Some, None, List, [], ◌∷◌, ◌++◌, length, take, map, Vec, if◌then◌else◌}
+use Rattle.std.specs.Prelude.{◌&&◌, not, Bool, true, false, Option, Some, None, List, [], ◌∷◌, ◌++◌, map, Vec, if◌then◌else◌}
 use Rattle.std.specs.Ordering.{int_eq}
 use Rattle.std.specs.declared.alloc.Global.{Global}
 use Rattle.geometry_commands.specs.declared.point.Pt.{Pt}
@@ -47,10 +47,6 @@ abbrev pub returns_to_start : List Pt → Bool
 returns_to_start [] = false
 returns_to_start (p ∷ ps) = is_same_position p (last_of p ps)
 
--- the points of a ring, a last one that equals the first left out
-abbrev pub open_positions : List Pt → List Pt
-open_positions ps = if returns_to_start ps then take (length ps - 1) ps else ps
-
 -- a ring the way round that it has to go, where it has three points and an area
 abbrev pub wound : Role → List Pt → Option (List Pt)
 wound Outer ps = if is_ring ps then Some (outward ps) else None
@@ -60,6 +56,11 @@ wound Inner ps = if is_ring ps then Some (inward ps) else None
 abbrev pub shown_ring : Role → List Pt → Option (List Pt)
 shown_ring Outer ps = if meets_box ps then wound Outer ps else None
 shown_ring Inner ps = wound Inner ps
+
+-- a ring, where it is shown
+abbrev pub where_shown : Bool → List Pt → Option (List Pt)
+where_shown true ps = Some ps
+where_shown false ps = None
 
 abbrev pub lists_of : {X : Type 0} → List (Vec X Global) → List (List X)
 lists_of vs = map (λ v. v.items) vs

@@ -2,12 +2,15 @@
 
 ghost use Rattle.std.specs.Prelude.{◌≡◌, ◌⊎◌, ◌≤◌, false, [], ◌∷◌};
 ghost use Rattle.std.specs.Bool.{Decides};
+ghost use Rattle.feature_text.specs.Views.{points_view};
 ghost use Rattle.tile_cutter.specs.Covered.{IsInRange};
 ghost use Rattle.tile_cutter.specs.Cut.{in_box, least_corner, greatest_corner, reaches_box, meets_box, tile_ring, line_cut};
 
 use crate::coordinates::{EXTENT, MARGIN};
-use crate::reach::{TileRange, range_of, widened_by_list};
-use feature_model::{MAX_ZOOM, World};
+use crate::reach::{TileRange, range_of};
+use crate::text_box::widened_by_points;
+use feature_model::MAX_ZOOM;
+use feature_text::Points;
 use geometry_commands::Pt;
 use hilbert_id::TileAt;
 
@@ -66,12 +69,12 @@ fn has_tile(range: TileRange, at: TileAt) -> bool
 }
 
 /// Whether the bounding box of points of the world meets the box of a tile.
-pub(crate) fn points_meet_box(points: &[World], at: TileAt) -> bool
+pub(crate) fn points_meet_box(points: Points<'_>, at: TileAt) -> bool
     requires { at.z ≤ MAX_ZOOM }
     // The tile shows nothing of a line whose box doesn't.
-    ensures line { result ≡ false → line_cut at.z at.x at.y points.now ≡ [] }
+    ensures line { result ≡ false → line_cut at.z at.x at.y (points_view points.entry) ≡ [] }
     // A ring that has points in the tile meets the box as its points of the world do.
-    ensures ring { (tile_ring at.z at.x at.y points.now ≡ []) ⊎ (result ≡ meets_box (tile_ring at.z at.x at.y points.now)) }
+    ensures ring { (tile_ring at.z at.x at.y (points_view points.entry) ≡ []) ⊎ (result ≡ meets_box (tile_ring at.z at.x at.y (points_view points.entry))) }
 {
-    has_tile(range_of(widened_by_list(None, points), at.z), at)
+    has_tile(range_of(widened_by_points(None, points), at.z), at)
 }

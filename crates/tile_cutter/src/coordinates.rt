@@ -19,9 +19,6 @@ pub const MARGIN: u32 = 64;
 /// The zoom at which the coordinates of tiles are those of the world.
 pub const WORLD_ZOOM: u8 = 20;
 
-/// For how many points of a ring or a chain there is room at first.
-pub(crate) const FEW_POINTS: usize = 16;
-
 /// A coordinate of the world as a zoom sees it, rounded down.
 pub(crate) fn quantise(coordinate: u32, zoom: u8) -> u32
     requires { zoom ≤ MAX_ZOOM }

@@ -1,98 +1,83 @@
 //! What a tile shows of a feature.
 
-ghost use Rattle.std.specs.Prelude.{◌≡◌, ◌≤◌, map, option_map, IfOk, IfSome};
-ghost use Rattle.feature_model.specs.Data.{feature_data, geometry_data, value_data, tag_data};
+ghost use Rattle.std.specs.Prelude.{◌≡◌, ◌≤◌, ◌↔◌, None, IfOk, IfSome};
 ghost use Rattle.feature_model.specs.Limits.{GeometryFits};
-ghost use Rattle.geometry_commands.specs.Encodable.{CanSpell};
-ghost use Rattle.geometry_commands.specs.Shapes.{shape_view};
-ghost use Rattle.mvt_layer.specs.Tile.{feature_view, tag_view, tagged};
-ghost use Rattle.tile_cutter.specs.Cut.{shown_value, shown_tag, geometry_cut, has_zoom, feature_cut};
+ghost use Rattle.feature_text.specs.Views.{geometry_view, value_view, feature_view};
+ghost use Rattle.mvt_layer.specs.Tile as mvt;
+ghost use Rattle.tile_cutter.specs.Cut.{shown_value, geometry_cut, has_zoom, feature_cut};
+ghost use Rattle.tile_cutter.specs.Put.{IsClear, HasPut, Shows};
 
-use crate::lines::lines_shape;
-use crate::points::points_shape;
-use crate::rings::rings_shape;
-use feature_model::{EditValue, Feature, Geometry, MAX_ZOOM, Tag};
-use geometry_commands::Shape;
+use crate::lines::put_lines;
+use crate::points::put_points;
+use crate::rings::put_rings;
+use feature_model::MAX_ZOOM;
+use feature_text::{FeatureText, GeometryText, ValueText};
+use geometry_commands::{PackedShape, Pt, ShapeKind};
 use hilbert_id::TileAt;
-use mvt_layer::{TagValue, TileFeature};
-use std::alloc::{AllocError, Global};
+use mvt_layer::TagValue;
+use std::alloc::AllocError;
 
 /// The value of a tag as a tile has it.
-fn shown_value(value: &EditValue) -> TagValue<'_>
-    ensures { tag_view result ≡ shown_value (value_data value.now) }
+pub fn shown_value(value: ValueText<'_>) -> TagValue<'_>
+    ensures { mvt.tag_view result ≡ shown_value (value_view value.entry) }
 {
     match value {
-        EditValue::Text(text) => TagValue::Text(text.as_str()),
-        EditValue::Natural(number) => TagValue::Natural(*number),
-        EditValue::Negative(number) => TagValue::Negative(*number),
-        EditValue::Truth(truth) => TagValue::Truth(*truth),
+        ValueText::Text(text) => TagValue::Text(text),
+        ValueText::Natural(number) => TagValue::Natural(number),
+        ValueText::Negative(number) => TagValue::Negative(number),
+        ValueText::Truth(truth) => TagValue::Truth(truth),
     }
-}
-
-/// The tags of a feature as a tile has them.
-fn shown_tags<'a>(
-    alloc: Global,
-    tags: &'a [Tag],
-) -> Result<Vec<(&'a str, TagValue<'a>)>, AllocError>
-    ensures { IfOk result (λ v. tagged v.items ≡ map shown_tag (map tag_data tags.now)) }
-{
-    let mut shown = Vec::with_capacity(alloc, tags.len())?;
-    for tag in tags {
-        shown.push((tag.key.as_str(), shown_value(&tag.value)))?;
-    }
-    Ok(shown)
 }
 
 /// Whether a feature is shown at a zoom.
-fn has_zoom(feature: &Feature, zoom: u8) -> bool
-    ensures { result ≡ has_zoom (feature_data feature.now) zoom }
+fn has_zoom(feature: FeatureText<'_>, zoom: u8) -> bool
+    ensures { result ≡ has_zoom (feature_view feature.entry) zoom }
 {
     feature.minzoom <= zoom && zoom <= feature.maxzoom
 }
 
-/// What of a geometry a tile shows.
+/// Writes what of a geometry a tile shows. `scratch` is overwritten.
 #[tactic(auto, unfolding(crate::specs::Cut::geometry_cut))]
-fn cut_geometry(alloc: Global, geometry: &Geometry, at: TileAt) -> Result<Option<Shape>, AllocError>
+fn put_geometry(
+    out: &mut PackedShape,
+    scratch: &mut Vec<Pt>,
+    geometry: GeometryText<'_>,
+    at: TileAt,
+) -> Result<Option<ShapeKind>, AllocError>
     requires zoom { at.z ≤ MAX_ZOOM }
-    requires limits { GeometryFits (geometry_data geometry.now) }
-    ensures shape { IfOk result (λ o. option_map shape_view o ≡ geometry_cut at.z at.x at.y (geometry_data geometry.now)) }
-    ensures writable { IfOk result (λ o. IfSome o (λ s. CanSpell (shape_view s))) }
+    requires limits { GeometryFits (geometry_view geometry) }
+    requires clear { IsClear out.old }
+    ensures { IfOk result (λ o. HasPut out.new o (geometry_cut at.z at.x at.y (geometry_view geometry.entry))) }
 {
     match geometry {
-        Geometry::Points(points) => points_shape(alloc, points, at),
-        Geometry::Lines(lines) => lines_shape(alloc, lines, at),
-        Geometry::Polygons(polygons) => rings_shape(alloc, polygons, at),
+        GeometryText::Points(points) => put_points(out, points, at),
+        GeometryText::Lines(lines) => put_lines(out, scratch, lines, at),
+        GeometryText::Polygons(polygons) => put_rings(out, scratch, polygons, at),
     }
 }
 
-/// What of a feature a tile shows, without a number; nothing where nothing is left of it, or where it isn't shown at
-/// the tile's zoom.
+/// Writes into `out`, which is cleared first, what of a feature's geometry a tile shows, and returns its kind; `None`
+/// where nothing is left of it, or where it isn't shown at the tile's zoom. `scratch` is overwritten.
 ///
 /// Points are shown if they are in the tile's box, which reaches `MARGIN` beyond each edge; lines as the longest chains
 /// of segments that meet the box, not clipped; polygons whole where their outer ring meets it, outer rings with
 /// positive and inner rings with negative area (Mapbox Vector Tile 2.1, 4.3.4.4). The only error is out of memory.
-#[tactic(auto, unfolding(crate::specs::Cut::feature_cut))]
-pub fn cut<'a>(
-    alloc: Global,
-    feature: &'a Feature,
+pub fn put_cut(
+    out: &mut PackedShape,
+    scratch: &mut Vec<Pt>,
+    feature: FeatureText<'_>,
     at: TileAt,
-) -> Result<Option<TileFeature<'a>>, AllocError>
+) -> Result<Option<ShapeKind>, AllocError>
     requires zoom { at.z ≤ MAX_ZOOM }
-    requires limits { GeometryFits (geometry_data feature.now.geometry) }
-    ensures cut { IfOk result (λ o. option_map feature_view o ≡ feature_cut (feature_data feature.now) at.z at.x at.y) }
-    // What is shown can be written.
-    ensures writable { IfOk result (λ o. IfSome o (λ f. CanSpell (shape_view f.shape))) }
+    requires limits { GeometryFits (geometry_view feature.geometry) }
+    ensures none { IfOk result (λ o. (o ≡ None) ↔ (feature_cut (feature_view feature.entry) at.z at.x at.y ≡ None)) }
+    // What is shown is packed, and can be written.
+    ensures shape { IfOk result (λ o. IfSome o (λ kind. Shows (feature_view feature.entry) at.z at.x at.y out.new kind)) }
 {
+    out.clear();
     if !has_zoom(feature, at.z) {
         return Ok(None);
     }
-    let Some(shape) = cut_geometry(alloc, &feature.geometry, at)? else {
-        return Ok(None);
-    };
-    let tags = shown_tags(alloc, &feature.tags)?;
-    Ok(Some(TileFeature {
-        id: None,
-        tags,
-        shape,
-    }))
+    let kind = put_geometry(out, scratch, feature.geometry, at)?;
+    Ok(kind)
 }

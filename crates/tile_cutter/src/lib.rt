@@ -8,9 +8,11 @@ mod lines;
 mod points;
 mod reach;
 mod rings;
+mod text_box;
 mod world_box;
 
 pub use coordinates::{EXTENT, MARGIN, WORLD_ZOOM};
-pub use cutting::cut;
+pub use cutting::{put_cut, shown_value};
 pub use reach::{MAX_TILES, TileRange, check_reach, cover_count, tiles_met};
-pub use world_box::{bounding_box, tile_box};
+pub use text_box::bounding_box;
+pub use world_box::tile_box;

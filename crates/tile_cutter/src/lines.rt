@@ -1,21 +1,23 @@
 //! What a tile shows of lines.
 
-ghost use Rattle.std.specs.Prelude.{◌≡◌, ◌≤◌, ◌++◌, false, option_map, All, IfOk, IfSome, OnOk};
+ghost use Rattle.std.specs.Prelude.{◌≡◌, ◌≤◌, ◌++◌, [], false, All, IfOk, OnOk};
 ghost use Rattle.feature_model.specs.Limits.{CountFits};
-ghost use Rattle.geometry_commands.specs.Encodable.{CanSpell};
+ghost use Rattle.feature_text.specs.Views.{points_view, lines_view};
+ghost use Rattle.geometry_commands.specs.Encodable.{CanSpellLines};
+ghost use Rattle.geometry_commands.specs.Packed.{Adds};
 ghost use Rattle.geometry_commands.specs.Shapes as shapes;
-ghost use Rattle.geometry_commands.specs.Shapes.{shape_view};
 ghost use Rattle.tile_cutter.specs.Cut.{line_cut, lines_cut, unless_empty};
-ghost use Rattle.tile_cutter.specs.Passes.{other_than, chain_after, chain_of, ended_by, lists_of};
-ghost use Rattle.tile_cutter.specs.Range.{IsDrawable};
+ghost use Rattle.tile_cutter.specs.Passes.{other_than, chain_after, chain_of, ended_by};
+ghost use Rattle.tile_cutter.specs.Put.{IsClear, HasPut};
+ghost use Rattle.tile_cutter.specs.Range.{IsDrawable, IsOfTile};
 
 use crate::bounds::{points_meet_box, segment_meets_box};
-use crate::coordinates::{FEW_POINTS, position, repeats};
-use feature_model::{MAX_ZOOM, World};
-use geometry_commands::{Pt, Shape};
+use crate::coordinates::{position, repeats};
+use feature_model::MAX_ZOOM;
+use feature_text::{Lines, Points};
+use geometry_commands::{PackedShape, Pt, ShapeKind};
 use hilbert_id::TileAt;
-use std::alloc::{AllocError, Global};
-use std::mem;
+use std::alloc::AllocError;
 
 /// The point before, where it is another one.
 fn other_than(before: Option<Pt>, here: Pt) -> Option<Pt>
@@ -24,96 +26,98 @@ fn other_than(before: Option<Pt>, here: Pt) -> Option<Pt>
     if repeats(before, here) { None } else { before }
 }
 
-/// Appends a chain, where there is one.
-fn close(chains: &mut Vec<Vec<Pt>>, chain: Vec<Pt>) -> Result<(), AllocError>
-    ensures { OnOk result (lists_of chains.new.items ≡ lists_of chains.old.items ++ chain_of chain.items) }
+/// Appends a chain, where there is one, and makes it empty.
+fn end_chain(out: &mut PackedShape, chain: &mut Vec<Pt>) -> Result<(), AllocError>
+    requires { CanSpellLines false out.old.at (chain_of chain.old.items) }
+    ensures chain { OnOk result (chain.new.items ≡ []) }
+    ensures put { OnOk result (Adds false out.old out.new (chain_of chain.old.items)) }
 {
     if !chain.is_empty() {
-        chains.push(chain)?;
+        out.put_line(false, chain)?;
+        chain.clear();
     }
     Ok(())
 }
 
 /// Goes on along a line: a segment that is kept makes the open chain longer, another one ends it.
-fn follow(
-    alloc: Global,
-    chains: &mut Vec<Vec<Pt>>,
-    chain: &mut Vec<Pt>,
-    from: Pt,
-    to: Pt,
-) -> Result<(), AllocError>
+fn go_on(out: &mut PackedShape, chain: &mut Vec<Pt>, from: Pt, to: Pt) -> Result<(), AllocError>
+    requires { CanSpellLines false out.old.at (chain_of chain.old.items) }
     ensures chain { OnOk result (chain.new.items ≡ chain_after chain.old.items (from, to)) }
-    ensures ended { OnOk result (lists_of chains.new.items ≡ lists_of chains.old.items ++ ended_by chain.old.items (from, to)) }
+    ensures ended { OnOk result (Adds false out.old out.new (ended_by chain.old.items (from, to))) }
 {
-    if segment_meets_box(from, to) {
-        if chain.is_empty() {
-            chain.reserve(FEW_POINTS)?;
-            chain.push(from)?;
-        }
-        chain.push(to)?;
-    } else {
-        close(chains, mem::replace(chain, Vec::new(alloc)))?;
+    if !segment_meets_box(from, to) {
+        return end_chain(out, chain);
     }
+    if chain.is_empty() {
+        chain.push(from)?;
+    }
+    chain.push(to)?;
     Ok(())
 }
 
-/// Appends what a tile shows of a line.
-fn cut_line(
-    alloc: Global,
-    chains: &mut Vec<Vec<Pt>>,
-    line: &[World],
+/// Appends what a tile shows of a line. `chain` is overwritten.
+fn put_line(
+    out: &mut PackedShape,
+    chain: &mut Vec<Pt>,
+    line: Points<'_>,
     at: TileAt,
 ) -> Result<(), AllocError>
     requires zoom { at.z ≤ MAX_ZOOM }
-    requires limits { CountFits 2 line.now }
-    ensures chains { OnOk result (lists_of chains.new.items ≡ lists_of chains.old.items ++ line_cut at.z at.x at.y line.now) }
-    ensures drawable { OnOk result (All (IsDrawable false at.x at.y) (lists_of chains.old.items)
-        → All (IsDrawable false at.x at.y) (lists_of chains.new.items)) }
+    requires limits { CountFits 2 (points_view line) }
+    requires cursor { IsOfTile at.x at.y out.old.at }
+    ensures chains { OnOk result (Adds false out.old out.new (line_cut at.z at.x at.y (points_view line.entry))) }
+    ensures drawable { OnOk result (All (IsDrawable false at.x at.y) (line_cut at.z at.x at.y (points_view line.entry))) }
 {
     if !points_meet_box(line, at) {
         return Ok(());
     }
-    let mut chain = Vec::new(alloc);
+    chain.clear();
     let mut before = None;
     for point in line {
-        let here = position(*point, at);
+        let here = position(point, at);
         if let Some(last) = other_than(before, here) {
-            follow(alloc, chains, &mut chain, last, here)?;
+            go_on(out, chain, last, here)?;
         }
         before = Some(here);
     }
-    close(chains, chain)?;
+    end_chain(out, chain)?;
     Ok(())
 }
 
-/// What a tile shows of lines.
-fn cut_lines(alloc: Global, lines: &[Vec<World>], at: TileAt) -> Result<Vec<Vec<Pt>>, AllocError>
+/// Appends what a tile shows of lines. `chain` is overwritten.
+fn put_all(
+    out: &mut PackedShape,
+    chain: &mut Vec<Pt>,
+    lines: Lines<'_>,
+    at: TileAt,
+) -> Result<(), AllocError>
     requires zoom { at.z ≤ MAX_ZOOM }
-    requires limits { All (CountFits 2) (lists_of lines.now) }
-    ensures chains { IfOk result (λ v. lists_of v.items ≡ lines_cut at.z at.x at.y (lists_of lines.now)) }
-    ensures drawable { IfOk result (λ v. All (IsDrawable false at.x at.y) (lists_of v.items)) }
+    requires limits { All (CountFits 2) (lines_view lines) }
+    requires cursor { IsOfTile at.x at.y out.old.at }
+    ensures chains { OnOk result (Adds false out.old out.new (lines_cut at.z at.x at.y (lines_view lines.entry))) }
+    ensures drawable { OnOk result (All (IsDrawable false at.x at.y) (lines_cut at.z at.x at.y (lines_view lines.entry))) }
 {
-    let mut chains = Vec::new(alloc);
     for line in lines {
-        cut_line(alloc, &mut chains, line, at)?;
+        put_line(out, chain, line, at)?;
     }
-    Ok(chains)
+    Ok(())
 }
 
-/// What a tile shows of lines, as a shape that can be written.
-pub(crate) fn lines_shape(
-    alloc: Global,
-    lines: &[Vec<World>],
+/// Writes what a tile shows of lines. `chain` is overwritten.
+pub(crate) fn put_lines(
+    out: &mut PackedShape,
+    chain: &mut Vec<Pt>,
+    lines: Lines<'_>,
     at: TileAt,
-) -> Result<Option<Shape>, AllocError>
+) -> Result<Option<ShapeKind>, AllocError>
     requires zoom { at.z ≤ MAX_ZOOM }
-    requires limits { All (CountFits 2) (lists_of lines.now) }
-    ensures shape { IfOk result (λ o. option_map shape_view o ≡ unless_empty shapes.lines (lines_cut at.z at.x at.y (lists_of lines.now))) }
-    ensures writable { IfOk result (λ o. IfSome o (λ s. CanSpell (shape_view s))) }
+    requires limits { All (CountFits 2) (lines_view lines) }
+    requires clear { IsClear out.old }
+    ensures { IfOk result (λ o. HasPut out.new o (unless_empty shapes.lines (lines_cut at.z at.x at.y (lines_view lines.entry)))) }
 {
-    let chains = cut_lines(alloc, lines, at)?;
-    if chains.is_empty() {
+    put_all(out, chain, lines, at)?;
+    if out.bytes.is_empty() {
         return Ok(None);
     }
-    Ok(Some(Shape::Lines(chains)))
+    Ok(Some(ShapeKind::Lines))
 }

@@ -1,20 +1,25 @@
 //! What a tile shows of points.
 
-ghost use Rattle.std.specs.Prelude.{◌≡◌, ◌≤◌, option_map, All, IfOk, IfSome};
+ghost use Rattle.std.specs.Prelude.{◌≡◌, ◌≤◌, ◌++◌, length, All, IfOk, OnOk};
+ghost use Rattle.std.specs.List.{flat_map};
+ghost use Rattle.pb_wire.specs.Varint.{varint};
 ghost use Rattle.feature_model.specs.Limits.{CountFits};
-ghost use Rattle.geometry_commands.specs.Encodable.{CanSpell};
+ghost use Rattle.feature_text.specs.Views.{points_view};
+ghost use Rattle.geometry_commands.specs.Commands.{steps};
 ghost use Rattle.geometry_commands.specs.Shapes as shapes;
-ghost use Rattle.geometry_commands.specs.Shapes.{shape_view};
+ghost use Rattle.geometry_commands.specs.Shapes.{last_of};
 ghost use Rattle.tile_cutter.specs.Cut.{points_cut, unless_empty};
 ghost use Rattle.tile_cutter.specs.Passes.{is_shown};
+ghost use Rattle.tile_cutter.specs.Put.{IsClear, HasPut};
 ghost use Rattle.tile_cutter.specs.Range.{IsOfTile};
 
 use crate::bounds::is_in_box;
 use crate::coordinates::{position, repeats};
-use feature_model::{MAX_ZOOM, World};
-use geometry_commands::{Pt, Shape};
+use feature_model::MAX_ZOOM;
+use feature_text::Points;
+use geometry_commands::{PackedShape, Pt, ShapeKind};
 use hilbert_id::TileAt;
-use std::alloc::{AllocError, Global};
+use std::alloc::AllocError;
 
 /// Whether a tile shows a point: it differs from the one before it, and is in the box.
 fn is_shown(before: Option<Pt>, here: Pt) -> bool
@@ -23,38 +28,60 @@ fn is_shown(before: Option<Pt>, here: Pt) -> bool
     !repeats(before, here) && is_in_box(here)
 }
 
-/// The points that a tile shows.
-fn cut_points(alloc: Global, points: &[World], at: TileAt) -> Result<Vec<Pt>, AllocError>
-    requires { at.z ≤ MAX_ZOOM }
-    ensures points { IfOk result (λ v. v.items ≡ points_cut at.z at.x at.y points.now) }
-    ensures of_tile { IfOk result (λ v. All (IsOfTile at.x at.y) v.items) }
+/// How many points a tile shows.
+fn count_shown(points: Points<'_>, at: TileAt) -> u32
+    requires zoom { at.z ≤ MAX_ZOOM }
+    requires limits { CountFits 1 (points_view points) }
+    ensures { result ≡ length (points_cut at.z at.x at.y (points_view points.entry)) }
 {
-    let mut shown = Vec::new(alloc);
+    let mut count = 0;
     let mut before = None;
     for point in points {
-        let here = position(*point, at);
+        let here = position(point, at);
         if is_shown(before, here) {
-            shown.push(here)?;
+            count += 1;
         }
         before = Some(here);
     }
-    Ok(shown)
+    count
 }
 
-/// What a tile shows of points, as a shape that can be written.
-pub(crate) fn points_shape(
-    alloc: Global,
-    points: &[World],
-    at: TileAt,
-) -> Result<Option<Shape>, AllocError>
+/// Appends the way to the points that a tile shows.
+fn put_shown(out: &mut PackedShape, points: Points<'_>, at: TileAt) -> Result<(), AllocError>
     requires zoom { at.z ≤ MAX_ZOOM }
-    requires limits { CountFits 1 points.now }
-    ensures shape { IfOk result (λ o. option_map shape_view o ≡ unless_empty shapes.points (points_cut at.z at.x at.y points.now)) }
-    ensures writable { IfOk result (λ o. IfSome o (λ s. CanSpell (shape_view s))) }
+    requires cursor { IsOfTile at.x at.y out.old.at }
+    ensures bytes { OnOk result
+        (out.new.bytes.items ≡ out.old.bytes.items ++ flat_map varint (steps out.old.at (points_cut at.z at.x at.y (points_view points.entry)))) }
+    ensures at { OnOk result (out.new.at ≡ last_of out.old.at (points_cut at.z at.x at.y (points_view points.entry))) }
+    ensures of_tile { OnOk result (All (IsOfTile at.x at.y) (points_cut at.z at.x at.y (points_view points.entry))) }
 {
-    let shown = cut_points(alloc, points, at)?;
-    if shown.is_empty() {
+    let mut before = None;
+    for point in points {
+        let here = position(point, at);
+        if is_shown(before, here) {
+            out.put_point(here)?;
+        }
+        before = Some(here);
+    }
+    Ok(())
+}
+
+/// Writes what a tile shows of points.
+pub(crate) fn put_points(
+    out: &mut PackedShape,
+    points: Points<'_>,
+    at: TileAt,
+) -> Result<Option<ShapeKind>, AllocError>
+    requires zoom { at.z ≤ MAX_ZOOM }
+    requires limits { CountFits 1 (points_view points) }
+    requires clear { IsClear out.old }
+    ensures { IfOk result (λ o. HasPut out.new o (unless_empty shapes.points (points_cut at.z at.x at.y (points_view points.entry)))) }
+{
+    let count = count_shown(points, at);
+    if count == 0 {
         return Ok(None);
     }
-    Ok(Some(Shape::Points(shown)))
+    out.begin_points(count)?;
+    put_shown(out, points, at)?;
+    Ok(Some(ShapeKind::Points))
 }

@@ -28,7 +28,7 @@ pub struct TileRange {
 }
 
 /// The box with one point more.
-fn widened(bounds: Option<WorldBox>, point: World) -> WorldBox
+pub(crate) fn widened(bounds: Option<WorldBox>, point: World) -> WorldBox
     ensures { result ≡ widened bounds point }
 {
     match bounds {
@@ -48,7 +48,7 @@ fn widened(bounds: Option<WorldBox>, point: World) -> WorldBox
 }
 
 /// The box with the points of a list.
-pub(crate) fn widened_by_list(bounds: Option<WorldBox>, points: &[World]) -> Option<WorldBox>
+fn widened_by_list(bounds: Option<WorldBox>, points: &[World]) -> Option<WorldBox>
     ensures { result ≡ bounds_after bounds points.now }
 {
     let mut bounds = bounds;

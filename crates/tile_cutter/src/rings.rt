@@ -1,20 +1,22 @@
 //! What a tile shows of polygons.
 
-ghost use Rattle.std.specs.Prelude.{◌≡◌, ◌≤◌, ◌<◌, ◌^◌, ◌*ℤ◌, ◌++◌, length, map, true, Some, option_map, option_to_list, All, IfOk, IfSome, OnOk};
+ghost use Rattle.std.specs.Prelude.{◌≡◌, ◌≤◌, ◌<◌, ◌^◌, ◌*ℤ◌, length, true, Some, option_to_list, is_some, All, IfOk, OnOk};
 ghost use Rattle.feature_model.specs.Limits.{CountFits, RingsFit};
-ghost use Rattle.geometry_commands.specs.Encodable.{CanSpell};
+ghost use Rattle.feature_text.specs.Views.{points_view, lines_view, polygons_view};
+ghost use Rattle.geometry_commands.specs.Packed.{Adds};
 ghost use Rattle.geometry_commands.specs.Shapes as shapes;
-ghost use Rattle.geometry_commands.specs.Shapes.{shape_view};
 ghost use Rattle.tile_cutter.specs.Cut.{tile_ring, is_ring, cross, twice_area, turned, inner_rings, polygon_cut, polygons_cut, unless_empty};
-ghost use Rattle.tile_cutter.specs.Passes.{returns_to_start, wound, shown_ring, lists_of};
+ghost use Rattle.tile_cutter.specs.Passes.{returns_to_start, wound, shown_ring, where_shown};
+ghost use Rattle.tile_cutter.specs.Put.{IsClear, HasPut};
 ghost use Rattle.tile_cutter.specs.Range.{IsWithin, IsSmall, IsOfTile, IsDrawable};
 
 use crate::bounds::points_meet_box;
-use crate::coordinates::{FEW_POINTS, position, repeats};
-use feature_model::{MAX_ZOOM, World};
-use geometry_commands::{Pt, Shape};
+use crate::coordinates::{position, repeats};
+use feature_model::MAX_ZOOM;
+use feature_text::{Lines, Points, Polygons};
+use geometry_commands::{PackedShape, Pt, ShapeKind};
 use hilbert_id::TileAt;
-use std::alloc::{AllocError, Global};
+use std::alloc::AllocError;
 
 /// What a ring is of a polygon.
 #[derive(Clone, Copy, PartialEq, Eq)]
@@ -33,27 +35,6 @@ fn returns_to_start(ring: &[Pt]) -> bool
         return false;
     };
     repeats(ring.last().copied(), *first)
-}
-
-/// The points of a ring in a tile, each that equals the one before it left out, and a last one that equals the first.
-fn tile_ring(alloc: Global, points: &[World], at: TileAt) -> Result<Vec<Pt>, AllocError>
-    requires { at.z ≤ MAX_ZOOM }
-    ensures ring { IfOk result (λ v. v.items ≡ tile_ring at.z at.x at.y points.now) }
-    ensures of_tile { IfOk result (λ v. All (IsOfTile at.x at.y) v.items) }
-{
-    let mut ring = Vec::with_capacity(alloc, points.len().min(FEW_POINTS))?;
-    let mut before = None;
-    for point in points {
-        let here = position(*point, at);
-        if !repeats(before, here) {
-            ring.push(here)?;
-        }
-        before = Some(here);
-    }
-    if returns_to_start(&ring) {
-        ring.pop();
-    }
-    Ok(ring)
 }
 
 /// The product of two coordinates.
@@ -77,19 +58,20 @@ fn cross(from: Pt, to: Pt) -> i128
 }
 
 /// Twice the area of a ring in a tile by the surveyor's formula.
-fn twice_area(points: &[World], at: TileAt) -> i128
+fn twice_area(points: Points<'_>, at: TileAt) -> i128
     requires zoom { at.z ≤ MAX_ZOOM }
-    requires few { length points.now < 2 ^ 29 }
-    ensures { result ≡ twice_area (tile_ring at.z at.x at.y points.now) }
+    requires few { length (points_view points) < 2 ^ 29 }
+    ensures { result ≡ twice_area (tile_ring at.z at.x at.y (points_view points.entry)) }
 {
-    let Some((first, others)) = points.split_first() else {
+    let mut others = points;
+    let Some(first) = others.next() else {
         return 0;
     };
-    let start = position(*first, at);
+    let start = position(first, at);
     let mut sum = 0;
     let mut from = start;
     for point in others {
-        let to = position(*point, at);
+        let to = position(point, at);
         sum += cross(from, to);
         from = to;
     }
@@ -104,133 +86,171 @@ fn turn(ring: &mut [Pt])
     ring[1..].reverse();
 }
 
-/// The ring, of which twice the area is given, the way round that it has to go.
-fn wound(mut ring: Vec<Pt>, area: i128, role: Role) -> Vec<Pt>
-    requires area { area ≡ twice_area ring.items }
-    requires ring { is_ring ring.items ≡ true }
-    ensures { Some result.items ≡ wound role ring.items }
+/// Puts the points of a ring in a tile into `ring`, each that equals the one before it left out, and a last one that
+/// equals the first.
+fn gather_ring(ring: &mut Vec<Pt>, points: Points<'_>, at: TileAt) -> Result<(), AllocError>
+    requires { at.z ≤ MAX_ZOOM }
+    ensures ring { OnOk result (ring.new.items ≡ tile_ring at.z at.x at.y (points_view points.entry)) }
+    ensures of_tile { OnOk result (All (IsOfTile at.x at.y) ring.new.items) }
+{
+    ring.clear();
+    let mut before = None;
+    for point in points {
+        let here = position(point, at);
+        if !repeats(before, here) {
+            ring.push(here)?;
+        }
+        before = Some(here);
+    }
+    if returns_to_start(ring) {
+        ring.pop();
+    }
+    Ok(())
+}
+
+/// Turns the ring, of which twice the area is given, the way round that it has to go.
+fn wind(ring: &mut [Pt], area: i128, role: Role)
+    requires area { area ≡ twice_area ring.old }
+    requires ring { is_ring ring.old ≡ true }
+    ensures { Some ring.new ≡ wound role ring.old }
 {
     let goes_wrong = match role {
         Role::Outer => area < 0,
         Role::Inner => 0 < area,
     };
     if goes_wrong {
-        turn(&mut ring);
+        turn(ring);
     }
-    ring
 }
 
-/// What a tile shows of a ring: the ring the way round that it has to go, where it has three points and an area; an
-/// outer ring has to meet the box, too. A ring that isn't shown takes no memory.
-fn shown_ring(
-    alloc: Global,
-    points: &[World],
+/// Whether a tile shows a ring: where it has three points and an area; an outer ring has to meet the box, too. A ring that
+/// is shown is in `ring`, the way round that it has to go.
+fn is_ring_shown(
+    ring: &mut Vec<Pt>,
+    points: Points<'_>,
     at: TileAt,
     role: Role,
-) -> Result<Option<Vec<Pt>>, AllocError>
+) -> Result<bool, AllocError>
     requires zoom { at.z ≤ MAX_ZOOM }
-    requires few { length points.now < 2 ^ 29 }
-    ensures ring { IfOk result (λ o. option_map (λ v. v.items) o ≡ shown_ring role (tile_ring at.z at.x at.y points.now)) }
-    ensures drawable { IfOk result (λ o. IfSome o (λ v. IsDrawable true at.x at.y v.items)) }
+    requires few { length (points_view points) < 2 ^ 29 }
+    ensures ring { IfOk result (λ shown. where_shown shown ring.new.items ≡ shown_ring role (tile_ring at.z at.x at.y (points_view points.entry))) }
+    ensures drawable { OnOk result
+        (All (IsDrawable true at.x at.y) (option_to_list (shown_ring role (tile_ring at.z at.x at.y (points_view points.entry))))) }
 {
     if role == Role::Outer && !points_meet_box(points, at) {
-        return Ok(None);
+        return Ok(false);
     }
     // Fewer than three points have no area.
     let area = twice_area(points, at);
     if area == 0 {
-        return Ok(None);
+        return Ok(false);
     }
-    let ring = tile_ring(alloc, points, at)?;
-    Ok(Some(wound(ring, area, role)))
+    gather_ring(ring, points, at)?;
+    wind(ring, area, role);
+    Ok(true)
 }
 
-/// Appends a ring, where there is one.
-fn put(shown: &mut Vec<Vec<Pt>>, ring: Option<Vec<Pt>>) -> Result<(), AllocError>
-    ensures { OnOk result (lists_of shown.new.items ≡ lists_of shown.old.items ++ option_to_list (option_map (λ v. v.items) ring)) }
-{
-    if let Some(ring) = ring {
-        shown.push(ring)?;
-    }
-    Ok(())
-}
-
-/// Appends what a tile shows of inner rings.
-fn cut_inner_rings(
-    alloc: Global,
-    shown: &mut Vec<Vec<Pt>>,
-    inners: &[Vec<World>],
+/// Appends what a tile shows of a ring, and says whether it shows it. `ring` is overwritten.
+fn put_ring(
+    out: &mut PackedShape,
+    ring: &mut Vec<Pt>,
+    points: Points<'_>,
     at: TileAt,
-) -> Result<(), AllocError>
+    role: Role,
+) -> Result<bool, AllocError>
     requires zoom { at.z ≤ MAX_ZOOM }
-    requires limits { All (CountFits 3) (lists_of inners.now) }
-    ensures rings { OnOk result (lists_of shown.new.items ≡ lists_of shown.old.items ++ inner_rings at.z at.x at.y (lists_of inners.now)) }
-    ensures drawable { OnOk result (All (IsDrawable true at.x at.y) (lists_of shown.old.items)
-        → All (IsDrawable true at.x at.y) (lists_of shown.new.items)) }
+    requires few { length (points_view points) < 2 ^ 29 }
+    requires cursor { IsOfTile at.x at.y out.old.at }
+    ensures shown { IfOk result (λ b. b ≡ is_some (shown_ring role (tile_ring at.z at.x at.y (points_view points.entry)))) }
+    ensures put { OnOk result (Adds true out.old out.new (option_to_list (shown_ring role (tile_ring at.z at.x at.y (points_view points.entry))))) }
+    ensures drawable { OnOk result
+        (All (IsDrawable true at.x at.y) (option_to_list (shown_ring role (tile_ring at.z at.x at.y (points_view points.entry))))) }
 {
-    for inner in inners {
-        let ring = shown_ring(alloc, inner, at, Role::Inner)?;
-        put(shown, ring)?;
-    }
-    Ok(())
-}
-
-/// Appends what a tile shows of a polygon: all its rings where the outer one, which is the first, is shown.
-fn cut_polygon(
-    alloc: Global,
-    shown: &mut Vec<Vec<Pt>>,
-    polygon: &[Vec<World>],
-    at: TileAt,
-) -> Result<(), AllocError>
-    requires zoom { at.z ≤ MAX_ZOOM }
-    requires limits { RingsFit (lists_of polygon.now) }
-    ensures rings { OnOk result (lists_of shown.new.items ≡ lists_of shown.old.items ++ polygon_cut at.z at.x at.y (lists_of polygon.now)) }
-    ensures drawable { OnOk result (All (IsDrawable true at.x at.y) (lists_of shown.old.items)
-        → All (IsDrawable true at.x at.y) (lists_of shown.new.items)) }
-{
-    let Some((outer, inners)) = polygon.split_first() else {
-        return Ok(());
-    };
-    if let Some(ring) = shown_ring(alloc, outer, at, Role::Outer)? {
-        shown.push(ring)?;
-        cut_inner_rings(alloc, shown, inners, at)?;
-    }
-    Ok(())
-}
-
-/// What a tile shows of polygons.
-fn cut_polygons(
-    alloc: Global,
-    polygons: &[Vec<Vec<World>>],
-    at: TileAt,
-) -> Result<Vec<Vec<Pt>>, AllocError>
-    requires zoom { at.z ≤ MAX_ZOOM }
-    requires limits { All RingsFit (map (λ p. lists_of p.items) polygons.now) }
-    ensures rings { IfOk result (λ v. lists_of v.items ≡ polygons_cut at.z at.x at.y (map (λ p. lists_of p.items) polygons.now)) }
-    ensures drawable { IfOk result (λ v. All (IsDrawable true at.x at.y) (lists_of v.items)) }
-{
-    let mut shown = Vec::new(alloc);
-    for polygon in polygons {
-        cut_polygon(alloc, &mut shown, polygon, at)?;
+    let shown = is_ring_shown(ring, points, at, role)?;
+    if shown {
+        out.put_line(true, ring)?;
     }
     Ok(shown)
 }
 
-/// What a tile shows of polygons, as a shape that can be written.
-pub(crate) fn rings_shape(
-    alloc: Global,
-    polygons: &[Vec<Vec<World>>],
+/// Appends what a tile shows of inner rings. `ring` is overwritten.
+fn put_inner_rings(
+    out: &mut PackedShape,
+    ring: &mut Vec<Pt>,
+    inners: Lines<'_>,
     at: TileAt,
-) -> Result<Option<Shape>, AllocError>
+) -> Result<(), AllocError>
     requires zoom { at.z ≤ MAX_ZOOM }
-    requires limits { All RingsFit (map (λ p. lists_of p.items) polygons.now) }
-    ensures shape { IfOk result
-        (λ o. option_map shape_view o ≡ unless_empty shapes.rings (polygons_cut at.z at.x at.y (map (λ p. lists_of p.items) polygons.now))) }
-    ensures writable { IfOk result (λ o. IfSome o (λ s. CanSpell (shape_view s))) }
+    requires limits { All (CountFits 3) (lines_view inners) }
+    requires cursor { IsOfTile at.x at.y out.old.at }
+    ensures rings { OnOk result (Adds true out.old out.new (inner_rings at.z at.x at.y (lines_view inners.entry))) }
+    ensures drawable { OnOk result (All (IsDrawable true at.x at.y) (inner_rings at.z at.x at.y (lines_view inners.entry))) }
 {
-    let shown = cut_polygons(alloc, polygons, at)?;
-    if shown.is_empty() {
+    for inner in inners {
+        put_ring(out, ring, inner, at, Role::Inner)?;
+    }
+    Ok(())
+}
+
+/// Appends what a tile shows of a polygon: all its rings where the outer one, which is the first, is shown. `ring` is
+/// overwritten.
+fn put_polygon(
+    out: &mut PackedShape,
+    ring: &mut Vec<Pt>,
+    polygon: Lines<'_>,
+    at: TileAt,
+) -> Result<(), AllocError>
+    requires zoom { at.z ≤ MAX_ZOOM }
+    requires limits { RingsFit (lines_view polygon) }
+    requires cursor { IsOfTile at.x at.y out.old.at }
+    ensures rings { OnOk result (Adds true out.old out.new (polygon_cut at.z at.x at.y (lines_view polygon.entry))) }
+    ensures drawable { OnOk result (All (IsDrawable true at.x at.y) (polygon_cut at.z at.x at.y (lines_view polygon.entry))) }
+{
+    let mut inners = polygon;
+    let Some(outer) = inners.next() else {
+        return Ok(());
+    };
+    if put_ring(out, ring, outer, at, Role::Outer)? {
+        put_inner_rings(out, ring, inners, at)?;
+    }
+    Ok(())
+}
+
+/// Appends what a tile shows of polygons. `ring` is overwritten.
+fn put_all(
+    out: &mut PackedShape,
+    ring: &mut Vec<Pt>,
+    polygons: Polygons<'_>,
+    at: TileAt,
+) -> Result<(), AllocError>
+    requires zoom { at.z ≤ MAX_ZOOM }
+    requires limits { All RingsFit (polygons_view polygons) }
+    requires cursor { IsOfTile at.x at.y out.old.at }
+    ensures rings { OnOk result (Adds true out.old out.new (polygons_cut at.z at.x at.y (polygons_view polygons.entry))) }
+    ensures drawable { OnOk result (All (IsDrawable true at.x at.y) (polygons_cut at.z at.x at.y (polygons_view polygons.entry))) }
+{
+    for polygon in polygons {
+        put_polygon(out, ring, polygon, at)?;
+    }
+    Ok(())
+}
+
+/// Writes what a tile shows of polygons. `ring` is overwritten.
+pub(crate) fn put_rings(
+    out: &mut PackedShape,
+    ring: &mut Vec<Pt>,
+    polygons: Polygons<'_>,
+    at: TileAt,
+) -> Result<Option<ShapeKind>, AllocError>
+    requires zoom { at.z ≤ MAX_ZOOM }
+    requires limits { All RingsFit (polygons_view polygons) }
+    requires clear { IsClear out.old }
+    ensures { IfOk result
+        (λ o. HasPut out.new o (unless_empty shapes.rings (polygons_cut at.z at.x at.y (polygons_view polygons.entry)))) }
+{
+    put_all(out, ring, polygons, at)?;
+    if out.bytes.is_empty() {
         return Ok(None);
     }
-    Ok(Some(Shape::Rings(shown)))
+    Ok(Some(ShapeKind::Polygons))
 }

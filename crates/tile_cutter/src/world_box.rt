@@ -1,14 +1,13 @@
 //! Boxes of the world: of a feature, and of what a tile shows.
 
 ghost use Rattle.std.specs.Prelude.{◌≡◌, ◌-◌, ◌*◌, ◌≤◌, ◌^◌, min};
-ghost use Rattle.feature_model.specs.Data.{FeatureData, geometry_data};
+ghost use Rattle.feature_model.specs.Data.{FeatureData};
 ghost use Rattle.feature_model.specs.Types.{LiesInWorld};
 ghost use Rattle.tile_cutter.specs.Cut.{feature_cut};
 ghost use Rattle.tile_cutter.specs.WorldBox.{bounding_box, first_shown, last_shown, tile_box, Meets};
 
 use crate::coordinates::{EXTENT, MARGIN, WORLD_ZOOM};
-use crate::reach::{bounds_of, or_origin};
-use feature_model::{Feature, MAX_ZOOM, WorldBox};
+use feature_model::{MAX_ZOOM, WorldBox};
 use hilbert_id::TileAt;
 
 /// The number of coordinates of the world in one of a zoom.
@@ -53,14 +52,6 @@ fn last_shown(at: u32, zoom: u8) -> u32
     let after = scaled(end, zoom);
     let last = after.saturating_sub(1);
     in_world(last)
-}
-
-/// The bounding box of a feature; without points, the world's upper left corner.
-pub fn bounding_box(feature: &Feature) -> WorldBox
-    ensures { result ≡ bounding_box (geometry_data feature.now.geometry) }
-{
-    let bounds = bounds_of(&feature.geometry);
-    or_origin(bounds)
 }
 
 /// The box of the world that a tile shows: the part of the world in the tile's box, which reaches `MARGIN` beyond each edge.

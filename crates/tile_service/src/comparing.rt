@@ -1,18 +1,32 @@
 //! What the author of an edit saw, compared with the map.
-ghost use Rattle.std.specs.Prelude.{◌↔◌, map, All, IsTrue, MatchOption};
+ghost use Rattle.std.specs.Prelude.{◌≡◌, ◌↔◌, map, All, IsTrue, MatchOption, option_map};
+ghost use Rattle.feature_model.specs.Data.{feature_data};
 ghost use Rattle.feature_model.specs.Seen.{seen_data};
+ghost use Rattle.feature_text.specs.Views.{feature_view};
 ghost use Rattle.tile_service.specs.Seen.{IsAsSeen, IsFirstChanged};
 
 use crate::service::Service;
-use feature_model::Seen;
+use feature_model::{Feature, Seen};
 use feature_store::Store;
+use feature_text::{FeatureText, is_feature};
 use sector_disk::Sectors;
+
+/// Whether a feature is still the one that was seen, or both are missing.
+fn is_same(found: Option<FeatureText<'_>>, seen: &Option<Feature>) -> bool
+    ensures { IsTrue result ↔ (option_map feature_view found.entry ≡ option_map feature_data seen.now) }
+{
+    match (found, seen) {
+        (Some(found), Some(seen)) => is_feature(found, seen),
+        (None, None) => true,
+        (Some(_), None) | (None, Some(_)) => false,
+    }
+}
 
 /// Whether a number still has the feature that was seen, or still none.
 fn is_as_seen(store: &Store, seen: &Seen) -> bool
     ensures { IsTrue result ↔ IsAsSeen store.now.features (seen_data seen.now) }
 {
-    seen.is_still(store.get(seen.id))
+    is_same(store.get(seen.id), &seen.feature)
 }
 
 /// The number of the first that has another feature than was seen.

@@ -1,11 +1,12 @@
 //! Edits: written to the journal first, then applied to the map.
-ghost use Rattle.std.specs.Prelude.{◌≡◌, ◌≢◌, ◌↔◌, ◌+◌, ◌-◌, ◌<◌, ◌^◌, ℕ, true, false, [], ◌∷◌, map, All, IfErr, IfOk, OnOk, IsSome, IsTrue, None};
+ghost use Rattle.std.specs.Prelude.{◌≡◌, ◌≢◌, ◌↔◌, ◌+◌, ◌-◌, ◌<◌, ◌≤◌, ◌^◌, ℕ, length, true, false, [], ◌∷◌, map, All, IfErr, IfOk, OnOk, IsSome, IsTrue, None};
 ghost use Rattle.edit_journal.specs.declared.fault.JournalFault.TheVariants as journals;
 ghost use Rattle.feature_model.specs.Data.{feature_data, change_data, edit_data, put, delete};
 ghost use Rattle.feature_model.specs.Limits.{NumberFits, ChangeFits, IsAllowedEdit};
-ghost use Rattle.edit_text.specs.Recorded.{FitsVersion, text_in};
+ghost use Rattle.edit_text.specs.Recorded.{FitsVersion, IsRecordOf, text_in, most_in};
 ghost use Rattle.feature_model.specs.Spelled.{spelled};
-ghost use Rattle.feature_store.specs.Store.{feature_at};
+ghost use Rattle.feature_store.specs.Prepared.{prepared_data};
+ghost use Rattle.feature_store.specs.Store.{feature_at, puts_in};
 ghost use Rattle.tile_service.specs.Limits.{KeepsLimits, BreaksLimit, CoversFewTiles, KeepsBatchLimits, BreaksBatchLimit};
 ghost use Rattle.tile_service.specs.Machine.{Call, single, batched, recorded_in, recorded_change, HasTarget, CanMake, Allocates, AnswersEdit};
 ghost use Rattle.tile_service.specs.Runs.{TakesEdit};
@@ -14,10 +15,11 @@ ghost use Rattle.tile_service.specs.declared.fault.ServiceFault.TheVariants.{Lim
 
 use crate::fault::ServiceFault;
 use crate::service::Service;
+use cached_map::CachedMap;
 use edit_journal::JournalFault;
-use edit_text::{delete_edit_text, encode_record};
+use edit_text::delete_edit_text;
 use feature_model::{Change, Edit, EditFault, Feature, check, check_batch};
-use feature_store::Store;
+use feature_store::{Prepared, Store, record_of};
 use generations::FIRST_VERSION;
 use sector_disk::Sectors;
 use std::alloc::{AllocError, Global};
@@ -139,6 +141,27 @@ fn to_service_fault(fault: JournalFault) -> ServiceFault
     }
 }
 
+/// The changes of an edit as the map keeps them, with memory for them, and the text of its record, joined from theirs.
+fn prepare(
+    alloc: Global,
+    version: u32,
+    cached: &mut CachedMap,
+    edit: &Edit,
+) -> Result<(Vec<Prepared>, Vec<u8>), AllocError>
+    requires allowed { IsAllowedEdit (edit_data edit.now) }
+    requires fits { FitsVersion version (edit_data edit.now) }
+    ensures same { cached.new ≡ record cached.old { spare = cached.new.spare } }
+    ensures prepared { IfOk result (λ r. map prepared_data r.0.items ≡ edit_data edit.now) }
+    ensures room { OnOk result (puts_in (edit_data edit.now) ≤ cached.new.spare) }
+    ensures text { IfOk result (λ r. r.1.items ≡ text_in version (edit_data edit.now)) }
+    ensures record { IfOk result (λ r. IsRecordOf version (edit_data edit.now) r.1.items) }
+    ensures len { IfOk result (λ r. length r.1.items ≤ most_in version) }
+{
+    let changes = cached.prepare(&edit.changes)?;
+    let text = record_of(alloc, version, &changes)?;
+    Ok((changes, text))
+}
+
 impl<D: Sectors + Drop> Service<D> {
     /// Converts the fault of an append. After `Device` the service is broken and the publication is cancelled.
     fn fail(&mut self, fault: JournalFault) -> ServiceFault
@@ -167,17 +190,13 @@ impl<D: Sectors + Drop> Service<D> {
         ensures takes { (call : Call) → TakesEdit D.sectors D.honest D.history D.faults self.old call
             (recorded_in self.old.version (edit_data requested)) result self.new }
     {
-        let text = match encode_record(self.alloc, self.version, &requested) {
-            Ok(text) => text,
+        let (changes, text) = match prepare(self.alloc, self.version, &mut self.map, &requested) {
+            Ok((changes, text)) => (changes, text),
             Err(AllocError) => return Err(ServiceFault::Memory),
         };
-        match self.map.room_all(&requested.changes) {
-            Ok(()) => {}
-            Err(AllocError) => return Err(ServiceFault::Memory),
-        }
         match self.journal.append(&mut self.disk, self.version, &text) {
             Ok(number) => {
-                self.map.make_edit(requested.changes, number);
+                self.map.make_edit(changes, number);
                 Ok(number)
             }
             Err(fault) => Err(self.fail(fault)),

@@ -1,11 +1,11 @@
 //! The map after the edits in the journal.
-ghost use Rattle.std.specs.Prelude.{◌≡◌, ◌<◌, ◌+◌, ◌^◌, ℕ, length, IfOk, IfErr, OnOk};
+ghost use Rattle.std.specs.Prelude.{◌≡◌, ◌<◌, ◌+◌, ◌^◌, ℕ, length, map, IfOk, IfErr, OnOk};
 ghost use Rattle.cached_map.specs.Cached.{WasMap, AreReadRight};
 ghost use Rattle.edit_journal.specs.Records.{record_data, records_of};
 ghost use Rattle.edit_text.specs.Recorded.{RecordedEdit};
-ghost use Rattle.feature_model.specs.Data.{edit_data};
 ghost use Rattle.feature_model.specs.Spelled.{spelled_changes};
 ghost use Rattle.feature_model.specs.Types.{IsEdit};
+ghost use Rattle.feature_store.specs.Prepared.{prepared_data};
 ghost use Rattle.feature_store.specs.Store.{FeatureMap, edited, snapshot};
 ghost use Rattle.feature_store.specs.declared.limit.TheConstants.{TEXTS_END};
 ghost use Rattle.generations.specs.declared.fault.StoreFault.TheVariants.{Damaged, Memory};
@@ -16,43 +16,43 @@ ghost use Rattle.tile_service.specs.Replayed.{IsRecordFor, AreMade, IsRecordFaul
 
 use cached_map::CachedMap;
 use edit_journal::Record;
-use edit_text::{TextFault, decode_record};
-use feature_model::Edit;
+use edit_text::TextFault;
+use feature_store::{Prepared, read_record};
 use generations::{StoreFault, What};
 use std::alloc::{AllocError, Global};
 
-/// Decodes the edit of a record.
-fn edit_in(alloc: Global, recorded: &Record) -> Result<Edit, StoreFault>
-    ensures edit { IfOk result (λ edit. IsRecordFor (record_data recorded.now) (recorded_in recorded.now.version (edit_data edit))) }
+/// The changes of a record's edit, as the map keeps them.
+fn changes_in(alloc: Global, recorded: &Record) -> Result<Vec<Prepared>, StoreFault>
+    ensures edit { IfOk result (λ v. IsRecordFor (record_data recorded.now) (recorded_in recorded.now.version (map prepared_data v.items))) }
     ensures fault { IfErr result (IsRecordFault (record_data recorded.now)) }
 {
-    match decode_record(alloc, recorded.version, &recorded.text) {
-        Ok(edit) => Ok(edit),
+    match read_record(alloc, recorded.version, &recorded.text) {
+        Ok(changes) => Ok(changes),
         Err(TextFault::Memory) => Err(StoreFault::Memory),
         Err(TextFault::Cut | TextFault::Bad) => Err(StoreFault::Damaged(What::Text)),
     }
 }
 
 /// Applies the map's next edit.
-fn make(map: &mut CachedMap, edit: Edit) -> Result<(), StoreFault>
-    requires edit { IsEdit (edit_data edit) }
-    requires texts { length (snapshot map.old.features) + length (spelled_changes (edit_data edit)) < TEXTS_END }
-    requires number { map.old.last + 1 < 2 ^ 64 }
-    ensures map { OnOk result (map.new.features ≡ edited map.old.features (edit_data edit)) }
-    ensures last { OnOk result (map.new.last ≡ map.old.last + 1) }
-    ensures now { OnOk result (WasMap map.new.features map.new.touched map.new.last map.new.last map.new.features) }
-    ensures since { (n : ℕ) (was : FeatureMap) → WasMap map.old.features map.old.touched map.old.last n was
-        → OnOk result (WasMap map.new.features map.new.touched map.new.last n was) }
-    ensures reads { AreReadRight map.old.features map.old.touched map.old.last map.old.kept
-        → OnOk result (AreReadRight map.new.features map.new.touched map.new.last map.new.kept) }
+fn make(cached: &mut CachedMap, changes: Vec<Prepared>) -> Result<(), StoreFault>
+    requires edit { IsEdit (map prepared_data changes.items) }
+    requires texts { length (snapshot cached.old.features) + length (spelled_changes (map prepared_data changes.items)) < TEXTS_END }
+    requires number { cached.old.last + 1 < 2 ^ 64 }
+    ensures map { OnOk result (cached.new.features ≡ edited cached.old.features (map prepared_data changes.items)) }
+    ensures last { OnOk result (cached.new.last ≡ cached.old.last + 1) }
+    ensures now { OnOk result (WasMap cached.new.features cached.new.touched cached.new.last cached.new.last cached.new.features) }
+    ensures since { (n : ℕ) (was : FeatureMap) → WasMap cached.old.features cached.old.touched cached.old.last n was
+        → OnOk result (WasMap cached.new.features cached.new.touched cached.new.last n was) }
+    ensures reads { AreReadRight cached.old.features cached.old.touched cached.old.last cached.old.kept
+        → OnOk result (AreReadRight cached.new.features cached.new.touched cached.new.last cached.new.kept) }
     ensures fault { IfErr result (λ fault. fault ≡ Memory) }
 {
-    let number = map.last() + 1;
-    match map.room_all(&edit.changes) {
+    let number = cached.last() + 1;
+    match cached.room_for(&changes) {
         Ok(()) => {}
         Err(AllocError) => return Err(StoreFault::Memory),
     }
-    map.make_edit(edit.changes, number);
+    cached.make_edit(changes, number);
     Ok(())
 }
 
@@ -69,11 +69,11 @@ fn replay_one(alloc: Global, map: &mut CachedMap, recorded: &Record) -> Result<(
         → OnOk result (AreReadRight map.new.features map.new.touched map.new.last map.new.kept) }
     ensures fault { IfErr result (IsRecordFault (record_data recorded.now)) }
 {
-    let edit = edit_in(alloc, recorded)?;
-    make(map, edit)
+    let changes = changes_in(alloc, recorded)?;
+    make(map, changes)
 }
 
-/// Decodes the edits of records and applies them to the map in order, with consecutive numbers. `Damaged(Text)`: one of them is the
+/// Reads the edits of records and applies them to the map in order, with consecutive numbers. `Damaged(Text)`: one of them is the
 /// record of no edit. `Memory`: an allocation failed. After an error the edits before the faulty record are applied. Each record is
 /// freed as soon as its edit is applied.
 pub(crate) fn replay(

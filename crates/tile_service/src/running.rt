@@ -15,7 +15,7 @@ ghost use Rattle.tile_service.specs.declared.fault.ServiceFault.TheVariants.{Mem
 use crate::event::{Answer, Event};
 use crate::fault::ServiceFault;
 use crate::service::Service;
-use feature_model::copy;
+use feature_text::to_feature;
 use sector_disk::Sectors;
 use std::alloc::AllocError;
 
@@ -47,7 +47,7 @@ impl<D: Sectors + Drop> Service<D> {
     {
         match self.feature(id) {
             None => Answer::Look(None),
-            Some(feature) => match copy(self.alloc, feature) {
+            Some(feature) => match to_feature(self.alloc, feature) {
                 Ok(copy) => Answer::Look(Some(copy)),
                 Err(AllocError) => Answer::Refused(ServiceFault::Memory),
             },

@@ -1,11 +1,10 @@
 //! What a service shows.
 ghost use Rattle.std.specs.Prelude.{◌≡◌, ℕ, List, Some, not, false, true, IfErr, IfOk, IfSome, MatchResult, option_map};
-ghost use Rattle.feature_model.specs.Data.{feature_data};
 ghost use Rattle.feature_model.specs.Limits.{IsAllowed};
 ghost use Rattle.feature_store.specs.Content.{IsTileContent};
 ghost use Rattle.feature_store.specs.Layers.{layers};
-ghost use Rattle.feature_store.specs.Inside.{numbered_data};
 ghost use Rattle.feature_store.specs.Store.{feature_at, feature_from};
+ghost use Rattle.feature_text.specs.Views.{feature_view};
 ghost use Rattle.map_metadata.specs.Metadata.{IsMetadata};
 ghost use Rattle.pm_archive.specs.Answers.{IsOutside};
 ghost use Rattle.sector_bytes.specs.Counts.{NeverFalls};
@@ -22,7 +21,7 @@ ghost use Rattle.tile_service.specs.declared.fault.ServiceFault.TheVariants.{Mem
 use crate::fault::ServiceFault;
 use crate::service::Service;
 use bytes::Bytes;
-use feature_model::Feature;
+use feature_text::FeatureText;
 use hilbert_id::TileAt;
 use map_metadata::metadata;
 use pm_archive::ArchiveFault;
@@ -45,18 +44,18 @@ fn share(found: Result<Option<Vec<u8>>, ArchiveFault>) -> Result<Option<Bytes>, 
 
 impl<D: Sectors + Drop> Service<D> {
     /// The feature of an id, after the last acknowledged edit. It is within the limits. It doesn't allocate.
-    pub fn feature(&self, id: u64) -> Option<&Feature>
-        ensures found { option_map (λ f. feature_data f.now) result ≡ feature_at self.now.features id }
-        ensures allowed { IfSome result (λ f. IsAllowed id (feature_data f.now)) }
+    pub fn feature(&self, id: u64) -> Option<FeatureText<'_>>
+        ensures found { option_map feature_view result ≡ feature_at self.now.features id }
+        ensures allowed { IfSome result (λ f. IsAllowed id (feature_view f)) }
     {
         self.map.store().get(id)
     }
 
     /// The first feature with an id or a greater one, and its id, after the last acknowledged edit. It is within the limits. It doesn't
     /// allocate.
-    pub fn feature_from(&self, id: u64) -> Option<(u64, &Feature)>
-        ensures found { option_map numbered_data result ≡ feature_from self.now.features id }
-        ensures allowed { IfSome result (λ e. IsAllowed e.0 (feature_data e.1.now)) }
+    pub fn feature_from(&self, id: u64) -> Option<(u64, FeatureText<'_>)>
+        ensures found { option_map (λ e. (e.0, feature_view e.1)) result ≡ feature_from self.now.features id }
+        ensures allowed { IfSome result (λ e. IsAllowed e.0 (feature_view e.1)) }
     {
         self.map.store().first_from(id)
     }

@@ -1,10 +1,8 @@
-use Rattle.std.proofs.Common.{◌≡◌, ◌∙◌, List, [], ◌∷◌, ◌++◌, length, map, All, refl, sym, ap, subst, append_assoc, append-nil, arith}
+use Rattle.std.proofs.Common.{◌≡◌, ◌∙◌, List, [], ◌∷◌, ◌++◌, length, map, refl, sym, ap, subst, append_assoc, append-nil, arith}
 use Rattle.std.proofs.lemmas.List.{map-append}
-use Rattle.std.proofs.lemmas.List.Elements.{All-tail}
 use Rattle.std.specs.Vec.Iter.{into_iter_items}
-use Rattle.feature_model.specs.Data.{change_data}
+use Rattle.feature_store.specs.Prepared.{prepared_data}
 use Rattle.feature_model.specs.Spelled.{spelled_changes}
-use Rattle.feature_model.specs.Types.{IsChange}
 use Rattle.feature_store.specs.Store.{changed, edited, snapshot, puts_in}
 use Rattle.tile_cache.specs.Touched.{Remembers, StaysElsewhere}
 use Rattle.cached_map.specs.Cached.{marks_of, marks_after}
@@ -13,14 +11,14 @@ use Rattle.cached_map.proofs.cached_map.make_each.Goals as goal
 
 pub make_one-requires-clause-texts : goal.make_one-requires-clause-texts
 make_one-requires-clause-texts c =
-    let change = change_data c.in-Some.change in
-    let rest = map change_data (into_iter_items c.next.new.self) in
+    let change = prepared_data c.in-Some.change in
+    let rest = map prepared_data (into_iter_items c.next.new.self) in
     omega (
       arith,
       c.loop-change.invariant.short,
       changed_short c.loop-change.store.features change,
       texts_on change rest,
-      ap (λ l. length (spelled_changes (map change_data l))) c.in-Some.ensures.steps.0,
+      ap (λ l. length (spelled_changes (map prepared_data l))) c.in-Some.ensures.steps.0,
     )
 
 pub loop-change-preserved : goal.loop-change-preserved
@@ -28,13 +26,13 @@ loop-change-preserved c =
     let inv = c.loop-change.invariant in
     let steps = c.in-Some.ensures.steps in
     let yielded = c.loop-change.yielded in
-    let done = map change_data yielded in
-    let change = change_data c.in-Some.change in
+    let done = map prepared_data yielded in
+    let change = prepared_data c.in-Some.change in
     let left = into_iter_items c.next.new.self in
-    let rest = map change_data left in
+    let rest = map prepared_data left in
     let first = c.args.store.now.features in
     let number = c.args.number in
-    let one_more = sym (map-append change_data yielded (c.in-Some.change ∷ [])) in
+    let one_more = sym (map-append prepared_data yielded (c.in-Some.change ∷ [])) in
     record {
       can_next = tt;
       is_finite = tt;
@@ -49,20 +47,19 @@ loop-change-preserved c =
           (ap (λ m. marks_of m change number (marks_after first done number marks)) inv.map_is ∙ sym (marks_push first done change number marks)
           ∙ ap (λ cs. marks_after first cs number marks) one_more)
           (c.make_one.ensures.stays (marks_after first done number marks) start (inv.stays marks start stay));
-      are = All-tail IsChange change rest (subst (λ l. All IsChange (map change_data l)) steps.0 inv.are);
       room = omega (
         arith,
         inv.room,
         c.make_one.ensures.spare,
         puts_first change rest,
-        ap (λ l. puts_in (map change_data l)) steps.0,
+        ap (λ l. puts_in (map prepared_data l)) steps.0,
       );
       short = omega (
         arith,
         inv.short,
         changed_short c.loop-change.store.features change,
         texts_on change rest,
-        ap (λ l. length (spelled_changes (map change_data l))) steps.0,
+        ap (λ l. length (spelled_changes (map prepared_data l))) steps.0,
         ap (λ m. length (snapshot m)) c.make_one.ensures.map,
       );
     }
@@ -78,4 +75,4 @@ returns-clause-stays c marks first before =
     let yielded = c.loop-change.yielded in
     let empty = nothing_left (into_iter_items c.loop-change.change-iterator) (sym inv.left ∙ c.in-None.ensures.steps.0) in
     let all = sym (append-nil yielded) ∙ ap (λ l. yielded ++ l) (sym empty) ∙ inv.items in
-    subst (λ l. StaysElsewhere (marks_after m (map change_data l) c.args.number marks) first c.loop-change.touched) all (inv.stays marks first before)
+    subst (λ l. StaysElsewhere (marks_after m (map prepared_data l) c.args.number marks) first c.loop-change.touched) all (inv.stays marks first before)

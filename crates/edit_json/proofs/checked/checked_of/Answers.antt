@@ -1,9 +1,8 @@
-use Rattle.std.proofs.Common.{◌≡◌, map, refl, sym, ap, subst, ◌∙◌, All, inl, inr}
+use Rattle.std.proofs.Common.{◌≡◌, map, refl, sym, ap, subst, ◌∙◌, All}
 use Rattle.feature_model.specs.Data.{change_data}
-use Rattle.feature_model.specs.Seen.{seen_data}
 use Rattle.edit_json.specs.Asked.{asked_data}
 use Rattle.edit_json.specs.Batches.{asks_json, HasMembers, IsBatch, IsFirstBatchFault}
-use Rattle.edit_json.specs.Checked.{checked_data, checks_json, plain, AsksChecked, IsFirstCheckedFault}
+use Rattle.edit_json.specs.Checked.{checked_data, checks_json, plain, IsFirstCheckedFault}
 use Rattle.edit_json.proofs.CheckedLaws.{plain-members, plain-refused, was-refused, memory-asked}
 use Rattle.edit_json.proofs.checked.checked_of.Goals as goal
 

@@ -1,8 +1,12 @@
-use Rattle.std.proofs.Common.{◌≡◌, map, take}
+use Rattle.std.proofs.Common.{◌≡◌, ◌++◌, map}
 use Rattle.serde_json.specs.View.{members_view}
-use Rattle.feature_model.specs.Data.{tag_data}
+use Rattle.feature_text.specs.Views.{tag_view, tags_view}
 use Rattle.edit_json.specs.Json.{tags_json}
 use Rattle.edit_json.proofs.writer.tags_value.Given as goal
 
+-- those that are written, and those that are left
 abbrev pub invariant-loop-tag : goal.invariant-loop-tag
-invariant-loop-tag l = members_view l.members.entries ≡ tags_json (take l.tag-index (map tag_data l.tags))
+invariant-loop-tag l = record {
+  parts : map tag_view l.yielded ++ tags_view l.tag-iterator ≡ tags_view l.tags;
+  members : members_view l.members.entries ≡ tags_json (map tag_view l.yielded);
+}

@@ -14,7 +14,8 @@ loop-entry-preserved c =
     let before = entries_data (take c.loop-entry.entry-index c.args.entries.now) in
     let more = entries_more c.args.entries.now c.loop-entry.entry-index c.entry-item.result [] before _ c.loop-entry-test.true c.entry-item.is refl refl in
     boxes_more before (entry_data c.entry-item.result ∷ []) _ c.args.boxes.now.items c.loop-entry.boxes.items c.push.new.self.items more
-    c.loop-entry.invariant (c.in_ok-push.ensures.items ∙ ap (λ x. c.loop-entry.boxes.items ++ x ∷ []) c.index_entry.ensures)
+    c.loop-entry.invariant (c.in_ok-push.ensures.items
+    ∙ ap (λ x. c.loop-entry.boxes.items ++ x ∷ []) (c.index_entry.ensures ∙ ap (λ f. index_entry (c.entry-item.result.0, f)) c.view.ensures))
 
 pub returns : goal.returns
 returns c =

@@ -1,9 +1,38 @@
-use Rattle.std.proofs.Common.{arith}
+use Rattle.std.proofs.Common.{◌≡◌, Option, Some, None, IsSome, [], refl, sym, ap, subst, ◌∙◌, arith}
+use Rattle.std.specs.Option.{UnwrapsOrElse, option_copied_mut}
+use Rattle.std.proofs.lemmas.Map.Text.{btree_map_updates_str}
+use Rattle.std.proofs.lemmas.Result.{on_ok_weaker}
 use Rattle.std.proofs.lemmas.Grind.{text_groups}
+use Rattle.feature_text.specs.Views.{feature_view}
+use Rattle.mvt_write.specs.declared.layer_writer.LayerWriter.{LayerWriter}
+use Rattle.mvt_write.specs.Writes.{Writes}
+use Rattle.feature_store.specs.Layers.{numbered}
+use Rattle.feature_store.proofs.Gathers.{IsPut, one_more, writer_made, writer_of}
 use Rattle.feature_store.proofs.gathered.add.Goals as goal
 
-pub returns-clause-added : goal.returns-clause-added
-returns-clause-added c name = grind (arith, text_groups)
+pub returns-in-Some : goal.returns-in-Some
+returns-in-Some c =
+    let f = feature_view c.args.feature in
+    let old = c.args.gathered.now in
+    let before = c.in-Some.writer.now in
+    let w = c.put_feature.new.writer in
+    let new = c.get_mut.follows.lender w in
+    let found : writer_of f.layer old ≡ Some before = sym c.get_mut.ensures.value ∙ ap option_copied_mut c.in-Some.is in
+    let put : IsPut old new f.layer w = btree_map_updates_str f.layer old new (Some w) ((c.get_mut.follows.holds w).3 (subst IsSome (sym found) refl)) in
+    on_ok_weaker c.put_feature.result
+    (λ step fs s gathers is.
+    let made : Writes before f.layer (fs f.layer) [] =
+    writer_made (writer_of f.layer old) before f.layer (fs f.layer)
+    (subst (λ (o : Option LayerWriter). UnwrapsOrElse o (λ v. Writes v f.layer [] []) before) (sym found) refl) (gathers f.layer) in
+    one_more old new f.layer w (numbered c.args.id f s) fs put (step f.layer (fs f.layer) s made is) gathers)
+    c.put_feature.ensures
 
-pub returns-clause-no_empty : goal.returns-clause-no_empty
-returns-clause-no_empty c none name = grind (arith, text_groups, none name)
+pub returns : goal.returns
+returns c = λ fs s gathers is.
+    let f = feature_view c.args.feature in
+    let none : writer_of f.layer c.args.gathered.now ≡ None = grind (arith, text_groups, c.get_mut.ensures.value, c.in_default.is) in
+    let put : IsPut c.args.gathered.now c.insert.new.self f.layer c.put_feature-2.new.writer = λ name. grind (arith, text_groups) in
+    let made : Writes c.in_ok-writer.writer f.layer (fs f.layer) [] =
+    writer_made (writer_of f.layer c.args.gathered.now) c.in_ok-writer.writer f.layer (fs f.layer) (rw none c.in_ok-writer.ensures) (gathers f.layer) in
+    one_more c.args.gathered.now c.insert.new.self f.layer c.put_feature-2.new.writer (numbered c.args.id f s) fs put
+    (c.in_ok-put_feature.ensures f.layer (fs f.layer) s made is) gathers

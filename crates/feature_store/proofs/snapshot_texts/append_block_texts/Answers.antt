@@ -1,4 +1,4 @@
-use Rattle.feature_store.proofs.Entries.{block_edits, block_texts_more}
+use Rattle.feature_store.proofs.Entries.{block_own, block_texts_more}
 use Rattle.feature_store.proofs.Snapshots.{none_put}
 use Rattle.feature_store.proofs.snapshot_texts.append_block_texts.Goals as goal
 
@@ -8,7 +8,7 @@ loop-block-init c = none_put c.args.out.now.items
 pub append_texts-requires : goal.append_texts-requires
 append_texts-requires c =
     rw c.entries.ensures
-    (block_edits c.args.blocks.now c.loop-block.block-index c.block-item.result c.loop-block-test.true c.block-item.is c.requires)
+    (block_own c.args.blocks.now c.loop-block.block-index c.block-item.result c.loop-block-test.true c.block-item.is c.requires)
 
 pub loop-block-preserved : goal.loop-block-preserved
 loop-block-preserved c =

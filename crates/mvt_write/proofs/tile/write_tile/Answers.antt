@@ -1,18 +1,18 @@
-use Rattle.std.proofs.Common.{◌≡◌, ◌+◌, ◌<◌, ◌^◌, length, arith, ◌++◌, List, ℕ, take, take_all, subst, sym, ap, ◌∙◌}
+use Rattle.std.proofs.Common.{◌≡◌, ◌+◌, ◌<◌, ◌^◌, length, arith, List, ℕ, take, take_all, subst, sym, ap}
 use Rattle.std.specs.Prelude.{All}
 use Rattle.mvt_layer.specs.declared.tile.Layer.{Layer}
 use Rattle.mvt_layer.specs.Tile.{layer_view, layer_views}
 use Rattle.mvt_write.specs.CanWrite.{CanWriteLayer}
 use Rattle.mvt_write.specs.Fits.{FitsLayer}
-use Rattle.mvt_write.specs.Written.{bytes_field, written}
+use Rattle.mvt_write.specs.Written.{written}
 use Rattle.mvt_write.proofs.Lists.{map_more, mapped_has, all_more}
 use Rattle.mvt_layer.specs.Reads.{ReadsAs}
 use Rattle.mvt_write.proofs.LayersRead.{written_reads}
 use Rattle.mvt_write.proofs.LayerSteps.{layers_more}
 use Rattle.mvt_write.proofs.tile.write_tile.Goals as goal
 
-pub layer_bytes-requires : goal.layer_bytes-requires
-layer_bytes-requires c =
+pub put_layer-requires : goal.put_layer-requires
+put_layer-requires c =
     let layer = c.layer-item.result in
     let here = mapped_has layer_view CanWriteLayer c.args.layers.now c.loop-layer.layer-index layer c.loop-layer-test.true c.requires.layers in
     subst (λ (l : Layer). CanWriteLayer (layer_view l)) (sym c.layer-item.is) here
@@ -24,12 +24,10 @@ loop-layer-preserved c =
     let so_far = layer_views (take c.loop-layer.layer-index layers) in
     let with_next = layer_views (take (c.loop-layer.layer-index + 1) layers) in
     let before = c.loop-layer.invariant in
-    let step = c.in_ok-bytes.ensures in
+    let step = c.in_ok-put_layer.ensures in
     let more = rw (← c.layer-item.is) at (map_more layer_view layers c.loop-layer.layer-index layer c.loop-layer-test.true) in
     record {
-      written =
-          layers_more c.loop-layer.out.items c.in_ok-bytes.bytes.items c.put_bytes.new.out.items so_far with_next (layer_view layer) before.written step.written
-          (c.in_ok-put_bytes.ensures ∙ ap (λ (b : List ℕ). c.loop-layer.out.items ++ bytes_field 3 b) c.deref.ensures.value) more;
+      written = layers_more c.loop-layer.out.items c.put_layer.new.out.items so_far with_next (layer_view layer) before.written step.written more;
       fits = all_more FitsLayer so_far with_next (layer_view layer) before.fits step.fits more;
     }
 

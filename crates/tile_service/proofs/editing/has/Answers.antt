@@ -1,10 +1,10 @@
 use Rattle.std.proofs.Common.{rules}
 use Rattle.std.specs.Prelude.{IsSome, IsTrue}
-use Rattle.feature_model.specs.Data.{feature_data}
+use Rattle.feature_text.specs.Views.{feature_view}
 use Rattle.tile_service.proofs.Edits.Limits.{fits_there}
 use Rattle.tile_service.proofs.editing.has.Goals as goal
 
 pub returns-clause-number : goal.returns-clause-number
 returns-clause-number c is =
     let found : IsTrue c.is_some.result → IsSome c.get.result = search rules in
-    fits_there (λ f. feature_data f.now) c.args.id c.get.result c.get.ensures.allowed (found is)
+    fits_there feature_view c.args.id c.get.result c.get.ensures.allowed (found is)

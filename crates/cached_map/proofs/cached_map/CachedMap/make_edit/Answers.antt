@@ -1,5 +1,5 @@
 use Rattle.std.proofs.Common.{map, [], refl}
-use Rattle.feature_model.specs.Data.{change_data}
+use Rattle.feature_store.specs.Prepared.{prepared_data}
 use Rattle.tile_cache.specs.declared.cached_tiles.Origin.TheVariants.{Cut, Read}
 use Rattle.tile_cache.proofs.Marks.{newest_stays}
 use Rattle.cached_map.specs.Cached.{CachedView, marks_after}
@@ -22,8 +22,8 @@ after c =
       kept = c.self.inside.kept;
     }
 
-edited : (c : After-make_each) → IsEdited (before c) (after c) (marks_after (before c).features (map change_data c.args.changes.items) c.args.number)
-edited c = edited_by (before c) (after c) (map change_data c.args.changes.items) c.len-count.ensures.map (rw (← c.self.view_is) at c.requires.later)
+edited : (c : After-make_each) → IsEdited (before c) (after c) (marks_after (before c).features (map prepared_data c.args.changes.items) c.args.number)
+edited c = edited_by (before c) (after c) (map prepared_data c.args.changes.items) c.len-count.ensures.map (rw (← c.self.view_is) at c.requires.later)
     c.requires.changes (rw (← c.self.view_is) at c.requires.texts) c.make_each.ensures.map c.make_each.ensures.marks
 
 pub invariant_of-self : goal.invariant_of-self
@@ -50,5 +50,5 @@ returns-clause-stays c = rw (← c.self.view_is) (c.make_each.ensures.stays [] c
 pub returns-clause-clear : goal.returns-clause-clear
 returns-clause-clear c =
     let before = c.self.inside.touched in
-    let marks = marks_after c.self.inside.store.features (map change_data c.args.changes.items) c.args.number [] in
+    let marks = marks_after c.self.inside.store.features (map prepared_data c.args.changes.items) c.args.number [] in
     rw (← c.self.view_is) (λ z x y n. newest_stays marks before c.make_each.new.touched z x y n (c.make_each.ensures.stays [] before (λ at all. refl)))

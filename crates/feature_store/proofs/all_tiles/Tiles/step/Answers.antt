@@ -38,7 +38,7 @@ returns-in_default-clause-none c =
     (c.look_ahead.ensures.stay c.self.inside.from c.self.invariant.left))
 
 pub bytes_at-requires-clause-map : goal.bytes_at-requires-clause-map
-bytes_at-requires-clause-map c = subst IsMap (sym c.features.ensures) c.self.invariant.is_map
+bytes_at-requires-clause-map c = subst IsMap (sym c.features-features.ensures) c.self.invariant.is_map
 
 pub bytes_at-requires-clause-place : goal.bytes_at-requires-clause-place
 bytes_at-requires-clause-place c =
@@ -55,7 +55,7 @@ bytes_at-requires-clause-shown c z x y zoom is =
     let left = left_some m new.zoom c.self.inside.from (left_of new.walk) new.next c.in-Some.id c.in-Some.numbers c.in-Some.is
     (c.look_ahead.ensures.stay c.self.inside.from c.self.invariant.left) in
     let same : c.deref.result.now ≡ c.in-Some.numbers.items = c.deref.ensures.value in
-    subst (λ (k : FeatureMap). ShowsAll k z x y c.deref.result.now) (sym c.features.ensures)
+    subst (λ (k : FeatureMap). ShowsAll k z x y c.deref.result.now) (sym c.features-features.ensures)
     (subst (ShowsAll m z x y) (sym same)
     (shows_step m c.self.invariant.is_map new.zoom c.self.inside.from (c.in-Some.id, c.in-Some.numbers.items) (left_of new.walk) left z x y zoom is))
 
@@ -97,6 +97,6 @@ returns-clause-tile c =
       here = from_below m is_map new.zoom c.self.inside.from t (left_of new.walk) left;
       place = place_here m is_map new.zoom c.self.inside.from t (left_of new.walk) left c.look_ahead.ensures.zoom;
       between = nothing_between m is_map new.zoom c.self.inside.from t (left_of new.walk) left;
-      bytes_are = subst (λ (k : FeatureMap). IsBytesAt k c.in-Some.id bytes) c.features.ensures c.in_ok-bytes.ensures;
+      bytes_are = subst (λ (k : FeatureMap). IsBytesAt k c.in-Some.id bytes) c.features-features.ensures c.in_ok-bytes.ensures;
     } in
     (subst (λ (v : TilesView). IsStep v.features v.from c.in-Some.id bytes) c.self.view_is step, refl)

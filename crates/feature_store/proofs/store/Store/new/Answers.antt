@@ -9,5 +9,6 @@ pub invariant_of-result : goal.invariant_of-result
 invariant_of-result c =
     rw (c.new.ensures, c.new-2.ensures) record {
       is_map = record { ascending = ascends_none; edits = All-nil _; short = omega (arith, none_takes) };
+      own = All-nil _;
       indexed = IsPermutation-refl [];
     }

@@ -1,9 +1,8 @@
 use Rattle.std.proofs.Common.{◌≡◌, sym, ap, ◌∙◌}
 use Rattle.std.specs.Option.{is_some, option_map}
-use Rattle.feature_model.specs.Data.{feature_data}
-use Rattle.feature_store.specs.Inside.{entries_data}
+use Rattle.feature_store.specs.Inside.{stored_data, entries_data}
 use Rattle.feature_store.specs.Store.{feature_at, without_feature}
-use Rattle.feature_store.proofs.Entries.{removed_is, feature_found, box_found, is_some_box}
+use Rattle.feature_store.proofs.Entries.{own_removed, removed_is, feature_found, box_found, is_some_box}
 use Rattle.feature_store.proofs.Maps.{feature_at-without_same, feature_at-without_other}
 use Rattle.feature_store.proofs.Snapshots.{map_without}
 use Rattle.feature_store.proofs.store.Store.remove.Goals as goal
@@ -11,11 +10,12 @@ use Rattle.feature_store.proofs.store.Store.remove.Goals as goal
 pub invariant_of-self : goal.invariant_of-self
 invariant_of-self c =
     let es = c.self.inside.features.entries in
-    let before = ap (option_map feature_data) c.remove-removed.ensures.removed ∙ sym (feature_found es c.args.id) in
+    let before = ap (option_map stored_data) c.remove-removed.ensures.removed ∙ sym (feature_found es c.args.id) in
     let removed : entries_data c.remove-removed.new.self.entries ≡ without_feature (entries_data es) c.args.id =
     ap entries_data c.remove-removed.ensures.entries ∙ removed_is es c.args.id in
     record {
       is_map = rw removed (map_without (entries_data es) c.args.id c.self.invariant.is_map);
+      own = rw c.remove-removed.ensures.entries (own_removed es c.args.id c.self.invariant.own);
       indexed = rw removed (c.take_entry.ensures.indexed (entries_data es) before c.self.invariant.indexed);
     }
 

@@ -1,20 +1,40 @@
-use Rattle.std.proofs.Common.{◌≡◌, ap, subst, ◌∙◌}
-use Rattle.std.specs.Option.{option_map}
+use Rattle.std.proofs.Common.{ℕ, Vec, Global, sym, ap, subst}
 use Rattle.std.specs.Prelude.{IfOk}
-use Rattle.mvt_layer.specs.Tile.{layer_views}
+use Rattle.std.specs.Option.{option_map}
+use Rattle.std.proofs.lemmas.Result.{IfOk-weaker}
+use Rattle.feature_store.specs.Inside.{entries_data}
 use Rattle.feature_store.specs.Content.{IsTileContent}
+use Rattle.feature_store.specs.Layers.{layers}
+use Rattle.feature_store.specs.Store.{StoreView}
 use Rattle.feature_store.specs.Tiles.{tile_bytes}
+use Rattle.feature_store.proofs.Finished.{content_is}
+use Rattle.feature_store.proofs.Unique.{outside, no_tile}
 use Rattle.feature_store.proofs.store.Store.tile.Goals as goal
 
-pub written-requires : goal.written-requires
-written-requires c = rw c.deref.ensures.value c.in_ok-layers.ensures.can_write
+pub returns-then-at-gt-MAX_ZOOM-clause-bytes : goal.returns-then-at-gt-MAX_ZOOM-clause-bytes
+returns-then-at-gt-MAX_ZOOM-clause-bytes c =
+    let at = c.args.at in
+    ap tile_bytes (sym (outside c.args.self.now.features at.z at.x at.y (no_tile at.z at.x at.y c.if-at-gt-MAX_ZOOM.true)))
 
-pub returns-clause-bytes : goal.returns-clause-bytes
-returns-clause-bytes c =
-    subst (λ ls. IfOk c.written.result (λ o. option_map (λ v. v.items) o ≡ tile_bytes ls))
-    (ap layer_views c.deref.ensures.value ∙ c.in_ok-layers.ensures.layers) c.written.ensures.bytes
+pub returns-then-at-gt-MAX_ZOOM-clause-content : goal.returns-then-at-gt-MAX_ZOOM-clause-content
+returns-then-at-gt-MAX_ZOOM-clause-content c =
+    let at = c.args.at in
+    outside c.args.self.now.features at.z at.x at.y (no_tile at.z at.x at.y c.if-at-gt-MAX_ZOOM.true)
+
+pub tile_of_numbers-requires-clause-map : goal.tile_of_numbers-requires-clause-map
+tile_of_numbers-requires-clause-map c = c.self.invariant.is_map
+
+pub tile_of_numbers-requires-clause-shown : goal.tile_of_numbers-requires-clause-shown
+tile_of_numbers-requires-clause-shown c =
+    rw c.deref.ensures.value (c.in_ok-numbers.ensures (entries_data c.self.inside.features.entries) c.self.invariant.is_map c.self.invariant.indexed)
 
 pub returns-clause-content : goal.returns-clause-content
 returns-clause-content c =
-    subst (λ ls. IfOk c.written.result (λ o. IsTileContent ls (option_map (λ v. v.items) o)))
-    (ap layer_views c.deref.ensures.value ∙ c.in_ok-layers.ensures.layers) c.written.ensures.content
+    let at = c.args.at in
+    let inside = entries_data c.self.inside.features.entries in
+    let content : IfOk c.tile_of_numbers.result (λ o. IsTileContent (layers inside at.z at.x at.y) (option_map (λ (v : Vec ℕ Global). v.items) o)) =
+    IfOk-weaker c.tile_of_numbers.result _ _
+    (λ o is. content_is inside at.z at.x at.y (option_map (λ (v : Vec ℕ Global). v.items) o) c.self.invariant.is_map is)
+    c.tile_of_numbers.ensures in
+    subst (λ (s : StoreView). IfOk c.tile_of_numbers.result
+    (λ o. IsTileContent (layers s.features at.z at.x at.y) (option_map (λ (v : Vec ℕ Global). v.items) o))) c.self.view_is content

@@ -1,5 +1,5 @@
 use Rattle.std.proofs.Common.{Some, None, refl}
-use Rattle.feature_model.specs.Data.{feature_data}
+use Rattle.feature_text.specs.Views.{feature_view}
 use Rattle.tile_service.specs.Machine.{got, no_memory, look}
 use Rattle.tile_service.proofs.Runs.Callers.{look_step}
 use Rattle.map_replies.specs.Words.{shown_reply, found_reply}
@@ -10,7 +10,7 @@ pub returns-in-Some-clause-answered : goal.returns-in-Some-clause-answered
 returns-in-Some-clause-answered g c =
     let d = g.D.Sectors in
     let old = c.args.self.now.service in
-    let f = Some (feature_data c.in-Some.feature.now) in
+    let f = Some (feature_view c.in-Some.feature) in
     shown d.sectors d.honest d.history (look c.args.id) found_reply old old f c.feature_value.result
     c.feature_value.ensures.reply c.feature_value.ensures.fault
     (look_step d.sectors d.honest d.history old c.args.id (got f) c.in-Some.ensures.found)

@@ -1,15 +1,18 @@
-use Rattle.std.proofs.Common.{◌≡◌, Ok, ◌∙◌, ℕ, List, [], refl, sym, ap, subst, arith, rules, length}
+use Rattle.std.proofs.Common.{◌≡◌, ◌≢◌, Ok, ◌∙◌, ℕ, List, [], refl, sym, ap, subst, arith, rules, length}
 use Rattle.cached_map.specs.Cached.{CachedView, marks_after}
 use Rattle.edit_journal.specs.Appends.{ring_of}
 use Rattle.edit_journal.specs.Records.{IsRecordLength, parts_of, record_of}
 use Rattle.edit_journal.specs.Ring.{Ring}
 use Rattle.edit_text.specs.Recorded.{IsRecorded, text_in}
-use Rattle.feature_model.specs.Data.{edit_data}
+use Rattle.feature_model.specs.Data.{ChangeData, edit_data}
 use Rattle.feature_store.specs.Store.{edited, snapshot}
 use Rattle.tile_cache.specs.Touched.{StaysElsewhere}
 use Rattle.tile_service.specs.Machine.{recorded_in}
-use Rattle.tile_service.specs.Stored.{stored_records}
-use Rattle.tile_service.specs.declared.fault.ServiceFault.TheVariants.{Memory}
+use Rattle.sector_disk.specs.Disk.{History}
+use Rattle.tile_service.specs.Service.{ServiceView, IsUp}
+use Rattle.tile_service.specs.Stored.{Stored, stored_records}
+use Rattle.tile_service.specs.declared.fault.ServiceFault.{ServiceFault}
+use Rattle.tile_service.specs.declared.fault.ServiceFault.TheVariants.{Device, Memory}
 use Rattle.tile_service.proofs.Tiles.EarlierMaps.{since_on, now_on, right_on}
 use Rattle.tile_service.proofs.Edits.EditStored.{up_is_at, refuses_edit, append_any_moment, refused_any_moment, up_with_edit}
 use Rattle.tile_service.proofs.Edits.ServiceAfter.{service_on}
@@ -17,33 +20,36 @@ use Rattle.tile_service.proofs.Archive.Unchanged.{append_keeps, append_area}
 use Rattle.tile_service.proofs.Edits.Limits.{text_length, short_after_edit, short_enough}
 use Rattle.tile_service.proofs.service.Service.write_edit.Goals as goal
 
+-- a service that a fault leaves unchanged continues from what is stored
+as_it_was : {D : Type 0} (sectors : D → ℕ) (history : D → History) (fault : ServiceFault) (old new : ServiceView D) → (fault ≢ Device → new ≡ old)
+    → (stored : Stored) → IsUp (sectors old.disk) (history old.disk) stored old → fault ≢ Device
+    → IsUp (sectors new.disk) (history new.disk) stored new
+as_it_was sectors history fault old new same stored up other =
+    subst (λ s. IsUp (sectors s.disk) (history s.disk) stored s) (sym (same other)) up
+
 pub returns-in-Err-clause-takes : goal.returns-in-Err-clause-takes
 returns-in-Err-clause-takes g c = rw (← c.self.view_is)
-    (λ call. refuses_edit g.D.Sectors.sectors g.D.Sectors.honest g.D.Sectors.history g.D.Sectors.faults _ _ call
-    (recorded_in c.self.inside.version (edit_data c.args.requested)) Memory refl (λ is. cc))
-
-pub returns-in-Err-room_all-clause-takes : goal.returns-in-Err-room_all-clause-takes
-returns-in-Err-room_all-clause-takes g c = rw (← c.self.view_is)
     (λ call. refuses_edit g.D.Sectors.sectors g.D.Sectors.honest g.D.Sectors.history g.D.Sectors.faults _ _ call
     (recorded_in c.self.inside.version (edit_data c.args.requested)) Memory (search rules) (λ is. cc))
 
 pub append-requires-clause-text : goal.append-requires-clause-text
 append-requires-clause-text g c = subst (λ (t : List ℕ). IsRecordLength c.self.inside.version (length t))
-    (sym (c.deref-2.ensures.value ∙ c.in-Ok.ensures.text))
+    (sym (c.deref.ensures.value ∙ c.in-Ok.ensures.text))
     (text_length c.self.inside.version (edit_data c.args.requested) c.self.invariant.version_is c.requires.allowed)
 
 pub make_edit-requires-clause-texts : goal.make_edit-requires-clause-texts
-make_edit-requires-clause-texts g c = rw (ap (λ m. m.features) c.room_all.ensures.same)
+make_edit-requires-clause-texts g c = rw (ap (λ m. m.features) c.prepare.ensures.same, c.in-Ok.ensures.prepared)
     (short_enough c.self.inside.map.features (edit_data c.args.requested) c.self.inside.layout.sectors c.self.inside.journal.used c.self.inside.layout.size.1
     (omega (arith, c.self.inside.journal.room, ap (λ (r : Ring). r.places) c.self.invariant.ring)) c.self.invariant.texts c.requires.allowed)
 
 pub invariant_of-self-in-Ok-append : goal.invariant_of-self-in-Ok-append
 invariant_of-self-in-Ok-append g c =
     let version = c.self.inside.version in
-    let text : c.deref-2.result.now ≡ text_in version (edit_data c.args.requested) = c.deref-2.ensures.value ∙ c.in-Ok.ensures.text in
-    let later = c.make_edit.ensures.map ∙ ap (λ m. edited m.features (edit_data c.args.requested)) c.room_all.ensures.same in
+    let text : c.deref.result.now ≡ text_in version (edit_data c.args.requested) = c.deref.ensures.value ∙ c.in-Ok.ensures.text in
+    let later = c.make_edit.ensures.map ∙ ap (edited c.prepare.new.cached.features) c.in-Ok.ensures.prepared
+    ∙ ap (λ m. edited m.features (edit_data c.args.requested)) c.prepare.ensures.same in
     service_on c.self.inside.layout.sectors version c.self.inside.root c.self.inside.journal c.append.new.self c.append.ensures.same.0 c.append.ensures.same.1
-    (length c.deref-2.result.now)
+    (length c.deref.result.now)
     (subst (λ (t : List ℕ). IsRecordLength version (length t)) (sym text)
     (text_length version (edit_data c.args.requested) c.self.invariant.version_is c.requires.allowed))
     c.in-Ok-append.ensures.used c.in-Ok-append.ensures.last c.self.inside.map c.make_edit.new.self
@@ -65,8 +71,10 @@ returns-in-Ok-append-clause-takes g c = rw (← c.self.view_is) (λ call. record
   unwritten = tt;
   unchanged = tt;
   touches = subst (λ (m : CachedView). StaysElsewhere (marks_after m.features (edit_data c.args.requested) c.in-Ok-append.number []) m.touched
-      c.make_edit.new.self.touched) c.room_all.ensures.same c.make_edit.ensures.stays;
-  cached = c.make_edit.ensures.kept ∙ ap (λ m. m.kept) c.room_all.ensures.same;
+      c.make_edit.new.self.touched) c.prepare.ensures.same (subst (λ (cs : List ChangeData).
+      StaysElsewhere (marks_after c.prepare.new.cached.features cs c.in-Ok-append.number []) c.prepare.new.cached.touched c.make_edit.new.self.touched)
+      c.in-Ok.ensures.prepared c.make_edit.ensures.stays);
+  cached = c.make_edit.ensures.kept ∙ ap (λ m. m.kept) c.prepare.ensures.same;
   keeps_archive = append_keeps g.D.Sectors.honest g.D.Sectors.history _ _ refl refl refl refl c.self.invariant.area
       (ring_of c.self.inside.journal) c.self.invariant.ring c.self.inside.journal.place c.self.inside.journal.used c.append.new.disk refl
       c.append.ensures.reads;
@@ -79,7 +87,7 @@ returns-in-Ok-append-clause-takes g c = rw (← c.self.view_is) (λ call. record
       let at = up_is_at g.D.Sectors.sectors g.D.Sectors.history stored _ c.self.invariant.ring up in
       append_any_moment g.D.Sectors.sectors g.D.Sectors.history stored _ c.self.invariant.ring up (recorded_in version (edit_data c.args.requested))
       recorded refl
-      _ (ap (record_of version) (c.deref-2.ensures.value ∙ c.in-Ok.ensures.text)) c.append.new.disk (c.append.ensures.frame honest)
+      _ (ap (record_of version) (c.deref.ensures.value ∙ c.in-Ok.ensures.text)) c.append.new.disk (c.append.ensures.frame honest)
       call (Ok c.in-Ok-append.number) tt (c.append.ensures.any_moment (stored_records stored) honest at));
   acknowledged = (λ stored honest up.
       let version = c.self.inside.version in
@@ -89,28 +97,29 @@ returns-in-Ok-append-clause-takes g c = rw (← c.self.view_is) (λ call. record
       let last : c.make_edit.new.self.last ≡ c.append.new.self.last =
       omega (arith, c.make_edit.ensures.last, c.in-Ok-append.ensures.number, c.in-Ok-append.ensures.last) in
       up_with_edit g.D.Sectors.sectors g.D.Sectors.history stored _ c.self.invariant.ring up (recorded_in version (edit_data c.args.requested)) recorded refl
-      _ (ap (record_of version) (c.deref-2.ensures.value ∙ c.in-Ok.ensures.text)) c.append.new.disk (c.append.ensures.frame honest)
+      _ (ap (record_of version) (c.deref.ensures.value ∙ c.in-Ok.ensures.text)) c.append.new.disk (c.append.ensures.frame honest)
       _ refl c.append.ensures.disk.same_count refl c.append.ensures.same (c.in-Ok-append.ensures.acknowledged (stored_records stored) honest at)
-      (c.make_edit.ensures.map ∙ ap (λ m. edited m.features (edit_data c.args.requested)) c.room_all.ensures.same)
-      (since_on c.self.inside.map c.room_all.new.self c.make_edit.new.self c.self.inside.journal.last c.append.new.self.last c.self.invariant.last_is
-      c.room_all.ensures.same last c.make_edit.ensures.since)
+      (c.make_edit.ensures.map ∙ ap (edited c.prepare.new.cached.features) c.in-Ok.ensures.prepared
+      ∙ ap (λ m. edited m.features (edit_data c.args.requested)) c.prepare.ensures.same)
+      (since_on c.self.inside.map c.prepare.new.cached c.make_edit.new.self c.self.inside.journal.last c.append.new.self.last c.self.invariant.last_is
+      c.prepare.ensures.same last c.make_edit.ensures.since)
       (now_on c.make_edit.new.self c.append.new.self.last last c.make_edit.ensures.now)
-      (right_on c.self.inside.map c.room_all.new.self c.make_edit.new.self c.self.inside.journal.last c.append.new.self.last c.self.invariant.last_is
-      c.room_all.ensures.same last c.make_edit.ensures.reads) refl refl refl refl refl refl refl (c.append.ensures.reads honest));
+      (right_on c.self.inside.map c.prepare.new.cached c.make_edit.new.self c.self.inside.journal.last c.append.new.self.last c.self.invariant.last_is
+      c.prepare.ensures.same last c.make_edit.ensures.reads) refl refl refl refl refl refl refl (c.append.ensures.reads honest));
   refused = λ stored honest up. tt;
   steps = search rules;
 })
 
-pub returns-in-Err-append-clause-takes : goal.returns-in-Err-append-clause-takes
-returns-in-Err-append-clause-takes g c = rw (← c.self.view_is) (λ call. record {
+pub returns-clause-takes : goal.returns-clause-takes
+returns-clause-takes g c = rw (← c.self.view_is) (λ call. record {
   size = ap (λ s. s.size) c.fail.ensures.same;
   publication = tt;
   asked = search rules;
   failed = search rules;
   unwritten = search rules;
   unchanged = search rules;
-  touches = ap (λ s. s.touched) c.fail.ensures.same ∙ ap (λ m. m.touched) c.room_all.ensures.same;
-  cached = ap (λ s. s.kept) c.fail.ensures.same ∙ ap (λ m. m.kept) c.room_all.ensures.same;
+  touches = ap (λ s. s.touched) c.fail.ensures.same ∙ ap (λ m. m.touched) c.prepare.ensures.same;
+  cached = ap (λ s. s.kept) c.fail.ensures.same ∙ ap (λ m. m.kept) c.prepare.ensures.same;
   keeps_archive = append_keeps g.D.Sectors.honest g.D.Sectors.history _ _ (ap (λ s. s.size) c.fail.ensures.same)
       (ap (λ s. s.generation) c.fail.ensures.same) (ap (λ s. s.snapshot_len) c.fail.ensures.same) (ap (λ s. s.archive_len) c.fail.ensures.same)
       c.self.invariant.area
@@ -125,10 +134,10 @@ returns-in-Err-append-clause-takes g c = rw (← c.self.view_is) (λ call. recor
       let at = up_is_at g.D.Sectors.sectors g.D.Sectors.history stored _ c.self.invariant.ring up in
       refused_any_moment g.D.Sectors.sectors g.D.Sectors.history stored _ c.self.invariant.ring up (recorded_in version (edit_data c.args.requested))
       recorded refl
-      _ (ap (record_of version) (c.deref-2.ensures.value ∙ c.in-Ok.ensures.text)) c.append.new.disk (c.append.ensures.frame honest)
+      _ (ap (record_of version) (c.deref.ensures.value ∙ c.in-Ok.ensures.text)) c.append.new.disk (c.append.ensures.frame honest)
       call c.in-Err-append.fault c.fail.result c.fail.ensures.told c.in-Err-append.ensures.refused
       (c.append.ensures.any_moment (stored_records stored) honest at));
   acknowledged = λ stored honest up. tt;
-  refused = search rules;
+  refused = λ stored honest up. as_it_was g.D.Sectors.sectors g.D.Sectors.history c.fail.result _ _ (search rules) stored up;
   steps = λ honest. tt;
 })

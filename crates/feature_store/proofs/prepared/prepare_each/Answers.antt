@@ -1,0 +1,8 @@
+use Rattle.feature_model.specs.Data.{change_data}
+use Rattle.feature_model.specs.Limits.{IsAllowedChange}
+use Rattle.feature_model.proofs.Mapped.{read_from_map}
+use Rattle.feature_store.proofs.prepared.prepare_each.Goals as goal
+
+pub prepare_one-requires : goal.prepare_one-requires
+prepare_one-requires c = read_from_map IsAllowedChange change_data c.args.changes.now c.loop-change.change-index c.change-item.result
+    c.requires c.loop-change-test.true c.change-item.is

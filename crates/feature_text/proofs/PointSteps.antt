@@ -1,0 +1,27 @@
+-- Lists of points, point by point.
+use Rattle.std.proofs.Common.{◌≡◌, ℕ, ◌<◌, ◌≤◌, List, [], ◌∷◌, length, refl, arith}
+use Rattle.feature_text.specs.Trusted.{point_in, points_of}
+
+pub points_first : (bytes : List ℕ) → 8 ≤ length bytes → points_of bytes ≡ (point_in bytes).0 ∷ points_of (point_in bytes).1
+unfolding points_of point_in
+points_first (a ∷ b ∷ c ∷ d ∷ e ∷ f ∷ g ∷ h ∷ rest) l = refl
+points_first [] l = absurd (omega arith)
+points_first (a ∷ []) l = absurd (omega arith)
+points_first (a ∷ b ∷ []) l = absurd (omega arith)
+points_first (a ∷ b ∷ c ∷ []) l = absurd (omega arith)
+points_first (a ∷ b ∷ c ∷ d ∷ []) l = absurd (omega arith)
+points_first (a ∷ b ∷ c ∷ d ∷ e ∷ []) l = absurd (omega arith)
+points_first (a ∷ b ∷ c ∷ d ∷ e ∷ f ∷ []) l = absurd (omega arith)
+points_first (a ∷ b ∷ c ∷ d ∷ e ∷ f ∷ g ∷ []) l = absurd (omega arith)
+
+pub points_none : (bytes : List ℕ) → length bytes < 8 → points_of bytes ≡ []
+unfolding points_of
+points_none (a ∷ b ∷ c ∷ d ∷ e ∷ f ∷ g ∷ h ∷ rest) l = absurd (omega arith)
+points_none [] l = refl
+points_none (a ∷ []) l = refl
+points_none (a ∷ b ∷ []) l = refl
+points_none (a ∷ b ∷ c ∷ []) l = refl
+points_none (a ∷ b ∷ c ∷ d ∷ []) l = refl
+points_none (a ∷ b ∷ c ∷ d ∷ e ∷ []) l = refl
+points_none (a ∷ b ∷ c ∷ d ∷ e ∷ f ∷ []) l = refl
+points_none (a ∷ b ∷ c ∷ d ∷ e ∷ f ∷ g ∷ []) l = refl

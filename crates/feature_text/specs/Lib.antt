@@ -1,0 +1,4 @@
+pub mod Trusted
+pub mod Views
+pub mod Same
+pub mod Stored

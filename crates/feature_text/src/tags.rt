@@ -1,0 +1,119 @@
+//! Tags in the bytes of a text.
+
+use crate::numbers::{byte_in, number_in};
+use crate::texts::{long_text_in, name_in};
+
+/// The value of a tag.
+#[derive(Clone, Copy, Debug)]
+pub enum ValueText<'a> {
+    Text(&'a str),
+    Natural(u64),
+    /// A number below 0.
+    Negative(i64),
+    Truth(bool),
+}
+
+/// A key and its value.
+#[derive(Clone, Copy, Debug)]
+pub struct TagText<'a> {
+    pub key: &'a str,
+    pub value: ValueText<'a>,
+}
+
+impl<'a> ValueText<'a> {
+    ghost use Rattle.std.specs.Prelude.{◌≡◌, ℕ};
+    ghost use Rattle.feature_text.specs.Trusted.{value_of, value_in};
+    ghost use Rattle.feature_text.specs.Views.{value_view};
+
+    /// The value of this kind, and the bytes behind it.
+    #[tactic(auto, unfolding(crate::specs::Trusted::value_of))]
+    fn of_kind(kind: u8, bytes: &'a [u8]) -> (Self, &'a [u8])
+        ensures value { value_view result.0 ≡ (value_of kind bytes.entry.now).0 }
+        ensures rest { result.1.now ≡ (value_of kind bytes.entry.now).1 }
+    {
+        match kind {
+            1 => {
+                let (text, rest) = long_text_in(bytes);
+                (ValueText::Text(text), rest)
+            }
+            2 => {
+                let (number, rest) = number_in(bytes);
+                (ValueText::Natural(number), rest)
+            }
+            3 => {
+                let (bits, rest) = number_in(bytes);
+                (ValueText::Negative(bits.cast_signed()), rest)
+            }
+            4 => (ValueText::Truth(false), bytes),
+            _ => (ValueText::Truth(true), bytes),
+        }
+    }
+
+    #[tactic(auto, unfolding(crate::specs::Trusted::value_in))]
+    fn front(bytes: &'a [u8]) -> (Self, &'a [u8])
+        ensures value { value_view result.0 ≡ (value_in bytes.entry.now).0 }
+        ensures rest { result.1.now ≡ (value_in bytes.entry.now).1 }
+    {
+        let (kind, rest) = byte_in(bytes);
+        ValueText::of_kind(kind, rest)
+    }
+}
+
+impl<'a> TagText<'a> {
+    ghost use Rattle.std.specs.Prelude.{◌≡◌, ℕ};
+    ghost use Rattle.feature_text.specs.Trusted.{tag_in};
+    ghost use Rattle.feature_text.specs.Views.{tag_view};
+
+    #[tactic(auto, unfolding(crate::specs::Trusted::tag_in))]
+    fn front(bytes: &'a [u8]) -> (Self, &'a [u8])
+        ensures tag { tag_view result.0 ≡ (tag_in bytes.entry.now).0 }
+        ensures rest { result.1.now ≡ (tag_in bytes.entry.now).1 }
+    {
+        let (key, rest) = name_in(bytes);
+        let (value, rest) = ValueText::front(rest);
+        (TagText { key, value }, rest)
+    }
+}
+
+/// Tags, with strictly ascending keys.
+#[derive(Clone, Copy, Debug)]
+pub struct Tags<'a> {
+    count: u8,
+    rest: &'a [u8],
+}
+
+impl<'a> Tags<'a> {
+    ghost use Rattle.std.specs.Prelude.{◌≡◌, ℕ};
+    ghost use Rattle.feature_text.specs.Trusted.{tags_in};
+    ghost use Rattle.feature_text.specs.Views.{tags_view};
+
+    /// The tags in front.
+    #[tactic(auto, unfolding(crate::specs::Trusted::tags_in))]
+    pub(crate) fn front(bytes: &'a [u8]) -> Self
+        ensures { tags_view result ≡ (tags_in bytes.entry.now).0 }
+    {
+        let (count, rest) = byte_in(bytes);
+        Tags { count, rest }
+    }
+}
+
+impl<'a> Iterator for Tags<'a> {
+    type Item = TagText<'a>;
+
+    ghost use Rattle.std.specs.Iterator.{YieldsFirstBy, item_count};
+    ghost use Rattle.feature_text.specs.Views.{tag_view, tags_view};
+
+    ghost next_gives = { YieldsFirstBy tag_view tags_view };
+
+    ghost remaining = { item_count tags_view };
+
+    fn next(&mut self) -> Option<TagText<'a>> {
+        if self.count == 0 {
+            return None;
+        }
+        let (tag, rest) = TagText::front(self.rest);
+        self.count -= 1;
+        self.rest = rest;
+        Some(tag)
+    }
+}

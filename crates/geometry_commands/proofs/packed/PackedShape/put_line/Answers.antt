@@ -1,0 +1,36 @@
+use Rattle.std.proofs.Common.{◌≡◌, ◌∷◌, [], ◌++◌, ◌-◌, length, take, drop, get_or, refl, sym, ap, ◌∙◌, arith}
+use Rattle.std.specs.List.{flat_map}
+use Rattle.std.proofs.lemmas.List.{append-nil}
+use Rattle.pb_wire.specs.Varint.{varint}
+use Rattle.geometry_commands.specs.Commands.{command, steps, origin}
+use Rattle.geometry_commands.specs.Shapes.{close_spelled}
+use Rattle.geometry_commands.proofs.Packing.{line_packed}
+use Rattle.geometry_commands.proofs.Written.{split_first}
+use Rattle.geometry_commands.proofs.packed.PackedShape.put_line.Goals as goal
+
+pub returns-in_ok-put_number-3-clause-bytes : goal.returns-in_ok-put_number-3-clause-bytes
+returns-in_ok-put_number-3-clause-bytes c =
+    let line = c.args.line.now in
+    let others = take (length line - 1) (drop 1 line) in
+    let close : close_spelled c.args.closed ≡ command 7 1 ∷ [] = rw c.if-closed.true refl in
+    let drawn = c.put_number-2.new.out.items in
+    let all = line_packed c.args.closed c.args.self.now.at (get_or line 0 origin) others
+    line c.times.result c.times-2.result c.args.self.now.bytes.items c.put_number.new.out.items c.put_point.new.self.bytes.items drawn
+    c.put_points.new.self.bytes.items (split_first line origin (omega (arith, c.requires.long))) c.times.ensures c.times-2.ensures
+    c.in_ok-put_number.ensures c.in_ok-put_point.ensures.bytes c.in_ok-put_number-2.ensures
+    (c.in_ok-put_points.ensures.bytes ∙ ap (λ p. drawn ++ flat_map varint (steps p others)) c.in_ok-put_point.ensures.at) in
+    c.in_ok-put_number-3.ensures ∙ rw c.times-then-closed.ensures
+    (ap (λ r. c.put_points.new.self.bytes.items ++ r) (sym (append-nil (varint (command 7 1)))) ∙ rw close at all)
+
+pub returns-else-closed-clause-bytes : goal.returns-else-closed-clause-bytes
+returns-else-closed-clause-bytes c =
+    let line = c.args.line.now in
+    let others = take (length line - 1) (drop 1 line) in
+    let close : close_spelled c.args.closed ≡ [] = rw c.if-closed.false refl in
+    let drawn = c.put_number-2.new.out.items in
+    let all = line_packed c.args.closed c.args.self.now.at (get_or line 0 origin) others
+    line c.times.result c.times-2.result c.args.self.now.bytes.items c.put_number.new.out.items c.put_point.new.self.bytes.items drawn
+    c.put_points.new.self.bytes.items (split_first line origin (omega (arith, c.requires.long))) c.times.ensures c.times-2.ensures
+    c.in_ok-put_number.ensures c.in_ok-put_point.ensures.bytes c.in_ok-put_number-2.ensures
+    (c.in_ok-put_points.ensures.bytes ∙ ap (λ p. drawn ++ flat_map varint (steps p others)) c.in_ok-put_point.ensures.at) in
+    sym (append-nil c.put_points.new.self.bytes.items) ∙ rw close at all

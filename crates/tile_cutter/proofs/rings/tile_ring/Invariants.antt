@@ -1,7 +1,0 @@
-use Rattle.tile_cutter.specs.Cut.{tile_points}
-use Rattle.tile_cutter.proofs.Passes.{HasKept, left_after}
-use Rattle.tile_cutter.proofs.rings.tile_ring.Given as goal
-
-abbrev pub invariant-loop-point : goal.invariant-loop-point
-invariant-loop-point l =
-    HasKept left_after l.at.z l.at.x l.at.y l.points (tile_points l.at.z l.at.x l.at.y l.points) l.ring.items l.before l.point-index
