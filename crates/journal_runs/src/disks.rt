@@ -1,9 +1,10 @@
 //! Commands on the sectors of a disk.
 use crate::lines::{DiskVerb, Line};
-use crate::trial::{Trial, fixed_text, outcome_text};
+use crate::trial::{Trial, debug_text, fixed_text, outcome_text};
 use script_bytes::{choices_of, push_number, sector_of, spelled, used_part};
 use sector_disk::{FailingCalls, FaultyDisk, MemoryDisk, SECTOR_BYTES, Sectors};
 use std::alloc::{AllocError, Global};
+use std::mem;
 
 fn make(alloc: Global, trial: &mut Trial, sectors: u64) -> Result<Option<String>, AllocError> {
     trial.replace(MemoryDisk::new(alloc, sectors)?);
@@ -60,21 +61,25 @@ fn fail(
     trial: &mut Trial,
     failing: FailingCalls,
 ) -> Result<Option<String>, AllocError> {
-    let disk = trial.take(alloc)?;
-    trial.disk = FaultyDisk::new(disk, failing);
-    Ok(Some(format!(in alloc; "{failing:?}")?))
+    trial.set_failing(alloc, failing)?;
+    debug_text(alloc, failing)
 }
 
 fn stop(alloc: Global, trial: &mut Trial) -> Result<Option<String>, AllocError> {
-    trial.stopped = trial.take(alloc)?;
+    let stopped = trial.take(alloc)?;
+    drop(mem::replace(&mut trial.stopped, stopped));
     fixed_text(alloc, "stopped")
 }
 
 fn crash(alloc: Global, trial: &mut Trial, numbers: &[u64]) -> Result<Option<String>, AllocError> {
     let choices = choices_of(alloc, numbers)?;
-    let left = trial.stopped.crash(&choices)?;
-    trial.replace(left);
-    fixed_text(alloc, "crashed")
+    match trial.stopped.crash(&choices) {
+        Ok(left) => {
+            trial.replace(left);
+            fixed_text(alloc, "crashed")
+        }
+        Err(fault) => Err(fault),
+    }
 }
 
 /// The answer to a command on sectors. `None` if its numbers don't fit.

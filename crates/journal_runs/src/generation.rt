@@ -1,6 +1,6 @@
 //! Commands on the generations of a disk.
 use crate::lines::{GenerationVerb, Line};
-use crate::trial::{Trial, fixed_text, outcome_text};
+use crate::trial::{Trial, debug_text, fixed_text, outcome_text};
 use generations::{
     FIRST_VERSION, JOURNAL_START, LAST_VERSION, Layout, Root, format, format_version, install,
     read_root, upgrade, write_area,
@@ -10,8 +10,7 @@ use sector_disk::Sectors;
 use std::alloc::{AllocError, Global};
 
 fn layout(alloc: Global, sectors: u64) -> Result<Option<String>, AllocError> {
-    let layout = Layout::of(sectors);
-    Ok(Some(format!(in alloc; "{layout:?}")?))
+    debug_text(alloc, Layout::of(sectors))
 }
 
 fn format_disk(alloc: Global, trial: &mut Trial) -> Result<Option<String>, AllocError> {

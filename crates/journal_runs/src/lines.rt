@@ -1,5 +1,5 @@
 //! Commands as lines of text.
-use script_bytes::{add_bytes, numbers_in};
+use script_bytes::{add_bytes, numbers_in, parted};
 use std::alloc::{AllocError, Global};
 
 /// Commands on the sectors of a disk.
@@ -57,86 +57,75 @@ pub(crate) struct Line {
     pub(crate) bytes: Vec<u8>,
 }
 
-fn disk_verb_in(word: &str) -> Option<DiskVerb> {
-    match word {
-        "disk" => Some(DiskVerb::Disk),
-        "write" => Some(DiskVerb::Write),
-        "sync" => Some(DiskVerb::Sync),
-        "sector" => Some(DiskVerb::Sector),
-        "sectors" => Some(DiskVerb::Sectors),
-        "fail_from" => Some(DiskVerb::FailFrom),
-        "fail_not_made" => Some(DiskVerb::FailNotMade),
-        "fail_made" => Some(DiskVerb::FailMade),
-        "fail_none" => Some(DiskVerb::FailNone),
-        "stop" => Some(DiskVerb::Stop),
-        "crash" => Some(DiskVerb::Crash),
-        _ => None,
+/// The words of commands.
+const VERBS: [(&str, Verb); 25] = [
+    ("disk", Verb::Disk(DiskVerb::Disk)),
+    ("write", Verb::Disk(DiskVerb::Write)),
+    ("sync", Verb::Disk(DiskVerb::Sync)),
+    ("sector", Verb::Disk(DiskVerb::Sector)),
+    ("sectors", Verb::Disk(DiskVerb::Sectors)),
+    ("fail_from", Verb::Disk(DiskVerb::FailFrom)),
+    ("fail_not_made", Verb::Disk(DiskVerb::FailNotMade)),
+    ("fail_made", Verb::Disk(DiskVerb::FailMade)),
+    ("fail_none", Verb::Disk(DiskVerb::FailNone)),
+    ("stop", Verb::Disk(DiskVerb::Stop)),
+    ("crash", Verb::Disk(DiskVerb::Crash)),
+    ("layout", Verb::Generation(GenerationVerb::Layout)),
+    ("format", Verb::Generation(GenerationVerb::Format)),
+    (
+        "format_version",
+        Verb::Generation(GenerationVerb::FormatVersion),
+    ),
+    ("upgrade", Verb::Generation(GenerationVerb::Upgrade)),
+    ("root", Verb::Generation(GenerationVerb::Root)),
+    ("area", Verb::Generation(GenerationVerb::Area)),
+    ("install", Verb::Generation(GenerationVerb::Install)),
+    ("ring", Verb::Ring(RingVerb::Ring)),
+    ("append", Verb::Ring(RingVerb::Append)),
+    ("next", Verb::Ring(RingVerb::Next)),
+    ("mark", Verb::Ring(RingVerb::Mark)),
+    ("release", Verb::Ring(RingVerb::Release)),
+    ("head", Verb::Ring(RingVerb::Head)),
+    ("part", Verb::Ring(RingVerb::Part)),
+];
+
+fn verb_in(text: &str) -> Option<Verb> {
+    for (word, verb) in &VERBS {
+        if *word == text {
+            return Some(*verb);
+        }
+    }
+    None
+}
+
+/// The command with these bytes, spelled. `None` if they spell none.
+fn with_bytes(
+    alloc: Global,
+    verb: Verb,
+    numbers: Vec<u64>,
+    spelled: &str,
+) -> Result<Option<Line>, AllocError> {
+    let mut line = Line {
+        verb,
+        numbers,
+        bytes: Vec::new(alloc),
+    };
+    match add_bytes(&mut line.bytes, alloc, spelled) {
+        Ok(true) => Ok(Some(line)),
+        Ok(false) => Ok(None),
+        Err(fault) => Err(fault),
     }
 }
 
-fn generation_verb_in(word: &str) -> Option<GenerationVerb> {
-    match word {
-        "layout" => Some(GenerationVerb::Layout),
-        "format" => Some(GenerationVerb::Format),
-        "format_version" => Some(GenerationVerb::FormatVersion),
-        "upgrade" => Some(GenerationVerb::Upgrade),
-        "root" => Some(GenerationVerb::Root),
-        "area" => Some(GenerationVerb::Area),
-        "install" => Some(GenerationVerb::Install),
-        _ => None,
-    }
-}
-
-fn ring_verb_in(word: &str) -> Option<RingVerb> {
-    match word {
-        "ring" => Some(RingVerb::Ring),
-        "append" => Some(RingVerb::Append),
-        "next" => Some(RingVerb::Next),
-        "mark" => Some(RingVerb::Mark),
-        "release" => Some(RingVerb::Release),
-        "head" => Some(RingVerb::Head),
-        "part" => Some(RingVerb::Part),
-        _ => None,
-    }
-}
-
-fn verb_in(word: &str) -> Option<Verb> {
-    if let Some(verb) = disk_verb_in(word) {
-        return Some(Verb::Disk(verb));
-    }
-    match generation_verb_in(word) {
-        Some(verb) => Some(Verb::Generation(verb)),
-        None => ring_verb_in(word).map(Verb::Ring),
-    }
-}
-
-/// A line without its bytes, and its bytes.
-fn halves(text: &str) -> (&str, &str) {
-    text.split_once('=').unwrap_or((text, ""))
-}
-
-/// The first word of a text, and the rest.
-fn first_word(text: &str) -> (&str, &str) {
-    text.split_once(' ').unwrap_or((text, ""))
-}
-
-/// Parses a line. `None` if it is no command.
+/// Parses a line: a word, numbers, `=` and bytes. `None` if it is no command.
 pub(crate) fn line_in(alloc: Global, text: &str) -> Result<Option<Line>, AllocError> {
-    let (front, spelled) = halves(text);
-    let (word, rest) = first_word(front);
+    let (front, spelled) = text.split_once('=').unwrap_or((text, ""));
+    let (word, rest) = parted(front);
     let Some(verb) = verb_in(word) else {
         return Ok(None);
     };
-    let Some(numbers) = numbers_in(alloc, rest)? else {
-        return Ok(None);
-    };
-    let mut bytes = Vec::new(alloc);
-    if !add_bytes(&mut bytes, alloc, spelled)? {
-        return Ok(None);
+    match numbers_in(alloc, rest)? {
+        Some(numbers) => with_bytes(alloc, verb, numbers, spelled),
+        None => Ok(None),
     }
-    Ok(Some(Line {
-        verb,
-        numbers,
-        bytes,
-    }))
 }

@@ -42,7 +42,6 @@ mod trial;
 use lines::{Line, Verb, line_in};
 use std::alloc::{AllocError, Global};
 use std::io;
-use std::io::{BufRead, BufReader};
 use trial::Trial;
 
 /// The answer to a command. `None` if its numbers don't fit.
@@ -54,12 +53,20 @@ fn answered(alloc: Global, trial: &mut Trial, line: &Line) -> Result<Option<Stri
     }
 }
 
+/// The answer to a line of text. `None` if it is no command, or its numbers don't fit.
+fn answer_to(alloc: Global, trial: &mut Trial, text: &str) -> Result<Option<String>, AllocError> {
+    match line_in(alloc, text)? {
+        Some(line) => {
+            let answer = answered(alloc, trial, &line);
+            drop(line);
+            answer
+        }
+        None => Ok(None),
+    }
+}
+
 fn answer_command(rt: &HostRuntime, trial: &mut Trial, text: &str) -> io::Result<()> {
-    let alloc = rt.alloc();
-    let Some(line) = line_in(alloc, text)? else {
-        return println!(rt; "? {text}");
-    };
-    match answered(alloc, trial, &line)? {
+    match answer_to(rt.alloc(), trial, text)? {
         Some(answer) => println!(rt; "{answer}"),
         None => println!(rt; "? {text}"),
     }
@@ -74,7 +81,7 @@ fn answer_line(rt: &HostRuntime, trial: &mut Trial, text: &str) -> io::Result<()
 
 /// Answers each line. The trial is borrowed, so that no way out of the loop drops a disk.
 fn answer_lines(rt: &HostRuntime, trial: &mut Trial) -> io::Result<()> {
-    for line in BufReader::new(rt.alloc(), rt.reader())?.lines(rt.alloc()) {
+    for line in rt.lines(rt.alloc()) {
         answer_line(rt, trial, line?.as_str())?;
     }
     Ok(())
@@ -82,5 +89,7 @@ fn answer_lines(rt: &HostRuntime, trial: &mut Trial) -> io::Result<()> {
 
 fn main(rt: HostRuntime) -> io::Result<()> {
     let mut trial = Trial::new(rt.alloc())?;
-    answer_lines(&rt, &mut trial)
+    let answered = answer_lines(&rt, &mut trial);
+    drop(trial);
+    answered
 }

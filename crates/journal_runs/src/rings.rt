@@ -4,7 +4,7 @@ ghost use Rattle.edit_journal.specs.Records.{IsRecordLength};
 ghost use Rattle.edit_journal.specs.Releases.{IsBehind, MayTake};
 
 use crate::lines::{Line, RingVerb};
-use crate::trial::{Trial, fixed_text, outcome_text};
+use crate::trial::{Trial, debug_text, fixed_text, outcome_text};
 use edit_journal::{
     FIRST_RECORD_VERSION, Journal, JournalPosition, LAST_RECORD_VERSION, MAX_RECORD_BYTES, Record,
     head_in, head_version,
@@ -13,18 +13,24 @@ use script_bytes::spelled_briefly;
 use sector_disk::{SECTOR_BYTES, Sectors};
 use std::alloc::{AllocError, Global};
 
-/// The text of a journal and its records, each its version and its text.
-fn journal_text(alloc: Global, journal: Journal, records: &[Record]) -> Result<String, AllocError> {
+/// The text of a journal and its records, each its version and its text, and how many calls found them.
+fn journal_text(
+    alloc: Global,
+    journal: Journal,
+    records: &[Record],
+    calls: u64,
+) -> Result<String, AllocError> {
     let mut text = format!(in alloc; "used {} last {}:", journal.used, journal.last)?;
-    for next in records {
-        write!(
-            text,
-            " {}={}",
-            next.version,
-            spelled_briefly(alloc, &next.text)?
-        )?;
+    for record in records {
+        push_record(alloc, &mut text, record)?;
     }
+    write!(text, " in {calls}")?;
     Ok(text)
+}
+
+fn push_record(alloc: Global, text: &mut String, record: &Record) -> Result<(), AllocError> {
+    let spelled = spelled_briefly(alloc, &record.text)?;
+    write!(text, " {}={spelled}", record.version)
 }
 
 /// A number as a version; one that is too large as the largest.
@@ -50,8 +56,10 @@ fn ring(
     match outcome {
         Ok((journal, records)) => {
             trial.journal = journal;
-            let text = journal_text(alloc, journal, &records)?;
-            Ok(Some(format!(in alloc; "{text} in {calls}")?))
+            match journal_text(alloc, journal, &records, calls) {
+                Ok(text) => Ok(Some(text)),
+                Err(fault) => Err(fault),
+            }
         }
         Err(fault) => outcome_text(alloc, fault, calls),
     }
@@ -95,7 +103,7 @@ fn next(alloc: Global, journal: Journal) -> Result<Option<String>, AllocError> {
 
 fn mark(alloc: Global, trial: &mut Trial) -> Result<Option<String>, AllocError> {
     trial.mark = trial.journal.next();
-    Ok(Some(format!(in alloc; "{:?}", trial.mark)?))
+    debug_text(alloc, trial.mark)
 }
 
 /// Whether `records` records can take `places` places.
@@ -162,8 +170,19 @@ fn head_up_to(
     most: u32,
 ) -> Result<Option<String>, AllocError> {
     let sector = sector_at(trial, at);
-    let version = head_version(&sector, number, most);
-    Ok(Some(format!(in alloc; "{version:?}")?))
+    debug_text(alloc, head_version(&sector, number, most))
+}
+
+/// Whether a sector is this part of the record whose head another one is, if that is one.
+fn has_part(
+    first: &[u8; SECTOR_BYTES],
+    number: u64,
+    sector: &[u8; SECTOR_BYTES],
+    part: u16,
+) -> Option<bool> {
+    let version = head_version(first, number, LAST_RECORD_VERSION)?;
+    let head = head_in(first, version, number)?;
+    Some(head.has_part(sector, part))
 }
 
 fn part(
@@ -174,11 +193,7 @@ fn part(
 ) -> Result<Option<String>, AllocError> {
     let first = sector_at(trial, head_at);
     let sector = sector_at(trial, at);
-    let head = head_version(&first, number, LAST_RECORD_VERSION).and_then(|version| head_in(
-        &first, version, number,
-    ));
-    let has = head.map(|head| head.has_part(&sector, part));
-    Ok(Some(format!(in alloc; "{has:?}")?))
+    debug_text(alloc, has_part(&first, number, &sector, part))
 }
 
 /// The answer to a command on a journal. `None` if its numbers don't fit.

@@ -41,13 +41,24 @@ impl Trial {
 
     /// Replaces the disk by one whose calls don't fail.
     pub(crate) fn replace(&mut self, disk: MemoryDisk) {
-        self.disk = sound(disk);
+        drop(mem::replace(&mut self.disk, sound(disk)));
     }
 
     /// Takes the disk out, and leaves one without sectors.
     pub(crate) fn take(&mut self, alloc: Global) -> Result<MemoryDisk, AllocError> {
         let empty = sound(MemoryDisk::new(alloc, 0)?);
         Ok(mem::replace(&mut self.disk, empty).into_disk())
+    }
+
+    /// Has these calls of the disk fail, counted from now on.
+    pub(crate) fn set_failing(
+        &mut self,
+        alloc: Global,
+        failing: FailingCalls,
+    ) -> Result<(), AllocError> {
+        let disk = self.take(alloc)?;
+        drop(mem::replace(&mut self.disk, FaultyDisk::new(disk, failing)));
+        Ok(())
     }
 }
 
@@ -58,6 +69,14 @@ pub(crate) fn outcome_text(
     calls: u64,
 ) -> Result<Option<String>, AllocError> {
     Ok(Some(format!(in alloc; "{outcome:?} in {calls}")?))
+}
+
+/// The text of a value.
+pub(crate) fn debug_text(
+    alloc: Global,
+    value: impl Debug + Drop,
+) -> Result<Option<String>, AllocError> {
+    Ok(Some(format!(in alloc; "{value:?}")?))
 }
 
 /// A fixed answer.
