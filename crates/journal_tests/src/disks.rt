@@ -1,32 +1,27 @@
 //! Disks that crash and fail, by worked examples.
-ghost use Rattle.std.specs.Prelude.{◌≡◌, ◌<◌};
-
 mod calls;
+mod fakes;
 mod faulty;
 mod made;
 mod memory;
 mod paths;
 mod runs;
+mod steps;
 mod system;
 
-use sector_disk::Sectors;
+use std::fmt::Debug;
+use std::io::{self, ErrorKind};
+use std::process::Abort;
 
-/// The first byte of a sector, and 255 where it can't be read.
-fn first<D: Sectors>(disk: &mut D, at: u64) -> u8
-    requires { at < D.sectors disk.old }
-    ensures { D.sectors disk.new ≡ D.sectors disk.old }
-{
-    let mut bytes = [9; 512];
-    match disk.read(at, &mut bytes) {
-        Ok(()) => bytes[0],
-        Err(_) => 255,
+/// What a call of the system gives, or the kind of its error.
+fn kind_of<T>(outcome: io::Result<T>) -> Result<T, ErrorKind> {
+    match outcome {
+        Ok(given) => Ok(given),
+        Err(error) => Err(error.kind()),
     }
 }
 
-/// Fills a sector with a byte, and says whether that was reported as done.
-fn put<D: Sectors>(disk: &mut D, at: u64, byte: u8) -> bool
-    requires { at < D.sectors disk.old }
-    ensures { D.sectors disk.new ≡ D.sectors disk.old }
-{
-    disk.write(at, &[byte; 512]).is_ok()
+/// Ends the test if something else is seen than what is wanted.
+fn same<T: Debug + PartialEq>(rt: &impl Abort, seen: &T, wanted: &T) {
+    assert_eq!(rt; seen, wanted);
 }

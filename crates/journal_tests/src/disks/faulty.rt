@@ -1,150 +1,139 @@
 //! A disk of which some calls fail, at each call of a short script.
-ghost use Rattle.std.specs.Prelude.{◌≡◌, ◌<◌, IfOk};
-
-use super::{first, put};
+use super::memory::other_left;
+use super::same;
+use super::steps::Step::{Begins, Fills, FillsNot, ReadsNot, Syncs, SyncsNot};
+use super::steps::{Step, other_step};
 use sector_disk::FailingCalls::{AllFrom, OneMade, OneNotMade};
-use sector_disk::{FailingCalls, FaultyDisk, MemoryDisk, Sectors};
-use std::alloc::Global;
-use std::test::Fail;
+use sector_disk::{FailingCalls, FaultyDisk, MemoryDisk};
+use std::alloc::{AllocError, Global};
 
-/// Fills sector 2 with 7s, syncs, fills it with 8s, and reads it: which calls were reported as done, and what was read.
-fn script<D: Sectors>(disk: &mut D) -> (bool, bool, bool, u8)
-    requires { 2 < D.sectors disk.old }
-    ensures { D.sectors disk.new ≡ D.sectors disk.old }
-{
-    let wrote = put(disk, 2, 7);
-    let synced = disk.sync().is_ok();
-    let again = put(disk, 2, 8);
-    (wrote, synced, again, first(disk, 2))
+/// Which calls of the script are reported as done, and what is read, if something is.
+type Reported = (bool, bool, bool, Option<u8>);
+
+/// Fills sector 2 with 7s, syncs, fills it with 8s, and reads it.
+fn script((wrote, synced, again, byte): Reported) -> [Step; 4] {
+    [
+        if wrote { Fills(2, 7) } else { FillsNot(2, 7) },
+        if synced { Syncs } else { SyncsNot },
+        if again { Fills(2, 8) } else { FillsNot(2, 8) },
+        match byte {
+            Some(byte) => Begins(2, byte),
+            None => ReadsNot(2),
+        },
+    ]
 }
 
-/// Which calls fail; what is reported to the script; what the inner disk then holds, and what a crash leaves of it by the
-/// choice of the old content.
-const ROWS: [(FailingCalls, (bool, bool, bool, u8), u8, u8); 18] = [
-    (AllFrom(0), (false, false, false, 255), 0, 0),
-    (AllFrom(1), (false, false, false, 255), 0, 0),
-    (AllFrom(2), (true, false, false, 255), 7, 0),
-    (AllFrom(3), (true, true, false, 255), 7, 7),
-    (AllFrom(4), (true, true, true, 255), 8, 7),
-    (AllFrom(5), (true, true, true, 8), 8, 7),
-    (AllFrom(6), (true, true, true, 8), 8, 7),
-    (OneNotMade(0), (true, true, true, 8), 8, 7),
-    (OneMade(0), (true, true, true, 8), 8, 7),
-    (OneNotMade(1), (false, true, true, 8), 8, 0),
-    (OneMade(1), (false, true, true, 8), 8, 7),
-    (OneNotMade(2), (true, false, true, 8), 8, 0),
-    (OneMade(2), (true, false, true, 8), 8, 7),
-    (OneNotMade(3), (true, true, false, 7), 7, 7),
-    (OneMade(3), (true, true, false, 8), 8, 7),
-    (OneNotMade(4), (true, true, true, 255), 8, 7),
-    (OneMade(4), (true, true, true, 255), 8, 7),
-    (OneNotMade(5), (true, true, true, 8), 8, 7),
+/// Which calls fail; what is reported to the script; what the inner disk then holds, what a crash leaves of it by the choice of the old
+/// content, and how many of the four calls are passed on, or made all the same: each is one call of the inner disk.
+type Row = (FailingCalls, Reported, u8, u8, u64);
+
+const ROWS: [Row; 18] = [
+    (AllFrom(0), (false, false, false, None), 0, 0, 0),
+    (AllFrom(1), (false, false, false, None), 0, 0, 0),
+    (AllFrom(2), (true, false, false, None), 7, 0, 1),
+    (AllFrom(3), (true, true, false, None), 7, 7, 2),
+    (AllFrom(4), (true, true, true, None), 8, 7, 3),
+    (AllFrom(5), (true, true, true, Some(8)), 8, 7, 4),
+    (AllFrom(6), (true, true, true, Some(8)), 8, 7, 4),
+    (OneNotMade(0), (true, true, true, Some(8)), 8, 7, 4),
+    (OneMade(0), (true, true, true, Some(8)), 8, 7, 4),
+    (OneNotMade(1), (false, true, true, Some(8)), 8, 0, 3),
+    (OneMade(1), (false, true, true, Some(8)), 8, 7, 4),
+    (OneNotMade(2), (true, false, true, Some(8)), 8, 0, 3),
+    (OneMade(2), (true, false, true, Some(8)), 8, 7, 4),
+    (OneNotMade(3), (true, true, false, Some(7)), 7, 7, 3),
+    (OneMade(3), (true, true, false, Some(8)), 8, 7, 4),
+    (OneNotMade(4), (true, true, true, None), 8, 7, 3),
+    (OneMade(4), (true, true, true, None), 8, 7, 4),
+    (OneNotMade(5), (true, true, true, Some(8)), 8, 7, 4),
 ];
 
-/// What is reported to the script, how many calls it makes, what the inner disk then holds, and what a crash leaves of it.
-fn seen(
-    alloc: Global,
-    failing: FailingCalls,
-) -> Result<((bool, bool, bool, u8), u64, u8, u8), Fail> {
-    let mut disk = FaultyDisk::new(MemoryDisk::new(alloc, 3)?, failing);
-    let reported = script(&mut disk);
-    let calls = disk.calls();
-    let mut inner = disk.into_disk();
-    let holds = first(&mut inner, 2);
-    let left = first(&mut inner.crash(&[])?, 2);
-    Ok((reported, calls, holds, left))
+/// Whether sector 2 begins with these bytes, now and after a crash.
+fn is_held(disk: &mut MemoryDisk, holds: u8, left: u8) -> Result<bool, AllocError> {
+    let other = other_step(disk, &[Begins(2, holds)]);
+    let other_left = other_left(disk, &[], &[Begins(2, left)])?;
+    Ok(other.is_none() && other_left.is_none())
 }
 
-/// Which row is the first of which something else is seen, if one is.
-fn other_row(alloc: Global) -> Result<Option<FailingCalls>, Fail> {
-    for (failing, reported, holds, left) in ROWS {
-        if seen(alloc, failing)? != (reported, 4, holds, left) {
-            return Ok(Some(failing));
+/// Whether the script has these outcomes, with four calls, and leaves these bytes.
+fn is_seen(
+    alloc: Global,
+    failing: FailingCalls,
+    steps: &[Step],
+    holds: u8,
+    left: u8,
+) -> Result<bool, AllocError> {
+    let mut disk = FaultyDisk::new(MemoryDisk::new(alloc, 3)?, failing);
+    let is_reported = other_step(&mut disk, steps).is_none() && disk.calls() == 4;
+    let mut inner = disk.into_disk();
+    let is_held = is_held(&mut inner, holds, left);
+    drop(inner);
+    Ok(is_reported && is_held?)
+}
+
+/// The failing calls of the first row with another outcome.
+fn other_row(alloc: Global) -> Result<Option<FailingCalls>, AllocError> {
+    for (failing, reported, holds, left, _) in &ROWS {
+        if !is_seen(alloc, *failing, &script(*reported), *holds, *left)? {
+            return Ok(Some(*failing));
         }
     }
     Ok(None)
 }
 
 #[test]
-fn fails_at_its_calls(rt: HostRuntime) -> Result<(), Fail> {
-    assert_eq!(rt; other_row(rt.alloc())?, None);
-    Ok(())
+fn fails_at_its_calls(rt: HostRuntime) {
+    same(&rt, &other_row(rt.alloc()), &Ok(None));
 }
 
-/// Which calls fail, and how many of the four are passed on, or made all the same: each is one call of the inner disk.
-const PASSED_ON: [(FailingCalls, u64); 15] = [
-    (AllFrom(1), 0),
-    (AllFrom(2), 1),
-    (AllFrom(3), 2),
-    (AllFrom(4), 3),
-    (AllFrom(5), 4),
-    (OneNotMade(0), 4),
-    (OneNotMade(1), 3),
-    (OneNotMade(2), 3),
-    (OneNotMade(3), 3),
-    (OneNotMade(4), 3),
-    (OneNotMade(5), 4),
-    (OneMade(1), 4),
-    (OneMade(2), 4),
-    (OneMade(3), 4),
-    (OneMade(4), 4),
-];
-
-/// A disk of which these calls fail, before one of which those fail.
-fn nested(
+/// How many calls the script makes of the inner disk, where calls of both disks fail, if the script has these outcomes.
+fn passed_on(
     alloc: Global,
     failing: FailingCalls,
     inner: FailingCalls,
-) -> Result<FaultyDisk<FaultyDisk<MemoryDisk>>, Fail>
-    ensures { IfOk result (λ disk. ⟦<FaultyDisk<FaultyDisk<MemoryDisk>> as Sectors>⟧.sectors disk ≡ 3) }
-{
+    reported: Reported,
+) -> Result<Option<u64>, AllocError> {
     let inner = FaultyDisk::new(MemoryDisk::new(alloc, 3)?, inner);
-    Ok(FaultyDisk::new(inner, failing))
+    let mut disk = FaultyDisk::new(inner, failing);
+    let other = other_step(&mut disk, &script(reported));
+    let inner = disk.into_disk();
+    let calls = inner.calls();
+    drop(inner);
+    Ok(if other.is_none() { Some(calls) } else { None })
 }
 
-/// How many calls the script makes of the inner disk.
-fn passed_on(alloc: Global, failing: FailingCalls) -> Result<u64, Fail> {
-    let mut disk = nested(alloc, failing, AllFrom(9))?;
-    script(&mut disk);
-    Ok(disk.into_disk().calls())
-}
-
-/// Which row is the first of which another number is passed on, if one is.
-fn other_number(alloc: Global) -> Result<Option<FailingCalls>, Fail> {
-    for (failing, asked) in PASSED_ON {
-        if passed_on(alloc, failing)? != asked {
-            return Ok(Some(failing));
+/// The failing calls of the first row with another number.
+fn other_number(alloc: Global) -> Result<Option<FailingCalls>, AllocError> {
+    for (failing, reported, _, _, passed) in &ROWS {
+        if passed_on(alloc, *failing, AllFrom(9), *reported)? != Some(*passed) {
+            return Ok(Some(*failing));
         }
     }
     Ok(None)
 }
 
 #[test]
-fn asks_once_of_the_inner_disk(rt: HostRuntime) -> Result<(), Fail> {
-    assert_eq!(rt; other_number(rt.alloc())?, None);
-    Ok(())
+fn asks_once_of_the_inner_disk(rt: HostRuntime) {
+    same(&rt, &other_number(rt.alloc()), &Ok(None));
 }
 
 /// Which calls fail of the inner disk and of the outer one, and what is reported: a fault of the inner disk is one of the outer disk too.
-const FAULTS: [(FailingCalls, FailingCalls, (bool, bool, bool, u8)); 2] = [
-    (AllFrom(2), OneNotMade(4), (true, false, false, 255)),
-    (OneNotMade(3), AllFrom(10), (true, true, false, 7)),
+const FAULTS: [(FailingCalls, FailingCalls, Reported); 2] = [
+    (AllFrom(2), OneNotMade(4), (true, false, false, None)),
+    (OneNotMade(3), AllFrom(10), (true, true, false, Some(7))),
 ];
 
-/// What is reported to the script where both fail.
-fn reported(
-    alloc: Global,
-    failing: FailingCalls,
-    inner: FailingCalls,
-) -> Result<(bool, bool, bool, u8), Fail> {
-    let mut disk = nested(alloc, failing, inner)?;
-    Ok(script(&mut disk))
+/// The failing calls of the first row with another outcome.
+fn other_fault(alloc: Global) -> Result<Option<FailingCalls>, AllocError> {
+    for (inner, failing, reported) in &FAULTS {
+        if passed_on(alloc, *failing, *inner, *reported)?.is_none() {
+            return Ok(Some(*failing));
+        }
+    }
+    Ok(None)
 }
 
 #[test]
-fn passes_faults_on(rt: HostRuntime) -> Result<(), Fail> {
-    for (inner, failing, told) in FAULTS {
-        assert_eq!(rt; reported(rt.alloc(), failing, inner)?, told);
-    }
-    Ok(())
+fn passes_faults_on(rt: HostRuntime) {
+    same(&rt, &other_fault(rt.alloc()), &Ok(None));
 }

@@ -1,98 +1,130 @@
 //! A disk in memory, and what a crash leaves of it.
-ghost use Rattle.std.specs.Prelude.{◌≡◌, ◌<◌, IfOk};
-
-use super::{first, put};
-use sector_disk::{MemoryDisk, Sectors};
+use super::same;
+use super::steps::Step::{Begins, Count, Fills, Syncs};
+use super::steps::{Step, other_step};
+use sector_disk::MemoryDisk;
 use std::alloc::{AllocError, Global};
-use std::test::Fail;
 
-/// A disk of four sectors: sector 1 is synced with 1s, then sector 3 is filled with 5s, and sector 1 with 2s and 3s.
-fn unsynced(alloc: Global) -> Result<MemoryDisk, AllocError>
-    ensures { IfOk result (λ disk. ⟦<MemoryDisk as Sectors>⟧.sectors disk ≡ 4) }
-{
-    let mut disk = MemoryDisk::new(alloc, 4)?;
-    put(&mut disk, 1, 1);
-    let _ = disk.sync();
-    put(&mut disk, 3, 5);
-    put(&mut disk, 1, 2);
-    put(&mut disk, 1, 3);
-    Ok(disk)
+/// The first step with another outcome over what a crash with this choice leaves.
+pub(super) fn other_left(
+    disk: &MemoryDisk,
+    choice: &[u32],
+    steps: &[Step],
+) -> Result<Option<usize>, AllocError> {
+    let mut left = disk.crash(choice)?;
+    let other = other_step(&mut left, steps);
+    drop(left);
+    Ok(other)
 }
 
-/// The first byte of each sector.
-fn firsts(disk: &mut MemoryDisk) -> [u8; 4]
-    requires { ⟦<MemoryDisk as Sectors>⟧.sectors disk.old ≡ 4 }
-    ensures { ⟦<MemoryDisk as Sectors>⟧.sectors disk.new ≡ 4 }
-{
+/// Four sectors begin with these bytes.
+fn begins([first, second, third, fourth]: [u8; 4]) -> [Step; 4] {
     [
-        first(disk, 0),
-        first(disk, 1),
-        first(disk, 2),
-        first(disk, 3),
+        Begins(0, first),
+        Begins(1, second),
+        Begins(2, third),
+        Begins(3, fourth),
     ]
 }
 
-#[test]
-fn begins_with_zeros(rt: HostRuntime) -> Result<(), Fail> {
-    let mut disk = MemoryDisk::new(rt.alloc(), 4)?;
-    assert_eq!(rt; firsts(&mut disk), [0, 0, 0, 0]);
-    Ok(())
+/// A choice of a crash, and the first byte of each sector that it leaves.
+type Row<'a> = (&'a [u32], [u8; 4]);
+
+/// Whether the steps have their outcomes after a crash, and again after a second one, which loses nothing.
+fn is_left(disk: &MemoryDisk, choice: &[u32], steps: &[Step]) -> Result<bool, AllocError> {
+    let mut left = disk.crash(choice)?;
+    let other = other_step(&mut left, steps);
+    let again = other_left(&left, &[1, 1], steps);
+    drop(left);
+    Ok(other.is_none() && again?.is_none())
 }
 
-/// The first byte of a sector, where there is one.
-fn first_of(disk: &mut MemoryDisk, at: u64) -> Option<u8> {
-    if at < disk.count() {
-        Some(first(disk, at))
-    } else {
-        None
+/// The first row of which a crash leaves something else.
+fn other_row(disk: &MemoryDisk, rows: &[Row<'_>]) -> Result<Option<usize>, AllocError> {
+    for (index, (choice, left)) in rows.iter().enumerate() {
+        if !is_left(disk, choice, &begins(*left))? {
+            return Ok(Some(index));
+        }
     }
+    Ok(None)
 }
 
-/// Fills a sector with 4s, where there is one: whether that is done and read.
-fn fills(disk: &mut MemoryDisk, at: u64) -> bool {
-    at < disk.count() && put(disk, at, 4) && first_of(disk, at) == Some(4)
+/// Steps over a disk, and what crashes leave after them.
+type Part<'a> = (&'a [Step], &'a [Row<'a>]);
+
+/// The first part with another outcome, with the step and the row that differ.
+type Other = Option<(usize, Option<usize>, Option<usize>)>;
+
+/// Runs the parts in turn.
+fn other_part(disk: &mut MemoryDisk, parts: &[Part<'_>]) -> Result<Other, AllocError> {
+    for (index, (steps, rows)) in parts.iter().enumerate() {
+        let step = other_step(disk, steps);
+        let row = other_row(disk, rows)?;
+        if step.is_some() || row.is_some() {
+            return Ok(Some((index, step, row)));
+        }
+    }
+    Ok(None)
 }
 
-const FAR: [u64; 3] = [0, 1 << 32, u64::MAX - 1];
-
-/// Fills sectors far apart with 4s: how many sectors there are, and whether each is done.
-fn filled_far(disk: &mut MemoryDisk) -> (u64, [bool; 3]) {
-    let count = disk.count();
-    let [near, middle, last] = FAR;
-    (
-        count,
-        [fills(disk, near), fills(disk, middle), fills(disk, last)],
-    )
+/// The same over a new disk of four sectors.
+fn other_of(alloc: Global, parts: &[Part<'_>]) -> Result<Other, AllocError> {
+    let mut disk = MemoryDisk::new(alloc, 4)?;
+    let other = other_part(&mut disk, parts);
+    drop(disk);
+    other
 }
+
+const ZEROS: [Part<'static>; 1] = [(
+    &[Begins(0, 0), Begins(1, 0), Begins(2, 0), Begins(3, 0)],
+    &[],
+)];
+
+#[test]
+fn begins_with_zeros(rt: HostRuntime) {
+    same(&rt, &other_of(rt.alloc(), &ZEROS), &Ok(None));
+}
+
+const MIDDLE: u64 = 1 << 32;
+
+const LAST: u64 = u64::MAX - 1;
+
+/// Fills sectors far apart with 4s.
+const FAR: [Step; 7] = [
+    Count(u64::MAX),
+    Fills(0, 4),
+    Begins(0, 4),
+    Fills(MIDDLE, 4),
+    Begins(MIDDLE, 4),
+    Fills(LAST, 4),
+    Begins(LAST, 4),
+];
+
+/// Only the first three numbers of the choice count.
+const FAR_CHOICE: [u32; 9] = [1, 0, 1, 1, 1, 1, 1, 1, 1];
 
 /// What a crash leaves of them.
-fn left_far(disk: &MemoryDisk) -> Result<[Option<u8>; 3], AllocError> {
-    // Only the first three numbers of the choice count.
-    let mut left = disk.crash(&[1, 0, 1, 1, 1, 1, 1, 1, 1])?;
-    let [near, middle, last] = FAR;
-    Ok([
-        first_of(&mut left, near),
-        first_of(&mut left, middle),
-        first_of(&mut left, last),
-    ])
-}
+const LEFT_FAR: [Step; 3] = [Begins(0, 4), Begins(MIDDLE, 0), Begins(LAST, 4)];
 
-/// Both, of the largest disk.
-fn seen_far(alloc: Global) -> Result<((u64, [bool; 3]), [Option<u8>; 3]), AllocError> {
+/// The first step of each of the two with another outcome, on the largest disk.
+fn other_far(alloc: Global) -> Result<[Option<usize>; 2], AllocError> {
     let mut disk = MemoryDisk::new(alloc, u64::MAX)?;
-    let filled = filled_far(&mut disk);
-    Ok((filled, left_far(&disk)?))
+    let filled = other_step(&mut disk, &FAR);
+    let left = other_left(&disk, &FAR_CHOICE, &LEFT_FAR);
+    drop(disk);
+    Ok([filled, left?])
 }
 
 #[test]
-fn is_as_large_as_numbers_go(rt: HostRuntime) -> Result<(), Fail> {
-    let seen = seen_far(rt.alloc())?;
-    assert_eq!(rt; seen, ((u64::MAX, [true; 3]), [Some(4), Some(0), Some(4)]));
-    Ok(())
+fn is_as_large_as_numbers_go(rt: HostRuntime) {
+    same(&rt, &other_far(rt.alloc()), &Ok([None, None]));
 }
 
+/// Sector 1 is synced with 1s, then sector 3 is filled with 5s, and sector 1 with 2s and 3s.
+const UNSYNCED: [Step; 5] = [Fills(1, 1), Syncs, Fills(3, 5), Fills(1, 2), Fills(1, 3)];
+
 /// Choices of a crash, and what it leaves.
-const LEFT: [(&[u32], [u8; 4]); 15] = [
+const LEFT: [Row<'static>; 15] = [
     (&[], [0, 1, 0, 0]),
     (&[0], [0, 1, 0, 0]),
     (&[1], [0, 2, 0, 0]),
@@ -110,59 +142,36 @@ const LEFT: [(&[u32], [u8; 4]); 15] = [
     (&[2, 1, 1, 1], [0, 3, 0, 5]),
 ];
 
-/// What a crash leaves, and another one of that, which is settled.
-fn left_twice(disk: &MemoryDisk, choice: &[u32]) -> Result<[[u8; 4]; 2], Fail>
-    requires { ⟦<MemoryDisk as Sectors>⟧.sectors disk.now ≡ 4 }
-{
-    let mut crashed = disk.crash(choice)?;
-    let left = firsts(&mut crashed);
-    let mut again = crashed.crash(&[1, 1])?;
-    Ok([left, firsts(&mut again)])
-}
-
-/// Which choice is the first by which something else is left, if one is.
-fn other_choice(disk: &MemoryDisk, rows: &[(&[u32], [u8; 4])]) -> Result<Option<usize>, Fail>
-    requires { ⟦<MemoryDisk as Sectors>⟧.sectors disk.now ≡ 4 }
-{
-    for (index, (choice, left)) in rows.iter().enumerate() {
-        if left_twice(disk, choice)? != [*left; 2] {
-            return Ok(Some(index));
-        }
-    }
-    Ok(None)
-}
+/// The disk itself is as it was.
+const CHOSEN: [Part<'static>; 2] = [
+    (&UNSYNCED, &LEFT),
+    (
+        &[Begins(0, 0), Begins(1, 3), Begins(2, 0), Begins(3, 5)],
+        &[],
+    ),
+];
 
 #[test]
-fn leaves_what_is_chosen(rt: HostRuntime) -> Result<(), Fail> {
-    let mut disk = unsynced(rt.alloc())?;
-    let other = other_choice(&disk, &LEFT)?;
-    // The disk itself is as it was.
-    assert_eq!(rt; (other, firsts(&mut disk)), (None, [0, 3, 0, 5]));
-    Ok(())
+fn leaves_what_is_chosen(rt: HostRuntime) {
+    same(&rt, &other_of(rt.alloc(), &CHOSEN), &Ok(None));
 }
 
 /// The same of the disk once it is synced, and then of one more write.
-const LEFT_SYNCED: [(&[u32], [u8; 4]); 3] = [
+const LEFT_SYNCED: [Row<'static>; 3] = [
     (&[0, 0], [0, 3, 0, 5]),
     (&[1, 1], [0, 3, 0, 5]),
     (&[2, 2], [0, 3, 0, 5]),
 ];
 
-const LEFT_THEN: [(&[u32], [u8; 4]); 2] = [(&[0], [0, 3, 0, 5]), (&[1], [7, 3, 0, 5])];
+const LEFT_THEN: [Row<'static>; 2] = [(&[0], [0, 3, 0, 5]), (&[1], [7, 3, 0, 5])];
 
-/// Whether the disk is synced, and then filled with 7s in sector 0, and which of these choices leaves something else, if one does.
-fn synced_and_filled(disk: &mut MemoryDisk) -> Result<([bool; 2], [Option<usize>; 2]), Fail>
-    requires { ⟦<MemoryDisk as Sectors>⟧.sectors disk.old ≡ 4 }
-{
-    let synced = disk.sync().is_ok();
-    let other = other_choice(disk, &LEFT_SYNCED)?;
-    let filled = put(disk, 0, 7);
-    Ok(([synced, filled], [other, other_choice(disk, &LEFT_THEN)?]))
-}
+const SYNCED: [Part<'static>; 3] = [
+    (&UNSYNCED, &[]),
+    (&[Syncs], &LEFT_SYNCED),
+    (&[Fills(0, 7)], &LEFT_THEN),
+];
 
 #[test]
-fn leaves_what_is_synced(rt: HostRuntime) -> Result<(), Fail> {
-    let mut disk = unsynced(rt.alloc())?;
-    assert_eq!(rt; synced_and_filled(&mut disk)?, ([true; 2], [None; 2]));
-    Ok(())
+fn leaves_what_is_synced(rt: HostRuntime) {
+    same(&rt, &other_of(rt.alloc(), &SYNCED), &Ok(None));
 }

@@ -1,17 +1,17 @@
 //! Disks in files of the system, by their paths.
-ghost use Rattle.std.specs.Prelude.{◌≡◌, ◌<◌};
-
-use super::{first, put};
-use sector_disk::{DiskFault, FileDisk, FileFault, Sectors, Unknown, Zeros};
+use super::steps::Step::{Begins, Count, Fills, ReadsNot, Syncs};
+use super::steps::{Step, other_step};
+use super::{kind_of, same};
+use sector_disk::{FileDisk, FileFault, Sectors, Unknown, Zeros};
+use std::alloc::{AllocError, Global};
 use std::env::temp_dir;
 use std::hash::{BuildHasher, RandomState};
-use std::test::Fail;
 use std::{fs, io};
 
 /// A path in the system's folder for such files at which there is nothing.
-fn free_path(rt: &HostRuntime) -> Result<String, Fail> {
-    let folder = temp_dir(rt)?;
+fn free_path(rt: &HostRuntime) -> io::Result<String> {
     let key = RandomState::new(rt)?.hash_one(&0u8);
+    let folder = temp_dir(rt)?;
     let path = format!(in rt.alloc(); "{}/sector_disk_{key}", folder.display())?;
     Ok(path)
 }
@@ -24,95 +24,123 @@ fn set_len(rt: &HostRuntime, path: &str, bytes: u64) -> io::Result<()> {
         .set_len(bytes)
 }
 
-/// How many sectors a disk has, how sector 2 begins, and whether it is filled with 7s and synced.
-fn begun<D: Sectors>(disk: &mut D) -> (u64, u8, [bool; 2])
-    requires { 2 < D.sectors disk.old }
-{
-    let count = disk.count();
-    let byte = first(disk, 2);
-    (count, byte, [put(disk, 2, 7), disk.sync().is_ok()])
-}
-
-/// How the sectors 1 and 2 begin, where there are three.
-fn kept<D: Sectors>(disk: &mut D) -> Option<[u8; 2]> {
-    if disk.count() == 3 {
-        Some([first(disk, 1), first(disk, 2)])
-    } else {
-        None
+/// What the system said.
+fn error_of(fault: FileFault) -> io::Error {
+    match fault {
+        FileFault::Open(error) | FileFault::Create(error) | FileFault::Grow(error) => error,
     }
 }
 
-/// What is read of sector 2, how sector 1 begins, whether sector 2 is filled with 8s, and how it begins then, where there are three.
-fn mended<D: Sectors>(disk: &mut D) -> Option<(Result<(), DiskFault>, u8, bool, u8)> {
-    if disk.count() != 3 {
-        return None;
-    }
-    let read = disk.read(2, &mut [0; 512]);
-    let byte = first(disk, 1);
-    let written = put(disk, 2, 8);
-    Some((read, byte, written, first(disk, 2)))
-}
+const BEGUN: [Step; 4] = [Count(3), Begins(2, 0), Fills(2, 7), Syncs];
 
-/// What a disk that is opened again keeps, and what is mended where someone cut off a part of sector 2.
-fn opened_again(rt: &HostRuntime, path: &str) -> Result<Again, Fail> {
-    let mut again = FileDisk::open(rt, path, Unknown)?;
-    let kept = kept(&mut again);
-    set_len(rt, path, 1500)?;
-    Ok((kept, mended(&mut again)))
-}
-
-type Again = (
-    Option<[u8; 2]>,
-    Option<(Result<(), DiskFault>, u8, bool, u8)>,
-);
-
-/// What is seen of a new disk, and of the same one opened again.
-fn seen_at(rt: &HostRuntime, path: &str) -> Result<((u64, u8, [bool; 2]), Again), Fail> {
-    let mut disk = FileDisk::create(rt, path, 3, Zeros)?;
-    let begun = begun(&mut disk);
-    Ok((begun, opened_again(rt, path)?))
-}
+const KEPT: [Step; 3] = [Count(3), Begins(1, 0), Begins(2, 7)];
 
 /// A sector that someone cut off can't be read, not even in part, until there is one again.
-const AGAIN: Again = (Some([0, 7]), Some((Err(DiskFault), 0, true, 8)));
+const MENDED: [Step; 5] = [
+    Count(3),
+    ReadsNot(2),
+    Begins(1, 0),
+    Fills(2, 8),
+    Begins(2, 8),
+];
+
+/// The first step with another outcome: of `KEPT`, and of `MENDED` after a part of sector 2 is cut off.
+fn other_again<D: Sectors>(
+    rt: &HostRuntime,
+    path: &str,
+    disk: &mut D,
+) -> io::Result<[Option<usize>; 2]> {
+    let kept = other_step(disk, &KEPT);
+    set_len(rt, path, 1500)?;
+    Ok([kept, other_step(disk, &MENDED)])
+}
+
+/// The same over a disk that is opened again.
+fn other_opened(rt: &HostRuntime, path: &str) -> io::Result<[Option<usize>; 2]> {
+    match FileDisk::open(rt, path, Unknown) {
+        Ok(mut again) => {
+            let other = other_again(rt, path, &mut again);
+            drop(again);
+            other
+        }
+        Err(fault) => Err(error_of(fault)),
+    }
+}
+
+/// The first step of `BEGUN` with another outcome, and the same of the disk opened again.
+type Others = (Option<usize>, [Option<usize>; 2]);
+
+fn others_on<D: Sectors>(rt: &HostRuntime, path: &str, disk: &mut D) -> io::Result<Others> {
+    let begun = other_step(disk, &BEGUN);
+    let again = other_opened(rt, path)?;
+    fs::remove_file(rt, path)?;
+    Ok((begun, again))
+}
+
+fn others_at(rt: &HostRuntime, path: &str) -> io::Result<Others> {
+    match FileDisk::create(rt, path, 3, Zeros) {
+        Ok(mut disk) => {
+            let others = others_on(rt, path, &mut disk);
+            drop(disk);
+            others
+        }
+        Err(fault) => Err(error_of(fault)),
+    }
+}
+
+/// The same at a free path.
+fn others(rt: &HostRuntime) -> io::Result<Others> {
+    let path = free_path(rt)?;
+    others_at(rt, path.as_str())
+}
 
 #[test]
-fn keeps_what_was_synced(rt: HostRuntime) -> Result<(), Fail> {
-    let path = free_path(&rt)?;
-    let seen = seen_at(&rt, path.as_str())?;
-    fs::remove_file(&rt, path.as_str())?;
-    assert_eq!(rt; seen, ((3, 0, [true; 2]), AGAIN));
-    Ok(())
+fn keeps_what_was_synced(rt: HostRuntime) {
+    same(&rt, &kind_of(others(&rt)), &Ok((None, [None; 2])));
 }
 
 /// How many sectors a disk has in a file of this many bytes.
-fn count_of(rt: &HostRuntime, path: &str, bytes: u64) -> Result<u64, Fail> {
+fn count_of(rt: &HostRuntime, path: &str, bytes: u64) -> io::Result<u64> {
     set_len(rt, path, bytes)?;
-    Ok(FileDisk::open(rt, path, Unknown)?.count())
+    match FileDisk::open(rt, path, Unknown) {
+        Ok(disk) => {
+            let count = disk.count();
+            drop(disk);
+            Ok(count)
+        }
+        Err(fault) => Err(error_of(fault)),
+    }
 }
 
+/// Lengths of files, and the counts of their sectors.
+const COUNTS: [(u64, u64); 4] = [(0, 0), (511, 0), (512, 1), (1600, 3)];
+
 /// At which length of the file the count is another one first, if at one.
-fn other_length(rt: &HostRuntime, path: &str) -> Result<Option<u64>, Fail> {
-    for (bytes, sectors) in [(0, 0), (511, 0), (512, 1), (1600, 3)] {
-        if count_of(rt, path, bytes)? != sectors {
-            return Ok(Some(bytes));
+fn other_length_at(rt: &HostRuntime, path: &str) -> io::Result<Option<u64>> {
+    for (bytes, sectors) in &COUNTS {
+        if count_of(rt, path, *bytes)? != *sectors {
+            return Ok(Some(*bytes));
         }
     }
     Ok(None)
 }
 
+/// The same of a file that is made and removed.
+fn other_length(rt: &HostRuntime) -> io::Result<Option<u64>> {
+    let path = free_path(rt)?;
+    fs::write(rt, path.as_str(), "")?;
+    let other = other_length_at(rt, path.as_str())?;
+    fs::remove_file(rt, path.as_str())?;
+    Ok(other)
+}
+
 #[test]
-fn counts_whole_sectors(rt: HostRuntime) -> Result<(), Fail> {
-    let path = free_path(&rt)?;
-    fs::write(&rt, path.as_str(), "")?;
-    let other = other_length(&rt, path.as_str())?;
-    fs::remove_file(&rt, path.as_str())?;
-    assert_eq!(rt; other, None);
-    Ok(())
+fn counts_whole_sectors(rt: HostRuntime) {
+    same(&rt, &kind_of(other_length(&rt)), &Ok(None));
 }
 
 /// The fault's variant, where its text begins as this variant's does.
-fn name(rt: &HostRuntime, fault: Option<FileFault>) -> Result<&'static str, Fail> {
+fn name(alloc: Global, fault: Option<FileFault>) -> Result<&'static str, AllocError> {
     let Some(fault) = fault else {
         return Ok("none");
     };
@@ -121,7 +149,7 @@ fn name(rt: &HostRuntime, fault: Option<FileFault>) -> Result<&'static str, Fail
         FileFault::Create(_) => ("Create", "the file can't be made: "),
         FileFault::Grow(_) => ("Grow", "the file can't be filled: "),
     };
-    let text = format!(in rt.alloc(); "{fault}")?;
+    let text = format!(in alloc; "{fault}")?;
     if text.starts_with(start) && text.len() > start.len() {
         Ok(name)
     } else {
@@ -130,59 +158,76 @@ fn name(rt: &HostRuntime, fault: Option<FileFault>) -> Result<&'static str, Fail
 }
 
 /// How opening a disk fails, if it does.
-fn open_fault(rt: &HostRuntime, path: &str) -> Result<&'static str, Fail> {
-    name(rt, FileDisk::open(rt, path, Unknown).err())
+fn open_fault(rt: &HostRuntime, path: &str) -> Result<&'static str, AllocError> {
+    name(rt.alloc(), FileDisk::open(rt, path, Unknown).err())
 }
 
 /// How making a disk fails, if it does, and whether there is a file at its path then.
-fn create_fault(rt: &HostRuntime, path: &str, count: u64) -> Result<(&'static str, bool), Fail> {
+fn create_fault(rt: &HostRuntime, path: &str, count: u64) -> io::Result<(&'static str, bool)> {
     let made = FileDisk::create(rt, path, count, Zeros).err();
-    Ok((name(rt, made)?, fs::exists(rt, path)?))
+    let name = name(rt.alloc(), made)?;
+    Ok((name, fs::exists(rt, path)?))
 }
 
-/// The faults of two disks that are larger than files are.
-fn create_faults(
-    rt: &HostRuntime,
-    path: &str,
-) -> Result<((&'static str, bool), (&'static str, bool)), Fail> {
+/// How opening a disk fails, and making two disks that are larger than files are.
+type Faults = (&'static str, [(&'static str, bool); 2]);
+
+fn faults_at(rt: &HostRuntime, path: &str) -> io::Result<Faults> {
+    let opened = open_fault(rt, path)?;
     // No system has a file of 2^63 bytes, and 2^64 aren't a u64.
     let first = create_fault(rt, path, 1 << 54)?;
-    Ok((first, create_fault(rt, path, 1 << 55)?))
+    Ok((opened, [first, create_fault(rt, path, 1 << 55)?]))
+}
+
+fn faults(rt: &HostRuntime) -> io::Result<Faults> {
+    let path = free_path(rt)?;
+    faults_at(rt, path.as_str())
+}
+
+const FAULTS: Faults = ("Open", [("Grow", false); 2]);
+
+#[test]
+fn names_its_faults(rt: HostRuntime) {
+    same(&rt, &kind_of(faults(&rt)), &Ok(FAULTS));
+}
+
+/// How making a disk fails in a folder that isn't there.
+fn fault_in_no_folder(rt: &HostRuntime) -> io::Result<(&'static str, bool)> {
+    let folder = free_path(rt)?;
+    let path = format!(in rt.alloc(); "{folder}/disk")?;
+    create_fault(rt, path.as_str(), 3)
 }
 
 #[test]
-fn names_its_faults(rt: HostRuntime) -> Result<(), Fail> {
-    let path = free_path(&rt)?;
-    let opened = open_fault(&rt, path.as_str())?;
-    let made = create_faults(&rt, path.as_str())?;
-    assert_eq!(rt;
-        (opened, made),
-        ("Open", (("Grow", false), ("Grow", false)))
+fn names_its_fault_in_no_folder(rt: HostRuntime) {
+    same(
+        &rt,
+        &kind_of(fault_in_no_folder(&rt)),
+        &Ok(("Create", false)),
     );
-    Ok(())
 }
 
-#[test]
-fn names_its_fault_in_no_folder(rt: HostRuntime) -> Result<(), Fail> {
-    let path = format!(in rt.alloc(); "{}/disk", free_path(&rt)?)?;
-    let made = create_fault(&rt, path.as_str(), 3)?;
-    assert_eq!(rt; made, ("Create", false));
-    Ok(())
+/// Whether the file at a path holds these bytes.
+fn holds(rt: &HostRuntime, path: &str, bytes: &[u8]) -> io::Result<bool> {
+    let held = fs::read(rt, path)?;
+    Ok(held.as_slice() == bytes)
 }
 
 /// How making a disk fails at the path of a file, and whether the file holds what it did.
-fn made_over(rt: &HostRuntime, path: &str) -> Result<(&'static str, bool), Fail> {
+fn made_over_at(rt: &HostRuntime, path: &str) -> io::Result<(&'static str, bool)> {
     fs::write(rt, path, "as before")?;
     let (name, _) = create_fault(rt, path, 3)?;
-    let held = fs::read(rt, path)?;
+    let held = holds(rt, path, b"as before")?;
     fs::remove_file(rt, path)?;
-    Ok((name, held.as_slice() == b"as before".as_slice()))
+    Ok((name, held))
+}
+
+fn made_over(rt: &HostRuntime) -> io::Result<(&'static str, bool)> {
+    let path = free_path(rt)?;
+    made_over_at(rt, path.as_str())
 }
 
 #[test]
-fn leaves_another_file_as_it_is(rt: HostRuntime) -> Result<(), Fail> {
-    let path = free_path(&rt)?;
-    let made = made_over(&rt, path.as_str())?;
-    assert_eq!(rt; made, ("Create", true));
-    Ok(())
+fn leaves_another_file_as_it_is(rt: HostRuntime) {
+    same(&rt, &kind_of(made_over(&rt)), &Ok(("Create", true)));
 }

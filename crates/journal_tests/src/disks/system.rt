@@ -1,10 +1,9 @@
 //! What a file of the system is asked where each of its calls takes a part of the bytes.
+use super::fakes::{Call, Fake, FakeFile};
+use super::{kind_of, same};
 use sector_disk::{SectorFile, SystemFile};
 use std::cell::Cell;
-use std::fs::OpenFile;
-use std::os::unix::fs::FileExt;
-use std::test::Fail;
-use std::{fs, io};
+use std::io::{self, ErrorKind};
 
 /// A file that reads and writes at most 200 bytes a call, as the system may. A read fills them with the remainder of
 /// its offset by 251.
@@ -15,7 +14,7 @@ struct ShortFile {
     data_syncs: Cell<u64>,
 }
 
-impl FileExt for &ShortFile {
+impl Fake for ShortFile {
     fn read_at(&self, buf: &mut [u8], offset: u64) -> io::Result<usize> {
         let count = buf.len().min(200);
         buf[..count].fill((offset % 251) as u8);
@@ -24,28 +23,17 @@ impl FileExt for &ShortFile {
 
     fn write_at(&self, buf: &[u8], offset: u64) -> io::Result<usize> {
         if offset != self.end.get() {
-            return Err(io::ErrorKind::InvalidInput.into());
+            return Err(ErrorKind::InvalidInput.into());
         }
         let count = buf.len().min(200);
         self.end.set(offset.saturating_add(count as u64));
         Ok(count)
     }
-}
 
-impl OpenFile for &ShortFile {
-    fn metadata(&self) -> io::Result<fs::Metadata> {
-        Err(io::ErrorKind::Unsupported.into())
-    }
-
-    fn set_len(&self, _size: u64) -> io::Result<()> {
-        Err(io::ErrorKind::Unsupported.into())
-    }
-
-    fn sync_all(&self) -> io::Result<()> {
-        Err(io::ErrorKind::Unsupported.into())
-    }
-
-    fn sync_data(&self) -> io::Result<()> {
+    fn call(&self, (name, _, _): Call) -> io::Result<()> {
+        if name != "sync_data" {
+            return Err(ErrorKind::Unsupported.into());
+        }
         self.data_syncs.set(self.data_syncs.get().saturating_add(1));
         Ok(())
     }
@@ -68,27 +56,26 @@ fn read_bytes<F: SectorFile>(file: &mut F) -> io::Result<[u8; 6]> {
 }
 
 /// The bytes that are read, and the file's state once it was written and synced.
-fn states(file: &ShortFile) -> io::Result<([u8; 6], [[u64; 2]; 2])> {
-    let mut system = SystemFile::new(file);
+type States = ([u8; 6], [[u64; 2]; 2]);
+
+fn states(fake: &ShortFile) -> io::Result<States> {
+    let mut system = SystemFile::new(FakeFile { fake });
     let bytes = read_bytes(&mut system)?;
     system.write_at(&[[7; 512], [8; 512]], 512)?;
-    let written = file.state();
+    let written = fake.state();
     system.sync_data()?;
-    Ok((bytes, [written, file.state()]))
+    Ok((bytes, [written, fake.state()]))
 }
 
-/// Reads at 1024, 1224 and 1424, which are 20 + 4 * 251, 220 + 4 * 251 and 169 + 5 * 251.
-const BYTES: [u8; 6] = [20, 20, 220, 220, 169, 169];
-
-/// A sync is of the data alone, and there is none but the one that is asked for.
-const STATES: [[u64; 2]; 2] = [[0, 1536], [1, 1536]];
+/// Reads at 1024, 1224 and 1424, which are 20 + 4 * 251, 220 + 4 * 251 and 169 + 5 * 251. A sync is of the data alone, and there is none
+/// but the one that is asked for.
+const STATES: States = ([20, 20, 220, 220, 169, 169], [[0, 1536], [1, 1536]]);
 
 #[test]
-fn asks_the_system(rt: HostRuntime) -> Result<(), Fail> {
+fn asks_the_system(rt: HostRuntime) {
     let file = ShortFile {
         end: Cell::new(512),
         data_syncs: Cell::new(0),
     };
-    assert_eq!(rt; states(&file)?, (BYTES, STATES));
-    Ok(())
+    same(&rt, &kind_of(states(&file)), &Ok(STATES));
 }

@@ -1,0 +1,134 @@
+//! Files that tests make up, and what they note.
+ghost use Rattle.std.specs.Prelude.{IsErr};
+ghost use Rattle.std.specs.Io.{ReadsAtMost, WritesAtMost};
+
+use std::cell::Cell;
+use std::fs::{Metadata, OpenFile};
+use std::io::{self, ErrorKind, Read, Seek, SeekFrom, Write};
+use std::os::unix::fs::FileExt;
+
+/// A call of a file: its name, and its numbers, such as an offset and a length.
+pub(crate) type Call = (&'static str, u64, u64);
+
+/// A call that no disk has a use for.
+pub(crate) const OTHER: Call = ("other", 0, 0);
+
+/// The calls that were made, up to the seventh, and how many there were.
+#[derive(Drop)]
+pub(crate) struct Notes {
+    calls: Cell<[Call; 7]>,
+    count: Cell<usize>,
+}
+
+impl Notes {
+    pub(crate) fn new() -> Notes {
+        Notes {
+            calls: Cell::new([OTHER; 7]),
+            count: Cell::new(0),
+        }
+    }
+
+    /// Notes a call. Its number, from 1 on.
+    pub(crate) fn add(&self, call: Call) -> usize {
+        let before = self.count.get();
+        let mut calls = self.calls.get();
+        if let Some(slot) = calls.get_mut(before) {
+            *slot = call;
+        }
+        self.calls.set(calls);
+        let number = before.saturating_add(1);
+        self.count.set(number);
+        number
+    }
+
+    /// The index of the first call that differs, is missing or is one too many.
+    pub(crate) fn other_call(&self, wanted: &[Call]) -> Option<usize> {
+        let calls = self.calls.get();
+        let count = self.count.get();
+        for (index, call) in wanted.iter().enumerate() {
+            if index >= count || calls.get(index) != Some(call) {
+                return Some(index);
+            }
+        }
+        if count > wanted.len() {
+            Some(wanted.len())
+        } else {
+            None
+        }
+    }
+}
+
+/// A file of a test: how it reads and writes, and what it does with each other call.
+pub(crate) trait Fake {
+    fn read_at(&self, buf: &mut [u8], offset: u64) -> io::Result<usize>
+        ensures bound { ReadsAtMost result buf.new };
+
+    fn write_at(&self, buf: &[u8], offset: u64) -> io::Result<usize>
+        ensures bound { WritesAtMost result buf.now };
+
+    fn call(&self, call: Call) -> io::Result<()>;
+}
+
+/// Makes a call that no disk has a use for, and fails.
+fn refused<F: Fake, T>(fake: &F) -> io::Result<T>
+    ensures { IsErr result }
+{
+    let _ = fake.call(OTHER);
+    Err(ErrorKind::Unsupported.into())
+}
+
+/// A file of a test, with the traits of a file of the system.
+#[derive(Drop)]
+pub(crate) struct FakeFile<'a, F> {
+    pub(crate) fake: &'a F,
+}
+
+impl<F: Fake> FileExt for FakeFile<'_, F> {
+    fn read_at(&self, buf: &mut [u8], offset: u64) -> io::Result<usize> {
+        self.fake.read_at(buf, offset)
+    }
+
+    fn write_at(&self, buf: &[u8], offset: u64) -> io::Result<usize> {
+        self.fake.write_at(buf, offset)
+    }
+}
+
+impl<F: Fake> OpenFile for FakeFile<'_, F> {
+    fn metadata(&self) -> io::Result<Metadata> {
+        refused(self.fake)
+    }
+
+    fn set_len(&self, size: u64) -> io::Result<()> {
+        self.fake.call(("set_len", size, 0))
+    }
+
+    fn sync_all(&self) -> io::Result<()> {
+        self.fake.call(("sync_all", 0, 0))
+    }
+
+    fn sync_data(&self) -> io::Result<()> {
+        self.fake.call(("sync_data", 0, 0))
+    }
+}
+
+impl<F: Fake> Read for FakeFile<'_, F> {
+    fn read(&mut self, _buf: &mut [u8]) -> io::Result<usize> {
+        refused(self.fake)
+    }
+}
+
+impl<F: Fake> Write for FakeFile<'_, F> {
+    fn write(&mut self, _buf: &[u8]) -> io::Result<usize> {
+        refused(self.fake)
+    }
+
+    fn flush(&mut self) -> io::Result<()> {
+        refused(self.fake)
+    }
+}
+
+impl<F: Fake> Seek for FakeFile<'_, F> {
+    fn seek(&mut self, _to: SeekFrom) -> io::Result<u64> {
+        refused(self.fake)
+    }
+}
