@@ -7,3 +7,5 @@ mod bytes;
 mod faults;
 #[cfg(test)]
 mod printed;
+#[cfg(test)]
+mod wanted;

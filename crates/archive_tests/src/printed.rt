@@ -1,8 +1,8 @@
 //! What is written of an archive by writers that fail. What is written by others is shown by the script of `read_runs`.
+use crate::wanted::same;
 use archive_commands::show;
 use std::alloc::{AllocError, Global};
 use std::io::{self, ErrorKind, Write};
-use std::test::Fail;
 
 /// How many bytes the sound archive has.
 const SOUND_BYTES: usize = 223;
@@ -17,13 +17,6 @@ const SOUND: [u8; SOUND_BYTES] = *b"PMTiles\x03\
     \x02\x00\x05\x02\x01\x15\x15\x01\x01\
     {\"vector_layers\":[{\"fields\":{},\"id\":\"p\",\"maxzoom\":2,\"minzoom\":0}]}\
     \x1a\x13\x0a\x01\x70\x12\x09\x08\x07\x18\x01\x22\x03\x09\x00\x00\x28\x80\x20\x78\x02";
-
-/// What is shown of an archive.
-fn shown(alloc: Global, archive: &[u8]) -> Result<Vec<u8>, Fail> {
-    let mut out = Vec::new(alloc);
-    show(archive, &mut out)?;
-    Ok(out)
-}
 
 /// Whether showing an archive fails with this word.
 fn fails<W: Write>(
@@ -40,11 +33,14 @@ fn fails<W: Write>(
 
 /// The writer has no room for the last line feed.
 #[test]
-fn a_writer_without_room(rt: HostRuntime) -> Result<(), Fail> {
+fn a_writer_without_room(rt: HostRuntime) {
     let mut room = [0; SOUND_BYTES];
     let mut writer = room.as_mut_slice();
-    assert_eq!(rt; fails(rt.alloc(), &SOUND, &mut writer, "Write")?, true);
-    Ok(())
+    same(
+        &rt,
+        &fails(rt.alloc(), &SOUND, &mut writer, "Write"),
+        &Ok(true),
+    );
 }
 
 /// A writer that takes up to five bytes a write, is interrupted at each third, and fails once no writes are left.
@@ -75,23 +71,44 @@ impl Write for Slow {
     }
 }
 
-#[test]
-fn writes_that_fail(rt: HostRuntime) -> Result<(), Fail> {
-    let alloc = rt.alloc();
-    let whole = shown(alloc, &SOUND)?;
+/// Whether an archive is shown whole by so many writes. `None` if another text is written than the whole one or a part of it, or if a
+/// writer that failed is no fault.
+fn is_shown(alloc: Global, whole: &[u8], writes_left: u8) -> Option<bool> {
+    let mut out = Slow {
+        held: Vec::new(alloc),
+        writes_left,
+        has_failed: false,
+    };
+    let is_shown = show(&SOUND, &mut out).is_ok();
+    let is_whole = out.held.len() == whole.len();
+    if is_shown == out.has_failed || is_shown != is_whole || !whole.starts_with(&out.held) {
+        return None;
+    }
+    Some(is_shown)
+}
+
+/// By how many writes it is first otherwise, if it is, and whether it is shown whole by the most.
+fn other_writes(alloc: Global, whole: &[u8]) -> (Option<u8>, bool) {
     let mut is_last_shown = false;
     for writes_left in 0..=100 {
-        let mut out = Slow {
-            held: Vec::new(alloc),
-            writes_left,
-            has_failed: false,
-        };
-        let is_shown = show(&SOUND, &mut out).is_ok();
-        assert_eq!(rt; is_shown, !out.has_failed, "{writes_left}");
-        assert!(rt; whole.starts_with(&out.held), "{writes_left}");
-        assert_eq!(rt; out.held.len() == whole.len(), is_shown, "{writes_left}");
-        is_last_shown = is_shown;
+        match is_shown(alloc, whole, writes_left) {
+            Some(is_shown) => is_last_shown = is_shown,
+            None => return (Some(writes_left), false),
+        }
     }
-    assert!(rt; is_last_shown);
-    Ok(())
+    (None, is_last_shown)
+}
+
+/// The same of what is shown of the sound archive, if nothing else fails.
+fn sound_writes(alloc: Global) -> Option<(Option<u8>, bool)> {
+    let mut whole = Vec::new(alloc);
+    match show(&SOUND, &mut whole) {
+        Ok(()) => Some(other_writes(alloc, &whole)),
+        Err(_) => None,
+    }
+}
+
+#[test]
+fn writes_that_fail(rt: HostRuntime) {
+    same(&rt, &sound_writes(rt.alloc()), &Some((None, true)));
 }

@@ -1,12 +1,13 @@
 //! Parts of bytes, by every offset and length around the borders of their sectors.
+ghost use Rattle.std.specs.Prelude.{◌≡◌, ◌≤◌, ◌+◌, length};
 
 use super::{disk_with, numbered};
-use byte_source::{Bytes, ReadFault};
+use crate::wanted::same;
+use byte_source::Bytes;
 use sector_bytes::{SectorBytes, read_bytes};
 use sector_disk::FailingCalls::{AllFrom, OneNotMade};
-use sector_disk::{DiskFault, FailingCalls, FaultyDisk, MemoryDisk};
+use sector_disk::{FailingCalls, FaultyDisk, MemoryDisk, Sectors};
 use std::alloc::{AllocError, Global};
-use std::test::Fail;
 
 /// Where a part begins or ends.
 const BORDERS: [usize; 9] = [0, 1, 511, 512, 513, 1023, 1024, 1025, 1100];
@@ -26,110 +27,103 @@ const fn touched(from: usize, to: usize) -> u64 {
     sectors
 }
 
-/// The offsets of the borders in order, two by two.
-fn spans(alloc: Global) -> Result<Vec<(usize, usize)>, AllocError> {
-    let mut found = Vec::new(alloc);
-    for from in BORDERS {
-        for to in BORDERS {
-            if from <= to {
-                found.push((from, to))?;
-            }
+/// What reads a part of the bytes.
+#[derive(Clone, Copy)]
+enum Reading {
+    /// A call over the disk.
+    Call,
+    /// A source of the bytes.
+    Source,
+}
+
+/// Reads a part of the 1,100 bytes from sector 2 on, and says whether that is done.
+fn reads(disk: &mut FaultyDisk<MemoryDisk>, by: Reading, from: u64, into: &mut [u8]) -> bool
+    requires disk { ⟦<FaultyDisk<MemoryDisk> as Sectors>⟧.sectors disk.old ≡ 6 }
+    requires part { from + length into.old ≤ 1100 }
+    ensures { length into.new ≡ length into.old }
+{
+    match by {
+        Reading::Call => read_bytes(disk, 2, from, into).is_ok(),
+        Reading::Source => {
+            let mut source = SectorBytes::new(disk, 2, 1100);
+            source.len() == 1100 && source.read_at(from, into).is_ok()
         }
     }
-    Ok(found)
 }
 
 /// Whether a part of the bytes is read whole, and by as many calls as it touches sectors.
-fn is_read(alloc: Global, (from, to): (usize, usize)) -> Result<bool, AllocError> {
-    let bytes = numbered();
-    let mut disk = disk_with(alloc, &bytes, AllFrom(100))?;
+fn is_read(alloc: Global, by: Reading, from: usize, to: usize) -> Result<bool, AllocError> {
     let mut into = [7; 1100];
     if from > to || to > 1100 {
         return Ok(false);
     }
-    let read = read_bytes(&mut disk, 2, from as u64, &mut into[..to - from]);
-    let is_part = into[..to - from] == bytes[from..to];
-    Ok(read == Ok(()) && is_part && disk.calls() == touched(from, to))
-}
-
-/// The same of a source of the bytes.
-fn is_given(alloc: Global, (from, to): (usize, usize)) -> Result<bool, AllocError> {
     let bytes = numbered();
     let mut disk = disk_with(alloc, &bytes, AllFrom(100))?;
-    let mut into = [7; 1100];
-    if from > to || to > 1100 {
-        return Ok(false);
-    }
-    let mut source = SectorBytes::new(&mut disk, 2, 1100);
-    let len = source.len();
-    let read = source.read_at(from as u64, &mut into[..to - from]);
+    let read = reads(&mut disk, by, from as u64, &mut into[..to - from]);
+    let calls = disk.calls();
+    drop(disk);
     let is_part = into[..to - from] == bytes[from..to];
-    Ok(len == 1100 && read == Ok(()) && is_part && disk.calls() == touched(from, to))
+    Ok(read && is_part && calls == touched(from, to))
+}
+
+/// The first part from one of the borders to the same or a later one of which that isn't so, if there is one.
+fn other_part(alloc: Global, by: Reading) -> Result<Option<(usize, usize)>, AllocError> {
+    for from in &BORDERS {
+        for to in &BORDERS {
+            if *from <= *to && !is_read(alloc, by, *from, *to)? {
+                return Ok(Some((*from, *to)));
+            }
+        }
+    }
+    Ok(None)
 }
 
 #[test]
-fn parts_of_bytes(rt: HostRuntime) -> Result<(), Fail> {
-    for span in spans(rt.alloc())? {
-        assert_eq!(rt; is_read(rt.alloc(), span)?, true, "{span:?}");
-    }
-    Ok(())
+fn parts_of_bytes(rt: HostRuntime) {
+    same(&rt, &other_part(rt.alloc(), Reading::Call), &Ok(None));
 }
 
 #[test]
-fn parts_of_a_source(rt: HostRuntime) -> Result<(), Fail> {
-    for span in spans(rt.alloc())? {
-        assert_eq!(rt; is_given(rt.alloc(), span)?, true, "{span:?}");
-    }
-    Ok(())
+fn parts_of_a_source(rt: HostRuntime) {
+    same(&rt, &other_part(rt.alloc(), Reading::Source), &Ok(None));
 }
 
-/// Which call fails, what becomes of a part that lies in three sectors, and how many calls there are. Of the calls 1 to 3 each makes it
+/// Which call fails, whether a part is read that lies in three sectors, and how many calls there are. Of the calls 1 to 3 each makes it
 /// fail, and it ends there.
-const FAILING: [(FailingCalls, Result<(), DiskFault>, u64); 4] = [
-    (OneNotMade(1), Err(DiskFault), 1),
-    (OneNotMade(2), Err(DiskFault), 2),
-    (OneNotMade(3), Err(DiskFault), 3),
-    (OneNotMade(4), Ok(()), 3),
+const FAILING: [(FailingCalls, bool, u64); 4] = [
+    (OneNotMade(1), false, 1),
+    (OneNotMade(2), false, 2),
+    (OneNotMade(3), false, 3),
+    (OneNotMade(4), true, 3),
 ];
 
-/// What becomes of that part, and how many calls there are.
-fn read_over(
-    alloc: Global,
-    failing: FailingCalls,
-) -> Result<(Result<(), DiskFault>, u64), AllocError> {
+/// Whether that part is read, and how many calls there are.
+fn read_over(alloc: Global, by: Reading, failing: FailingCalls) -> Result<(bool, u64), AllocError> {
     let mut disk = disk_with(alloc, &numbered(), failing)?;
-    let mut into = [7; 600];
-    let read = read_bytes(&mut disk, 2, 500, &mut into);
-    Ok((read, disk.calls()))
+    let read = reads(&mut disk, by, 500, &mut [7; 600]);
+    let calls = disk.calls();
+    drop(disk);
+    Ok((read, calls))
 }
 
-/// The same of a source of the bytes.
-fn given_over(
-    alloc: Global,
-    failing: FailingCalls,
-) -> Result<(Result<(), ReadFault>, u64), AllocError> {
-    let mut disk = disk_with(alloc, &numbered(), failing)?;
-    let mut into = [7; 600];
-    let mut source = SectorBytes::new(&mut disk, 2, 1100);
-    let read = source.read_at(500, &mut into);
-    Ok((read, disk.calls()))
+/// Which calls fail where it is first otherwise, if it is.
+fn other_failing(alloc: Global, by: Reading) -> Result<Option<FailingCalls>, AllocError> {
+    for (failing, read, calls) in &FAILING {
+        if read_over(alloc, by, *failing)? != (*read, *calls) {
+            return Ok(Some(*failing));
+        }
+    }
+    Ok(None)
 }
 
 #[test]
-fn reads_that_fail(rt: HostRuntime) -> Result<(), Fail> {
-    for (failing, outcome, calls) in FAILING {
-        assert_eq!(rt; read_over(rt.alloc(), failing)?, (outcome, calls));
-    }
-    Ok(())
+fn reads_that_fail(rt: HostRuntime) {
+    same(&rt, &other_failing(rt.alloc(), Reading::Call), &Ok(None));
 }
 
 #[test]
-fn sources_that_fail(rt: HostRuntime) -> Result<(), Fail> {
-    for (failing, outcome, calls) in FAILING {
-        let outcome = outcome.map_err(|_| ReadFault);
-        assert_eq!(rt; given_over(rt.alloc(), failing)?, (outcome, calls));
-    }
-    Ok(())
+fn sources_that_fail(rt: HostRuntime) {
+    same(&rt, &other_failing(rt.alloc(), Reading::Source), &Ok(None));
 }
 
 /// Where parts of 20 bytes of a source begin, one after the other, and whether each is read. Call 1 reads the first sector, for three
@@ -164,11 +158,16 @@ fn other_neighbour(source: &mut SectorBytes<'_, FaultyDisk<MemoryDisk>>) -> Opti
     None
 }
 
+/// The same of a source over a disk, and how many calls there are.
+fn neighbours(alloc: Global) -> Result<(Option<usize>, u64), AllocError> {
+    let mut disk = disk_with(alloc, &numbered(), OneNotMade(3))?;
+    let other = other_neighbour(&mut SectorBytes::new(&mut disk, 2, 1100));
+    let calls = disk.calls();
+    drop(disk);
+    Ok((other, calls))
+}
+
 #[test]
-fn neighbouring_parts_cost_one_read(rt: HostRuntime) -> Result<(), Fail> {
-    let mut disk = disk_with(rt.alloc(), &numbered(), OneNotMade(3))?;
-    let mut source = SectorBytes::new(&mut disk, 2, 1100);
-    let other = other_neighbour(&mut source);
-    assert_eq!(rt; (other, disk.calls()), (None, 5));
-    Ok(())
+fn neighbouring_parts_cost_one_read(rt: HostRuntime) {
+    same(&rt, &neighbours(rt.alloc()), &Ok((None, 5)));
 }
