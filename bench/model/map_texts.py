@@ -86,6 +86,12 @@ def record_lines():
     yield f"record 1 {deleted}", f"{deleted} 01{deleted}"
     yield f"record 2 01{deleted}", f"01{deleted} 01{deleted}"
     yield from [f"record 1 {point}", f"record 2 01{point}", f"record 2 02{deleted}{point}", f"record 2 02{point}{deleted}"]
+    yield "# Records of features of each kind: a line with tags of all kinds, polygons, one with a hole."
+    yield f"record 1 {LINE_TEXT}", f"{LINE_TEXT} 01{LINE_TEXT}"
+    yield f"record 1 {POLYGONS_TEXT}", f"{POLYGONS_TEXT} 01{POLYGONS_TEXT}"
+    for first, second in [(LINE_TEXT, POLYGONS_TEXT), (POLYGONS_TEXT, LINE_TEXT)]:
+        yield f"record 2 03{first}{deleted}{second}", f"03{first}{deleted}{second} 03{first}{deleted}{second}"
+    yield f"record 2 03{LINE_TEXT}{deleted}{LINE_TEXT}", "Bad"
     yield "# Cut short, longer, of another version, without a change, with too many, of a number twice."
     for text in ["1 ", "2 ", f"1 {deleted[:-2]}", f"2 01{deleted[:-2]}", f"1 {deleted}00", f"2 01{deleted}00", f"1 01{deleted}", f"2 {deleted}",
                  f"1 {point[:-2]}",

@@ -1,4 +1,4 @@
--- Members that are put in the order of their keys stand in that order.
+-- Members that are put in the order of their keys are stored in that order.
 use Rattle.std.proofs.Common.{◌≡◌, ℕ, List, [], ◌∷◌, ◌++◌, map, Less, Greater, nat_cmp, refl, sym, ap, subst, ◌∙◌}
 use Rattle.std.specs.Ordering.{ordering_reverse}
 use Rattle.std.specs.Cmp.Lexicographic.{slice_cmp}

@@ -76,7 +76,7 @@ Begins {A} json Has ds = (a : A) × (rest : List Data) × (ds ≡ json a ∷ res
 abbrev pub BeginsAsked : List Data → Type 0
 BeginsAsked = Begins asked_json HasMembers
 
--- none of the numbers stands before itself
+-- no number is repeated
 abbrev pub NumbersDiffer : List ℕ → Type 0
 NumbersDiffer ns = (k d : ℕ) → k < length ns → All (λ n. n ≢ get_or ns k d) (take k ns)
 

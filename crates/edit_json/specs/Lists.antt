@@ -41,7 +41,7 @@ unfoldable pub each : {A : Type 0} → (Data → Read EditFault A) → Items →
 each one no_items = Ok []
 each one (item d ds) = one d >>= (λ x. each one ds >>= (λ xs. Ok (x ∷ xs)))
 
--- a list of so many items, each by `one`
+-- a list of at least `least` items, each by `one`
 unfoldable pub list_of : {A : Type 0} → ℕ → (Data → Read EditFault A) → Items → Read EditFault (List A)
 list_of least one ds = if is_count least (items_len ds) then each one ds else Err faults.Geometry
 

@@ -103,7 +103,7 @@ fn read_all(alloc: Global, list: &[Value]) -> Result<Vec<Asked<'_>>, EditFault>
     Ok(all)
 }
 
-/// Whether an edit may have so many changes.
+/// Whether an edit may have this count of changes.
 fn are_enough(all: &[Asked<'_>]) -> bool
     ensures { IsTrue result ↔ AreEnough (length all.now) }
 {
@@ -123,7 +123,7 @@ fn read_numbers(alloc: Global, all: &[Asked<'_>]) -> Result<Vec<u64>, EditFault>
     ensures numbers { IfOk result (λ numbers. numbers.items ≡ map asked_number (map asked_data all.now)) }
     ensures memory { IfErr result (λ fault. fault ≡ EditFault.Memory) }
 {
-    let mut numbers = Vec::new(alloc);
+    let mut numbers = Vec::with_capacity(alloc, all.len())?;
     for asked in all {
         numbers.push(number(*asked))?;
     }
@@ -137,7 +137,7 @@ fn is_new(numbers: &[u64], number: u64) -> bool
     numbers.iter().all(|other| *other != number)
 }
 
-/// Whether no number stands before itself.
+/// Whether no number is repeated.
 fn differ(numbers: &[u64]) -> bool
     ensures { IsTrue result ↔ NumbersDiffer numbers.now }
 {
@@ -175,7 +175,7 @@ fn read_changes(alloc: Global, all: &[Asked<'_>]) -> Result<Vec<Change>, EditFau
     ensures types { IfOk result (λ changes. All ChangeFitsTypes (map change_data changes.items)) }
     ensures fault { IfErr result (λ fault. (fault ≡ EditFault.Memory) ⊎ IsFirstAsked (map asked_data all.now) fault) }
 {
-    let mut changes = Vec::new(alloc);
+    let mut changes = Vec::with_capacity(alloc, all.len())?;
     for asked in all {
         let change = match read_change(alloc, *asked) {
             Ok(change) => change,

@@ -151,7 +151,7 @@ fn read_were(alloc: Global, all: &[Checked<'_>]) -> Result<Vec<Seen>, EditFault>
     ensures were { IfOk result (λ seen. Were (map checked_data all.now) (map seen_data seen.items)) }
     ensures fault { IfErr result (λ fault. (fault ≡ EditFault.Memory) ⊎ IsFirstWas (map checked_data all.now) fault) }
 {
-    let mut seen = Vec::new(alloc);
+    let mut seen = Vec::with_capacity(alloc, all.len())?;
     for checked in all {
         let was = match read_was(alloc, *checked) {
             Ok(was) => was,

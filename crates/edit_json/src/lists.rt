@@ -53,7 +53,7 @@ fn list_in(value: &Value) -> Result<&[Value], EditFault>
     }
 }
 
-/// A list of so many elements has enough, and not too many.
+/// A list of `count` elements has at least `least`, and not too many.
 fn check_count(count: usize, least: usize) -> Result<(), EditFault>
     ensures ok { OnOk result (is_count least count ≡ true) }
     ensures fault { IfErr result (λ e. (e ≡ EditFault.Geometry) × (is_count least count ≡ false)) }
@@ -65,7 +65,7 @@ fn check_count(count: usize, least: usize) -> Result<(), EditFault>
     }
 }
 
-/// At least so many points.
+/// At least `least` points.
 #[tactic(auto, unfolding(crate::specs::Lists::list_of, crate::specs::Lists::each))]
 fn read_points(alloc: Global, list: &[Value], least: usize) -> Result<Vec<World>, EditFault>
     ensures { Gives EditFault.Memory (λ v. v.items) result
@@ -79,7 +79,7 @@ fn read_points(alloc: Global, list: &[Value], least: usize) -> Result<Vec<World>
     Ok(points)
 }
 
-/// A line or a ring of at least so many points.
+/// A line or a ring of at least `least` points.
 #[tactic(auto, unfolding(crate::specs::Lists::points_at))]
 fn read_line(alloc: Global, value: &Value, least: usize) -> Result<Vec<World>, EditFault>
     ensures { Gives EditFault.Memory (λ v. v.items) result (points_at least (view value.now)) }
@@ -88,7 +88,7 @@ fn read_line(alloc: Global, value: &Value, least: usize) -> Result<Vec<World>, E
     read_points(alloc, list, least)
 }
 
-/// Lines or rings, each of at least so many points.
+/// Lines or rings, each of at least `least` points.
 #[tactic(auto, unfolding(crate::specs::Lists::list_of, crate::specs::Lists::each))]
 fn read_lines(alloc: Global, list: &[Value], least: usize) -> Result<Vec<Vec<World>>, EditFault>
     ensures { Gives EditFault.Memory (λ v. map (λ l. l.items) v.items) result

@@ -27,7 +27,7 @@ fn point_value(alloc: Global, point: World) -> Result<Value, AllocError>
 fn points_value(alloc: Global, points: Points<'_>) -> Result<Value, AllocError>
     ensures { IfOk result (λ v. view v ≡ points_json (points_view points.entry)) }
 {
-    let mut list = Vec::new(alloc);
+    let mut list = Vec::with_capacity(alloc, points.len())?;
     for point in points {
         list.push(point_value(alloc, point)?)?;
     }
@@ -38,7 +38,7 @@ fn points_value(alloc: Global, points: Points<'_>) -> Result<Value, AllocError>
 fn lines_value(alloc: Global, lines: Lines<'_>) -> Result<Value, AllocError>
     ensures { IfOk result (λ v. view v ≡ lines_json (lines_view lines.entry)) }
 {
-    let mut list = Vec::new(alloc);
+    let mut list = Vec::with_capacity(alloc, lines.len())?;
     for line in lines {
         list.push(points_value(alloc, line)?)?;
     }
@@ -49,7 +49,7 @@ fn lines_value(alloc: Global, lines: Lines<'_>) -> Result<Value, AllocError>
 fn polygons_value(alloc: Global, polygons: Polygons<'_>) -> Result<Value, AllocError>
     ensures { IfOk result (λ v. view v ≡ polygons_json (polygons_view polygons.entry)) }
 {
-    let mut list = Vec::new(alloc);
+    let mut list = Vec::with_capacity(alloc, polygons.len())?;
     for rings in polygons {
         list.push(lines_value(alloc, rings)?)?;
     }

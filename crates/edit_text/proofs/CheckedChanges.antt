@@ -1,4 +1,4 @@
--- What the check of a change answers, in terms of what is in front.
+-- What the check of a change answers, in terms of what is at the start.
 use Rattle.std.proofs.Common.{◌≡◌, ◌≢◌, ℕ, ◌-◌, ◌≤◌, List, length, Result, Ok, Err, min, sym, ap, ◌∙◌, arith}
 use Rattle.std.specs.Prelude.{◌↔◌}
 use Rattle.reader.proofs.Steps.{failed, same_fault, not_both}

@@ -33,7 +33,9 @@ unfolding repeated
 points_end zero done bytes l = (done, refl)
 points_end (suc count) done bytes l =
     let others = points_end count (done ++ first_point bytes ∷ []) (drop 4 (drop 4 bytes)) (omega (arith, length-drop 4 bytes, length-drop 4 (drop 4 bytes))) in
-    (others.0, many_more count done bytes (omega arith) ∙ others.1 ∙ ap (λ r. Ok (others.0, r)) (drop_eight (8 * count) bytes ∙ ap (λ n. drop n bytes) (omega arith)))
+    let rest : drop (8 * count) (drop 4 (drop 4 bytes)) ≡ drop (8 * suc count) bytes =
+    drop_eight (8 * count) bytes ∙ ap (λ n. drop n bytes) (omega arith) in
+    (others.0, many_more count done bytes (omega arith) ∙ others.1 ∙ ap (λ r. Ok (others.0, r)) rest)
 
 -- the same, as a range of the bytes has it
 pub points_rest : (count k : ℕ) (bytes : List ℕ) → k ≡ count → 8 * k ≤ length bytes

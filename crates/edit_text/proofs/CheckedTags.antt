@@ -61,7 +61,8 @@ module _ (count i : ℕ) (last rest bytes : List ℕ) (so_far : TagsAt count i l
       let read : tag_at so_far.0 rest ≡ Ok (tag_of key one.0, after) =
       ap (λ p. then_read p (λ k r. read_as (tag_of k) (value_at r))) (key_same so_far.0 last rest so_far.1 ∙ named)
       ∙ ap (read_as (tag_of key)) one.1 in
-      (so_far.0 ++ tag_of key one.0 ∷ [], last_key-push so_far.0 (tag_of key one.0), many_step tag_at count i so_far.0 rest (tag_of key one.0) after _ h so_far.2 read)
+      let tag = tag_of key one.0 in
+      (so_far.0 ++ tag ∷ [], last_key-push so_far.0 tag, many_step tag_at count i so_far.0 rest tag after _ h so_far.2 read)
 
   pub tags_key_fault : (fault : TextFault) → next_key_at last rest ≡ Err fault → many_at tag_at count [] bytes ≡ Err fault
   unfolding tag_at

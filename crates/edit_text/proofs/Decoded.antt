@@ -1,4 +1,4 @@
--- What is decoded, in terms of what is in front.
+-- What is decoded, in terms of what is at the start.
 use Rattle.std.proofs.Common.{◌≡◌, ◌≢◌, ℕ, ◌+◌, ◌-◌, ◌<◌, ◌≤◌, ◌⊎◌, inl, inr, List, ◌++◌, length, take}
 use Rattle.std.proofs.Common.{drop, Result, Ok, Err, cond, min, refl, sym, ap, ◌∙◌, length-append, append_assoc, arith}
 use Rattle.std.proofs.lemmas.Bool.{cases_lt, le-ltb, lt-ltb}

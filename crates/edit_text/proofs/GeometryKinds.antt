@@ -1,4 +1,4 @@
--- A kind in front of what it is the kind of.
+-- A kind, and then what it is the kind of.
 use Rattle.std.proofs.Common.{◌≡◌, ℕ, List, [], ◌∷◌, ◌++◌, ap, ◌∙◌, append_assoc}
 use Rattle.feature_model.specs.declared.feature.World.{World}
 use Rattle.feature_model.specs.Data.{world_points, world_lines, world_polygons}

@@ -1,4 +1,4 @@
--- A kind in front, and what it leads to.
+-- A kind at the start, and what it leads to.
 use Rattle.std.proofs.Common.{◌≡◌, ◌≢◌, ℕ, suc, ◌≤◌, ◌⊎◌, inl, inr, true, false, eqb, List, [], ◌∷◌, ◌++◌, Ok, Err, refl, sym, ap, ◌∙◌, cond, arith}
 use Rattle.std.proofs.lemmas.Bool.{eq-eqb, ne_eqb}
 use Rattle.std.proofs.lemmas.Bool.Decides.{eqb_tells}
@@ -90,7 +90,7 @@ kind_or n here s1 Is1 E1 others spell Is2 E2 c1 c2 texts = record {
   ends = λ whole e. or_ends n here s1 Is1 E1 others spell Is2 E2 c1 c2 whole e;
 }
 
--- ---- with the kind in front
+-- ---- with the kind before it
 
 kinds_found : {A : Type 0} (read : ℕ → List ℕ → Part A) (spell : A → List ℕ) (Is : A → Type 0) (Ends : List ℕ → Type 0) (least : ℕ)
     → KindCodec least read spell Is Ends

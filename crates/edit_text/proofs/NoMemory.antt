@@ -79,7 +79,7 @@ bad_for_cut (Err Cut) never = bad_no_memory
 bad_for_cut (Err Bad) never = never
 bad_for_cut (Err Memory) never = never
 
--- the change in front is read, or cut, or bad
+-- the change at the start is read, or cut, or bad
 pub decode_no_memory : (bytes : List ℕ) → decode_change_at bytes ≢ Err Memory
 unfolding decode_change_at
 decode_no_memory bytes =

@@ -1,5 +1,5 @@
--- A record is that of one edit, and what is decoded is that edit.
-use Rattle.std.proofs.Common.{◌≡◌, inl, inr, ⊎_elim, ℕ, ◌≤◌, List, [], ◌∷◌, ◌++◌, length, length-append, refl, sym, ap, subst, ◌∙◌, arith}
+-- A record is that of one edit.
+use Rattle.std.proofs.Common.{◌≡◌, inl, inr, ℕ, ◌≤◌, List, [], ◌∷◌, ◌++◌, length, sym, ap, subst, ◌∙◌, arith}
 use Rattle.std.proofs.Common.{append-nil, lit≤}
 use Rattle.std.proofs.lemmas.List.Elements.{All-head, All-nil, All-push}
 use Rattle.feature_model.specs.Data.{ChangeData, put, delete, EditData, number_of}
@@ -7,7 +7,6 @@ use Rattle.feature_model.specs.Limits.{IsAllowedChange}
 use Rattle.feature_model.specs.Spelled.{spelled_change, spelled_changes, spelled}
 use Rattle.feature_model.specs.Types.{IsChange, IsEdit}
 use Rattle.feature_model.proofs.Changes.{distinct_none, distinct_push}
-use Rattle.edit_text.specs.Decoding.{BeginsWithChange, BeginsWith}
 use Rattle.edit_text.specs.Recorded.{RecordedEdit, text_in, recorded_text, most_in, IsRecordVersion, FitsVersion, IsRecorded, IsRecordOf}
 use Rattle.edit_text.proofs.Laws.{one_change, one_edit, short_from, edit_short_from}
 
@@ -64,74 +63,7 @@ edit_of_one c is = record {
   changes = All-push IsChange [] c (All-nil IsChange) is;
 }
 
--- bytes that are no longer than the text with which they begin are the text
-whole_from : (spelling rest bytes : List ℕ) → bytes ≡ spelling ++ rest → length bytes ≡ length spelling → bytes ≡ spelling
-whole_from spelling [] bytes begins same = begins ∙ append-nil spelling
-whole_from spelling (x ∷ rest) bytes begins same = absurd (omega (arith, same, ap length begins ∙ length-append spelling (x ∷ rest)))
-
-first_version : (cs : EditData) → length cs ≡ 1 → FitsVersion 1 cs
-first_version cs one = record { is = inl refl; one = λ _. one }
-
-second_version : (cs : EditData) → FitsVersion 2 cs
-second_version cs = record { is = inr refl; one = λ other. absurd (omega (arith, other)) }
-
--- ---- what is decoded in version 1
-
--- a change whose text is the whole text
-pub change_recorded : (c : ChangeData) (cs : EditData) (bytes : List ℕ) → cs ≡ c ∷ [] → BeginsWithChange c bytes
-    → length (spelled_change c) ≡ length bytes → IsRecordOf 1 cs bytes
-change_recorded c cs bytes are begins same = subst (λ ds. IsRecordOf 1 ds bytes) (sym are) (record {
-  fits = first_version (c ∷ []) refl;
-  edit = edit_of_one c begins.0;
-  text_is = whole_from (spelled_change c) begins.1.0 bytes begins.1.1 (sym same) ∙ sym (spelled_one c);
-})
-
--- the bytes of a record of version 1 begin with its change, and no longer
-begun_by : (cs : EditData) (bytes : List ℕ) → IsRecordOf 1 cs bytes → (c : ChangeData) × (cs ≡ c ∷ []) × BeginsWithChange c bytes
-    × (length (spelled_change c) ≡ length bytes)
-begun_by [] bytes is = absurd (omega (arith, is.fits.one refl))
-begun_by (c ∷ []) bytes is =
-    let text : bytes ≡ spelled_change c ++ [] = is.text_is in
-    (c, refl, (All-head IsChange c [] is.edit.changes, ([], text)), sym (ap length (text ∙ append-nil (spelled_change c))))
-begun_by (c ∷ d ∷ cs) bytes is = absurd (omega (arith, is.fits.one refl))
-
-pub record_begins : (cs : EditData) (bytes : List ℕ) → IsRecordOf 1 cs bytes → (c : ChangeData) × (cs ≡ c ∷ []) × BeginsWithChange c bytes
-    × (length (spelled_change c) ≡ length bytes)
-record_begins cs bytes is = begun_by cs bytes is
-
--- a text with more bytes than that of the change that it begins with is that of no record
-pub not_one_change : (c : ChangeData) (cs : EditData) (bytes : List ℕ) (len : ℕ) → len ≡ length (spelled_change c) → (len ≡ length bytes → ⊥)
-    → ((d : ChangeData) → BeginsWithChange d bytes → c ≡ d) → IsRecordOf 1 cs bytes → ⊥
-not_one_change c cs bytes len is apart only recorded =
-    let begins = record_begins cs bytes recorded in
-    apart (is ∙ ap (λ d. length (spelled_change d)) (only begins.0 begins.2) ∙ begins.3)
-
--- a change that is found is that of the record
-pub only_change : (c : ChangeData) (cs : EditData) (bytes : List ℕ) → ((d : ChangeData) → BeginsWithChange d bytes → c ≡ d) → IsRecordOf 1 cs bytes
-    → c ∷ [] ≡ cs
-only_change c cs bytes only recorded =
-    let begins = record_begins cs bytes recorded in
-    ap (λ d. d ∷ []) (only begins.0 begins.2) ∙ sym begins.1
-
--- ---- and in version 2
-
-pub edit_recorded : (cs : EditData) (bytes : List ℕ) → BeginsWith cs bytes → length (spelled cs) ≡ length bytes → IsRecordOf 2 cs bytes
-edit_recorded cs bytes begins same = record {
-  fits = second_version cs;
-  edit = begins.0;
-  text_is = whole_from (spelled cs) begins.1.0 bytes begins.1.1 (sym same);
-}
-
-pub record_begins_edit : (cs : EditData) (bytes : List ℕ) → IsRecordOf 2 cs bytes → BeginsWith cs bytes × (length (spelled cs) ≡ length bytes)
-record_begins_edit cs bytes is = ((is.edit, ([], is.text_is ∙ sym (append-nil (spelled cs)))), sym (ap length is.text_is))
-
-pub not_one_edit : (es cs : EditData) (bytes : List ℕ) (len : ℕ) → len ≡ length (spelled es) → (len ≡ length bytes → ⊥)
-    → ((ds : EditData) → BeginsWith ds bytes → es ≡ ds) → IsRecordOf 2 cs bytes → ⊥
-not_one_edit es cs bytes len is apart only recorded =
-    let begins = record_begins_edit cs bytes recorded in
-    apart (is ∙ ap (λ ds. length (spelled ds)) (only cs begins.0) ∙ begins.1)
-
--- ---- what is encoded
+-- ---- the text of a record
 
 length_in : (version : ℕ) (cs : EditData) → IsRecordVersion version → IsEdit cs → length (text_in version cs) ≤ most_in version
 length_in version cs (inl first) is = subst (λ v. length (text_in v cs) ≤ most_in v) (sym first) is.allowed.text
@@ -141,15 +73,3 @@ pub record_from : (version : ℕ) (cs : EditData) (text : List ℕ) → FitsVers
     → IsRecordOf version cs text × (length text ≤ most_in version)
 record_from version cs text fits is same =
     (record { fits = fits; edit = is; text_is = same }, subst (λ t. length t ≤ most_in version) (sym same) (length_in version cs fits.is is))
-
-pub text_first : (version : ℕ) (cs : EditData) (text : List ℕ) → version ≡ 1 → text ≡ spelled_changes cs → text ≡ text_in version cs
-text_first version cs text is same = subst (λ v. text ≡ text_in v cs) (sym is) same
-
-pub text_second : (version : ℕ) (cs : EditData) (text : List ℕ) → IsRecordVersion version → (version ≡ 1 → ⊥) → text ≡ spelled cs
-    → text ≡ text_in version cs
-text_second version cs text (inl first) other same = absurd (other first)
-text_second version cs text (inr second) other same = subst (λ v. text ≡ text_in v cs) (sym second) same
-
--- no edit has a record of another version
-pub no_version : (version : ℕ) (cs : EditData) (text : List ℕ) → (version ≡ 1 → ⊥) → (version ≡ 2 → ⊥) → IsRecordOf version cs text → ⊥
-no_version version cs text one two is = ⊎_elim one two is.fits.is

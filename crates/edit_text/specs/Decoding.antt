@@ -1,4 +1,4 @@
--- Changes and edits in front of bytes.
+-- Changes and edits at the start of bytes.
 use Rattle.std.specs.Prelude.{◌≡◌, ℕ, ◌<◌, List, [], ◌∷◌, ◌++◌, length}
 use Rattle.feature_model.specs.declared.limits.TheConstants.{MAX_EDIT_BYTES}
 use Rattle.feature_model.specs.declared.kinds.TheConstants.{PUT_KIND}

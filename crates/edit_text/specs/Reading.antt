@@ -1,4 +1,4 @@
--- Reading from left to right: what is in front and the bytes after it, or the first fault that is met.
+-- Reading from left to right: what is at the start and the bytes after it, or the first fault that is met.
 use Rattle.std.specs.Prelude.{◌≡◌, ℕ, ◌+◌, ◌^◌, ◌==◌, ◌&&◌, Bool, true, false, nat_lt, nat_le, if◌then◌else◌}
 use Rattle.std.specs.Prelude.{List, [], ◌∷◌, ◌++◌, length, take, drop, Ok, Err, IsOk}
 use Rattle.std.specs.Ordering.{nat_cmp, is_lt}
@@ -188,7 +188,7 @@ abbrev pub cut_as_bad : {A : Type 0} → Part A → Part A
 cut_as_bad (Err Cut) = Err Bad
 cut_as_bad part = part
 
--- what is in front, in a text of at most `most` bytes
+-- what is at the start, in a text of at most `most` bytes
 abbrev pub read_within : {A : Type 0} → ℕ → (List ℕ → Part A) → List ℕ → Part A
 read_within most read bytes = if nat_lt (length bytes) most then read bytes else cut_as_bad (read (take most bytes))
 
@@ -196,7 +196,7 @@ read_within most read bytes = if nat_lt (length bytes) most then read bytes else
 abbrev pub edit_most : ℕ
 edit_most = 1 + MAX_EDIT_BYTES
 
--- the change in front, and the edit in front, whose text is no longer than the longest
+-- the change at the start, and the edit at the start, whose text is no longer than the longest
 unfoldable pub decode_change_at : List ℕ → Part ChangeData
 decode_change_at bytes = read_within MAX_EDIT_BYTES (change_at []) bytes
 

@@ -1,4 +1,4 @@
-//! Features and changes in front of bytes.
+//! Features and changes at the start of bytes.
 
 ghost use Rattle.std.specs.Prelude.{◌≡◌, ◌≢◌, ℕ, map};
 ghost use Rattle.feature_model.specs.declared.kinds.TheConstants.{PUT_KIND};

@@ -1,4 +1,4 @@
-//! Where geometries in front of bytes end, found without any memory.
+//! Where geometries at the start of bytes end, found without any memory.
 
 ghost use Rattle.std.specs.Prelude.{[]};
 ghost use Rattle.feature_model.specs.declared.limits.TheConstants.{MIN_RING};

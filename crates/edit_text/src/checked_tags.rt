@@ -1,4 +1,4 @@
-//! Where tags in front of bytes end, found without any memory.
+//! Where tags at the start of bytes end, found without any memory.
 
 ghost use Rattle.std.specs.Prelude.{[]};
 ghost use Rattle.reader.specs.Reading.{Reads};

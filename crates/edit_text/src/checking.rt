@@ -47,7 +47,7 @@ fn check_change_of(kind: u8, bytes: &[u8]) -> Result<&[u8], TextFault>
     }
 }
 
-/// The bytes after the change in front.
+/// The bytes after the change at the start.
 #[tactic(auto, unfolding(crate::specs::Reading::change_at))]
 fn check_whole(bytes: &[u8]) -> Result<&[u8], TextFault>
     ensures { Checks (λ rest. rest.now) result (change_at [] bytes.now) }
@@ -56,7 +56,7 @@ fn check_whole(bytes: &[u8]) -> Result<&[u8], TextFault>
     check_change_of(kind, rest)
 }
 
-/// The bytes after the change in front, up to the length of the longest text of a change.
+/// The bytes after the change at the start, up to the length of the longest text of a change.
 #[tactic(auto, unfolding(crate::specs::Reading::decode_change_at))]
 fn check_short_change(bytes: &[u8]) -> Result<&[u8], TextFault>
     ensures { Checks (λ rest. rest.now) result (decode_change_at bytes.now) }
@@ -71,7 +71,7 @@ fn check_short_change(bytes: &[u8]) -> Result<&[u8], TextFault>
     }
 }
 
-/// The length of the text of the change in front, in bytes. Bytes may follow it. It allocates nothing.
+/// The length of the text of the change at the start, in bytes. Bytes may follow it. It allocates nothing.
 pub fn check_change(bytes: &[u8]) -> Result<usize, TextFault>
     // The answer is that of `decode_change` with memory enough.
     ensures found { IfOk result (λ len. (c : ChangeData) × BeginsWithChange c bytes.now × (len ≡ length (spelled_change c))) }

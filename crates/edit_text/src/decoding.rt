@@ -19,7 +19,7 @@ pub(crate) const MAX_CHANGE_BYTES: usize = MAX_EDIT_BYTES as usize;
 /// The most bytes of the text of an edit: its count, and the texts of its changes.
 const MAX_BYTES: usize = 1 + MAX_CHANGE_BYTES;
 
-/// The change in front, and the bytes after it, up to the length of the longest text of a change.
+/// The change at the start, and the bytes after it, up to the length of the longest text of a change.
 #[tactic(auto, unfolding(crate::specs::Reading::decode_change_at))]
 fn read_short_change(alloc: Global, bytes: &[u8]) -> Result<(Change, &[u8]), TextFault>
     ensures change { Gives TextFault.Memory (λ r. (change_data r.0, r.1.now)) result (decode_change_at bytes.now) }
@@ -35,12 +35,12 @@ fn read_short_change(alloc: Global, bytes: &[u8]) -> Result<(Change, &[u8]), Tex
     }
 }
 
-/// The change whose text is in front, and the length of the text in bytes. Bytes may follow it.
+/// The change whose text is at the start, and the length of the text in bytes. Bytes may follow it.
 pub fn decode_change(alloc: Global, bytes: &[u8]) -> Result<(Change, usize), TextFault>
-    // What is found is in front, and its text has this length.
+    // What is found is at the start, and its text has this length.
     ensures found { IfOk result (λ r. BeginsWithChange (change_data r.0) bytes.now) }
     ensures len { IfOk result (λ r. r.1 ≡ length (spelled_change (change_data r.0))) }
-    // What is in front is found, whatever follows it, unless memory runs out.
+    // What is at the start is found, whatever follows it, unless memory runs out.
     ensures only { (c : ChangeData) → BeginsWithChange c bytes.now
         → MatchResult result (λ r. change_data r.0 ≡ c) (λ fault. fault ≡ TextFault.Memory) }
     // `Cut` is returned exactly if the bytes are cut, unless memory runs out.
@@ -57,7 +57,7 @@ pub fn decode_change(alloc: Global, bytes: &[u8]) -> Result<(Change, usize), Tex
     Ok((change, len))
 }
 
-/// The edit in front, and the bytes after it, up to the length of the longest text of an edit.
+/// The edit at the start, and the bytes after it, up to the length of the longest text of an edit.
 #[tactic(auto, unfolding(crate::specs::Reading::decode_at))]
 fn read_short(alloc: Global, bytes: &[u8]) -> Result<(Edit, &[u8]), TextFault>
     ensures edit { Gives TextFault.Memory (λ r. (edit_data r.0, r.1.now)) result (decode_at bytes.now) }
@@ -73,7 +73,7 @@ fn read_short(alloc: Global, bytes: &[u8]) -> Result<(Edit, &[u8]), TextFault>
     }
 }
 
-/// The edit whose text is in front, and the length of the text in bytes. Bytes may follow it.
+/// The edit whose text is at the start, and the length of the text in bytes. Bytes may follow it.
 pub fn decode(alloc: Global, bytes: &[u8]) -> Result<(Edit, usize), TextFault>
     // The clauses are those of `decode_change`.
     ensures found { IfOk result (λ r. BeginsWith (edit_data r.0) bytes.now) }

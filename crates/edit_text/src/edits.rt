@@ -1,4 +1,4 @@
-//! Edits in front of bytes.
+//! Edits at the start of bytes.
 
 ghost use Rattle.std.specs.Prelude.{◌≡◌, ℕ, [], map};
 ghost use Rattle.feature_model.specs.Data.{change_data, edit_data};

@@ -262,7 +262,7 @@ pub fn encode_change(alloc: Global, change: &Change) -> Result<Vec<u8>, AllocErr
 }
 
 /// Adds the texts of changes to the end of a vector.
-pub(crate) fn append_changes(out: &mut Vec<u8>, changes: &[Change]) -> Result<(), AllocError>
+fn append_changes(out: &mut Vec<u8>, changes: &[Change]) -> Result<(), AllocError>
     requires { All IsAllowedChange (map change_data changes.now) }
     ensures text { OnOk result (out.new.items ≡ out.old.items ++ spelled_changes (map change_data changes.now)) }
     ensures changes { OnOk result (All IsChange (map change_data changes.now)) }

@@ -1,4 +1,4 @@
-//! Reads numbers and texts in front of bytes, and returns each with the bytes after it.
+//! Reads numbers and texts at the start of bytes, and returns each with the bytes after it.
 
 ghost use Rattle.std.specs.Prelude.{◌≡◌, ℕ, ◌≤◌, length, IfOk};
 ghost use Rattle.reader.specs.Reading.{Reads};

@@ -10,7 +10,6 @@ mod edits;
 mod encoding;
 mod fault;
 mod fields;
-mod records;
 mod shapes;
 mod tags;
 
@@ -18,4 +17,3 @@ pub use checking::check_change;
 pub use decoding::{decode, decode_change};
 pub use encoding::{append_put, delete_edit_text, delete_text, encode, encode_change};
 pub use fault::TextFault;
-pub use records::{decode_record, encode_record};

@@ -1,4 +1,4 @@
-//! Geometries in front of bytes.
+//! Geometries at the start of bytes.
 
 ghost use Rattle.std.specs.Prelude.{◌≡◌, ℕ, ◌<◌, ◌≤◌, [], map, IsOk};
 ghost use Rattle.feature_model.specs.declared.limits.TheConstants.{MIN_RING};

@@ -1,4 +1,4 @@
-//! Tags in front of bytes.
+//! Tags at the start of bytes.
 
 ghost use Rattle.std.specs.Prelude.{◌≡◌, ℕ, ◌≤◌, [], map, IsOk};
 ghost use Rattle.std.specs.Ordering.{nat_cmp, is_lt};

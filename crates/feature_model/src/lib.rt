@@ -1,16 +1,13 @@
 //! Features of a map, edits, and their limits.
 #![tactic(auto)]
 
-mod copies;
 mod fault;
 mod feature;
 mod kinds;
 mod lengths;
 mod limits;
-mod same;
 mod seen;
 
-pub use copies::copy;
 pub use fault::EditFault;
 pub use feature::{Change, Edit, EditValue, Feature, Geometry, Tag, World, WorldBox};
 pub use kinds::{
@@ -23,5 +20,4 @@ pub use limits::{
     MIN_LINE, MIN_RING, NUMBER_END, change_count_fits, check, check_batch, count_fits, is_name,
     is_new, is_tag_text, tag_count_fits, zooms_fit,
 };
-pub use same::is_same;
 pub use seen::Seen;

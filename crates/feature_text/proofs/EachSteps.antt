@@ -1,5 +1,5 @@
--- So many, one after the other.
-use Rattle.std.proofs.Common.{◌≡◌, ℕ, zero, suc, ◌+◌, ◌-◌, ◌<◌, ◌≤◌, List, [], ◌∷◌, refl, arith}
+-- `count` of a kind, one after the other.
+use Rattle.std.proofs.Common.{◌≡◌, ℕ, zero, suc, ◌+◌, ◌-◌, ◌<◌, ◌≤◌, List, [], ◌∷◌, length, refl, ap, arith}
 use Rattle.feature_text.specs.Trusted.{Front, each_in}
 
 module _ {A : Type 0} (part : Front A) where
@@ -16,7 +16,12 @@ module _ {A : Type 0} (part : Front A) where
   each_none zero bytes e = refl
   each_none (suc more) bytes e = absurd (omega (arith, e))
 
-  -- behind one more
+  pub each_len : (count : ℕ) (bytes : List ℕ) → count ≡ length (each_in part count bytes).0
+  unfolding each_in
+  each_len zero bytes = refl
+  each_len (suc more) bytes = ap suc (each_len more (part bytes).1)
+
+  -- the bytes after one more
   pub behind_next : (count i : ℕ) (bytes whole : List ℕ) → i < count → (each_in part (count - i) bytes).1 ≡ whole
       → (each_in part (count - (i + 1)) (part bytes).1).1 ≡ whole
   unfolding each_in
@@ -24,7 +29,7 @@ module _ {A : Type 0} (part : Front A) where
       let more : count - i ≡ suc (count - (i + 1)) = omega arith in
       rw more at so_far
 
-  -- behind all
+  -- the bytes after all
   pub behind_all : (count i : ℕ) (bytes whole : List ℕ) → count ≤ i → (each_in part (count - i) bytes).1 ≡ whole → bytes ≡ whole
   unfolding each_in
   behind_all count i bytes whole l so_far =

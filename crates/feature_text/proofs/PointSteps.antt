@@ -1,5 +1,5 @@
 -- Lists of points, point by point.
-use Rattle.std.proofs.Common.{◌≡◌, ℕ, ◌<◌, ◌≤◌, List, [], ◌∷◌, length, refl, arith}
+use Rattle.std.proofs.Common.{◌≡◌, ℕ, ◌/◌, ◌<◌, ◌≤◌, List, [], ◌∷◌, length, refl, arith}
 use Rattle.feature_text.specs.Trusted.{point_in, points_of}
 
 pub points_first : (bytes : List ℕ) → 8 ≤ length bytes → points_of bytes ≡ (point_in bytes).0 ∷ points_of (point_in bytes).1
@@ -25,3 +25,15 @@ points_none (a ∷ b ∷ c ∷ d ∷ []) l = refl
 points_none (a ∷ b ∷ c ∷ d ∷ e ∷ []) l = refl
 points_none (a ∷ b ∷ c ∷ d ∷ e ∷ f ∷ []) l = refl
 points_none (a ∷ b ∷ c ∷ d ∷ e ∷ f ∷ g ∷ []) l = refl
+
+pub points_len : (bytes : List ℕ) → length bytes / 8 ≡ length (points_of bytes)
+unfolding points_of
+points_len (a ∷ b ∷ c ∷ d ∷ e ∷ f ∷ g ∷ h ∷ rest) = omega (arith, points_len rest)
+points_len [] = refl
+points_len (a ∷ []) = refl
+points_len (a ∷ b ∷ []) = refl
+points_len (a ∷ b ∷ c ∷ []) = refl
+points_len (a ∷ b ∷ c ∷ d ∷ []) = refl
+points_len (a ∷ b ∷ c ∷ d ∷ e ∷ []) = refl
+points_len (a ∷ b ∷ c ∷ d ∷ e ∷ f ∷ []) = refl
+points_len (a ∷ b ∷ c ∷ d ∷ e ∷ f ∷ g ∷ []) = refl

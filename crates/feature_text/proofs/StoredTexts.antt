@@ -34,7 +34,7 @@ stored text id f allowed types e =
       same,
     )
 
--- ---- the text in front of bytes
+-- ---- the text at the start of bytes
 
 put_in_front : (c : ChangeData) (text : List ℕ) → BeginsWithChange c text → BeginsAsPut text → (id : ℕ) × (f : FeatureData) × (c ≡ put id f)
 unfolding spelled_change
@@ -47,7 +47,7 @@ pub begins_as : (id : ℕ) (f : FeatureData) (text : List ℕ) → BeginsWithCha
 unfolding spelled_change
 begins_as id f text begins = ((eight_bytes id ++ spelled_feature f) ++ begins.1.0, begins.1.1)
 
--- a change is in front, whose text has this length
+-- a change is at the start, whose text has this length
 abbrev HasLength : List ℕ → ℕ → Type 0
 HasLength text len = (c : ChangeData) × BeginsWithChange c text × (len ≡ length (spelled_change c))
 

@@ -45,7 +45,7 @@ pub trust_last : {A : Type 0} (test : Bool) (read : List ℕ → Part A) (part :
     → Trusts (λ bytes. cond test (read bytes) (Err Bad)) part
 trust_last test read part h bytes x e = h bytes x (pass_ok test Bad (read bytes) x e).1
 
--- ---- so many
+-- ---- `count` of a kind
 
 abbrev many_found : {A : Type 0} → Front A → ℕ → List A → List ℕ → List A × List ℕ
 many_found part count done bytes = (done ++ (each_in part count bytes).0, (each_in part count bytes).1)
@@ -68,7 +68,7 @@ pub trust_many : {A : Type 0} (read : List A → List ℕ → Part A) (part : Fr
     → Trusts (many_at read count []) (each_in part count)
 trust_many read part h count bytes x e = many_from read part h count [] bytes x e
 
--- ---- so many bytes
+-- ---- `len` bytes
 
 pub front_found : (n : ℕ) (bytes : List ℕ) (x : List ℕ × List ℕ) → front_at n bytes ≡ Ok x → (n ≤ length bytes) × ((take n bytes, drop n bytes) ≡ x)
 unfolding front_at

@@ -50,7 +50,7 @@ trust_point (a ∷ b ∷ c ∷ d ∷ e ∷ f ∷ g ∷ []) x is = absurd (omega 
 abbrev points_front : ℕ → Front (List World)
 points_front count bytes = (points_of (take (8 * count) bytes), drop (8 * count) bytes)
 
--- so many points are the points of so many bytes
+-- `count` points are the points of as many times eight bytes
 each_points : (count : ℕ) (bytes : List ℕ) → 8 * count ≤ length bytes → each_in point_in count bytes ≡ points_front count bytes
 unfolding each_in point_in points_of
 each_points zero bytes l = refl

@@ -15,7 +15,7 @@ unfolding byte_at byte_in
 trust_byte [] x e = absurd (cc)
 trust_byte (b ∷ bs) x e = same_value (b, bs) x e
 
--- so many bytes are there, where they are read as a number
+-- `n` bytes are there if they are read as a number
 pub front_as : (make : List ℕ → ℕ) (n : ℕ) (bytes : List ℕ) (x : ℕ × List ℕ) → read_as make (front_at n bytes) ≡ Ok x
     → (n ≤ length bytes) × ((make (take n bytes), drop n bytes) ≡ x)
 front_as make n bytes x e =
@@ -79,7 +79,8 @@ trust_value = trust_then byte_at byte_in value_behind value_of trust_byte trust_
 trust_tag : (tags : List TagData) → Trusts (tag_at tags) tag_in
 unfolding tag_at tag_in
 trust_tag tags =
-    trust_then (λ bytes. read_if (is_next_key tags) (name_at bytes)) name_in _ (λ key bytes. (record { key = key; value = (value_in bytes).0 }, (value_in bytes).1))
+    trust_then (λ bytes. read_if (is_next_key tags) (name_at bytes)) name_in _
+    (λ key bytes. (record { key = key; value = (value_in bytes).0 }, (value_in bytes).1))
     (trust_if (is_next_key tags) name_at name_in trust_name)
     (λ key. trust_as (λ value. record { key = key; value = value }) value_at value_in trust_value)
 

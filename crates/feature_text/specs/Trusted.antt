@@ -1,4 +1,4 @@
--- What stands in front of bytes that are known to be a text, and the bytes behind it. Of other bytes something is said, and no fault.
+-- What is at the start of bytes that are known to be a text, and the bytes after it. Of other bytes something is said, and no fault.
 use Rattle.std.specs.Prelude.{ℕ, zero, suc, ◌*◌, ◌==◌, true, false, if◌then◌else◌, List, [], ◌∷◌, take, drop}
 use Rattle.std.specs.Int.{w16, w32, w64, from_le_bytes, cast_signed}
 use Rattle.std.specs.Str.{is_utf8}
@@ -6,7 +6,7 @@ use Rattle.feature_model.specs.declared.feature.World.{World}
 use Rattle.feature_model.specs.Data.{GeometryData, world_points, world_lines, world_polygons, ValueData, text_value, natural_value}
 use Rattle.feature_model.specs.Data.{negative_value, truth_value, TagData, FeatureData}
 
--- what stands in front, and the bytes behind it
+-- what is at the start, and the bytes after it
 abbrev pub Front : Type 0 → Type 0
 Front A = List ℕ → A × List ℕ
 
@@ -35,7 +35,7 @@ long_text_in bytes = let len = count_in bytes in (utf8_in (take len.0 len.1), dr
 
 -- ---- geometry
 
--- so many, each where the one before it ends
+-- `count` of a kind, each where the one before it ends
 unfoldable pub each_in : {A : Type 0} → Front A → ℕ → Front (List A)
 each_in part zero bytes = ([], bytes)
 each_in part (suc more) bytes =
@@ -103,6 +103,6 @@ feature_in bytes =
     let tags = tags_in geometry.1 in
     (record { layer = layer.0; minzoom = minzoom.0; maxzoom = maxzoom.0; geometry = geometry.0; tags = tags.0 }, tags.1)
 
--- the feature of the text of a change that sets one: behind the kind of the change and the number
+-- the feature of the text of a change that sets one: after the kind of the change and the number
 unfoldable pub feature_of_text : List ℕ → FeatureData
 feature_of_text text = (feature_in (drop 9 text)).0

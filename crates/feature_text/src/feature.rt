@@ -6,7 +6,7 @@ use crate::shapes::geometry_in;
 use crate::tags::Tags;
 use crate::texts::name_in;
 
-/// The bytes of a change in front of its feature: its kind and its number.
+/// The bytes of a change before its feature: its kind and its number.
 const HEAD_LEN: usize = 9;
 
 /// A feature as the bytes of its text have it.
@@ -30,7 +30,7 @@ impl<'a> FeatureText<'a> {
     ghost use Rattle.feature_text.specs.Trusted.{feature_in, feature_of_text};
     ghost use Rattle.feature_text.specs.Views.{feature_view};
 
-    /// The feature in front.
+    /// The feature at the start.
     #[tactic(auto, unfolding(crate::specs::Trusted::feature_in))]
     fn front(bytes: &'a [u8]) -> Self
         ensures { feature_view result ≡ (feature_in bytes.entry.now).0 }

@@ -24,7 +24,7 @@ impl<'a> Points<'a> {
         Points { rest: bytes }
     }
 
-    /// The list in front, and the bytes behind it.
+    /// The list at the start, and the bytes after it.
     #[tactic(auto, unfolding(crate::specs::Trusted::line_in))]
     pub(crate) fn front(bytes: &'a [u8]) -> (Self, &'a [u8])
         ensures list { points_view result.0 ≡ (line_in bytes.entry.now).0 }
@@ -33,6 +33,13 @@ impl<'a> Points<'a> {
         let (count, rest) = count_in(bytes);
         let (front, rest) = split(rest, 8 * usize::from(count));
         (Points::of(front), rest)
+    }
+
+    /// How many points there are.
+    pub fn len(&self) -> usize
+        ensures { result ≡ length (points_view self.now) }
+    {
+        self.rest.len() / POINT_LEN
     }
 }
 
@@ -64,11 +71,11 @@ pub struct Lines<'a> {
 }
 
 impl<'a> Lines<'a> {
-    ghost use Rattle.std.specs.Prelude.{◌≡◌, ℕ};
+    ghost use Rattle.std.specs.Prelude.{◌≡◌, ℕ, length};
     ghost use Rattle.feature_text.specs.Trusted.{each_in, line_in, lines_in};
     ghost use Rattle.feature_text.specs.Views.{lines_view};
 
-    /// The bytes behind so many lines.
+    /// The bytes after `count` lines.
     fn behind(count: u16, bytes: &'a [u8]) -> &'a [u8]
         ensures { result.now ≡ (each_in line_in count bytes.entry.now).1 }
     {
@@ -80,7 +87,7 @@ impl<'a> Lines<'a> {
         rest
     }
 
-    /// The list in front, and the bytes behind it.
+    /// The list at the start, and the bytes after it.
     #[tactic(auto, unfolding(crate::specs::Trusted::lines_in))]
     pub(crate) fn front(bytes: &'a [u8]) -> (Self, &'a [u8])
         ensures list { lines_view result.0 ≡ (lines_in bytes.entry.now).0 }
@@ -88,6 +95,13 @@ impl<'a> Lines<'a> {
     {
         let (count, rest) = count_in(bytes);
         (Lines { count, rest }, Lines::behind(count, rest))
+    }
+
+    /// How many lines or rings there are.
+    pub fn len(&self) -> usize
+        ensures { result ≡ length (lines_view self.now) }
+    {
+        usize::from(self.count)
     }
 }
 
@@ -120,11 +134,11 @@ pub struct Polygons<'a> {
 }
 
 impl<'a> Polygons<'a> {
-    ghost use Rattle.std.specs.Prelude.{◌≡◌, ℕ};
+    ghost use Rattle.std.specs.Prelude.{◌≡◌, ℕ, length};
     ghost use Rattle.feature_text.specs.Trusted.{each_in, lines_in, polygons_in};
     ghost use Rattle.feature_text.specs.Views.{polygons_view};
 
-    /// The bytes behind so many polygons.
+    /// The bytes after `count` polygons.
     fn behind(count: u16, bytes: &'a [u8]) -> &'a [u8]
         ensures { result.now ≡ (each_in lines_in count bytes.entry.now).1 }
     {
@@ -136,7 +150,7 @@ impl<'a> Polygons<'a> {
         rest
     }
 
-    /// The list in front, and the bytes behind it.
+    /// The list at the start, and the bytes after it.
     #[tactic(auto, unfolding(crate::specs::Trusted::polygons_in))]
     pub(crate) fn front(bytes: &'a [u8]) -> (Self, &'a [u8])
         ensures list { polygons_view result.0 ≡ (polygons_in bytes.entry.now).0 }
@@ -144,6 +158,13 @@ impl<'a> Polygons<'a> {
     {
         let (count, rest) = count_in(bytes);
         (Polygons { count, rest }, Polygons::behind(count, rest))
+    }
+
+    /// How many polygons there are.
+    pub fn len(&self) -> usize
+        ensures { result ≡ length (polygons_view self.now) }
+    {
+        usize::from(self.count)
     }
 }
 

@@ -1,4 +1,4 @@
-//! Numbers in front of bytes, each with the bytes behind it; 0 where there are too few bytes.
+//! Numbers at the start of bytes, each with the bytes after it; 0 if there are too few bytes.
 
 ghost use Rattle.std.specs.Prelude.{◌≡◌, ℕ, take, drop};
 ghost use Rattle.feature_text.specs.Trusted.{byte_in, count_in, number_in, point_in};
@@ -56,7 +56,7 @@ pub(crate) fn point_in(bytes: &[u8]) -> (World, &[u8])
     }
 }
 
-/// So many bytes, or as many as there are, and those behind them.
+/// The first `len` bytes, or all if there are fewer, and those after them.
 pub(crate) fn split(bytes: &[u8], len: usize) -> (&[u8], &[u8])
     ensures front { result.0.now ≡ take len bytes.now }
     ensures rest { result.1.now ≡ drop len bytes.now }

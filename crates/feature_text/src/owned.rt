@@ -14,7 +14,7 @@ use std::alloc::{AllocError, Global};
 fn own_points(alloc: Global, points: Points<'_>) -> Result<Vec<World>, AllocError>
     ensures { IfOk result (λ v. v.items ≡ points_view points.entry) }
 {
-    let mut owned = Vec::new(alloc);
+    let mut owned = Vec::with_capacity(alloc, points.len())?;
     for point in points {
         owned.push(point)?;
     }
@@ -24,7 +24,7 @@ fn own_points(alloc: Global, points: Points<'_>) -> Result<Vec<World>, AllocErro
 fn own_lines(alloc: Global, lines: Lines<'_>) -> Result<Vec<Vec<World>>, AllocError>
     ensures { IfOk result (λ v. map (λ l. l.items) v.items ≡ lines_view lines.entry) }
 {
-    let mut owned = Vec::new(alloc);
+    let mut owned = Vec::with_capacity(alloc, lines.len())?;
     for line in lines {
         owned.push(own_points(alloc, line)?)?;
     }
@@ -34,7 +34,7 @@ fn own_lines(alloc: Global, lines: Lines<'_>) -> Result<Vec<Vec<World>>, AllocEr
 fn own_polygons(alloc: Global, polygons: Polygons<'_>) -> Result<Vec<Vec<Vec<World>>>, AllocError>
     ensures { IfOk result (λ v. map (λ p. map (λ r. r.items) p.items) v.items ≡ polygons_view polygons.entry) }
 {
-    let mut owned = Vec::new(alloc);
+    let mut owned = Vec::with_capacity(alloc, polygons.len())?;
     for rings in polygons {
         owned.push(own_lines(alloc, rings)?)?;
     }
@@ -79,7 +79,7 @@ fn own_tag(alloc: Global, tag: TagText<'_>) -> Result<Tag, AllocError>
 fn own_tags(alloc: Global, tags: Tags<'_>) -> Result<Vec<Tag>, AllocError>
     ensures { IfOk result (λ v. map tag_data v.items ≡ tags_view tags.entry) }
 {
-    let mut owned = Vec::new(alloc);
+    let mut owned = Vec::with_capacity(alloc, tags.len())?;
     for tag in tags {
         owned.push(own_tag(alloc, tag)?)?;
     }

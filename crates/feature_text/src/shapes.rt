@@ -1,4 +1,4 @@
-//! Geometries in front of bytes.
+//! Geometries at the start of bytes.
 
 ghost use Rattle.std.specs.Prelude.{◌≡◌, ℕ};
 ghost use Rattle.feature_text.specs.Trusted.{shape_in, geometry_in};

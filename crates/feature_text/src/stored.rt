@@ -63,13 +63,13 @@ impl StoredFeature {
         Ok(StoredFeature { text })
     }
 
-    /// The number and the feature of the change in front, copied in one piece, and the length of its text in bytes.
+    /// The number and the feature of the change at the start, copied in one piece, and the length of its text in bytes.
     /// Bytes may follow it. The text of a deletion is `Bad`.
     pub fn read(alloc: Global, text: &[u8]) -> Result<(StoredFeature, usize), TextFault>
-        // What is found is in front, and its text has this length.
+        // What is found is at the start, and its text has this length.
         ensures found { IfOk result (λ r. BeginsWithChange (put r.0.0 r.0.1) text.now) }
         ensures len { IfOk result (λ r. r.1 ≡ length (spelled_change (put r.0.0 r.0.1))) }
-        // What is in front is found, whatever follows it, unless memory runs out.
+        // What is at the start is found, whatever follows it, unless memory runs out.
         ensures only { (id : ℕ) (f : FeatureData) → BeginsWithChange (put id f) text.now
             → MatchResult result (λ r. r.0 ≡ (id, f)) (λ fault. fault ≡ TextFault.Memory) }
         ensures cut { (result ≡ Err TextFault.Cut) ↔ IsCutChange text.now }

@@ -25,7 +25,7 @@ impl<'a> ValueText<'a> {
     ghost use Rattle.feature_text.specs.Trusted.{value_of, value_in};
     ghost use Rattle.feature_text.specs.Views.{value_view};
 
-    /// The value of this kind, and the bytes behind it.
+    /// The value of this kind, and the bytes after it.
     #[tactic(auto, unfolding(crate::specs::Trusted::value_of))]
     fn of_kind(kind: u8, bytes: &'a [u8]) -> (Self, &'a [u8])
         ensures value { value_view result.0 ≡ (value_of kind bytes.entry.now).0 }
@@ -83,17 +83,24 @@ pub struct Tags<'a> {
 }
 
 impl<'a> Tags<'a> {
-    ghost use Rattle.std.specs.Prelude.{◌≡◌, ℕ};
+    ghost use Rattle.std.specs.Prelude.{◌≡◌, ℕ, length};
     ghost use Rattle.feature_text.specs.Trusted.{tags_in};
     ghost use Rattle.feature_text.specs.Views.{tags_view};
 
-    /// The tags in front.
+    /// The tags at the start.
     #[tactic(auto, unfolding(crate::specs::Trusted::tags_in))]
     pub(crate) fn front(bytes: &'a [u8]) -> Self
         ensures { tags_view result ≡ (tags_in bytes.entry.now).0 }
     {
         let (count, rest) = byte_in(bytes);
         Tags { count, rest }
+    }
+
+    /// How many tags there are.
+    pub fn len(&self) -> usize
+        ensures { result ≡ length (tags_view self.now) }
+    {
+        usize::from(self.count)
     }
 }
 

@@ -1,4 +1,4 @@
-//! Texts in front of bytes, each with the bytes behind it.
+//! Texts at the start of bytes, each with the bytes after it.
 
 ghost use Rattle.std.specs.Prelude.{◌≡◌, ℕ};
 ghost use Rattle.feature_text.specs.Trusted.{utf8_in, name_in, long_text_in};

@@ -1,10 +1,11 @@
 //! Lines about features and edits that no JSON says, and their limits.
 use crate::lines::{Line, byte, times};
-use edit_text::{decode_record, delete_edit_text, delete_text, encode, encode_record};
+use edit_text::{delete_edit_text, delete_text, encode};
 use feature_model::{
     Change, Edit, EditFault, EditValue, Feature, Geometry, NUMBER_END, Tag, World, check,
     check_batch,
 };
+use feature_store::{read_record, record_of};
 use script_bytes::{expanded, number_in, parted, short};
 use std::alloc::{AllocError, Global};
 
@@ -169,10 +170,10 @@ fn record(alloc: Global, rest: &str) -> Result<String, AllocError> {
     let Ok(bytes) = hex::decode(alloc, text.as_str()) else {
         return String::from_str(alloc, "Hex");
     };
-    match decode_record(alloc, version, &bytes) {
-        Ok(edit) => {
-            let again = hex::encode(alloc, encode_record(alloc, version, &edit)?.as_slice())?;
-            let whole = hex::encode(alloc, encode(alloc, &edit)?.as_slice())?;
+    match read_record(alloc, version, &bytes) {
+        Ok(changes) => {
+            let again = hex::encode(alloc, record_of(alloc, version, &changes)?.as_slice())?;
+            let whole = hex::encode(alloc, record_of(alloc, 2, &changes)?.as_slice())?;
             format!(in alloc; "{again} {whole}")
         }
         Err(fault) => format!(in alloc; "{fault:?}"),

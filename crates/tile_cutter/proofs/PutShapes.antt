@@ -1,5 +1,6 @@
 -- What is written is the shape that is shown.
-use Rattle.std.proofs.Common.{◌≡◌, ℕ, ◌^◌, ◌<◌, ◌≤◌, Bool, true, false, List, [], ◌∷◌, ◌++◌, Option, Some, None, length, refl, sym, ap, subst, ◌∙◌, arith}
+use Rattle.std.proofs.Common.{◌≡◌, ◌==◌, ℕ, ◌^◌, ◌<◌, ◌≤◌, Bool, true, false, vec_len, List, [], ◌∷◌, ◌++◌, Option, Some, None, length, refl, sym, ap}
+use Rattle.std.proofs.Common.{subst, ◌∙◌, arith}
 use Rattle.std.specs.Prelude.{All, ◌↔◌, IfSome, flat_map, option_map}
 use Rattle.pb_wire.specs.Varint.{varint}
 use Rattle.feature_model.specs.declared.limits.TheConstants.{MAX_ZOOM}
@@ -15,16 +16,18 @@ use Rattle.geometry_commands.specs.Shapes.{ShapeView, points, lines, rings, last
 use Rattle.tile_cutter.specs.Cut.{unless_empty, geometry_cut, has_zoom, feature_cut, shown_with}
 use Rattle.tile_cutter.specs.Put.{IsClear, HasPut, Shows}
 use Rattle.tile_cutter.specs.Range.{IsOfTile, IsDrawable}
-use Rattle.tile_cutter.proofs.Spelled.{origin_of_tile, spelled_lines, spelled_points}
+use Rattle.tile_cutter.proofs.PutLists.{no_bytes, some_lists}
+use Rattle.tile_cutter.proofs.Spelled.{origin_of_tile, spelled_lines, spelled_points, some_length, none_length}
 
 pub clear_cursor : (zoom column row : ℕ) (old : PackedShape) → zoom ≤ MAX_ZOOM → column < 2 ^ zoom → row < 2 ^ zoom → IsClear old
     → IsOfTile column row old.at
 clear_cursor zoom column row old allowed across down clear = subst (IsOfTile column row) (sym clear.at) (origin_of_tile zoom column row allowed across down)
 
-pub nothing_put : {X : Type 0} (shape : List X → ShapeView) (xs : List X) (new : PackedShape) → xs ≡ [] → HasPut new None (unless_empty shape xs)
+nothing_put : {X : Type 0} (shape : List X → ShapeView) (xs : List X) (new : PackedShape) → xs ≡ [] → HasPut new None (unless_empty shape xs)
 nothing_put shape xs new none = subst (λ ys. HasPut new None (unless_empty shape ys)) (sym none) tt
 
-module _ (zoom column row : ℕ) (old new : PackedShape) (allowed : zoom ≤ MAX_ZOOM) (across : column < 2 ^ zoom) (down : row < 2 ^ zoom) (clear : IsClear old) where
+module _ (zoom column row : ℕ) (old new : PackedShape) (allowed : zoom ≤ MAX_ZOOM) (across : column < 2 ^ zoom) (down : row < 2 ^ zoom)
+    (clear : IsClear old) where
   lists_bytes : (closed : Bool) (ls : List (List Pt)) → Adds closed old new ls → new.bytes.items ≡ flat_map varint (lines_spelled closed origin ls)
   lists_bytes closed ls adds =
       adds.bytes ∙ ap (λ (r : List ℕ). r ++ flat_map varint (lines_spelled closed old.at ls)) clear.bytes
@@ -33,23 +36,41 @@ module _ (zoom column row : ℕ) (old new : PackedShape) (allowed : zoom ≤ MAX
   lists_end : (closed : Bool) (ls : List (List Pt)) → Adds closed old new ls → new.at ≡ end_of origin ls
   lists_end closed ls adds = adds.at ∙ ap (λ (p : Pt). end_of p ls) clear.at
 
-  pub lines_are_put : (ls : List (List Pt)) → 0 < length ls → Adds false old new ls → All (IsDrawable false column row) ls
+  -- without bytes no list is shown
+  pub none_are_put : (closed : Bool) (shape : List (List Pt) → ShapeView) (ls : List (List Pt)) → Adds closed old new ls
+      → All (IsDrawable closed column row) ls → (vec_len new.bytes == 0) ≡ true → HasPut new None (unless_empty shape ls)
+  none_are_put closed shape ls adds all none =
+      nothing_put shape ls new (no_bytes closed column row old new clear ls adds all (none_length new.bytes none))
+
+  -- and with bytes one is
+  some_are_put : (closed : Bool) (ls : List (List Pt)) → Adds closed old new ls → (vec_len new.bytes == 0) ≡ false → 0 < length ls
+  some_are_put closed ls adds some = some_lists closed column row old new clear ls adds (some_length new.bytes some)
+
+  put_as_lines : (ls : List (List Pt)) → 0 < length ls → Adds false old new ls → All (IsDrawable false column row) ls
       → HasPut new (Some kinds.Lines) (unless_empty lines ls)
-  lines_are_put [] some adds all = absurd (omega arith)
-  lines_are_put (l ∷ ls) some adds all = record {
+  put_as_lines [] some adds all = absurd (omega arith)
+  put_as_lines (l ∷ ls) some adds all = record {
     packed = record { bytes = lists_bytes false (l ∷ ls) adds; at = lists_end false (l ∷ ls) adds };
     kind_is = refl;
     can = spelled_lines false zoom column row (l ∷ ls) allowed across down all;
   }
 
-  pub rings_are_put : (ls : List (List Pt)) → 0 < length ls → Adds true old new ls → All (IsDrawable true column row) ls
+  pub lines_are_put : (ls : List (List Pt)) → Adds false old new ls → All (IsDrawable false column row) ls → (vec_len new.bytes == 0) ≡ false
+      → HasPut new (Some kinds.Lines) (unless_empty lines ls)
+  lines_are_put ls adds all some = put_as_lines ls (some_are_put false ls adds some) adds all
+
+  put_as_rings : (ls : List (List Pt)) → 0 < length ls → Adds true old new ls → All (IsDrawable true column row) ls
       → HasPut new (Some kinds.Polygons) (unless_empty rings ls)
-  rings_are_put [] some adds all = absurd (omega arith)
-  rings_are_put (l ∷ ls) some adds all = record {
+  put_as_rings [] some adds all = absurd (omega arith)
+  put_as_rings (l ∷ ls) some adds all = record {
     packed = record { bytes = lists_bytes true (l ∷ ls) adds; at = lists_end true (l ∷ ls) adds };
     kind_is = refl;
     can = spelled_lines true zoom column row (l ∷ ls) allowed across down all;
   }
+
+  pub rings_are_put : (ls : List (List Pt)) → Adds true old new ls → All (IsDrawable true column row) ls → (vec_len new.bytes == 0) ≡ false
+      → HasPut new (Some kinds.Polygons) (unless_empty rings ls)
+  rings_are_put ls adds all some = put_as_rings ls (some_are_put true ls adds some) adds all
 
   pub points_are_put : (ps : List Pt) (count : ℕ) (begun : PackedShape) → 0 < count → count ≡ length ps → length ps < 2 ^ 29
       → begun.bytes.items ≡ old.bytes.items ++ varint (command 1 count) → begun.at ≡ old.at

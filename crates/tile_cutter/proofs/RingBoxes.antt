@@ -1,5 +1,5 @@
 -- The bounding box of a ring in a tile is that of its points of the world: points left out are there a second time.
-use Rattle.std.proofs.Common.{◌≡◌, ℕ, ◌+◌, ◌-◌, ◌*◌, ◌^◌, ◌<◌, ◌≤◌, suc, pos, ◌-ℤ◌, min, max, Bool, true, false, cond, List, [], ◌∷◌, Option, Some, None}
+use Rattle.std.proofs.Common.{◌≡◌, ℕ, ℤ, ◌+◌, ◌-◌, ◌*◌, ◌^◌, ◌<◌, ◌≤◌, suc, pos, ◌-ℤ◌, min, max, Bool, true, false, cond, List, [], ◌∷◌, Option, Some, None}
 use Rattle.std.proofs.Common.{map, take, length, refl, sym, ap, subst, ◌∙◌, ◌⊎◌, inl, inr, ⊎_elim, arith}
 use Rattle.std.specs.Prelude.{fold, int_le}
 use Rattle.std.specs.Int.{int_min, int_max}
@@ -29,41 +29,22 @@ record IsCorner (f : Pt → Pt → Pt) : Type 0 where
   keeps : (a b p : Pt) → f a b ≡ a → f (f a p) b ≡ f a p
   itself : (p : Pt) → f p p ≡ p
 
-least_corners : IsCorner least_corner
-least_corners = record {
-  again = λ a p.
-      let x : int_min (int_min a.x p.x) p.x ≡ int_min a.x p.x = omega (arith, ints, clamps) in
-      let y : int_min (int_min a.y p.y) p.y ≡ int_min a.y p.y = omega (arith, ints, clamps) in
-      λ i. record { x = x i; y = y i };
-  keeps = λ a b p h.
-      let hx : int_min a.x b.x ≡ a.x = ap (λ q. q.x) h in
-      let hy : int_min a.y b.y ≡ a.y = ap (λ q. q.y) h in
-      let x : int_min (int_min a.x p.x) b.x ≡ int_min a.x p.x = omega (arith, ints, clamps, hx) in
-      let y : int_min (int_min a.y p.y) b.y ≡ int_min a.y p.y = omega (arith, ints, clamps, hy) in
-      λ i. record { x = x i; y = y i };
-  itself = λ p.
-      let x : int_min p.x p.x ≡ p.x = omega (arith, ints, clamps) in
-      let y : int_min p.y p.y ≡ p.y = omega (arith, ints, clamps) in
-      λ i. record { x = x i; y = y i };
+-- where that is so of the coordinates
+corners_by : (side : ℤ → ℤ → ℤ) → ((a p : ℤ) → side (side a p) p ≡ side a p) → ((a b p : ℤ) → side a b ≡ a → side (side a p) b ≡ side a p)
+    → ((p : ℤ) → side p p ≡ p) → IsCorner (λ p q. record { x = side p.x q.x; y = side p.y q.y })
+corners_by side again keeps itself = record {
+  again = λ a p. λ i. record { x = again a.x p.x i; y = again a.y p.y i };
+  keeps = λ a b p h. λ i. record { x = keeps a.x b.x p.x (ap (λ q. q.x) h) i; y = keeps a.y b.y p.y (ap (λ q. q.y) h) i };
+  itself = λ p. λ i. record { x = itself p.x i; y = itself p.y i };
 }
 
+least_corners : IsCorner least_corner
+least_corners =
+    corners_by int_min (λ a p. omega (arith, ints, clamps)) (λ a b p h. omega (arith, ints, clamps, h)) (λ p. omega (arith, ints, clamps))
+
 greatest_corners : IsCorner greatest_corner
-greatest_corners = record {
-  again = λ a p.
-      let x : int_max (int_max a.x p.x) p.x ≡ int_max a.x p.x = omega (arith, ints, clamps) in
-      let y : int_max (int_max a.y p.y) p.y ≡ int_max a.y p.y = omega (arith, ints, clamps) in
-      λ i. record { x = x i; y = y i };
-  keeps = λ a b p h.
-      let hx : int_max a.x b.x ≡ a.x = ap (λ q. q.x) h in
-      let hy : int_max a.y b.y ≡ a.y = ap (λ q. q.y) h in
-      let x : int_max (int_max a.x p.x) b.x ≡ int_max a.x p.x = omega (arith, ints, clamps, hx) in
-      let y : int_max (int_max a.y p.y) b.y ≡ int_max a.y p.y = omega (arith, ints, clamps, hy) in
-      λ i. record { x = x i; y = y i };
-  itself = λ p.
-      let x : int_max p.x p.x ≡ p.x = omega (arith, ints, clamps) in
-      let y : int_max p.y p.y ≡ p.y = omega (arith, ints, clamps) in
-      λ i. record { x = x i; y = y i };
-}
+greatest_corners =
+    corners_by int_max (λ a p. omega (arith, ints, clamps)) (λ a b p h. omega (arith, ints, clamps, h)) (λ p. omega (arith, ints, clamps))
 
 module _ (f : Pt → Pt → Pt) (corner : IsCorner f) where
   -- without the points that equal the one before them

@@ -3,19 +3,17 @@ use Rattle.std.proofs.Common.{◌≡◌, ℕ, ℤ, ◌^◌, ◌<◌, ◌≤◌, 
 use Rattle.std.proofs.Common.{arith}
 use Rattle.std.specs.Prelude.{All, filter}
 use Rattle.std.proofs.lemmas.Int.{ints}
-use Rattle.std.proofs.lemmas.List.{length-map}
 use Rattle.std.proofs.lemmas.List.Elements.{All-head, All-tail}
 use Rattle.std.proofs.lemmas.Bool.Decides.{Decides-eqb, not_from_Decides}
 use Rattle.geometry_commands.specs.declared.point.Pt.{Pt}
 use Rattle.geometry_commands.specs.Commands.{IsShort, IsNear, AreNear, origin}
-use Rattle.geometry_commands.specs.Shapes.{ShapeView, last_of}
+use Rattle.geometry_commands.specs.Shapes.{last_of}
 use Rattle.geometry_commands.specs.Encodable.{CanSpellLines, CanSpellPoints}
 use Rattle.feature_model.specs.declared.feature.World.{World}
 use Rattle.feature_model.specs.declared.limits.TheConstants.{MAX_ZOOM}
-use Rattle.tile_cutter.specs.Cut.{tile_points, in_box, points_cut, unless_empty}
+use Rattle.tile_cutter.specs.Cut.{tile_points, in_box, points_cut}
 use Rattle.tile_cutter.proofs.Kept.{length_points}
 use Rattle.tile_cutter.proofs.Zooms.{side_low}
-use Rattle.tile_cutter.specs.Passes.{lists_of}
 use Rattle.tile_cutter.specs.Range.{IsOfSide, IsOfTile, IsDrawable}
 
 side_short : (at : ℕ) (u v : ℤ) → IsOfSide at u → IsOfSide at v → IsShort (v -ℤ u)
@@ -78,14 +76,6 @@ pub none_length : {V : Type 0} (v : Vec V Global) → (vec_len v == 0) ≡ true 
 none_length v empty =
     let none = (Decides-eqb (vec_len v) 0).0 empty in
     omega (arith, v.ok.0)
-
-pub some_left : {X : Type 0} (shape : List X → ShapeView) (xs ys : List X) → 0 < length xs → xs ≡ ys → Some (shape xs) ≡ unless_empty shape ys
-some_left shape [] ys lt e = absurd (omega arith)
-some_left shape (x ∷ xs) ys lt e = rw (← e) refl
-
-pub some_lists : (shape : List (List Pt) → ShapeView) (v : Vec (Vec Pt Global) Global) (ys : List (List Pt)) → (vec_len v == 0) ≡ false → lists_of v.items ≡ ys
-    → Some (shape (lists_of v.items)) ≡ unless_empty shape ys
-some_lists shape v ys some is = some_left shape (lists_of v.items) ys (omega (arith, length-map v.items (λ l. l.items), some_length v some)) is
 
 pub length_filter : {X : Type 0} (p : X → Bool) (xs : List X) → length (filter p xs) ≤ length xs
 length_filter p [] = omega arith

@@ -6,4 +6,4 @@ use Rattle.edit_json.proofs.writer.polygons_value.Given as goal
 
 -- those that are written, and those that are left
 abbrev pub invariant-loop-rings : goal.invariant-loop-rings
-invariant-loop-rings l = map view l.list.items ++ map lines_json (polygons_view l.rings-iterator) ≡ map lines_json (polygons_view l.polygons)
+invariant-loop-rings l = map view l.list.items ++ map lines_json (polygons_view l.rings-iterator) ≡ map lines_json (polygons_view l.fn.polygons)

@@ -5,4 +5,4 @@ use Rattle.feature_text.proofs.owned.own_tags.Given as goal
 
 -- those that are owned, and those that are left
 abbrev pub invariant-loop-tag : goal.invariant-loop-tag
-invariant-loop-tag l = map tag_data l.owned.items ++ tags_view l.tag-iterator ≡ tags_view l.tags
+invariant-loop-tag l = map tag_data l.owned.items ++ tags_view l.tag-iterator ≡ tags_view l.fn.tags
