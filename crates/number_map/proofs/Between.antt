@@ -39,18 +39,18 @@ module _ {T : Type 0} where
   module _ (n : ℕ) where
     -- ---- after lower entries
 
-    pub lookup_behind : (xs ys : List (ℕ × T)) → AreBelow n xs → lookup (is_at (nat_cmp n)) (xs ++ ys) ≡ lookup (is_at (nat_cmp n)) ys
-    lookup_behind [] ys b = refl
-    lookup_behind (e ∷ xs) ys b = lookup_on n e (xs ++ ys) (λ s. omega (arith, b.0)) ∙ lookup_behind xs ys b.1
+    pub lookup_after : (xs ys : List (ℕ × T)) → AreBelow n xs → lookup (is_at (nat_cmp n)) (xs ++ ys) ≡ lookup (is_at (nat_cmp n)) ys
+    lookup_after [] ys b = refl
+    lookup_after (e ∷ xs) ys b = lookup_on n e (xs ++ ys) (λ s. omega (arith, b.0)) ∙ lookup_after xs ys b.1
 
-    pub set_behind : (v : T) (xs ys : List (ℕ × T)) → AreBelow n xs → insert_entry nat_cmp (xs ++ ys) n v ≡ xs ++ insert_entry nat_cmp ys n v
-    set_behind v [] ys b = refl
-    set_behind v (e ∷ xs) ys b = set_step n v e (xs ++ ys) Greater (greater n e.0 b.0) ∙ ap (λ es. e ∷ es) (set_behind v xs ys b.1)
+    pub set_after : (v : T) (xs ys : List (ℕ × T)) → AreBelow n xs → insert_entry nat_cmp (xs ++ ys) n v ≡ xs ++ insert_entry nat_cmp ys n v
+    set_after v [] ys b = refl
+    set_after v (e ∷ xs) ys b = set_step n v e (xs ++ ys) Greater (greater n e.0 b.0) ∙ ap (λ es. e ∷ es) (set_after v xs ys b.1)
 
-    pub removed_behind : (xs ys : List (ℕ × T)) → AreBelow n xs
+    pub removed_after : (xs ys : List (ℕ × T)) → AreBelow n xs
         → remove_entry (is_at (nat_cmp n)) (xs ++ ys) ≡ xs ++ remove_entry (is_at (nat_cmp n)) ys
-    removed_behind [] ys b = refl
-    removed_behind (e ∷ xs) ys b = removed_on n e (xs ++ ys) (λ s. omega (arith, b.0)) ∙ ap (λ es. e ∷ es) (removed_behind xs ys b.1)
+    removed_after [] ys b = refl
+    removed_after (e ∷ xs) ys b = removed_on n e (xs ++ ys) (λ s. omega (arith, b.0)) ∙ ap (λ es. e ∷ es) (removed_after xs ys b.1)
 
     -- ---- before higher entries
 

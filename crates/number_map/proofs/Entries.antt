@@ -12,7 +12,7 @@ use Rattle.std.specs.Map.{keys_of, lookup, remove_entry}
 use Rattle.std.proofs.lemmas.Map.Keys.{sorted_head, sorted_tail}
 use mathlib.Core.Bool.{false≢true}
 use Rattle.number_map.specs.Blocks.{Ascends, AreBelow, AreAbove}
-use Rattle.number_map.specs.Positions.{StandsAt, IsGapFor}
+use Rattle.number_map.specs.Positions.{HasAt, IsGapFor}
 use Rattle.number_map.proofs.Numbers.{less, equal, greater, below, at_same, at_other, by_order}
 
 -- no numbers ascend
@@ -72,10 +72,10 @@ module _ {T : Type 0} where
 
   -- ---- at a position
 
-  pub stands_in : (es : List (ℕ × T)) (n i : ℕ) → StandsAt es n i → i < length es
-  stands_in [] n i h = absurd h
-  stands_in (e ∷ es) n zero h = omega arith
-  stands_in (e ∷ es) n (suc i) h = omega (arith, stands_in es n i h.1)
+  pub found_in : (es : List (ℕ × T)) (n i : ℕ) → HasAt es n i → i < length es
+  found_in [] n i h = absurd h
+  found_in (e ∷ es) n zero h = omega arith
+  found_in (e ∷ es) n (suc i) h = omega (arith, found_in es n i h.1)
 
   pub gap_in : (es : List (ℕ × T)) (n i : ℕ) → IsGapFor es n i → i ≤ length es
   gap_in [] n zero h = omega arith
@@ -89,10 +89,10 @@ module _ {T : Type 0} where
   below_gap (e ∷ es) n zero h is = absurd (omega (arith, is))
   below_gap (e ∷ es) n (suc i) h is = (h.0, below_gap es n i h.1 (omega (arith, is)))
 
-  pub lookup_stands : (es : List (ℕ × T)) (n i : ℕ) (d : ℕ × T) → StandsAt es n i → lookup (is_at (nat_cmp n)) es ≡ Some (get_or es i d).1
-  lookup_stands [] n i d h = absurd h
-  lookup_stands (e ∷ es) n zero d h = lookup_here n e es (sym h)
-  lookup_stands (e ∷ es) n (suc i) d h = lookup_on n e es (λ s. omega (arith, h.0)) ∙ lookup_stands es n i d h.1
+  pub lookup_found : (es : List (ℕ × T)) (n i : ℕ) (d : ℕ × T) → HasAt es n i → lookup (is_at (nat_cmp n)) es ≡ Some (get_or es i d).1
+  lookup_found [] n i d h = absurd h
+  lookup_found (e ∷ es) n zero d h = lookup_here n e es (sym h)
+  lookup_found (e ∷ es) n (suc i) d h = lookup_on n e es (λ s. omega (arith, h.0)) ∙ lookup_found es n i d h.1
 
   pub lookup_above : (es : List (ℕ × T)) (n : ℕ) → AreAbove n es → lookup (is_at (nat_cmp n)) es ≡ None
   lookup_above [] n a = refl
@@ -104,10 +104,10 @@ module _ {T : Type 0} where
       lookup_on n e es (λ t. omega (arith, h)) ∙ lookup_above es n (raised es n e.0 (omega (arith, h)) (ascends_head e es s))
   lookup_gap (e ∷ es) n (suc i) s h = lookup_on n e es (λ t. omega (arith, h.0)) ∙ lookup_gap es n i (ascends_tail e es s) h.1
 
-  pub set_stands : (es : List (ℕ × T)) (n i : ℕ) (v : T) → StandsAt es n i → set es i (n, v) ≡ insert_entry nat_cmp es n v
-  set_stands [] n i v h = absurd h
-  set_stands (e ∷ es) n zero v h = ap (λ (k : ℕ). let x : ℕ × T = (k, v) in x ∷ es) (sym h) ∙ sym (set_step n v e es Equal (equal n e.0 (sym h)))
-  set_stands (e ∷ es) n (suc i) v h = ap (λ x. e ∷ x) (set_stands es n i v h.1) ∙ sym (set_step n v e es Greater (greater n e.0 h.0))
+  pub set_found : (es : List (ℕ × T)) (n i : ℕ) (v : T) → HasAt es n i → set es i (n, v) ≡ insert_entry nat_cmp es n v
+  set_found [] n i v h = absurd h
+  set_found (e ∷ es) n zero v h = ap (λ (k : ℕ). let x : ℕ × T = (k, v) in x ∷ es) (sym h) ∙ sym (set_step n v e es Equal (equal n e.0 (sym h)))
+  set_found (e ∷ es) n (suc i) v h = ap (λ x. e ∷ x) (set_found es n i v h.1) ∙ sym (set_step n v e es Greater (greater n e.0 h.0))
 
   pub insert_gap : (es : List (ℕ × T)) (n i : ℕ) (v : T) → IsGapFor es n i → insert es i (n, v) ≡ insert_entry nat_cmp es n v
   insert_gap [] n zero v h = refl
@@ -115,10 +115,10 @@ module _ {T : Type 0} where
   insert_gap (e ∷ es) n zero v h = sym (set_step n v e es Less (less n e.0 h))
   insert_gap (e ∷ es) n (suc i) v h = ap (λ x. e ∷ x) (insert_gap es n i v h.1) ∙ sym (set_step n v e es Greater (greater n e.0 h.0))
 
-  pub remove_stands : (es : List (ℕ × T)) (n i : ℕ) → StandsAt es n i → remove es i ≡ remove_entry (is_at (nat_cmp n)) es
-  remove_stands [] n i h = absurd h
-  remove_stands (e ∷ es) n zero h = sym (removed_here n e es (sym h))
-  remove_stands (e ∷ es) n (suc i) h = ap (λ x. e ∷ x) (remove_stands es n i h.1) ∙ sym (removed_on n e es (λ s. omega (arith, h.0)))
+  pub remove_found : (es : List (ℕ × T)) (n i : ℕ) → HasAt es n i → remove es i ≡ remove_entry (is_at (nat_cmp n)) es
+  remove_found [] n i h = absurd h
+  remove_found (e ∷ es) n zero h = sym (removed_here n e es (sym h))
+  remove_found (e ∷ es) n (suc i) h = ap (λ x. e ∷ x) (remove_found es n i h.1) ∙ sym (removed_on n e es (λ s. omega (arith, h.0)))
 
   pub remove_above : (es : List (ℕ × T)) (n : ℕ) → AreAbove n es → remove_entry (is_at (nat_cmp n)) es ≡ es
   remove_above [] n a = refl

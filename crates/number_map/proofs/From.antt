@@ -8,7 +8,7 @@ use Rattle.std.proofs.lemmas.Bool.{cases_lt}
 use Rattle.std.proofs.lemmas.Bool.Decides.{nat_tests}
 use Rattle.std.proofs.lemmas.List.{drop_more}
 use Rattle.number_map.specs.Blocks.{joined, first_from, AreBelow, AreAbove, AreFilled, IsHome}
-use Rattle.number_map.specs.Positions.{StandsAt, IsGapFor}
+use Rattle.number_map.specs.Positions.{HasAt, IsGapFor}
 use Rattle.number_map.proofs.Joined.{joined_at}
 
 is_le : (a b : ℕ) → a ≤ b → nat_le a b ≡ true
@@ -44,10 +44,10 @@ module _ {T : Type 0} where
   found_on n e es h = ap (λ b. cond b (Some e) (first_from n es)) (is_more n e.0 h)
 
   -- it is at the index of the number, or at the index where the number would be inserted
-  pub from_stands : (es : List (ℕ × T)) (n i : ℕ) → StandsAt es n i → slice_get es i ≡ first_from n es
-  from_stands [] n i h = absurd h
-  from_stands (e ∷ es) n zero h = sym (found_here n e es (omega (arith, h)))
-  from_stands (e ∷ es) n (suc i) h = from_stands es n i h.1 ∙ sym (found_on n e es h.0)
+  pub from_found : (es : List (ℕ × T)) (n i : ℕ) → HasAt es n i → slice_get es i ≡ first_from n es
+  from_found [] n i h = absurd h
+  from_found (e ∷ es) n zero h = sym (found_here n e es (omega (arith, h)))
+  from_found (e ∷ es) n (suc i) h = from_found es n i h.1 ∙ sym (found_on n e es h.0)
 
   pub from_gap : (es : List (ℕ × T)) (n i : ℕ) → IsGapFor es n i → slice_get es i ≡ first_from n es
   from_gap [] n zero h = refl
@@ -57,9 +57,9 @@ module _ {T : Type 0} where
 
   -- ---- after lower entries, and before higher ones
 
-  from_behind : (n : ℕ) (xs ys : List (ℕ × T)) → AreBelow n xs → first_from n (xs ++ ys) ≡ first_from n ys
-  from_behind n [] ys b = refl
-  from_behind n (e ∷ xs) ys b = found_on n e (xs ++ ys) b.0 ∙ from_behind n xs ys b.1
+  from_after : (n : ℕ) (xs ys : List (ℕ × T)) → AreBelow n xs → first_from n (xs ++ ys) ≡ first_from n ys
+  from_after n [] ys b = refl
+  from_after n (e ∷ xs) ys b = found_on n e (xs ++ ys) b.0 ∙ from_after n xs ys b.1
 
   from_above : (n : ℕ) (es : List (ℕ × T)) → AreAbove n es → first_from n es ≡ slice_get es 0
   from_above n [] a = refl
@@ -92,7 +92,7 @@ module _ {T : Type 0} where
         → first_from n (joined bs) ≡ option_or (first_from n b) (slice_get (joined (drop (i + 1) bs)) 0)
     from_home b lt is =
         ap (first_from n) (joined_at bs i b lt)
-        ∙ from_behind n (joined (take i bs)) (get_or bs i b ++ joined (drop (i + 1) bs)) home.below
+        ∙ from_after n (joined (take i bs)) (get_or bs i b ++ joined (drop (i + 1) bs)) home.below
         ∙ from_both n (get_or bs i b) (joined (drop (i + 1) bs))
         ∙ ap (λ o. option_or (first_from n (get_or bs i b)) o) (from_above n (joined (drop (i + 1) bs)) home.above)
         ∙ ap (λ c. option_or (first_from n c) (slice_get (joined (drop (i + 1) bs)) 0)) (sym is)

@@ -1,29 +1,22 @@
 -- The block where a number belongs.
-use Rattle.std.proofs.Common.{◌≡◌, ℕ, zero, suc, ◌+◌, ◌-◌, ◌<◌, ◌≤◌, List, [], ◌∷◌, ◌++◌, length, get_or, set, take, drop, true, false, None, sym, ap}
+use Rattle.std.proofs.Common.{◌≡◌, ℕ, zero, suc, ◌+◌, ◌<◌, ◌≤◌, List, [], ◌∷◌, ◌++◌, length, get_or, set, take, drop, None, sym, ap}
 use Rattle.std.proofs.Common.{subst, ◌∙◌, inl, inr, arith, append-nil}
 use Rattle.std.specs.List.{insert}
-use Rattle.std.specs.List.Sorted.{IsNonDecreasingBy, IsPartitionPoint}
+use Rattle.std.specs.List.Sorted.{IsNonDecreasingBy}
 use Rattle.std.specs.Ordering.{nat_cmp}
 use Rattle.std.specs.BTreeMap.{insert_entry, is_at}
 use Rattle.std.specs.Map.{lookup, remove_entry}
-use Rattle.std.specs.Prelude.{nat_le}
 use Rattle.std.proofs.lemmas.Bool.{cases_lt}
-use Rattle.std.proofs.lemmas.Bool.Decides.{nat_tests}
-use Rattle.std.proofs.lemmas.List.{take_all, drop_all, drop_more}
+use Rattle.std.proofs.lemmas.List.{take_all, drop_all, drop_more, length-map, get_or-map}
 use Rattle.std.proofs.lemmas.List.Concat.{flat_map-append}
 use Rattle.std.proofs.lemmas.List.Elements.{All-head, All-tail}
-use Rattle.number_map.specs.Blocks.{joined, first_number, Ascends, AreBelow, AreAbove, AreFilled, AreInOrder, IsHome}
+use Rattle.number_map.specs.Blocks.{joined, first_number, firsts_of, Ascends, AreBelow, AreAbove, AreFilled, AreInOrder, IsHome}
+use Rattle.number_map.specs.Positions.{IsLastUpTo}
 use Rattle.number_map.proofs.Entries.{ascends_head, raised, lowered}
 use Rattle.number_map.proofs.Between.{above_right, ascends_left, ascends_right, below_before}
-use Rattle.number_map.proofs.Between.{lookup_behind, lookup_before, set_behind, set_before, removed_behind, removed_before}
+use Rattle.number_map.proofs.Between.{lookup_after, lookup_before, set_after, set_before, removed_after, removed_before}
 use Rattle.number_map.proofs.Joined.{joined_at, joined_set, joined_two}
 use Rattle.number_map.proofs.Filled.{IsFilled}
-
-at_most : (a b : ℕ) → nat_le a b ≡ true → a ≤ b
-at_most a b h = grind (arith, nat_tests)
-
-more_than : (a b : ℕ) → nat_le a b ≡ false → b < a
-more_than a b h = grind (arith, nat_tests)
 
 module _ {T : Type 0} where
   -- the numbers of one block ascend
@@ -80,17 +73,9 @@ module _ {T : Type 0} where
 
   -- ---- the last block that begins at a number or below it
 
-  home_none : (bs : List (List (ℕ × T))) (n : ℕ) → AreInOrder bs → ((d : List (ℕ × T)) → 0 < length bs → n < first_number (get_or bs 0 d)) → IsHome bs n 0
-  home_none [] n order above = record { below = tt; above = tt }
-  home_none (b ∷ bs) n order above =
-      record {
-        below = tt;
-        above = above_right n b (joined bs) (above_all n b (joined bs) (All-head IsFilled b bs order.filled) (above b (omega arith)) order.ascending);
-      }
-
-  behind : (bs : List (List (ℕ × T))) (n i : ℕ) → AreInOrder bs → ((d : List (ℕ × T)) → i < length bs → n < first_number (get_or bs i d))
+  above_rest : (bs : List (List (ℕ × T))) (n i : ℕ) → AreInOrder bs → ((d : List (ℕ × T)) → i < length bs → n < first_number (get_or bs i d))
       → AreAbove n (joined (drop i bs))
-  behind bs n i order above = elim (cases_lt i (length bs)) [
+  above_rest bs n i order above = elim (cases_lt i (length bs)) [
     | inl lt ↦
         let s = ascends_right (joined (take i bs)) (get_or bs i [] ++ joined (drop (i + 1) bs)) (subst Ascends (joined_at bs i [] lt) order.ascending) in
         subst (λ cs. AreAbove n (joined cs)) (sym (drop_more bs i [] lt))
@@ -106,17 +91,25 @@ module _ {T : Type 0} where
             lowered (joined (take i bs)) n (first_number (get_or bs i [])) first
             (below_first (joined (take i bs)) (get_or bs i []) (joined (drop (i + 1) bs)) (order.filled i [] lt)
             (subst Ascends (joined_at bs i [] lt) order.ascending));
-        above = behind bs n (i + 1) order above;
+        above = above_rest bs n (i + 1) order above;
       }
 
-  pub home_at : (bs : List (List (ℕ × T))) (n p i : ℕ) → AreInOrder bs → p ≤ length bs
-      → IsPartitionPoint (λ b. nat_le (first_number b) n ≡ true) (λ b. nat_le (first_number b) n ≡ false) bs p → i ≡ p - 1 → IsHome bs n i
-  home_at bs n zero i order le parted is =
-      subst (IsHome bs n) (sym is) (home_none bs n order (λ d lt. more_than (first_number (get_or bs 0 d)) n (parted.1 0 d (omega arith) lt)))
-  home_at bs n (suc p) i order le parted is =
-      subst (IsHome bs n) (let same : p ≡ i = omega arith in same)
-      (home_some bs n p order (omega arith) (at_most (first_number (get_or bs p [])) n (parted.0 p [] (omega arith) (omega arith)))
-      (λ d lt. more_than (first_number (get_or bs (p + 1) d)) n (parted.1 (p + 1) d (omega arith) lt)))
+  first_at : (bs : List (List (ℕ × T))) (ns : List ℕ) (k : ℕ) (d : List (ℕ × T)) → ns ≡ firsts_of bs → k < length bs
+      → get_or ns k 0 ≡ first_number (get_or bs k d)
+  first_at bs ns k d is lt = ap (λ xs. get_or xs k 0) is ∙ get_or-map first_number bs k d 0 lt
+
+  first_beyond : (bs : List (List (ℕ × T))) (ns : List ℕ) (n i k : ℕ) (d : List (ℕ × T)) → ns ≡ firsts_of bs → IsLastUpTo ns n i → i < k → k < length bs
+      → n < first_number (get_or bs k d)
+  first_beyond bs ns n i k d is last after lt =
+      subst (λ f. n < f) (first_at bs ns k d is lt) (last.above k 0 after (omega (arith, lt, ap length is, length-map bs first_number)))
+
+  pub home_at : (bs : List (List (ℕ × T))) (ns : List ℕ) (n i : ℕ) → AreInOrder bs → ns ≡ firsts_of bs → IsLastUpTo ns n i → IsHome bs n i
+  home_at bs ns n zero order is last =
+      record { below = tt; above = above_rest bs n (0 + 1) order (λ d lt. first_beyond bs ns n 0 1 d is last (omega arith) lt) }
+  home_at bs ns n (suc i) order is last =
+      let lt : suc i < length bs = omega (arith, last.within (omega arith), ap length is, length-map bs first_number) in
+      home_some bs n (suc i) order lt (subst (λ f. f ≤ n) (first_at bs ns (suc i) [] is lt) (last.up_to 0 (omega arith)))
+      (λ d more. first_beyond bs ns n (suc i) (suc i + 1) d is last (omega arith) more)
 
   -- ---- a look-up, a value set and one taken away there
 
@@ -124,7 +117,7 @@ module _ {T : Type 0} where
     pub lookup_home : (d : List (ℕ × T)) → i < length bs → lookup (is_at (nat_cmp n)) (joined bs) ≡ lookup (is_at (nat_cmp n)) (get_or bs i d)
     lookup_home d lt =
         ap (lookup (is_at (nat_cmp n))) (joined_at bs i d lt)
-        ∙ lookup_behind n (joined (take i bs)) (get_or bs i d ++ joined (drop (i + 1) bs)) home.below
+        ∙ lookup_after n (joined (take i bs)) (get_or bs i d ++ joined (drop (i + 1) bs)) home.below
         ∙ lookup_before n (get_or bs i d) (joined (drop (i + 1) bs)) home.above
 
     -- a number that the block there hasn't is nowhere
@@ -135,7 +128,7 @@ module _ {T : Type 0} where
     pub absent_past : length bs ≤ i → lookup (is_at (nat_cmp n)) (joined bs) ≡ None
     absent_past past =
         ap (lookup (is_at (nat_cmp n))) (sym (append-nil (joined bs)))
-        ∙ lookup_behind n (joined bs) [] (subst (λ cs. AreBelow n (joined cs)) (take_all i bs past) home.below)
+        ∙ lookup_after n (joined bs) [] (subst (λ cs. AreBelow n (joined cs)) (take_all i bs past) home.below)
 
     -- a number set in the block there is set in all
     set_in : (v : T) (old : List (ℕ × T)) → i < length bs → old ≡ get_or bs i old
@@ -143,7 +136,7 @@ module _ {T : Type 0} where
     set_in v old lt old_is =
         ap (λ b. joined (take i bs) ++ (insert_entry nat_cmp b n v ++ joined (drop (i + 1) bs))) old_is
         ∙ ap (λ es. joined (take i bs) ++ es) (sym (set_before n v (get_or bs i old) (joined (drop (i + 1) bs)) home.above))
-        ∙ sym (set_behind n v (joined (take i bs)) (get_or bs i old ++ joined (drop (i + 1) bs)) home.below)
+        ∙ sym (set_after n v (joined (take i bs)) (get_or bs i old ++ joined (drop (i + 1) bs)) home.below)
         ∙ ap (λ es. insert_entry nat_cmp es n v) (sym (joined_at bs i old lt))
 
     pub set_home : (v : T) (old new : List (ℕ × T)) → i < length bs → old ≡ get_or bs i old → new ≡ insert_entry nat_cmp old n v
@@ -161,7 +154,7 @@ module _ {T : Type 0} where
     set_last v b past is =
         ap (λ es. joined (bs ++ es ∷ [])) is
         ∙ flat_map-append (λ es. es) bs (insert_entry nat_cmp [] n v ∷ [])
-        ∙ sym (set_behind n v (joined bs) [] (subst (λ cs. AreBelow n (joined cs)) (take_all i bs past) home.below))
+        ∙ sym (set_after n v (joined bs) [] (subst (λ cs. AreBelow n (joined cs)) (take_all i bs past) home.below))
         ∙ ap (λ es. insert_entry nat_cmp es n v) (append-nil (joined bs))
 
     pub removed_home : (old new : List (ℕ × T)) → i < length bs → old ≡ get_or bs i old → new ≡ remove_entry (is_at (nat_cmp n)) old
@@ -170,5 +163,5 @@ module _ {T : Type 0} where
         joined_set bs i new lt
         ∙ ap (λ b. joined (take i bs) ++ (b ++ joined (drop (i + 1) bs))) (new_is ∙ ap (remove_entry (is_at (nat_cmp n))) old_is)
         ∙ ap (λ es. joined (take i bs) ++ es) (sym (removed_before n (get_or bs i old) (joined (drop (i + 1) bs)) home.above))
-        ∙ sym (removed_behind n (joined (take i bs)) (get_or bs i old ++ joined (drop (i + 1) bs)) home.below)
+        ∙ sym (removed_after n (joined (take i bs)) (get_or bs i old ++ joined (drop (i + 1) bs)) home.below)
         ∙ ap (remove_entry (is_at (nat_cmp n))) (sym (joined_at bs i old lt))

@@ -1,8 +1,10 @@
 -- The last number of entries in blocks.
-use Rattle.std.proofs.Common.{◌≡◌, ℕ, zero, suc, ◌<◌, ◌≤◌, List, [], ◌∷◌, ◌++◌, length, get_or, Option, Some, None, refl, sym, ap, ◌∙◌, append-nil, arith}
+use Rattle.std.proofs.Common.{◌≡◌, ℕ, zero, suc, ◌<◌, ◌≤◌, List, [], ◌∷◌, ◌++◌, length, get_or, Option, Some, None, arith}
+use Rattle.std.proofs.Common.{refl, sym, ap, subst, ◌∙◌, append-nil}
 use Rattle.std.specs.List.{last_or}
 use Rattle.std.specs.Map.{keys_of}
-use Rattle.number_map.specs.Blocks.{joined, last_number}
+use Rattle.number_map.specs.Blocks.{joined, last_number, Ascends, AreBelow}
+use Rattle.number_map.proofs.Entries.{ascends_head, ascends_tail}
 
 pub is_nothing : {X : Type 0} (xs : List X) → length xs ≤ 0 → xs ≡ []
 is_nothing [] none = refl
@@ -43,3 +45,13 @@ module _ {T : Type 0} where
   pub last_of_all : (bs : List (List (ℕ × T))) (k : ℕ) (b : List (ℕ × T)) → suc k ≡ length bs → b ≡ get_or bs k b → 0 < length b
       → last_number b ≡ last_number (joined bs)
   last_of_all bs k b count is some = sym (last_joined bs None k b count is some)
+
+  -- entries whose last number is below this one are all below it
+  pub below_after_last : (es : List (ℕ × T)) (k : ℕ) (e : ℕ × T) (n : ℕ) → Ascends es → suc k ≡ length es → e ≡ get_or es k e → e.0 < n → AreBelow n es
+  below_after_last [] k e n s count is lt = absurd (omega (arith, count))
+  below_after_last (x ∷ []) zero e n s count is lt = (subst (λ y. y.0 < n) is lt, tt)
+  below_after_last (x ∷ []) (suc k) e n s count is lt = absurd (omega (arith, count))
+  below_after_last (x ∷ y ∷ es) zero e n s count is lt = absurd (omega (arith, count))
+  below_after_last (x ∷ y ∷ es) (suc k) e n s count is lt =
+      let rest = below_after_last (y ∷ es) k e n (ascends_tail x (y ∷ es) s) (omega (arith, count)) is lt in
+      (omega (arith, (ascends_head x (y ∷ es) s).0, rest.0), rest)

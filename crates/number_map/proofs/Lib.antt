@@ -1,6 +1,7 @@
 mod Between
 pub mod Entries
 mod Filled
+mod Firsts
 mod From
 mod Home
 mod Joined

@@ -1,19 +1,16 @@
--- Where a number belongs in a block.
-use Rattle.std.proofs.Common.{◌≡◌, ℕ, ◌<◌, ◌⊎◌, List, length, None, IsSome, ap, inl, inr}
+-- Where there is room for a number.
+use Rattle.std.proofs.Common.{◌≡◌, ℕ, ◌<◌, ◌≤◌, ◌⊎◌, Result, Ok, Err, OnOk, OnErr, None, IsSome, ap, inl, inr, arith}
 use Rattle.std.specs.Option.{is_some}
 use Rattle.std.specs.Ordering.{nat_cmp}
 use Rattle.std.specs.BTreeMap.{is_at}
 use Rattle.std.specs.Map.{lookup}
 use Rattle.number_map.specs.MapView.{MapView}
-use Rattle.number_map.specs.declared.block.TheConstants.{CAPACITY}
-use Rattle.number_map.specs.Blocks.{Ascends, Accepts}
-use Rattle.number_map.specs.Positions.{IsGapFor}
-use Rattle.number_map.proofs.Entries.{lookup_gap, not_both}
+use Rattle.number_map.proofs.Entries.{not_both}
 
--- where a number has a gap, a place for it is a place for one entry more
-pub place_in_gap : {T : Type 0} (es : List (ℕ × T)) (n i : ℕ) → Ascends es → IsGapFor es n i → Accepts es n → length es < CAPACITY
-place_in_gap es n i s gap (inl few) = few
-place_in_gap es n i s gap (inr there) = not_both n es (ap is_some (lookup_gap es n i s gap)) there
+-- what fails only in a full block succeeds in one that isn't full
+pub ok_where_room : {X Y P : Type 0} (r : Result X Y) (most count : ℕ) → OnOk r P → OnErr r (most ≤ count) → count < most → P
+ok_where_room (Ok x) most count done full room = done
+ok_where_room (Err y) most count done full room = absurd (omega (arith, full, room))
 
 -- where a number has no value, room for it is room for one number more
 pub room_where_absent : {T : Type 0} (m : MapView T) (n : ℕ) → lookup (is_at (nat_cmp n)) m.entries ≡ None

@@ -5,7 +5,7 @@ use Rattle.std.specs.List.Sorted.{IsSearchInRange, IsBinarySearchResult, IsNonDe
 use Rattle.std.proofs.lemmas.Cmp.{ranked}
 use Rattle.std.proofs.lemmas.Bool.Decides.{nat_tests}
 use Rattle.number_map.specs.Blocks.{Ascends}
-use Rattle.number_map.specs.Positions.{StandsAt, IsGapFor}
+use Rattle.number_map.specs.Positions.{HasAt, IsGapFor}
 use Rattle.number_map.proofs.Entries.{ascends_head, ascends_tail}
 
 module _ {T : Type 0} (n : ℕ) where
@@ -30,16 +30,16 @@ module _ {T : Type 0} (n : ℕ) where
       grind (arith, nat_tests)
 
   -- an index at which an entry has the number is the number's index
-  pub stands_there : (es : List (ℕ × T)) (i : ℕ) (d : ℕ × T) → Ascends es → i < length es → (get_or es i d).0 ≡ n → StandsAt es n i
-  stands_there [] i d s lt h = absurd (omega arith)
-  stands_there (e ∷ es) zero d s lt h = h
-  stands_there (e ∷ es) (suc i) d s lt h =
+  pub found_there : (es : List (ℕ × T)) (i : ℕ) (d : ℕ × T) → Ascends es → i < length es → (get_or es i d).0 ≡ n → HasAt es n i
+  found_there [] i d s lt h = absurd (omega arith)
+  found_there (e ∷ es) zero d s lt h = h
+  found_there (e ∷ es) (suc i) d s lt h =
       let before = first_below e es i d s (omega arith) in
-      (omega arith, stands_there es i d (ascends_tail e es s) (omega arith) h)
+      (omega arith, found_there es i d (ascends_tail e es s) (omega arith) h)
 
-  stands_at : (es : List (ℕ × T)) (i : ℕ) → Ascends es → i < length es → ((d : ℕ × T) → (get_or es i d).0 ≡ n) → StandsAt es n i
-  stands_at [] i s lt h = absurd (omega arith)
-  stands_at (e ∷ es) i s lt h = stands_there (e ∷ es) i e s lt (h e)
+  found_at : (es : List (ℕ × T)) (i : ℕ) → Ascends es → i < length es → ((d : ℕ × T) → (get_or es i d).0 ≡ n) → HasAt es n i
+  found_at [] i s lt h = absurd (omega arith)
+  found_at (e ∷ es) i s lt h = found_there (e ∷ es) i e s lt (h e)
 
   gap_for : (es : List (ℕ × T)) (i : ℕ) → i ≤ length es → ((k : ℕ) (d : ℕ × T) → k < i → (get_or es k d).0 < n)
       → ((d : ℕ × T) → i < length es → n < (get_or es i d).0) → IsGapFor es n i
@@ -51,8 +51,8 @@ module _ {T : Type 0} (n : ℕ) where
 
   -- a binary search by number ends at the number's index, or in the gap for it
   pub searched : (es : List (ℕ × T)) (r : Result ℕ ℕ) → Ascends es → IsSearchInRange r (length es) → IsBinarySearchResult (λ e. nat_cmp e.0 n) es r
-      → record { found : IfOk r (StandsAt es n); absent : IfErr r (IsGapFor es n) }
-  searched es (Ok i) s in_range same = record { found = stands_at es i s in_range (λ d. ranked _ _ _ (sym (same d))); absent = tt }
+      → record { found : IfOk r (HasAt es n); absent : IfErr r (IsGapFor es n) }
+  searched es (Ok i) s in_range same = record { found = found_at es i s in_range (λ d. ranked _ _ _ (sym (same d))); absent = tt }
   searched es (Err i) s in_range parted =
       let parts = parted (rises es s) in
       record {

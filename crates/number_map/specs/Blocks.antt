@@ -1,11 +1,9 @@
 -- Entries in blocks.
-use Rattle.std.specs.Prelude.{◌≢◌, ℕ, ◌+◌, ◌<◌, ◌⊎◌, nat_le, [], ◌∷◌, List, length, take, drop, All, flat_map, slice_index_or, Option, None, IsSome}
+use Rattle.std.specs.Prelude.{◌≢◌, ℕ, ◌+◌, ◌<◌, nat_le, [], ◌∷◌, List, length, take, drop, map, All, flat_map, slice_index_or, Option, None}
 use Rattle.std.specs.Ordering.{nat_cmp}
-use Rattle.std.specs.Map.{keys_of, lookup}
-use Rattle.std.specs.BTreeMap.{is_at}
+use Rattle.std.specs.Map.{keys_of}
 use Rattle.std.specs.List.{AllByRecursion, find, last_or}
 use Rattle.std.specs.List.Sorted.{IsStrictlySortedBy}
-use Rattle.number_map.specs.declared.block.TheConstants.{CAPACITY}
 
 module _ {T : Type 0} where
   -- the entries of all blocks
@@ -29,6 +27,10 @@ module _ {T : Type 0} where
   first_number [] = 0
   first_number (e ∷ es) = e.0
 
+  -- the first number of each block
+  abbrev pub firsts_of : List (List (ℕ × T)) → List ℕ
+  firsts_of bs = map first_number bs
+
   -- the first entry with this number or a greater one
   abbrev pub first_from : ℕ → List (ℕ × T) → Option (ℕ × T)
   first_from n es = find (λ e. nat_le n e.0) es
@@ -36,10 +38,6 @@ module _ {T : Type 0} where
   -- the last number, which is the greatest one if the numbers ascend, or None if there are no entries
   abbrev pub last_number : List (ℕ × T) → Option ℕ
   last_number es = last_or None (keys_of es)
-
-  -- a block can store a value of this number
-  abbrev pub Accepts : List (ℕ × T) → ℕ → Type 0
-  Accepts es n = (length es < CAPACITY) ⊎ IsSome (lookup (is_at (nat_cmp n)) es)
 
   -- each block has entries
   abbrev pub AreFilled : List (List (ℕ × T)) → Type 0

@@ -1,13 +1,13 @@
 //! Blocks of a few entries, ascending by number.
 
 ghost use Rattle.std.specs.Prelude.{◌≡◌, ◌+◌, ◌<◌, ◌≤◌, ◌++◌, [], length, take, drop, vec_len, vec_capacity};
-ghost use Rattle.std.specs.Prelude.{None, IfOk, IfErr, IfNone, IfSome, option_copied, option_map};
-ghost use Rattle.std.specs.Bool.{OnTrue, OnFalse};
+ghost use Rattle.std.specs.Prelude.{None, IfOk, IfErr, IfNone, IfSome, OnOk, OnErr, option_copied, option_map};
+ghost use Rattle.std.specs.Bool.{OnTrue};
 ghost use Rattle.std.specs.Ordering.{nat_cmp};
 ghost use Rattle.std.specs.Map.{lookup, remove_entry};
 ghost use Rattle.std.specs.BTreeMap.{insert_entry, is_at};
-ghost use Rattle.number_map.specs.Blocks.{Ascends, Accepts, AreBelow, first_from, first_number, last_number};
-ghost use Rattle.number_map.specs.Positions.{StandsAt, IsGapFor};
+ghost use Rattle.number_map.specs.Blocks.{Ascends, AreBelow, first_from, first_number, last_number};
+ghost use Rattle.number_map.specs.Positions.{HasAt, IsGapFor};
 
 use std::alloc::{AllocError, Global};
 use std::marker::Model;
@@ -22,8 +22,6 @@ pub type Entry<T> = (u64, T);
 /// A few entries, ascending by number.
 #[derive(Debug, Drop)]
 pub struct Block<T> {
-    /// The first number, or 0: a search over blocks reads it and no entry.
-    first: u64,
     entries: Vec<Entry<T>>,
 }
 
@@ -52,7 +50,6 @@ impl<T> Block<T> {
         ensures { IfOk result (λ b. b ≡ []) }
     {
         Ok(Block {
-            first: 0,
             entries: Vec::with_capacity(alloc, CAPACITY)?,
         })
     }
@@ -69,26 +66,27 @@ impl<T> Block<T> {
     pub(crate) fn first(&self) -> u64
         ensures { result ≡ first_number self.now }
     {
-        self.first
+        first_of(&self.entries)
     }
 
-    /// The value of a number.
-    pub(crate) fn get(&self, number: u64) -> Option<&T>
+    /// The value of a number. `first` is to be the first number: with another one it finds the same, but may
+    /// search longer.
+    pub(crate) fn get(&self, first: u64, number: u64) -> Option<&T>
         requires { Ascends self.now }
         ensures { option_map (λ v. v.now) result ≡ lookup (is_at (nat_cmp number)) self.now }
     {
-        match find(&self.entries, number) {
+        match find(&self.entries, first, number) {
             Ok(at) => Some(&self.entries[at].1),
             Err(_) => None,
         }
     }
 
-    /// The first entry with this number or a greater one.
-    pub(crate) fn first_from(&self, number: u64) -> Option<&Entry<T>>
+    /// The first entry with this number or a greater one. `first` is as in `get`.
+    pub(crate) fn first_from(&self, first: u64, number: u64) -> Option<&Entry<T>>
         requires { Ascends self.now }
         ensures { option_copied result ≡ first_from number self.now }
     {
-        match find(&self.entries, number) {
+        match find(&self.entries, first, number) {
             Ok(at) => self.entries.get(at),
             Err(at) => self.entries.get(at),
         }
@@ -104,49 +102,39 @@ impl<T> Block<T> {
         }
     }
 
-    /// Whether a value of this number can be stored: the block has it already, or isn't full.
-    pub(crate) fn accepts(&self, number: u64) -> bool
-        requires { Ascends self.now }
-        ensures place { OnTrue result (Accepts self.now number) }
-        ensures full { OnFalse result (CAPACITY ≤ length self.now) }
-        ensures absent { OnFalse result (lookup (is_at (nat_cmp number)) self.now ≡ None) }
-    {
-        self.entries.len() < CAPACITY || self.get(number).is_some()
-    }
-
-    /// Whether this number is greater than all numbers of the block, by a binary search.
+    /// Whether this number is greater than all numbers of the block.
     pub(crate) fn ends_before(&self, number: u64) -> bool
         requires { Ascends self.now }
         ensures { OnTrue result (AreBelow number self.now) }
     {
-        match find(&self.entries, number) {
-            Ok(_) => false,
-            Err(at) => at == self.entries.len(),
+        match self.entries.last() {
+            Some(entry) => entry.0 < number,
+            None => true,
         }
     }
 
-    /// Gives a number this value, and returns the one that it had. It takes no memory.
-    pub(crate) fn insert(&mut self, number: u64, value: T) -> Option<T>
-        requires ascending { Ascends self.old }
-        requires place { Accepts self.old number }
-        ensures entries { self.new ≡ insert_entry nat_cmp self.old number value }
-        ensures before { result ≡ lookup (is_at (nat_cmp number)) self.old }
+    /// Gives a number this value, and returns the one that it had. A full block that hasn't the number stays as it is, and the value
+    /// is returned as the error. It searches once and takes no memory. `first` is as in `get`.
+    pub(crate) fn insert(&mut self, first: u64, number: u64, value: T) -> Result<Option<T>, T>
+        requires { Ascends self.old }
+        ensures entries { OnOk result (self.new ≡ insert_entry nat_cmp self.old number value) }
+        ensures before { IfOk result (λ before. before ≡ lookup (is_at (nat_cmp number)) self.old) }
+        ensures full { OnErr result (CAPACITY ≤ length self.old) }
+        ensures absent { OnErr result (lookup (is_at (nat_cmp number)) self.old ≡ None) }
+        ensures unchanged { OnErr result (self.new ≡ self.old) }
+        ensures returned { IfErr result (λ v. v ≡ value) }
     {
-        let before = insert_into(&mut self.entries, number, value);
-        self.first = first_of(&self.entries);
-        before
+        insert_into(&mut self.entries, first, number, value)
     }
 
-    /// Takes a number out, and returns the value that it had.
-    pub(crate) fn remove(&mut self, number: u64) -> Option<T>
+    /// Takes a number out, and returns the value that it had. `first` is as in `get`.
+    pub(crate) fn remove(&mut self, first: u64, number: u64) -> Option<T>
         requires { Ascends self.old }
         ensures entries { self.new ≡ remove_entry (is_at (nat_cmp number)) self.old }
         ensures removed { result ≡ lookup (is_at (nat_cmp number)) self.old }
         ensures unchanged { IfNone result (self.new ≡ self.old) }
     {
-        let before = remove_from(&mut self.entries, number);
-        self.first = first_of(&self.entries);
-        before
+        remove_from(&mut self.entries, first, number)
     }
 
     /// Moves the upper half of a full block to an empty one. It takes no memory.
@@ -158,12 +146,20 @@ impl<T> Block<T> {
         ensures upper_half { (0 < length upper.new) × (length upper.new < CAPACITY) }
     {
         move_from(&mut self.entries, CAPACITY / 2, &mut upper.entries);
-        self.first = first_of(&self.entries);
-        upper.first = first_of(&upper.entries);
     }
 }
 
 impl<T: Drop> Block<T> {
+    /// Gives a number this value in a block that isn't full. It takes no memory.
+    pub(crate) fn add(&mut self, number: u64, value: T)
+        requires ascending { Ascends self.old }
+        requires room { length self.old < CAPACITY }
+        ensures { self.new ≡ insert_entry nat_cmp self.old number value }
+    {
+        let first = self.first();
+        let _before = self.insert(first, number, value);
+    }
+
     /// The entries of another block more. It takes no memory.
     pub(crate) fn append(&mut self, other: Block<T>)
         requires { length self.old + length other ≤ CAPACITY }
@@ -171,16 +167,15 @@ impl<T: Drop> Block<T> {
     {
         let mut other = other;
         self.entries.append(&mut other.entries).unwrap();
-        self.first = first_of(&self.entries);
     }
 }
 
-/// The index of a number if the numbers from the first up to it have no gap.
-fn place_in_row<T>(entries: &[Entry<T>], number: u64) -> Option<usize>
+/// The index of a number if the numbers from the first one up to it have no gap. It reads one entry, and not the first one, which may
+/// be in another part of memory: the caller knows its number.
+fn place_in_row<T>(entries: &[Entry<T>], first: u64, number: u64) -> Option<usize>
     requires { Ascends entries.now }
-    ensures { IfSome result (StandsAt entries.now number) }
+    ensures { IfSome result (HasAt entries.now number) }
 {
-    let first = first_of(entries);
     if number < first {
         return None;
     }
@@ -192,12 +187,12 @@ fn place_in_row<T>(entries: &[Entry<T>], number: u64) -> Option<usize>
 }
 
 /// The index of the number, or the index at which it would be inserted. Among numbers without gaps no search is needed.
-fn find<T>(entries: &[Entry<T>], number: u64) -> Result<usize, usize>
+fn find<T>(entries: &[Entry<T>], first: u64, number: u64) -> Result<usize, usize>
     requires { Ascends entries.now }
-    ensures found { IfOk result (StandsAt entries.now number) }
+    ensures found { IfOk result (HasAt entries.now number) }
     ensures absent { IfErr result (IsGapFor entries.now number) }
 {
-    match place_in_row(entries, number) {
+    match place_in_row(entries, first, number) {
         Some(at) => Ok(at),
         None => entries.binary_search_by_key(&number, |entry| entry.0),
     }
@@ -213,28 +208,40 @@ fn first_of<T>(entries: &[Entry<T>]) -> u64
     }
 }
 
-/// Gives a number this value, and returns the one that it had. It takes no memory.
-fn insert_into<T>(entries: &mut Vec<Entry<T>>, number: u64, value: T) -> Option<T>
+/// Gives a number this value, and returns the one that it had. A full list that hasn't the number stays as it is, and the value is
+/// returned as the error. It takes no memory.
+fn insert_into<T>(
+    entries: &mut Vec<Entry<T>>,
+    first: u64,
+    number: u64,
+    value: T,
+) -> Result<Option<T>, T>
     requires ascending { Ascends entries.old.items }
-    requires place { Accepts entries.old.items number }
     requires few { vec_len entries.old ≤ CAPACITY }
     requires capacity { CAPACITY ≤ vec_capacity entries.old }
     ensures few { vec_len entries.new ≤ CAPACITY }
     ensures capacity { CAPACITY ≤ vec_capacity entries.new }
-    ensures entries { entries.new.items ≡ insert_entry nat_cmp entries.old.items number value }
-    ensures before { result ≡ lookup (is_at (nat_cmp number)) entries.old.items }
+    ensures entries { OnOk result (entries.new.items ≡ insert_entry nat_cmp entries.old.items number value) }
+    ensures before { IfOk result (λ before. before ≡ lookup (is_at (nat_cmp number)) entries.old.items) }
+    ensures full { OnErr result (CAPACITY ≤ vec_len entries.old) }
+    ensures absent { OnErr result (lookup (is_at (nat_cmp number)) entries.old.items ≡ None) }
+    ensures unchanged { OnErr result (entries.new ≡ entries.old) }
+    ensures returned { IfErr result (λ v. v ≡ value) }
 {
-    match find(entries, number) {
-        Ok(at) => Some(mem::replace(&mut entries[at], (number, value)).1),
+    match find(entries, first, number) {
+        Ok(at) => Ok(Some(mem::replace(&mut entries[at], (number, value)).1)),
         Err(at) => {
+            if entries.len() >= CAPACITY {
+                return Err(value);
+            }
             entries.insert(at, (number, value)).unwrap();
-            None
+            Ok(None)
         }
     }
 }
 
 /// Takes a number out, and returns the value that it had.
-fn remove_from<T>(entries: &mut Vec<Entry<T>>, number: u64) -> Option<T>
+fn remove_from<T>(entries: &mut Vec<Entry<T>>, first: u64, number: u64) -> Option<T>
     requires { Ascends entries.old.items }
     ensures few { vec_len entries.new ≤ vec_len entries.old }
     ensures capacity { vec_capacity entries.new ≡ vec_capacity entries.old }
@@ -242,7 +249,7 @@ fn remove_from<T>(entries: &mut Vec<Entry<T>>, number: u64) -> Option<T>
     ensures removed { result ≡ lookup (is_at (nat_cmp number)) entries.old.items }
     ensures unchanged { IfNone result (entries.new ≡ entries.old) }
 {
-    match find(entries, number) {
+    match find(entries, first, number) {
         Ok(at) => Some(entries.remove(at).1),
         Err(_) => None,
     }

@@ -1,11 +1,13 @@
 //! The blocks of a map: where a number belongs, and changes that keep the blocks in order.
 
-ghost use Rattle.std.specs.Prelude.{◌≡◌, ℕ, ◌+◌, ◌<◌, ◌≤◌, ◌++◌, [], length, drop, All, slice_get, slice_index_or, vec_len, vec_capacity};
-ghost use Rattle.std.specs.Prelude.{IfNone, OnOk, OnErr, option_copied};
+ghost use Rattle.std.specs.Prelude.{◌≡◌, ◌+◌, ◌<◌, ◌≤◌, ◌++◌, [], None, length, drop, All, slice_get, slice_index_or, vec_len, vec_capacity};
+ghost use Rattle.std.specs.Prelude.{IfNone, IfOk, IfErr, OnOk, OnErr, option_copied};
+ghost use Rattle.std.specs.List.Sorted.{IsNonDecreasing};
 ghost use Rattle.std.specs.Ordering.{nat_cmp};
 ghost use Rattle.std.specs.Map.{lookup, remove_entry};
 ghost use Rattle.std.specs.BTreeMap.{insert_entry, is_at};
-ghost use Rattle.number_map.specs.Blocks.{joined, Ascends, Accepts, AreFilled, AreFilledBut, AreInOrder, IsHome};
+ghost use Rattle.number_map.specs.Blocks.{joined, firsts_of, Ascends, AreFilled, AreFilledBut, AreInOrder, IsHome};
+ghost use Rattle.number_map.specs.Positions.{IsLastUpTo};
 
 use crate::block::{Block, CAPACITY, Entry};
 use std::alloc::{AllocError, Global};
@@ -13,14 +15,13 @@ use std::alloc::{AllocError, Global};
 /// Two neighbours with at most this many entries together become one block, so that memory stays in proportion to the entries.
 const FEW: usize = CAPACITY / 2;
 
-/// The index of the last block that begins at a number or below it, or 0.
-pub(crate) fn home_of<T>(blocks: &[Block<T>], number: u64) -> usize
-    requires { AreInOrder blocks.now }
-    ensures home { IsHome blocks.now number result }
-    ensures within { 0 < length blocks.now → result < length blocks.now }
+/// The index of the last of these ascending numbers that is at most `number`, or 0.
+pub(crate) fn home_of(firsts: &[u64], number: u64) -> usize
+    requires { IsNonDecreasing firsts.now }
+    ensures { IsLastUpTo firsts.now number result }
 {
-    blocks
-        .partition_point(|block| block.first() <= number)
+    firsts
+        .partition_point(|first| *first <= number)
         .saturating_sub(1)
 }
 
@@ -36,19 +37,41 @@ pub(crate) fn first_after<T>(blocks: &[Block<T>], at: usize) -> Option<&Entry<T>
     }
 }
 
-/// Gives a number this value in the block where it belongs, and returns the one that it had.
-pub(crate) fn put<T>(blocks: &mut Vec<Block<T>>, at: usize, number: u64, value: T) -> Option<T>
+/// Gives a number this value in the block where it belongs, and returns the one that it had. If there is no block, or a full one that
+/// hasn't the number, nothing changes and the value is returned as the error.
+pub(crate) fn put<T>(
+    firsts: &mut Vec<u64>,
+    blocks: &mut Vec<Block<T>>,
+    at: usize,
+    number: u64,
+    value: T,
+) -> Result<Option<T>, T>
     requires order { AreInOrder blocks.old.items }
+    requires firsts { firsts.old.items ≡ firsts_of blocks.old.items }
     requires home { IsHome blocks.old.items number at }
-    requires within { at < vec_len blocks.old }
-    requires place { Accepts (slice_index_or blocks.old.items at []) number }
-    ensures entries { joined blocks.new.items ≡ insert_entry nat_cmp (joined blocks.old.items) number value }
-    ensures before { result ≡ lookup (is_at (nat_cmp number)) (joined blocks.old.items) }
+    ensures entries { OnOk result (joined blocks.new.items ≡ insert_entry nat_cmp (joined blocks.old.items) number value) }
+    ensures before { IfOk result (λ before. before ≡ lookup (is_at (nat_cmp number)) (joined blocks.old.items)) }
     ensures filled { AreFilled blocks.new.items }
+    ensures firsts { firsts.new.items ≡ firsts_of blocks.new.items }
+    ensures full { OnErr result (at < vec_len blocks.new → CAPACITY ≤ length (slice_index_or blocks.new.items at [])) }
+    ensures absent { OnErr result (lookup (is_at (nat_cmp number)) (joined blocks.old.items) ≡ None) }
+    ensures unchanged { OnErr result (blocks.new.items ≡ blocks.old.items) }
+    ensures returned { IfErr result (λ v. v ≡ value) }
     ensures len { vec_len blocks.new ≡ vec_len blocks.old }
     ensures capacity { vec_capacity blocks.new ≡ vec_capacity blocks.old }
+    ensures firsts_len { vec_len firsts.new ≡ vec_len firsts.old }
+    ensures firsts_capacity { vec_capacity firsts.new ≡ vec_capacity firsts.old }
 {
-    blocks[at].insert(number, value)
+    if at >= blocks.len() {
+        return Err(value);
+    }
+    match blocks[at].insert(firsts[at], number, value) {
+        Ok(before) => {
+            firsts[at] = blocks[at].first();
+            Ok(before)
+        }
+        Err(value) => Err(value),
+    }
 }
 
 /// Gives a number this value beside a full block: in an empty one if it is greater than all of its numbers, so that numbers
@@ -63,20 +86,21 @@ fn halve<T: Drop>(lower: &mut Block<T>, spare: Block<T>, number: u64, value: T) 
 {
     let mut upper = spare;
     if lower.ends_before(number) {
-        upper.insert(number, value);
+        upper.add(number, value);
         return upper;
     }
     lower.split(&mut upper);
     if number < upper.first() {
-        lower.insert(number, value);
+        lower.add(number, value);
     } else {
-        upper.insert(number, value);
+        upper.add(number, value);
     }
     upper
 }
 
 /// Gives a number this value, with an empty block for half of the entries of the full block where it belongs.
 pub(crate) fn put_beside<T: Drop>(
+    firsts: &mut Vec<u64>,
     blocks: &mut Vec<Block<T>>,
     at: usize,
     spare: Block<T>,
@@ -84,41 +108,60 @@ pub(crate) fn put_beside<T: Drop>(
     value: T,
 )
     requires order { AreInOrder blocks.old.items }
+    requires firsts { firsts.old.items ≡ firsts_of blocks.old.items }
     requires home { IsHome blocks.old.items number at }
     requires full { at < vec_len blocks.old → CAPACITY ≤ length (slice_index_or blocks.old.items at []) }
     requires empty { spare ≡ [] }
     requires room { vec_len blocks.old < vec_capacity blocks.old }
+    requires firsts_room { vec_len firsts.old < vec_capacity firsts.old }
     ensures entries { joined blocks.new.items ≡ insert_entry nat_cmp (joined blocks.old.items) number value }
     ensures filled { AreFilled blocks.new.items }
+    ensures firsts { firsts.new.items ≡ firsts_of blocks.new.items }
     ensures len { vec_len blocks.new ≡ vec_len blocks.old + 1 }
     ensures capacity { vec_capacity blocks.old ≤ vec_capacity blocks.new }
+    ensures firsts_len { vec_len firsts.new ≡ vec_len firsts.old + 1 }
+    ensures firsts_capacity { vec_capacity firsts.old ≤ vec_capacity firsts.new }
 {
     if at < blocks.len() {
         let upper = halve(&mut blocks[at], spare, number, value);
+        firsts[at] = blocks[at].first();
+        firsts.insert(at + 1, upper.first()).unwrap();
         blocks.insert(at + 1, upper).unwrap();
     } else {
         let mut block = spare;
-        block.insert(number, value);
+        block.add(number, value);
+        firsts.push(block.first()).unwrap();
         blocks.push(block).unwrap();
     }
 }
 
 /// Takes a number out of the block where it belongs, and returns the value that it had.
-pub(crate) fn take_out<T: Drop>(blocks: &mut Vec<Block<T>>, at: usize, number: u64) -> Option<T>
+pub(crate) fn take_out<T: Drop>(
+    firsts: &mut Vec<u64>,
+    blocks: &mut Vec<Block<T>>,
+    at: usize,
+    number: u64,
+) -> Option<T>
     requires order { AreInOrder blocks.old.items }
+    requires firsts { firsts.old.items ≡ firsts_of blocks.old.items }
     requires home { IsHome blocks.old.items number at }
     requires within { at < vec_len blocks.old }
     ensures entries { joined blocks.new.items ≡ remove_entry (is_at (nat_cmp number)) (joined blocks.old.items) }
     ensures removed { result ≡ lookup (is_at (nat_cmp number)) (joined blocks.old.items) }
     ensures filled { AreFilled blocks.new.items }
+    ensures firsts { firsts.new.items ≡ firsts_of blocks.new.items }
     ensures len { vec_len blocks.new ≤ vec_len blocks.old }
     ensures capacity { vec_capacity blocks.new ≡ vec_capacity blocks.old }
+    ensures firsts_len { vec_len firsts.new ≤ vec_len firsts.old }
+    ensures firsts_capacity { vec_capacity firsts.new ≡ vec_capacity firsts.old }
     ensures unchanged { IfNone result (blocks.new.items ≡ blocks.old.items) }
     ensures same_len { IfNone result (vec_len blocks.new ≡ vec_len blocks.old) }
+    ensures same_firsts_len { IfNone result (vec_len firsts.new ≡ vec_len firsts.old) }
 {
-    match blocks[at].remove(number) {
+    match blocks[at].remove(firsts[at], number) {
         Some(value) => {
-            tidy(blocks, at);
+            firsts[at] = blocks[at].first();
+            tidy(firsts, blocks, at);
             Some(value)
         }
         None => None,
@@ -126,33 +169,43 @@ pub(crate) fn take_out<T: Drop>(blocks: &mut Vec<Block<T>>, at: usize, number: u
 }
 
 /// Drops a block that became empty, or makes one block of it and its neighbours, where they have few entries.
-fn tidy<T: Drop>(blocks: &mut Vec<Block<T>>, at: usize)
+fn tidy<T: Drop>(firsts: &mut Vec<u64>, blocks: &mut Vec<Block<T>>, at: usize)
     requires within { at < vec_len blocks.old }
     requires filled { AreFilledBut at blocks.old.items }
+    requires firsts { firsts.old.items ≡ firsts_of blocks.old.items }
     ensures entries { joined blocks.new.items ≡ joined blocks.old.items }
     ensures filled { AreFilled blocks.new.items }
+    ensures firsts { firsts.new.items ≡ firsts_of blocks.new.items }
     ensures len { vec_len blocks.new ≤ vec_len blocks.old }
     ensures capacity { vec_capacity blocks.new ≡ vec_capacity blocks.old }
+    ensures firsts_len { vec_len firsts.new ≤ vec_len firsts.old }
+    ensures firsts_capacity { vec_capacity firsts.new ≡ vec_capacity firsts.old }
 {
     if blocks[at].len() == 0 {
+        firsts.remove(at);
         let _empty = blocks.remove(at);
         return;
     }
-    join_next(blocks, at);
-    join_next(blocks, at.saturating_sub(1));
+    join_next(firsts, blocks, at);
+    join_next(firsts, blocks, at.saturating_sub(1));
 }
 
 /// Makes one block of a block and the next, where both together have few entries.
-fn join_next<T: Drop>(blocks: &mut Vec<Block<T>>, at: usize)
-    requires { AreFilled blocks.old.items }
+fn join_next<T: Drop>(firsts: &mut Vec<u64>, blocks: &mut Vec<Block<T>>, at: usize)
+    requires filled { AreFilled blocks.old.items }
+    requires firsts { firsts.old.items ≡ firsts_of blocks.old.items }
     ensures entries { joined blocks.new.items ≡ joined blocks.old.items }
     ensures filled { AreFilled blocks.new.items }
+    ensures firsts { firsts.new.items ≡ firsts_of blocks.new.items }
     ensures len { vec_len blocks.new ≤ vec_len blocks.old }
     ensures capacity { vec_capacity blocks.new ≡ vec_capacity blocks.old }
+    ensures firsts_len { vec_len firsts.new ≤ vec_len firsts.old }
+    ensures firsts_capacity { vec_capacity firsts.new ≡ vec_capacity firsts.old }
 {
     if blocks.len().saturating_sub(at) < 2 || blocks[at].len() + blocks[at + 1].len() > FEW {
         return;
     }
+    firsts.remove(at + 1);
     let next = blocks.remove(at + 1);
     blocks[at].append(next);
 }

@@ -1,6 +1,7 @@
 //! The map: values by number.
 
-ghost use Rattle.std.specs.Prelude.{◌≡◌, ◌+◌, ◌<◌, ◌≤◌, ◌↔◌, ◌⊎◌, [], length, IsTrue, IsSome, IfSome, IfNone, OnOk, OnErr, option_copied, option_map};
+ghost use Rattle.std.specs.Prelude.{◌≡◌, ◌+◌, ◌<◌, ◌≤◌, ◌↔◌, ◌⊎◌, [], length, option_copied, option_map};
+ghost use Rattle.std.specs.Prelude.{IsTrue, IsSome, IfSome, IfNone, OnOk, OnErr};
 ghost use Rattle.std.specs.Ordering.{nat_cmp};
 ghost use Rattle.std.specs.Map.{lookup, remove_entry};
 ghost use Rattle.std.specs.BTreeMap.{insert_entry, is_at};
@@ -14,6 +15,8 @@ use std::marker::Model;
 /// Values by number, ascending.
 #[derive(Debug, Drop)]
 pub struct NumberMap<T> {
+    /// The first number of each block: a search over blocks reads these and no block.
+    firsts: Vec<u64>,
     blocks: Vec<Block<T>>,
     spare: Vec<Block<T>>,
     len: usize,
@@ -39,6 +42,7 @@ impl<T> NumberMap<T> {
         ensures { result.entries ≡ [] }
     {
         NumberMap {
+            firsts: Vec::new(alloc),
             blocks: Vec::new(alloc),
             spare: Vec::new(alloc),
             len: 0,
@@ -64,22 +68,22 @@ impl<T> NumberMap<T> {
     pub fn get(&self, number: u64) -> Option<&T>
         ensures { option_map (λ v. v.now) result ≡ lookup (is_at (nat_cmp number)) self.now.entries }
     {
-        let at = home_of(&self.blocks, number);
+        let at = home_of(&self.firsts, number);
         if at >= self.blocks.len() {
             return None;
         }
-        self.blocks[at].get(number)
+        self.blocks[at].get(self.firsts[at], number)
     }
 
     /// The first entry with this number or a greater one, by the searches of `get`.
     pub fn first_from(&self, number: u64) -> Option<&Entry<T>>
         ensures { option_copied result ≡ first_from number self.now.entries }
     {
-        let at = home_of(&self.blocks, number);
+        let at = home_of(&self.firsts, number);
         if at >= self.blocks.len() {
             return None;
         }
-        match self.blocks[at].first_from(number) {
+        match self.blocks[at].first_from(self.firsts[at], number) {
             Some(entry) => Some(entry),
             None => first_after(&self.blocks, at),
         }
@@ -127,6 +131,7 @@ impl<T: Drop> NumberMap<T> {
         if usize::MAX - self.len < count {
             return Err(AllocError);
         }
+        self.firsts.reserve(count)?;
         self.blocks.reserve(count)?;
         add_empty(*self.blocks.allocator(), &mut self.spare, count)
     }
@@ -139,18 +144,21 @@ impl<T: Drop> NumberMap<T> {
         ensures spare { self.old.spare ≤ self.new.spare + 1 }
         ensures kept { IfSome result (λ _. self.new.spare ≡ self.old.spare) }
     {
-        let at = home_of(&self.blocks, number);
-        if at < self.blocks.len() && self.blocks[at].accepts(number) {
-            let before = put(&mut self.blocks, at, number, value);
-            if before.is_none() {
-                self.len += 1;
+        let at = home_of(&self.firsts, number);
+        match put(&mut self.firsts, &mut self.blocks, at, number, value) {
+            Ok(before) => {
+                if before.is_none() {
+                    self.len += 1;
+                }
+                before
             }
-            return before;
+            Err(value) => {
+                let spare = self.spare.pop().unwrap();
+                put_beside(&mut self.firsts, &mut self.blocks, at, spare, number, value);
+                self.len += 1;
+                None
+            }
         }
-        let spare = self.spare.pop().unwrap();
-        put_beside(&mut self.blocks, at, spare, number, value);
-        self.len += 1;
-        None
     }
 
     /// Takes a number out, and returns the value that it had. It takes no memory, and room stays.
@@ -160,11 +168,11 @@ impl<T: Drop> NumberMap<T> {
         ensures spare { self.old.spare ≤ self.new.spare }
         ensures unchanged { IfNone result (self.new ≡ self.old) }
     {
-        let at = home_of(&self.blocks, number);
+        let at = home_of(&self.firsts, number);
         if at >= self.blocks.len() {
             return None;
         }
-        let removed = take_out(&mut self.blocks, at, number);
+        let removed = take_out(&mut self.firsts, &mut self.blocks, at, number);
         if removed.is_some() {
             self.len -= 1;
         }

@@ -1,20 +1,20 @@
 use Rattle.std.proofs.Common.{Some, sym, ap, ◌∙◌, arith}
-use Rattle.number_map.proofs.Entries.{stands_in, lookup_stands, lookup_gap, remove_stands, remove_gap}
+use Rattle.number_map.proofs.Entries.{found_in, lookup_found, lookup_gap, remove_found, remove_gap}
 use Rattle.number_map.proofs.block.remove_from.Goals as goal
 
 -- the number was there
 pub remove-requires : goal.remove-requires
-remove-requires g c = omega (arith, stands_in _ _ _ c.in-Ok.ensures.found, c.deref.ensures.len)
+remove-requires g c = omega (arith, found_in _ _ _ c.in-Ok.ensures.found, c.deref.ensures.len)
 
 pub returns-in-Ok-clause-entries : goal.returns-in-Ok-clause-entries
 returns-in-Ok-clause-entries g c =
     let found = rw c.deref.ensures.value at c.in-Ok.ensures.found in
-    (c.remove.ensures.items ∙ remove_stands _ _ _ found)
+    (c.remove.ensures.items ∙ remove_found _ _ _ found)
 
 pub returns-in-Ok-clause-removed : goal.returns-in-Ok-clause-removed
 returns-in-Ok-clause-removed g c =
     let found = rw c.deref.ensures.value at c.in-Ok.ensures.found in
-    (sym (lookup_stands _ _ _ c.remove.result found ∙ ap (λ e. Some e.1) (sym c.remove.ensures.value)))
+    (sym (lookup_found _ _ _ c.remove.result found ∙ ap (λ e. Some e.1) (sym c.remove.ensures.value)))
 
 -- the number was not there
 pub returns-in-Err-clause-entries : goal.returns-in-Err-clause-entries

@@ -3,6 +3,7 @@ use Rattle.std.specs.Ordering.{nat_cmp}
 use Rattle.std.specs.BTreeMap.{is_at}
 use Rattle.std.specs.Map.{lookup}
 use Rattle.number_map.specs.Blocks.{Ascends}
+use Rattle.number_map.proofs.Firsts.{firsts_written}
 use Rattle.number_map.proofs.Home.{ascends_at, lookup_home, removed_home}
 use Rattle.number_map.proofs.blocks.take_out.Goals as goal
 
@@ -24,6 +25,11 @@ returns-in-Some-clause-removed g c =
     ∙ c.remove.ensures.removed
     ∙ ap (lookup (is_at (nat_cmp c.args.number))) c.index_mut.ensures.value
     ∙ sym (lookup_home c.args.blocks.now.items c.args.number c.args.at c.requires.home c.index_mut.result.now (omega arith))
+
+pub tidy-requires-clause-firsts : goal.tidy-requires-clause-firsts
+tidy-requires-clause-firsts g c =
+    firsts_written c.args.blocks.now.items c.args.firsts.now.items c.args.at c.first.result c.remove.new.self c.index-in-Some.result.now (omega arith)
+    c.requires.firsts c.index-in-Some.ensures c.first.ensures
 
 -- the number was not there
 pub returns-in-None-clause-entries : goal.returns-in-None-clause-entries

@@ -1,7 +1,8 @@
 use Rattle.std.proofs.Common.{sym, ap, subst, ◌∙◌, arith}
 use Rattle.std.proofs.lemmas.List.{nil_from_length}
-use Rattle.number_map.specs.Blocks.{joined, AreFilled}
+use Rattle.number_map.specs.Blocks.{joined, firsts_of, AreFilled}
 use Rattle.number_map.proofs.Filled.{filled_without}
+use Rattle.number_map.proofs.Firsts.{firsts_len, firsts_removed}
 use Rattle.number_map.proofs.Joined.{joined_without}
 use Rattle.number_map.proofs.blocks.tidy.Goals as goal
 
@@ -15,3 +16,12 @@ returns-then-len-eq0-clause-entries g c =
 pub returns-then-len-eq0-clause-filled : goal.returns-then-len-eq0-clause-filled
 returns-then-len-eq0-clause-filled g c =
     subst AreFilled (sym c.remove-empty.ensures.items) (filled_without c.args.blocks.now.items c.args.at (omega arith) c.requires.filled)
+
+pub remove-requires : goal.remove-requires
+remove-requires g c = omega (arith, firsts_len c.args.blocks.now.items c.args.firsts.now.items c.requires.firsts)
+
+pub returns-then-len-eq0-clause-firsts : goal.returns-then-len-eq0-clause-firsts
+returns-then-len-eq0-clause-firsts g c =
+    c.remove.ensures.items
+    ∙ firsts_removed c.args.blocks.now.items c.args.firsts.now.items c.args.at c.requires.firsts
+    ∙ ap firsts_of (sym c.remove-empty.ensures.items)

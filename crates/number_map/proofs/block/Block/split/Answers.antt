@@ -28,7 +28,6 @@ invariant_of-self g c =
     let count : length c.move_from.new.entries.items ≡ 64 =
     ap length c.move_from.ensures.front ∙ length-take-le 64 c.self.inside.entries.items (omega (arith, full, c.requires.full)) in
     record {
-      first = rw c.deref.ensures.value at c.first_of-self-inside.ensures;
       few = omega (arith, count, c.move_from.new.entries.ok.0);
       capacity = omega (arith, c.move_from.ensures.front_capacity, c.self.invariant.capacity);
     }
@@ -40,7 +39,6 @@ invariant_of-upper g c =
     let count : length c.move_from.new.end.items ≡ length c.self.inside.entries.items - 64 =
     ap length c.move_from.ensures.end ∙ length-drop 64 c.self.inside.entries.items in
     record {
-      first = rw c.deref-2.ensures.value at c.first_of-upper-inside.ensures;
       few = omega (arith, count, few, ok, c.move_from.new.end.ok.0);
       capacity = omega (arith, c.move_from.ensures.end_capacity, c.upper.invariant.capacity);
     }

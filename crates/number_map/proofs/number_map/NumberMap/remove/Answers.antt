@@ -2,9 +2,20 @@ use Rattle.std.proofs.Common.{length, sym, ap, subst, ◌∙◌, arith}
 use Rattle.std.specs.Option.{is_some}
 use Rattle.number_map.specs.Blocks.{joined, Ascends}
 use Rattle.number_map.proofs.Entries.{ascends_removed, length_removed}
+use Rattle.number_map.proofs.Firsts.{firsts_ascend}
+use Rattle.number_map.proofs.Home.{home_at}
 use Rattle.number_map.proofs.number_map.NumberMap.remove.Goals as goal
 
+pub take_out-removed-requires-clause-home : goal.take_out-removed-requires-clause-home
+take_out-removed-requires-clause-home g c =
+    home_at c.self.inside.blocks.items c.deref.result.now c.args.number c.home_of-at.result c.self.invariant.order
+    (c.deref.ensures.value ∙ c.self.invariant.firsts) c.home_of-at.ensures
+
 -- the number was there
+pub home_of-at-requires : goal.home_of-at-requires
+home_of-at-requires g c =
+    firsts_ascend c.self.inside.blocks.items c.deref.result.now c.self.invariant.order (c.deref.ensures.value ∙ c.self.invariant.firsts)
+
 pub invariant_of-self : goal.invariant_of-self
 invariant_of-self g c =
     let es = joined c.self.inside.blocks.items in
@@ -14,6 +25,7 @@ invariant_of-self g c =
     record {
       order =
           record { ascending = subst Ascends (sym facts.entries) (ascends_removed es n c.self.invariant.order.ascending); filled = facts.filled };
+      firsts = facts.firsts;
       count = omega (arith, ap length facts.entries, length_removed es n some, c.self.invariant.count);
       spare = c.self.invariant.spare;
     }
