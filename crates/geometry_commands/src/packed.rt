@@ -5,6 +5,7 @@ ghost use Rattle.std.specs.List.{flat_map};
 ghost use Rattle.pb_wire.specs.Varint.{varint};
 ghost use Rattle.geometry_commands.specs.Commands.{IsNear, AreNear, command, move_to, step, steps, origin};
 ghost use Rattle.geometry_commands.specs.Encodable.{CanSpellLine};
+ghost use Rattle.geometry_commands.specs.Identifiers.{id_number};
 ghost use Rattle.geometry_commands.specs.Shapes.{last_of, line_spelled};
 
 use crate::command::CommandId;
@@ -13,15 +14,12 @@ use crate::point::Pt;
 use pb_wire::put_varint;
 use std::alloc::{AllocError, Global};
 
-/// Appends a number in its shortest encoding.
-fn put_number(out: &mut Vec<u8>, n: u32) -> Result<(), AllocError>
-    ensures { OnOk result (out.new.items ≡ out.old.items ++ varint n) }
+/// Appends the integer of a command that is executed `count` times.
+fn put_command(out: &mut Vec<u8>, id: CommandId, count: u32) -> Result<(), AllocError>
+    requires { count < 2 ^ 29 }
+    ensures { OnOk result (out.new.items ≡ out.old.items ++ varint (command (id_number id) count)) }
 {
-    if n < 128 {
-        out.push(n as u8)?;
-        return Ok(());
-    }
-    put_varint(out, u64::from(n))
+    put_varint(out, u64::from(id.times(count)))
 }
 
 /// Appends the two numbers of the way from one point to the next.
@@ -29,8 +27,8 @@ fn put_way(out: &mut Vec<u8>, from: Pt, to: Pt) -> Result<(), AllocError>
     requires { IsNear from to }
     ensures { OnOk result (out.new.items ≡ out.old.items ++ flat_map varint (step from to)) }
 {
-    put_number(out, way(from.x, to.x))?;
-    put_number(out, way(from.y, to.y))?;
+    put_varint(out, u64::from(way(from.x, to.x)))?;
+    put_varint(out, u64::from(way(from.y, to.y)))?;
     Ok(())
 }
 
@@ -66,13 +64,13 @@ impl PackedShape {
         self.at = Pt::ORIGIN;
     }
 
-    /// Appends the command to move to so many points. The only error is that an allocation fails.
+    /// Appends the command to move to `count` points. The only error is that an allocation fails.
     pub fn begin_points(&mut self, count: u32) -> Result<(), AllocError>
         requires { count < 2 ^ 29 }
         ensures bytes { OnOk result (self.new.bytes.items ≡ self.old.bytes.items ++ varint (command move_to count)) }
         ensures at { self.new.at ≡ self.old.at }
     {
-        put_number(&mut self.bytes, CommandId::MoveTo.times(count))
+        put_command(&mut self.bytes, CommandId::MoveTo, count)
     }
 
     /// Appends the way to a point, each of whose coordinates is at most 2^31 - 1 from the cursor's. The only error is that
@@ -113,15 +111,12 @@ impl PackedShape {
     {
         let first = line[0];
         let others = &line[1..];
-        put_number(&mut self.bytes, CommandId::MoveTo.times(1))?;
+        put_command(&mut self.bytes, CommandId::MoveTo, 1)?;
         self.put_point(first)?;
-        put_number(
-            &mut self.bytes,
-            CommandId::LineTo.times(others.len() as u32),
-        )?;
+        put_command(&mut self.bytes, CommandId::LineTo, others.len() as u32)?;
         self.put_points(others)?;
         if closed {
-            put_number(&mut self.bytes, CommandId::ClosePath.times(1))?;
+            put_command(&mut self.bytes, CommandId::ClosePath, 1)?;
         }
         Ok(())
     }

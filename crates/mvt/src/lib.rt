@@ -3,11 +3,12 @@
 #![tactic(auto)]
 
 pub use geometry_commands::{
-    GeometryFault, Pt, Shape, ShapeKind, decode, encode_lines, encode_points, encode_rings,
+    GeometryFault, PackedShape, Pt, Shape, ShapeKind, decode, encode_lines, encode_points,
+    encode_rings,
 };
 pub use mvt_layer::{
     CURRENT_VERSION, DEFAULT_EXTENT, DEFAULT_VERSION, Layer, TagValue, TileFault, TileFeature,
     read_tile,
 };
-pub use mvt_write::write_tile;
+pub use mvt_write::{LayerWriter, write_tile};
 pub use pb_wire as wire;

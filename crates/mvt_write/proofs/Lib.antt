@@ -9,6 +9,7 @@ mod Lists
 mod Messages
 pub mod Names
 mod Pooled
+mod Slotted
 mod TagSteps
 mod ValuesRead
 mod WriterSteps

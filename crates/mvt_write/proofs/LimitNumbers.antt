@@ -1,6 +1,6 @@
 -- The number of each limit.
 use Rattle.std.proofs.Common.{◌≡◌, refl}
-use Rattle.mvt_write.specs.declared.pool.TheConstants.{RECENT}
+use Rattle.mvt_write.specs.declared.pool.TheConstants.{SLOTS}
 
-pub recent_is : RECENT ≡ 512
-recent_is = refl
+pub slots_is : SLOTS ≡ 512
+slots_is = refl

@@ -106,82 +106,13 @@ absent_from {K} spelled items entry found index next looked numbered last end =
     let pool = map spelled items in
     absent_by pool (spelled entry) found index next (has_entry pool (spelled entry)) refl looked numbered last (end ∙ sym (length-map items spelled))
 
--- each look-up finds the index, also once an entry is added that wasn't held
-pub indexed_push : {K : Type 0} (spelled : K → List ℕ) (cmp : K → K → Ordering) → ((a b : K) → is_eq (cmp a b) ≡ bytes_eq (spelled a) (spelled b))
-    → (before after : K → Option ℕ) (items : List K) (entry : K) (index : ℕ) → index ≡ length items → has_entry (map spelled items) (spelled entry) ≡ false
-    → ((q : K) → before q ≡ index_in (map spelled items) (spelled q)) → ((q : K) → after q ≡ cond (is_eq (cmp entry q)) (Some index) (before q)) → (q : K)
-    → after q ≡ index_in (map spelled (items ++ entry ∷ [])) (spelled q)
-indexed_push {K} spelled cmp same before after items entry index last absent indexed updates q =
-    let now = index_in_push (map spelled items) (spelled entry) (spelled q) absent in
-    let whole : index_in (map spelled (items ++ entry ∷ [])) (spelled q)
-    ≡ cond (bytes_eq (spelled entry) (spelled q)) (Some index) (index_in (map spelled items) (spelled q)) =
-    ap (λ (pool : List (List ℕ)). index_in pool (spelled q)) (map-append spelled items (entry ∷ [])) ∙ now
-    ∙ ap (λ (n : ℕ). cond (bytes_eq (spelled entry) (spelled q)) (Some n) (index_in (map spelled items) (spelled q)))
-    (length-map items spelled ∙ sym last) in
-    updates q ∙ rw (same entry q, indexed q) (sym whole)
-
--- ---- entries stand at their own index
-
--- what isn't at the end is held
-held_by : (pool : List (List ℕ)) (entry : List ℕ) (has : Bool) → has_entry pool entry ≡ has → index_of pool entry < length pool → has ≡ true
-held_by pool entry true is within = refl
-held_by pool entry false is within = absurd (omega (arith, index_end pool entry is, within))
-
-pub recalled_held : (pool : List (List ℕ)) (entry held : List ℕ) (index : ℕ) → index < length pool → index_of pool held ≡ index → bytes_eq held entry ≡ true
-    → (index_of pool entry ≡ index) × (has_entry pool entry ≡ true)
-recalled_held pool entry held index within placed same =
-    let e : held ≡ entry = (bytes_eq-Decides held entry).0 same in
-    let at : index_of pool entry ≡ index = subst (λ (bytes : List ℕ). index_of pool bytes ≡ index) e placed in
-    (at, held_by pool entry (has_entry pool entry) refl (omega (arith, at, within)))
-
--- the entry that stands at an index, if it is the one that is sought
-pub recalled_is : {K : Type 0} (spelled : K → List ℕ) (cmp : K → K → Ordering) → ((a b : K) → is_eq (cmp a b) ≡ bytes_eq (spelled a) (spelled b))
-    → (items : List K) (entry held : K) (index : ℕ) → index < length items → held ≡ get_or items index held
-    → ((index : ℕ) → index < length items → index_of (map spelled items) (get_or (map spelled items) index []) ≡ index) → cmp held entry ≡ Equal
-    → (index_of (map spelled items) (spelled entry) ≡ index) × (has_entry (map spelled items) (spelled entry) ≡ true)
-recalled_is {K} spelled cmp same items entry held index within is placed equal =
-    let at : get_or (map spelled items) index [] ≡ spelled held = get_or-map spelled items index held [] within ∙ ap spelled (sym is) in
-    let here : index_of (map spelled items) (spelled held) ≡ index = rw at at (placed index within) in
-    let alike : bytes_eq (spelled held) (spelled entry) ≡ true = sym (same held entry) ∙ ap is_eq equal in
-    recalled_held (map spelled items) (spelled entry) (spelled held) index (omega (arith, within, length-map items spelled)) here alike
-
--- what stands at its index still does, and so does an entry that is added
-placed_before : (pool : List (List ℕ)) (entry held : List ℕ) (index : ℕ) → index < length pool → index_of pool held ≡ index
-    → index_of (pool ++ entry ∷ []) held ≡ index
-placed_before pool entry held index within placed =
-    let apart : eqb (index_of pool held) (length pool) ≡ false = rw placed (grind (arith, nat_tests)) in
-    index_push pool entry held ∙ rw apart placed
-
-placed_last : (pool : List (List ℕ)) (entry : List ℕ) → has_entry pool entry ≡ false → index_of (pool ++ entry ∷ []) entry ≡ length pool
+-- an entry that is added is the last
+pub placed_last : (pool : List (List ℕ)) (entry : List ℕ) → has_entry pool entry ≡ false → index_of (pool ++ entry ∷ []) entry ≡ length pool
 placed_last pool entry absent =
     let end = index_end pool entry absent in
     let at : eqb (index_of pool entry) (length pool) ≡ true = rw end (grind (arith, nat_tests)) in
     let alike : bytes_eq entry entry ≡ true = (bytes_eq-Decides entry entry).1 refl in
     index_push pool entry entry ∙ rw (at, alike) (omega arith)
-
-placed_by : (pool : List (List ℕ)) (entry : List ℕ) → has_entry pool entry ≡ false
-    → ((index : ℕ) → index < length pool → index_of pool (get_or pool index []) ≡ index)
-    → (index : ℕ) → index < length pool + 1 → index_of (pool ++ entry ∷ []) (get_or (pool ++ entry ∷ []) index []) ≡ index
-placed_by pool entry absent placed index within = elim (cases_lt index (length pool)) [
-  | inl before ↦
-      let held = get_or_append_left pool (entry ∷ []) [] index before in
-      rw held (placed_before pool entry (get_or pool index []) index before (placed index before))
-  | inr after ↦
-      let last : index ≡ length pool = omega arith in
-      let held : get_or (pool ++ entry ∷ []) index [] ≡ entry = get_or_push pool entry [] index (sym last) in
-      rw held (placed_last pool entry absent ∙ sym last)
-]
-
-pub placed_push : {K : Type 0} (spelled : K → List ℕ) (items : List K) (entry : K) → has_entry (map spelled items) (spelled entry) ≡ false
-    → ((index : ℕ) → index < length items → index_of (map spelled items) (get_or (map spelled items) index []) ≡ index)
-    → (index : ℕ) → index < length (items ++ entry ∷ [])
-    → index_of (map spelled (items ++ entry ∷ [])) (get_or (map spelled (items ++ entry ∷ [])) index []) ≡ index
-placed_push {K} spelled items entry absent placed index within =
-    let pool = map spelled items in
-    let same = length-map items spelled in
-    let all = placed_by pool (spelled entry) absent (λ i before. placed i (omega (arith, same, before))) index
-    (omega (arith, within, same, length-append items (entry ∷ []))) in
-    subst (λ (whole : List (List ℕ)). index_of whole (get_or whole index []) ≡ index) (sym (map-append spelled items (entry ∷ []))) all
 
 -- ---- one use more
 
@@ -217,7 +148,7 @@ has-cons : (first : List ℕ) (pool : List (List ℕ)) (entry : List ℕ) → ha
 unfolding has_entry
 has-cons first pool entry = refl
 
-with_held : (pool : List (List ℕ)) (entry : List ℕ) → has_entry pool entry ≡ true → with_entry pool entry ≡ pool
+pub with_held : (pool : List (List ℕ)) (entry : List ℕ) → has_entry pool entry ≡ true → with_entry pool entry ≡ pool
 with_held pool entry has = rw has refl
 
 apart_back : (first entry : List ℕ) (b : Bool) → bytes_eq first entry ≡ false → bytes_eq entry first ≡ b → b ≡ false

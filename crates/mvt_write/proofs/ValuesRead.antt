@@ -5,16 +5,18 @@ use Rattle.std.specs.declared.cmp.Ordering.TheVariants.{Equal}
 use Rattle.std.proofs.lemmas.Int.{ints}
 use Rattle.std.proofs.lemmas.Str.{is_utf8-from_IsUtf8}
 use Rattle.std.proofs.lemmas.Slice.Eq.{bytes_eq-Decides}
-use Rattle.std.proofs.lemmas.Map.Lookups.{exact_unsigned, exact_signed, exact_bytes}
+use Rattle.std.proofs.lemmas.Map.Lookups.{exact_unsigned, exact_signed}
 use Rattle.pb_wire.specs.Zigzag.{zigzagged}
 use Rattle.mvt_layer.specs.Tile.{TagView, text, natural, negative, truth}
 use Rattle.mvt_layer.specs.Reading.{meaning, zigzag_tag}
 use Rattle.mvt_layer.specs.Reads.{SaysValue}
 use Rattle.mvt_write.specs.declared.value.PoolValue.{PoolValue}
 use Rattle.mvt_write.specs.declared.value.PoolValue.TheVariants as values
+use Rattle.mvt_write.specs.contracts.coded_text.CodedTextOrd.TheImpl as text_ord
 use Rattle.mvt_write.specs.contracts.value.PoolValueOrd.TheImpl as value_ord
 use Rattle.mvt_write.specs.CanWrite.{CanWriteValue}
-use Rattle.mvt_write.specs.Distinct.{same_value}
+use Rattle.mvt_write.specs.Codes.{text_code}
+use Rattle.mvt_write.specs.Distinct.{same_text, same_value}
 use Rattle.mvt_write.specs.Fits.{FitsValue}
 use Rattle.mvt_write.specs.Values.{value_view}
 use Rattle.mvt_write.specs.Written.{value_written}
@@ -22,14 +24,15 @@ use Rattle.mvt_write.proofs.Messages.{number_entry, bytes_entry, only_number, on
 
 -- the value that a tag can have, as a pool holds it
 pooled : (v : TagView) → CanWriteValue v → (p : PoolValue) × (value_view p ≡ v)
-pooled (text t) can = (values.Text (record { ref_ptr = (0, 0); now = t }), refl)
+pooled (text t) can = (values.Text (record { code = text_code t; text = record { ref_ptr = (0, 0); now = t }; coded = refl }), refl)
 pooled (natural n) can = (values.Natural n, refl)
 pooled (negative z) can = (values.Negative z, refl)
 pooled (truth b) can = (values.Truth b, refl)
 pooled _ can = absurd can
 
 exact_value : (p q : PoolValue) → (value_ord.ghosts).cmp p q ≡ Equal → value_view p ≡ value_view q
-exact_value (values.Text s) (values.Text t) e = ap text (exact_bytes s.now t.now e)
+exact_value (values.Text s) (values.Text t) e =
+    ap text ((bytes_eq-Decides s.text.now t.text.now).0 (sym (same_text s t) ∙ (Equal-is ((text_ord.ghosts).cmp s t)).1 e))
 exact_value (values.Natural n) (values.Natural m) e = ap natural (exact_unsigned n m e)
 exact_value (values.Negative n) (values.Negative m) e = ap negative (exact_signed n m e)
 exact_value (values.Truth true) (values.Truth true) e = refl

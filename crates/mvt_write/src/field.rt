@@ -9,24 +9,13 @@ ghost use Rattle.mvt_write.specs.Written.{number_field, bytes_field};
 use pb_wire::{WIRE_LEN, WIRE_VARINT, put_varint};
 use std::alloc::AllocError;
 
-/// Appends a number in its shortest encoding, which is mostly one byte.
-pub(crate) fn put_short(out: &mut Vec<u8>, n: u64) -> Result<(), AllocError>
-    ensures { OnOk result (out.new.items ≡ out.old.items ++ varint n) }
-{
-    if n < 128 {
-        out.push(n as u8)?;
-        return Ok(());
-    }
-    put_varint(out, n)
-}
-
 /// Appends a field that is a number.
 pub(crate) fn put_number(out: &mut Vec<u8>, number: u32, n: u64) -> Result<(), AllocError>
     requires { number < 2 ^ 29 }
     ensures { OnOk result (out.new.items ≡ out.old.items ++ number_field number n) }
 {
-    put_short(out, 8 * u64::from(number) + WIRE_VARINT)?;
-    put_short(out, n)
+    put_varint(out, 8 * u64::from(number) + WIRE_VARINT)?;
+    put_varint(out, n)
 }
 
 /// Appends what a field of this many bytes has before them.
@@ -34,8 +23,8 @@ pub(crate) fn put_head(out: &mut Vec<u8>, number: u32, len: usize) -> Result<(),
     requires { number < 2 ^ 29 }
     ensures { OnOk result (out.new.items ≡ out.old.items ++ field_head number len) }
 {
-    put_short(out, 8 * u64::from(number) + WIRE_LEN)?;
-    put_short(out, len as u64)
+    put_varint(out, 8 * u64::from(number) + WIRE_LEN)?;
+    put_varint(out, len as u64)
 }
 
 /// Appends a field that is bytes.

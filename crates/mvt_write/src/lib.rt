@@ -1,6 +1,8 @@
 //! Encodes vector tiles.
 #![tactic(auto)]
 
+mod coded_text;
+mod codes;
 mod entry;
 mod feature;
 mod field;

@@ -1,28 +1,28 @@
 //! Pools: keys and values that a layer holds once and refers to by index.
 
-ghost use Rattle.std.specs.Prelude.{◌≡◌, ◌<◌, ◌^◌, ◌++◌, ℕ, true, length, slice_index_or, map, IfOk, IfSome, OnOk, OnErr, OnSome, Some, []};
+ghost use Rattle.std.specs.Prelude.{◌≡◌, ◌≢◌, ◌≤◌, ◌<◌, ◌^◌, ◌++◌, ℕ, length, slice_index, map, IfOk, OnOk, OnErr, Some, None, []};
 ghost use Rattle.std.specs.Option.{unwrap_or};
 ghost use Rattle.std.specs.BTreeMap.{get, IsUnchanged, Updates};
 ghost use Rattle.std.specs.List.{flat_map};
 ghost use Rattle.mvt_write.specs.Written.{bytes_field};
-ghost use Rattle.mvt_write.specs.Pools.{index_of, index_in, has_entry, with_entry};
+ghost use Rattle.mvt_write.specs.Pools.{index_of, index_in, with_entry};
+ghost use Rattle.mvt_write.specs.Slots.{place_of, led};
 
+use crate::codes::FACTOR;
 use crate::entry::FieldData;
 use std::alloc::{AllocError, Global};
-use std::cmp::Ordering;
 use std::collections::BTreeMap;
 
-/// The number of slots for recent entries.
-const RECENT: usize = 512;
+/// The number of slots.
+const SLOTS: usize = 512;
 
-/// How many numbers a slot can have. An entry whose index isn't below it isn't recalled.
-const SLOT_NUMBERS: usize = 65_536;
-
-/// The slot of the recent entries for an entry of this code: the code is multiplied by an odd number that spreads it.
+/// The slot of a code.
+#[tactic(auto, unfolding(crate::specs::Slots::place_of))]
 fn place_of(code: u64) -> usize
-    ensures { result < RECENT }
+    ensures place { result ≡ place_of code }
+    ensures within { result < SLOTS }
 {
-    (code.wrapping_mul(0x9e37_79b9_7f4a_7c15) >> 55) as usize % RECENT
+    (code.wrapping_mul(FACTOR) >> 55) as usize % SLOTS
 }
 
 /// The number of a key, which becomes `next` if it had none. An `Err` changes nothing.
@@ -39,15 +39,21 @@ fn number_of<K: Ord + Copy>(
 }
 
 /// Entries in the order of their first use, each once.
+///
+/// Each entry has a slot by its code. The first entry of a slot is named there, so it is found without a search, and an entry whose
+/// slot is free is new. The other entries of the slot are in an ordered map, which stays fast whatever the entries are.
 #[derive(Drop)]
 pub(crate) struct Pool<T: FieldData> {
     pub entries: Vec<T>,
-    indices: BTreeMap<T, usize>,
-    /// For each slot the index of the entry that was used there last, in 16 bits, or any number.
-    recent: Box<[u16; RECENT]>,
-    ghost indexed: { (entry : T) → get T.cmp indices entry ≡ index_in (map T.spelled entries.items) (T.spelled entry) },
-    ghost placed: { (index : ℕ) → index < length entries.items
-        → index_of (map T.spelled entries.items) (slice_index_or (map T.spelled entries.items) index []) ≡ index },
+    /// For each slot one more than the index of its first entry, or 0.
+    slots: Box<[usize; SLOTS]>,
+    /// The indices of the entries that aren't the first of their slots.
+    others: BTreeMap<T, usize>,
+    ghost looked: { (entry : T)
+        → led (map T.spelled entries.items) (slice_index slots.value (place_of (T.coded entry))) (T.spelled entry) (get T.cmp others entry)
+        ≡ index_in (map T.spelled entries.items) (T.spelled entry) },
+    ghost free: { (entry : T) → slice_index slots.value (place_of (T.coded entry)) ≡ 0 → get T.cmp others entry ≡ None },
+    ghost named: { (place : ℕ) → slice_index slots.value place ≤ length entries.items },
 }
 
 impl<T: FieldData> Pool<T> {
@@ -58,53 +64,56 @@ impl<T: FieldData> Pool<T> {
     {
         Ok(Pool {
             entries: Vec::new(alloc),
-            indices: BTreeMap::new(alloc),
-            recent: Box::new(alloc, [0; RECENT])?,
+            slots: Box::new(alloc, [0; SLOTS])?,
+            others: BTreeMap::new(alloc),
         })
     }
 
-    /// The index of an entry that was used lately. Not each of them is recalled.
-    fn recalled(&self, place: usize, entry: T) -> Option<usize>
-        requires { place < RECENT }
-        ensures index { IfSome result (λ i. index_of (map T.spelled self.now.entries.items) (T.spelled entry) ≡ i) }
-        ensures held { OnSome result (has_entry (map T.spelled self.now.entries.items) (T.spelled entry) ≡ true) }
+    /// Adds the first entry of a slot, and returns its index.
+    fn added(&mut self, place: usize, entry: T) -> Result<usize, AllocError>
+        requires place { place ≡ place_of (T.coded entry) }
+        requires free { slice_index self.old.slots.value place ≡ 0 }
+        requires within { place < SLOTS }
+        ensures index { IfOk result (λ i. index_of (map T.spelled self.new.entries.items) (T.spelled entry) ≡ i) }
+        ensures entries { OnOk result (map T.spelled self.new.entries.items ≡ with_entry (map T.spelled self.old.entries.items) (T.spelled entry)) }
     {
-        let index = usize::from(self.recent[place]);
-        if index >= self.entries.len() {
-            return None;
-        }
-        match self.entries[index].cmp(&entry) {
-            Ordering::Equal => Some(index),
-            _ => None,
-        }
+        let index = self.entries.len();
+        self.entries.push(entry)?;
+        self.slots[place] = index + 1;
+        Ok(index)
     }
 
-    /// The index of an entry, which is added at the end if it is missing.
+    /// The index of an entry that isn't the first of its slot, which is added if it is missing.
     fn found(&mut self, entry: T) -> Result<usize, AllocError>
+        requires taken { slice_index self.old.slots.value (place_of (T.coded entry)) ≢ 0 }
+        requires other { get T.cmp self.old.others entry ≡ index_in (map T.spelled self.old.entries.items) (T.spelled entry) }
         ensures index { IfOk result (λ i. index_of (map T.spelled self.new.entries.items) (T.spelled entry) ≡ i) }
         ensures entries { OnOk result (map T.spelled self.new.entries.items ≡ with_entry (map T.spelled self.old.entries.items) (T.spelled entry)) }
     {
         let next = self.entries.len();
         self.entries.reserve(1)?;
-        let index = number_of(&mut self.indices, entry, next)?;
+        let index = number_of(&mut self.others, entry, next)?;
         if index == next {
             self.entries.push(entry).unwrap();
         }
         Ok(index)
     }
 
-    /// The index of an entry, which is added at the end if it is missing. A recent one is found without a search.
+    /// The index of an entry, which is added at the end if it is missing.
     pub fn index_of(&mut self, entry: T) -> Result<usize, AllocError>
         ensures index { IfOk result (λ i. index_of (map T.spelled self.new.entries.items) (T.spelled entry) ≡ i) }
         ensures entries { OnOk result (map T.spelled self.new.entries.items ≡ with_entry (map T.spelled self.old.entries.items) (T.spelled entry)) }
     {
         let place = place_of(entry.code());
-        if let Some(index) = self.recalled(place, entry) {
-            return Ok(index);
+        let number = self.slots[place];
+        if number == 0 {
+            return self.added(place, entry);
         }
-        let index = self.found(entry)?;
-        self.recent[place] = (index % SLOT_NUMBERS) as u16;
-        Ok(index)
+        let first = number - 1;
+        if self.entries[first] == entry {
+            return Ok(first);
+        }
+        self.found(entry)
     }
 
     /// Appends each entry as a field. `message` is overwritten.

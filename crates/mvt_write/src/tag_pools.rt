@@ -1,5 +1,6 @@
 //! The two pools of a layer.
 
+use crate::coded_text::CodedText;
 use crate::pool::Pool;
 use crate::value::PoolValue;
 use mvt_layer::field_numbers::{LAYER_KEYS, LAYER_VALUES};
@@ -8,7 +9,7 @@ use std::alloc::{AllocError, Global};
 /// The keys and the values of a layer's tags.
 #[derive(Drop)]
 pub(crate) struct TagPools<'a> {
-    pub keys: Pool<&'a str>,
+    pub keys: Pool<CodedText<'a>>,
     pub values: Pool<PoolValue<'a>>,
 }
 

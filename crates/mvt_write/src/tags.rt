@@ -9,10 +9,11 @@ ghost use Rattle.mvt_write.specs.Held.{held_keys, held_values};
 ghost use Rattle.mvt_write.specs.Pools.{index_of, with_entry};
 ghost use Rattle.mvt_write.specs.Written.{value_written};
 
-use crate::field::put_short;
+use crate::coded_text::CodedText;
 use crate::tag_pools::TagPools;
 use crate::value::PoolValue;
 use mvt_layer::TagValue;
+use pb_wire::put_varint;
 use std::alloc::AllocError;
 
 /// Appends the index of a tag's key and the index of its value.
@@ -30,6 +31,6 @@ pub(crate) fn put_indices<'a>(
         ++ (varint (index_of (held_keys pools.new) key.entry.now) ++ varint (index_of (held_values pools.new) (value_written (tag_view value.entry))))) }
     ensures fits { FitsTag (key.entry.now, tag_view value.entry) }
 {
-    put_short(out, pools.keys.index_of(key)? as u64)?;
-    put_short(out, pools.values.index_of(PoolValue::new(value))? as u64)
+    put_varint(out, pools.keys.index_of(CodedText::new(key))? as u64)?;
+    put_varint(out, pools.values.index_of(PoolValue::new(value))? as u64)
 }

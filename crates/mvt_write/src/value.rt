@@ -5,6 +5,7 @@ ghost use Rattle.mvt_layer.specs.Tile.{tag_view};
 ghost use Rattle.mvt_write.specs.CanWrite.{CanWriteValue};
 ghost use Rattle.mvt_write.specs.Written.{value_written};
 
+use crate::coded_text::CodedText;
 use crate::field::{put_bytes, put_number};
 use mvt_layer::TagValue;
 use mvt_layer::field_numbers::{BOOL_VALUE, SINT_VALUE, STRING_VALUE, UINT_VALUE};
@@ -14,7 +15,7 @@ use std::alloc::AllocError;
 /// The value of a tag that can be written: every one but a floating point number.
 #[derive(Clone, Copy, PartialEq, Eq, PartialOrd, Ord)]
 pub(crate) enum PoolValue<'a> {
-    Text(&'a str),
+    Text(CodedText<'a>),
     Natural(u64),
     Negative(i64),
     Truth(bool),
@@ -29,7 +30,7 @@ impl<'a> PoolValue<'a> {
         ensures { value_view result ≡ tag_view value.entry }
     {
         match value {
-            TagValue::Text(text) => PoolValue::Text(text),
+            TagValue::Text(text) => PoolValue::Text(CodedText::new(text)),
             TagValue::Natural(n) => PoolValue::Natural(n),
             TagValue::Negative(n) => PoolValue::Negative(n),
             TagValue::Truth(truth) => PoolValue::Truth(truth),
@@ -44,7 +45,7 @@ impl<'a> PoolValue<'a> {
     {
         message.clear();
         match self {
-            PoolValue::Text(text) => put_bytes(message, STRING_VALUE, text.as_bytes()),
+            PoolValue::Text(text) => put_bytes(message, STRING_VALUE, text.text.as_bytes()),
             PoolValue::Natural(n) => put_number(message, UINT_VALUE, n),
             PoolValue::Negative(n) => put_number(message, SINT_VALUE, zigzag(n)),
             PoolValue::Truth(truth) => put_number(message, BOOL_VALUE, u64::from(truth)),

@@ -28,6 +28,31 @@ pub fn put_varint(out: &mut Vec<u8>, n: u64) -> Result<(), AllocError>
     ensures err { OnErr result (out.new.items ≡ out.old.items) }
     ensures full { OnErr result (vec_capacity out.old < vec_len out.old + length (varint n)) }
 {
+    // Most numbers take one byte.
+    if n < 128 {
+        return put_byte(out, n as u8);
+    }
+    put_groups(out, n)
+}
+
+/// Appends a byte, as a number that it encodes.
+fn put_byte(out: &mut Vec<u8>, byte: u8) -> Result<(), AllocError>
+    requires { byte < 128 }
+    ensures ok { OnOk result (out.new.items ≡ out.old.items ++ varint byte) }
+    ensures err { OnErr result (out.new.items ≡ out.old.items) }
+    ensures full { OnErr result (vec_capacity out.old < vec_len out.old + length (varint byte)) }
+{
+    out.reserve(1)?;
+    out.push_reserved(byte);
+    Ok(())
+}
+
+/// The same as `put_varint`, byte by byte.
+fn put_groups(out: &mut Vec<u8>, n: u64) -> Result<(), AllocError>
+    ensures ok { OnOk result (out.new.items ≡ out.old.items ++ varint n) }
+    ensures err { OnErr result (out.new.items ≡ out.old.items) }
+    ensures full { OnErr result (vec_capacity out.old < vec_len out.old + length (varint n)) }
+{
     out.reserve(varint_len(n))?;
     let mut rest = n;
     while rest >= 128 {

@@ -13,4 +13,4 @@ returns c =
     let qy : SFits w64 q.y = search rules in
     let x = simp to_z-of_z at c.way.ensures in
     let y = simp to_z-of_z at c.way-2.ensures in
-    c.in_ok-put_number-2.ensures ∙ rw (c.in_ok-put_number.ensures, x, y) (simp (append_assoc, append-nil))
+    c.in_ok-put_varint-2.ensures.ok ∙ rw (c.in_ok-put_varint.ensures.ok, c.from.ensures, c.from-2.ensures, x, y) (simp (append_assoc, append-nil))

@@ -8,29 +8,29 @@ use Rattle.geometry_commands.proofs.Packing.{line_packed}
 use Rattle.geometry_commands.proofs.Written.{split_first}
 use Rattle.geometry_commands.proofs.packed.PackedShape.put_line.Goals as goal
 
-pub returns-in_ok-put_number-3-clause-bytes : goal.returns-in_ok-put_number-3-clause-bytes
-returns-in_ok-put_number-3-clause-bytes c =
+pub returns-in_ok-put_command-3-clause-bytes : goal.returns-in_ok-put_command-3-clause-bytes
+returns-in_ok-put_command-3-clause-bytes c =
     let line = c.args.line.now in
     let others = take (length line - 1) (drop 1 line) in
     let close : close_spelled c.args.closed ≡ command 7 1 ∷ [] = rw c.if-closed.true refl in
-    let drawn = c.put_number-2.new.out.items in
+    let drawn = c.put_command-2.new.out.items in
     let all = line_packed c.args.closed c.args.self.now.at (get_or line 0 origin) others
-    line c.times.result c.times-2.result c.args.self.now.bytes.items c.put_number.new.out.items c.put_point.new.self.bytes.items drawn
-    c.put_points.new.self.bytes.items (split_first line origin (omega (arith, c.requires.long))) c.times.ensures c.times-2.ensures
-    c.in_ok-put_number.ensures c.in_ok-put_point.ensures.bytes c.in_ok-put_number-2.ensures
+    line (command 1 1) (command 2 (length others)) c.args.self.now.bytes.items c.put_command.new.out.items c.put_point.new.self.bytes.items drawn
+    c.put_points.new.self.bytes.items (split_first line origin (omega (arith, c.requires.long))) refl refl
+    c.in_ok-put_command.ensures c.in_ok-put_point.ensures.bytes c.in_ok-put_command-2.ensures
     (c.in_ok-put_points.ensures.bytes ∙ ap (λ p. drawn ++ flat_map varint (steps p others)) c.in_ok-put_point.ensures.at) in
-    c.in_ok-put_number-3.ensures ∙ rw c.times-then-closed.ensures
-    (ap (λ r. c.put_points.new.self.bytes.items ++ r) (sym (append-nil (varint (command 7 1)))) ∙ rw close at all)
+    c.in_ok-put_command-3.ensures
+    ∙ ap (λ r. c.put_points.new.self.bytes.items ++ r) (sym (append-nil (varint (command 7 1)))) ∙ rw close at all
 
 pub returns-else-closed-clause-bytes : goal.returns-else-closed-clause-bytes
 returns-else-closed-clause-bytes c =
     let line = c.args.line.now in
     let others = take (length line - 1) (drop 1 line) in
     let close : close_spelled c.args.closed ≡ [] = rw c.if-closed.false refl in
-    let drawn = c.put_number-2.new.out.items in
+    let drawn = c.put_command-2.new.out.items in
     let all = line_packed c.args.closed c.args.self.now.at (get_or line 0 origin) others
-    line c.times.result c.times-2.result c.args.self.now.bytes.items c.put_number.new.out.items c.put_point.new.self.bytes.items drawn
-    c.put_points.new.self.bytes.items (split_first line origin (omega (arith, c.requires.long))) c.times.ensures c.times-2.ensures
-    c.in_ok-put_number.ensures c.in_ok-put_point.ensures.bytes c.in_ok-put_number-2.ensures
+    line (command 1 1) (command 2 (length others)) c.args.self.now.bytes.items c.put_command.new.out.items c.put_point.new.self.bytes.items drawn
+    c.put_points.new.self.bytes.items (split_first line origin (omega (arith, c.requires.long))) refl refl
+    c.in_ok-put_command.ensures c.in_ok-put_point.ensures.bytes c.in_ok-put_command-2.ensures
     (c.in_ok-put_points.ensures.bytes ∙ ap (λ p. drawn ++ flat_map varint (steps p others)) c.in_ok-put_point.ensures.at) in
     sym (append-nil c.put_points.new.self.bytes.items) ∙ rw close at all

@@ -1,7 +1,8 @@
-use Rattle.std.proofs.Common.{◌≡◌, ◌∷◌, ◌++◌, [], rules, length, map, ◌∙◌, sym}
+use Rattle.std.proofs.Common.{◌≡◌, ◌∷◌, ◌++◌, [], rules, length, map, ◌∙◌, sym, arith}
 use Rattle.std.specs.BTreeMap.{get}
-use Rattle.std.proofs.lemmas.List.{map-append}
-use Rattle.mvt_write.proofs.Pooled.{indexed_push, absent_from, placed_push, with_new}
+use Rattle.std.proofs.lemmas.List.{map-append, length-append}
+use Rattle.mvt_write.proofs.Pooled.{absent_from, with_new}
+use Rattle.mvt_write.proofs.Slotted.{other_looked, other_free}
 use Rattle.mvt_write.proofs.pool.Pool.found.Goals as goal
 
 pub invariant_of-self-then-index-next : goal.invariant_of-self-then-index-next
@@ -9,15 +10,21 @@ invariant_of-self-then-index-next g c =
     let before = c.args.self.now in
     let items = before.entries.items in
     let entry = c.args.entry in
+    let spelled = g.T.FieldData.spelled in
     let pushed : c.push.new.self.items ≡ items ++ entry ∷ [] = search rules in
     let last : c.len-next.result ≡ length items = search rules in
-    let absent = absent_from g.T.FieldData.spelled items entry _ c.in_ok-index.index c.len-next.result (before.indexed entry) c.in_ok-index.ensures.number
+    let absent = absent_from spelled items entry _ c.in_ok-index.index c.len-next.result c.requires.other c.in_ok-index.ensures.number
     c.if-index-next.true last in
-    let indexed = indexed_push g.T.FieldData.spelled g.T.Ord.cmp g.met.T.FieldData.same
-    (get g.T.Ord.cmp before.indices) (get g.T.Ord.cmp c.number_of.new.numbers)
-    items entry c.in_ok-index.index (c.if-index-next.true ∙ last) absent before.indexed c.in_ok-index.ensures.updates.0 in
-    let placed = placed_push g.T.FieldData.spelled items entry absent before.placed in
-    record { indexed = λ q. rw pushed (indexed q); placed = rw pushed placed }
+    let old = get g.T.Ord.cmp before.others in
+    let new = get g.T.Ord.cmp c.number_of.new.numbers in
+    let updates = c.in_ok-index.ensures.updates.0 in
+    record {
+      looked = λ q. rw pushed (other_looked spelled g.T.FieldData.coded g.T.Ord.cmp g.met.T.FieldData.same g.met.T.FieldData.same_code old new items entry
+          before.slots.value c.in_ok-index.index (c.if-index-next.true ∙ last) absent c.requires.taken before.looked before.named updates q);
+      free = other_free spelled g.T.FieldData.coded g.T.Ord.cmp g.met.T.FieldData.same g.met.T.FieldData.same_code old new entry before.slots.value
+          c.in_ok-index.index c.requires.taken before.free updates;
+      named = λ p. rw pushed (omega (arith, before.named p, length-append items (entry ∷ [])));
+    }
 
 pub returns-then-index-next-clause-entries : goal.returns-then-index-next-clause-entries
 returns-then-index-next-clause-entries g c =
@@ -26,6 +33,6 @@ returns-then-index-next-clause-entries g c =
     let entry = c.args.entry in
     let pushed : c.push.new.self.items ≡ items ++ entry ∷ [] = search rules in
     let last : c.len-next.result ≡ length items = search rules in
-    let absent = absent_from g.T.FieldData.spelled items entry _ c.in_ok-index.index c.len-next.result (before.indexed entry) c.in_ok-index.ensures.number
+    let absent = absent_from g.T.FieldData.spelled items entry _ c.in_ok-index.index c.len-next.result c.requires.other c.in_ok-index.ensures.number
     c.if-index-next.true last in
     rw pushed (map-append g.T.FieldData.spelled items (entry ∷ []) ∙ sym (with_new (map g.T.FieldData.spelled items) (g.T.FieldData.spelled entry) absent))

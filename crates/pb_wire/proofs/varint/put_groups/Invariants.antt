@@ -1,7 +1,7 @@
 use Rattle.std.proofs.Common.{◌≡◌, ◌+◌, ◌≤◌, ◌++◌, length}
 use Rattle.std.specs.Prelude.{vec_len, vec_capacity}
 use Rattle.pb_wire.specs.Varint.{varint}
-use Rattle.pb_wire.proofs.varint.put_varint.Given as goal
+use Rattle.pb_wire.proofs.varint.put_groups.Given as goal
 
 -- what is written so far and the spelling of the rest are the whole, and there is room for the rest
 abbrev pub invariant-loop-rest : goal.invariant-loop-rest

@@ -1,6 +1,6 @@
 use Rattle.std.proofs.Common.{◌++◌, List, ℕ, arith, ap, sym, ◌∙◌}
 use Rattle.pb_wire.proofs.Varints.{varint_last, varint_goes_on, varint_shorter, varint_some}
-use Rattle.pb_wire.proofs.varint.put_varint.Goals as goal
+use Rattle.pb_wire.proofs.varint.put_groups.Goals as goal
 
 pub push_reserved-requires : goal.push_reserved-requires
 push_reserved-requires c = omega (arith, c.loop-rest.invariant.room, varint_some c.loop-rest.rest)
