@@ -1,15 +1,18 @@
 -- What a tile shows of the features of a few numbers is what it shows of all, where each that it shows is among them.
-use Rattle.std.proofs.Common.{◌≡◌, ◌≢◌, ℕ, zero, suc, ◌+◌, ◌<◌, Bool, true, false, List, [], ◌∷◌, ◌++◌, length, get_or, take, All, Option, Some, None, IsSome}
-use Rattle.std.proofs.Common.{refl, sym, ap, subst, ◌∙◌, arith, if◌then◌else◌}
-use Rattle.std.specs.List.{Contains, AllByRecursion, flat_map, cons_option}
+use Rattle.std.proofs.Common.{◌≡◌, ◌≢◌, ℕ, zero, suc, ◌+◌, ◌<◌, Bool, true, false, List, [], ◌∷◌, ◌++◌, length, get_or, take, map, All}
+use Rattle.std.proofs.Common.{Option, Some, None, IsSome, inl, inr}
+use Rattle.std.proofs.Common.{◌==◌, refl, sym, ap, subst, ◌∙◌, arith, if◌then◌else◌}
+use Rattle.std.specs.List.{Contains, AllByRecursion, cons_option}
 use Rattle.std.specs.List.Sorted.{IsStrictlySortedBy}
 use Rattle.std.specs.Option.{option_map_or}
 use Rattle.std.specs.Ordering.{nat_cmp}
 use Rattle.std.specs.Str.{bytes_eq}
 use Rattle.std.specs.declared.cmp.Ordering.TheVariants.{Less}
-use Rattle.std.proofs.lemmas.List.{take_more, append-nil}
+use Rattle.std.proofs.lemmas.Bool.{cases_eq}
+use Rattle.std.proofs.lemmas.Bool.Decides.{nat_tests}
+use Rattle.std.proofs.lemmas.List.{take_more, append-nil, map-append}
 use Rattle.std.proofs.lemmas.List.Concat.{flat_map-append}
-use Rattle.std.proofs.lemmas.List.Elements.{All-nil, All-cons, All-head, All-tail, filter_map-append}
+use Rattle.std.proofs.lemmas.List.Elements.{All-nil, All-cons, All-head, All-tail, All-append, filter_map-append}
 use Rattle.std.proofs.lemmas.Map.Keys.{sorted_head, sorted_tail}
 use Rattle.number_map.specs.Blocks.{Ascends, AreAbove}
 use Rattle.number_map.proofs.Numbers.{below, by_order}
@@ -17,22 +20,45 @@ use Rattle.number_map.proofs.Entries.{ascends_head, ascends_tail, raised, lookup
 use Rattle.feature_model.specs.Data.{FeatureData}
 use Rattle.mvt_layer.specs.Tile.{FeatureView}
 use Rattle.tile_cutter.specs.Cut.{feature_cut}
+use Rattle.feature_store.specs.Chosen.{chosen, found_data}
+use Rattle.feature_store.specs.declared.gathered.Found.{Found}
 use Rattle.feature_store.specs.Indexed.{ShowsAll}
 use Rattle.feature_store.specs.Layers.{numbered_cut, cut_for, cuts_of}
 use Rattle.feature_store.specs.Store.{FeatureMap, IsMap, feature_at, entry_at}
 
--- the entries of numbers
-abbrev pub chosen : FeatureMap → List ℕ → FeatureMap
-chosen m ns = flat_map (entry_at m) ns
-
--- what a tile shows of numbers, and of one more
-pub cuts_more : (m : FeatureMap) (ns : List ℕ) (i : ℕ) (name : List ℕ) (z x y : ℕ) → i < length ns
-    → cuts_of (chosen m (take (i + 1) ns)) name z x y ≡ cuts_of (chosen m (take i ns)) name z x y ++ cuts_of (entry_at m (get_or ns i 0)) name z x y
-cuts_more m ns i name z x y lt =
+-- numbers, and one more
+pub chosen_more : (m : FeatureMap) (ns : List ℕ) (i : ℕ) → i < length ns
+    → chosen m (take (i + 1) ns) ≡ chosen m (take i ns) ++ entry_at m (get_or ns i 0)
+chosen_more m ns i lt =
     let n = get_or ns i 0 in
-    ap (λ t. cuts_of (chosen m t) name z x y) (take_more ns i 0 lt)
-    ∙ ap (λ es. cuts_of es name z x y) (flat_map-append (entry_at m) (take i ns) (n ∷ []) ∙ ap (λ es. chosen m (take i ns) ++ es) (append-nil (entry_at m n)))
-    ∙ filter_map-append (cut_for name z x y) (chosen m (take i ns)) (entry_at m n)
+    ap (chosen m) (take_more ns i 0 lt)
+    ∙ flat_map-append (entry_at m) (take i ns) (n ∷ [])
+    ∙ ap (λ es. chosen m (take i ns) ++ es) (append-nil (entry_at m n))
+
+-- what a tile shows of some entries and of others
+pub cuts_both : (es fs : FeatureMap) (name : List ℕ) (z x y : ℕ) → cuts_of (es ++ fs) name z x y ≡ cuts_of es name z x y ++ cuts_of fs name z x y
+cuts_both es fs name z x y = filter_map-append (cut_for name z x y) es fs
+
+-- what a tile shows of the features that were looked up, and of one more
+pub found_more : (xs : List Found) (i : ℕ) (d : Found) (name : List ℕ) (z x y : ℕ) → i < length xs
+    → cuts_of (map found_data (take (i + 1) xs)) name z x y
+    ≡ cuts_of (map found_data (take i xs)) name z x y ++ cuts_of (found_data (get_or xs i d) ∷ []) name z x y
+found_more xs i d name z x y lt =
+    ap (λ t. cuts_of (map found_data t) name z x y) (take_more xs i d lt)
+    ∙ ap (λ es. cuts_of es name z x y) (map-append found_data (take i xs) (get_or xs i d ∷ []))
+    ∙ cuts_both (map found_data (take i xs)) (found_data (get_or xs i d) ∷ []) name z x y
+
+-- numbers of which none is left
+none_left : (n : ℕ) (empty : Bool) → empty ≡ (n == 0) → empty ≡ true → n ≡ 0
+none_left n empty is so = grind (arith, nat_tests)
+
+pub nothing_left : (ns : List ℕ) (empty : Bool) → empty ≡ (length ns == 0) → empty ≡ true → ns ≡ []
+nothing_left [] empty is so = refl
+nothing_left (n ∷ ns) empty is so = let none : length (n ∷ ns) ≡ 0 = none_left (length (n ∷ ns)) empty is so in absurd (omega (arith, none))
+
+-- those of some numbers and of others
+pub chosen_both : (m : FeatureMap) (ns os : List ℕ) → chosen m (ns ++ os) ≡ chosen m ns ++ chosen m os
+chosen_both m ns os = flat_map-append (entry_at m) ns os
 
 entry_here : (e : ℕ × FeatureData) (m : FeatureMap) (n : ℕ) → n ≡ e.0 → entry_at (e ∷ m) n ≡ e ∷ []
 unfolding feature_at
@@ -47,6 +73,19 @@ entry_on e m n differs = ap (λ o. option_map_or (λ f. let d : ℕ × FeatureDa
 no_entry : (m : FeatureMap) (n : ℕ) → AreAbove n m → entry_at m n ≡ []
 unfolding feature_at
 no_entry m n above = ap (λ o. option_map_or (λ f. let d : ℕ × FeatureData = (n, f) in d ∷ []) o []) (lookup_above m n above)
+
+-- what holds of all entries holds of those that are chosen
+All-entry : (P : ℕ × FeatureData → Type 0) (m : FeatureMap) (n : ℕ) → All P m → All P (entry_at m n)
+unfolding feature_at
+All-entry P [] n all = All-nil P
+All-entry P (e ∷ m) n all = elim (cases_eq n e.0) [
+  | inl here ↦ subst (All P) (sym (entry_here e m n here)) (All-cons P e [] (All-head P e m all) (All-nil P))
+  | inr differs ↦ subst (All P) (sym (entry_on e m n differs)) (All-entry P m n (All-tail P e m all))
+]
+
+pub All-chosen : (P : ℕ × FeatureData → Type 0) (m : FeatureMap) (ns : List ℕ) → All P m → All P (chosen m ns)
+All-chosen P m [] all = All-nil P
+All-chosen P m (n ∷ ns) all = All-append P (entry_at m n) (chosen m ns) (All-entry P m n all) (All-chosen P m ns all)
 
 -- numbers above this one
 abbrev AreOver : ℕ → List ℕ → Type 0

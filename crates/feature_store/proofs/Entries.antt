@@ -1,7 +1,6 @@
 -- Entries and the map that they keep.
 use Rattle.std.proofs.Common.{◌≡◌, ℕ, true, false, Bool, cond, ◌+◌, ◌<◌, refl, sym, ap, subst, ◌∙◌}
-use Rattle.std.proofs.Common.{List, [], ◌∷◌, ◌++◌, All, length, get_or, take, drop, append_assoc, inl, inr, Option, Some, None, Bor}
-use Rattle.std.proofs.Common.{arith}
+use Rattle.std.proofs.Common.{List, [], ◌∷◌, ◌++◌, All, length, get_or, take, drop, append_assoc, Option, Some, None, Bor}
 use Rattle.std.specs.Option.{is_some, option_map}
 use Rattle.std.specs.Ordering.{nat_cmp, match_ordering}
 use Rattle.std.specs.declared.cmp.Ordering.{Ordering}
@@ -9,10 +8,9 @@ use Rattle.std.specs.declared.cmp.Ordering.TheVariants.{Less, Equal, Greater}
 use Rattle.std.specs.BTreeMap.{insert_entry, is_at}
 use Rattle.std.specs.List.{last_or}
 use Rattle.std.specs.Map.{keys_of, lookup, remove_entry}
-use Rattle.std.proofs.lemmas.List.{length-map, map-append, append-nil, take_more, drop_more, take-append-drop, get_or-map}
-use Rattle.std.proofs.lemmas.Bool.{cases_eq}
+use Rattle.std.proofs.lemmas.List.{map-append, append-nil, take_more, drop_more, take-append-drop}
 use Rattle.std.proofs.lemmas.List.Elements.{All-cons, All-head, All-tail}
-use Rattle.number_map.proofs.Entries.{lookup_here, lookup_on, set_step}
+use Rattle.number_map.proofs.Entries.{set_step}
 use Rattle.number_map.proofs.Numbers.{less, equal, greater, by_order}
 use Rattle.std.proofs.lemmas.List.Concat.{flat_map-append}
 use Rattle.std.proofs.lemmas.Map.Made.{lookup-map_values}
@@ -107,22 +105,6 @@ pub found_data : (o : Option (Bor Stored)) (p : Option Stored) → option_map (�
     → option_map (λ f. stored_data f.now) o ≡ option_map stored_data p
 found_data None p is = ap (option_map stored_data) is
 found_data (Some v) p is = ap (option_map stored_data) is
-
--- what holds of all entries holds of the one that is found
-pub All-found : (P : ℕ × Stored → Type 0) (es : List (ℕ × Stored)) (n : ℕ) (f : Stored) → All P es → lookup (is_at (nat_cmp n)) es ≡ Some f → P (n, f)
-All-found P [] n f all h = cc
-All-found P (e ∷ es) n f all h = elim (cases_eq n e.0) [
-  | inl here ↦
-      let found : Some e.1 ≡ Some f = sym (lookup_here n e es here) ∙ h in
-      let value : e.1 ≡ f = cc in
-      let is : e ≡ (n, f) = λ i. (sym here i, value i) in
-      subst P is (All-head P e es all)
-  | inr differs ↦ All-found P es n f (All-tail P e es all) (sym (lookup_on n e es differs) ∙ h)
-]
-
--- what holds of each pair of the map holds of each entry
-pub All-entries : (P : ℕ × FeatureData → Type 0) (es : List (ℕ × Stored)) → All P (entries_data es) → All (λ e. P (entry_data e)) es
-All-entries P es all k d lt = subst P (get_or-map entry_data es k d (entry_data d) lt) (all k (entry_data d) (omega (arith, length-map es entry_data)))
 
 -- ---- entries as texts
 

@@ -69,7 +69,7 @@ module _ (count : ℕ) (done : EditData) (rest text : List ℕ) (read : AreRead 
   on_from : (cs : EditData) → AreTexts count cs text → GoesOn done rest cs
   on_from cs is = goes_on done cs rest read.changes is.changes (sym is.text_is ∙ read.whole)
 
-  -- where some are missing, and none that may be next is in front
+  -- where some are missing, and none that may be next is at the start
   pub none_next : (cs : EditData) → length done < count → HasNoNext done rest → AreTexts count cs text → ⊥
   none_next cs fewer none is = let on = on_from cs is in by on.0 on.1 on.2
     where
@@ -97,7 +97,7 @@ module _ (count : ℕ) (done : EditData) (rest text : List ℕ) (read : AreRead 
     text_is = read.whole ∙ ap (λ r. spelled_changes done ++ r) (nil_from_length rest none) ∙ append-nil (spelled_changes done);
   }
 
--- ---- a change in front
+-- ---- a change at the start
 
 -- the texts of the two kinds begin with different bytes
 pub no_put : (id : ℕ) (f : FeatureData) (text : List ℕ) → (rest : List ℕ) × (text ≡ DELETE_KIND ∷ rest) → BeginsWithChange (put id f) text → ⊥
@@ -114,7 +114,7 @@ pub neither : (text : List ℕ) → ((id : ℕ) (f : FeatureData) → BeginsWith
 neither text puts deletes (put id f) begins = puts id f begins
 neither text puts deletes (delete id) begins = deletes id begins
 
--- ---- the count in front
+-- ---- the count at the start
 
 text_parts : (version : ℕ) (cs : EditData) → IsRecordVersion version → count_in version (length cs) ++ spelled_changes cs ≡ text_in version cs
 unfolding spelled
@@ -206,7 +206,7 @@ told_of (Ok x) P Q to told = tt
 told_of (Err fault) P Q to (inl memory) = inl memory
 told_of (Err fault) P Q to (inr bad) = inr (bad.0, to bad.1)
 
--- a change in front whose number isn't new leaves no other
+-- a change at the start whose number isn't new leaves no other
 pub none_new : (done : EditData) (c : ChangeData) (rest text : List ℕ) → IsChange c → text ≡ spelled_change c ++ rest → (IsNew done (number_of c) → ⊥)
     → HasNoNext done text
 none_new done c rest text is begins twice d other new =

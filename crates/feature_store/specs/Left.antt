@@ -31,7 +31,7 @@ abbrev pub left_of : Option WalkView → List (ℕ × List ℕ)
 left_of None = []
 left_of (Some walk) = walk.left
 
--- a tile that was taken, in front of others
+-- a tile that was taken, before others
 abbrev pub with_next : Option (ℕ × Vec ℕ Global) → List (ℕ × List ℕ) → List (ℕ × List ℕ)
 with_next None ts = ts
 with_next (Some t) ts = (t.0, t.1.items) ∷ ts

@@ -1,5 +1,6 @@
 pub mod Boxes
 pub mod BoxesInside
+pub mod Chosen
 pub mod Content
 pub mod Gathered
 pub mod Indexed

@@ -17,13 +17,13 @@ pub record IsCounted (version count : ℕ) (texts text : List ℕ) : Type 0 wher
   pub one : version ≡ 1 → count ≡ 1
   pub text_is : text ≡ count_in version count ++ texts
 
--- these are the texts of so many changes, each of a number of its own
+-- these are the texts of `count` changes, each of a number of its own
 pub record AreTexts (count : ℕ) (cs : EditData) (texts : List ℕ) : Type 0 where
   pub count_is : length cs ≡ count
   pub changes : All IsChange cs
   pub distinct : AreDistinct cs
   pub text_is : texts ≡ spelled_changes cs
 
--- no change is in front whose number these don't have
+-- no change is at the start whose number these don't have
 abbrev pub HasNoNext : EditData → List ℕ → Type 0
 HasNoNext done bytes = (c : ChangeData) → BeginsWithChange c bytes → IsNew done (number_of c) → ⊥

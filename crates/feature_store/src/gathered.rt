@@ -1,6 +1,6 @@
 //! What a tile shows of the features of a map, written layer by layer.
 
-ghost use Rattle.std.specs.Prelude.{ℕ, ◌≤◌, List, ◌∷◌, ◌++◌, [], All, map, OnOk, IfOk};
+ghost use Rattle.std.specs.Prelude.{ℕ, ◌≤◌, List, ◌∷◌, ◌++◌, ◌≡◌, [], All, map, OnOk, IfOk};
 ghost use Rattle.feature_model.specs.Limits.{IsAllowed, ValueFits};
 ghost use Rattle.feature_text.specs.Views.{tags_view, feature_view};
 ghost use Rattle.geometry_commands.specs.Shapes.{ShapeView};
@@ -8,9 +8,10 @@ ghost use Rattle.mvt_layer.specs.Tile.{FeatureView};
 ghost use Rattle.mvt_write.specs.Writes.{Writes};
 ghost use Rattle.tile_cutter.specs.Cut.{shown_tag};
 ghost use Rattle.tile_cutter.specs.Put.{IsPut};
+ghost use Rattle.feature_store.specs.Chosen.{chosen, borrowed_data, found_data};
 ghost use Rattle.feature_store.specs.Gathered.{Gathers};
 ghost use Rattle.feature_store.specs.Indexed.{ShowsAll};
-ghost use Rattle.feature_store.specs.Inside.{entries_data, stored_data};
+ghost use Rattle.feature_store.specs.Inside.{entries_data};
 ghost use Rattle.feature_store.specs.Layers.{numbered, added_to, cuts_of};
 ghost use Rattle.feature_store.specs.Store.{IsMap, entry_at};
 
@@ -100,22 +101,79 @@ fn add_shown<'a>(
     add(alloc, gathered, id, feature, kind, &cutter.shape)
 }
 
-/// The same of a number, which may have no feature.
-fn add_number<'a>(
+/// How many features are looked up before the first of them is cut: most of their searches and first reads miss the caches, and these misses
+/// overlap.
+const AHEAD: usize = 32;
+
+/// A feature that is looked up, and its number.
+#[derive(Clone, Copy)]
+pub(crate) struct Found<'a> {
+    id: u64,
+    feature: FeatureText<'a>,
+}
+
+/// Appends a number with its feature, if it has one.
+fn push_stored<'a>(
+    stored: &mut Vec<(u64, &'a StoredFeature)>,
+    features: &'a NumberMap<StoredFeature>,
+    number: u64,
+) -> Result<(), AllocError>
+    ensures { OnOk result (map borrowed_data stored.new.items ≡ map borrowed_data stored.old.items
+        ++ entry_at (entries_data features.entry.now.entries) number) }
+{
+    if let Some(feature) = features.get(number) {
+        stored.push((number, feature))?;
+    }
+    Ok(())
+}
+
+/// Puts the numbers that have a feature into `stored`, each with its feature. What was there is dropped.
+fn look_up<'a>(
+    stored: &mut Vec<(u64, &'a StoredFeature)>,
+    features: &'a NumberMap<StoredFeature>,
+    numbers: &[u64],
+) -> Result<(), AllocError>
+    ensures { OnOk result (map borrowed_data stored.new.items ≡ chosen (entries_data features.entry.now.entries) numbers.now) }
+{
+    stored.clear();
+    for number in numbers {
+        push_stored(stored, features, *number)?;
+    }
+    Ok(())
+}
+
+/// Puts what each of these features shows into `found`. What was there is dropped.
+fn view_each<'a>(
+    found: &mut Vec<Found<'a>>,
+    stored: &[(u64, &'a StoredFeature)],
+) -> Result<(), AllocError>
+    ensures { OnOk result (map found_data found.new.items ≡ map borrowed_data stored.now) }
+{
+    found.clear();
+    for &(id, feature) in stored {
+        found.push(Found {
+            id,
+            feature: feature.view(),
+        })?;
+    }
+    Ok(())
+}
+
+/// Adds what the tile shows of features to what it shows of those before.
+fn add_each<'a>(
     alloc: Global,
     cutter: &mut Cutter,
     gathered: &mut Gathered<'a>,
-    features: &'a NumberMap<StoredFeature>,
-    number: u64,
+    found: &[Found<'a>],
     at: TileAt,
 ) -> Result<(), AllocError>
     requires zoom { at.z ≤ MAX_ZOOM }
-    requires allowed { All (λ e. IsAllowed e.0 (stored_data e.1)) features.now.entries }
+    requires allowed { All (λ e. IsAllowed e.0 e.1) (map found_data found.now) }
     ensures { OnOk result ((fs : List ℕ → List FeatureView) → Gathers gathered.old fs
-        → Gathers gathered.new (λ name. fs name ++ cuts_of (entry_at (entries_data features.now.entries) number) name at.z at.x at.y)) }
+        → Gathers gathered.new (λ name. fs name ++ cuts_of (map found_data found.now) name at.z at.x at.y)) }
 {
-    if let Some(stored) = features.get(number) {
-        add_shown(alloc, cutter, gathered, number, stored.view(), at)?;
+    for one in found {
+        add_shown(alloc, cutter, gathered, one.id, one.feature, at)?;
     }
     Ok(())
 }
@@ -134,8 +192,15 @@ pub(crate) fn gather<'a>(
     ensures { IfOk result (λ g. Gathers g (λ name. cuts_of (entries_data features.now.entries) name at.z at.x at.y)) }
 {
     let mut gathered = BTreeMap::new(alloc);
-    for number in numbers {
-        add_number(alloc, cutter, &mut gathered, features, *number, at)?;
+    let mut stored = Vec::with_capacity(alloc, AHEAD.min(numbers.len()))?;
+    let mut found = Vec::with_capacity(alloc, AHEAD.min(numbers.len()))?;
+    let mut rest = numbers;
+    while !rest.is_empty() {
+        let (part, later) = rest.split_at(AHEAD.min(rest.len()));
+        look_up(&mut stored, features, part)?;
+        view_each(&mut found, &stored)?;
+        add_each(alloc, cutter, &mut gathered, &found, at)?;
+        rest = later;
     }
     Ok(gathered)
 }

@@ -109,7 +109,7 @@ fn is_deletion(text: &[u8]) -> bool
     }
 }
 
-/// The deletion whose text is in front, and the bytes after it.
+/// The deletion whose text is at the start, and the bytes after it.
 fn read_deletion(alloc: Global, text: &[u8]) -> Result<(Prepared, &[u8]), TextFault>
     ensures change { IfOk result (λ r. IsChange (prepared_data r.0)) }
     ensures text { IfOk result (λ r. text.now ≡ spelled_change (prepared_data r.0) ++ r.1.now) }
@@ -124,7 +124,7 @@ fn read_deletion(alloc: Global, text: &[u8]) -> Result<(Prepared, &[u8]), TextFa
     }
 }
 
-/// The change in front that sets a feature, and the bytes after it.
+/// The change at the start that sets a feature, and the bytes after it.
 fn read_put(alloc: Global, text: &[u8]) -> Result<(Prepared, &[u8]), TextFault>
     ensures change { IfOk result (λ r. IsChange (prepared_data r.0)) }
     ensures text { IfOk result (λ r. text.now ≡ spelled_change (prepared_data r.0) ++ r.1.now) }
@@ -138,7 +138,7 @@ fn read_put(alloc: Global, text: &[u8]) -> Result<(Prepared, &[u8]), TextFault>
     }
 }
 
-/// The change in front, and the bytes after it.
+/// The change at the start, and the bytes after it.
 fn read_change(alloc: Global, text: &[u8]) -> Result<(Prepared, &[u8]), TextFault>
     ensures change { IfOk result (λ r. IsChange (prepared_data r.0)) }
     ensures text { IfOk result (λ r. text.now ≡ spelled_change (prepared_data r.0) ++ r.1.now) }
@@ -167,7 +167,7 @@ fn is_new(changes: &[Prepared], id: u64) -> bool
     changes.iter().all(|change| number(change) != id)
 }
 
-/// The change in front, of a number that those before it don't have, and the bytes after it.
+/// The change at the start, of a number that those before it don't have, and the bytes after it.
 fn read_next<'a>(
     alloc: Global,
     before: &[Prepared],

@@ -54,7 +54,7 @@ fn to_snapshot_fault(fault: TextFault) -> SnapshotFault
     }
 }
 
-/// The feature whose text is in front, with its number, and the bytes after it.
+/// The feature whose text is at the start, with its number, and the bytes after it.
 #[tactic(auto, using(crate::proofs::Snapshots::text_behind, crate::proofs::Snapshots::text_within))]
 fn read_entry(alloc: Global, text: &[u8]) -> Result<(StoredFeature, &[u8]), SnapshotFault>
     ensures edit { IfOk result (λ r. IsEditOf r.0) }

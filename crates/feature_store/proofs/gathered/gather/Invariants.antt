@@ -1,10 +1,14 @@
-use Rattle.std.proofs.Common.{take}
+use Rattle.std.proofs.Common.{◌≡◌, ℕ, List, ◌++◌, length}
+use Rattle.feature_store.specs.Chosen.{chosen}
 use Rattle.feature_store.specs.Gathered.{Gathers}
 use Rattle.feature_store.specs.Inside.{entries_data}
 use Rattle.feature_store.specs.Layers.{cuts_of}
-use Rattle.feature_store.proofs.Chosen.{chosen}
 use Rattle.feature_store.proofs.gathered.gather.Given as goal
 
-abbrev pub invariant-loop-number : goal.invariant-loop-number
-invariant-loop-number l =
-    Gathers l.gathered (λ name. cuts_of (chosen (entries_data l.features.entries) (take l.number-index l.numbers)) name l.at.z l.at.x l.at.y)
+-- the numbers that are done, and those that are left
+abbrev pub invariant-loop-rest : goal.invariant-loop-rest
+invariant-loop-rest l = (done : List ℕ) × (l.numbers ≡ done ++ l.rest)
+    × Gathers l.gathered (λ name. cuts_of (chosen (entries_data l.features.entries) done) name l.at.z l.at.x l.at.y)
+
+abbrev pub decreases-loop-rest : goal.decreases-loop-rest
+decreases-loop-rest l = length l.rest

@@ -9,7 +9,8 @@ pub returns-in-Some-clause-indexed : goal.returns-in-Some-clause-indexed
 returns-in-Some-clause-indexed c m is indexed =
     let facts = c.remove.ensures in
     entry_gone m c.args.id (stored_data c.in-Some.stored) c.args.index.now.entries c.remove.new.self.entries c.index_entry-entry.result c.remove.result
-    (c.index_entry-entry.ensures ∙ ap (λ f. index_entry (c.args.id, f)) c.view.ensures) facts.found.1 facts.taken (sym is ∙ ap (option_map stored_data) c.in-Some.is) indexed
+    (c.index_entry-entry.ensures ∙ ap (λ f. index_entry (c.args.id, f)) c.view.ensures) facts.found.1 facts.taken
+    (sym is ∙ ap (option_map stored_data) c.in-Some.is) indexed
 
 pub returns-in-None-clause-indexed : goal.returns-in-None-clause-indexed
 returns-in-None-clause-indexed c m is indexed =
