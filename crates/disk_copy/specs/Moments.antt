@@ -6,7 +6,7 @@ use Rattle.edit_journal.specs.Recovers.{IsJournal}
 use Rattle.edit_journal.specs.Ring.{Ring, RecordStart, sector_at, HoldsOnly}
 use Rattle.edit_journal.specs.declared.sizes.TheConstants.{LAST_RECORD_VERSION}
 
--- Between two publications: at each moment, by its number, the ring holds so many first records, and never fewer than before.
+-- Between two publications: at each moment, by its number, the ring holds the first `count` records, and never fewer than before.
 pub record Grows (ring : Ring) (start : RecordStart) (records : List RecordData) (images : ℕ → Image) (count : ℕ → ℕ) : Type 0 where
   pub holds : (moment : ℕ) → HoldsOnly ring start (take (count moment) records) (images moment)
   pub rises : (moment later : ℕ) → moment ≤ later → count moment ≤ count later

@@ -96,6 +96,7 @@ fn check_root<D: Sectors>(disk: &mut D, found: Found) -> Result<(), CopyFault>
         → found.version ≡ version_from (seen (D.history disk.old) 0) → IfErr result IsOutside }
     // Only if it is the live root.
     ensures still { D.honest disk.new → OnOk result (LiveRoot (D.sectors disk.old) (seen (D.history disk.old)) found.layout.sectors found.root) }
+    ensures version { D.honest disk.new → OnOk result (found.version ≡ version_from (seen (D.history disk.old) 0)) }
 {
     let again = match read_root(disk) {
         Ok(again) => again,
