@@ -197,7 +197,7 @@ edited_by old new cs is_map later are short is remembers =
       leaves = λ marks z x y n below all. subst (λ m. layers m z x y ≡ layers old.features z x y) (sym is) (marked.leaves marks z x y n below all);
     }
 
--- ---- one change before or behind others
+-- ---- one change before or after others
 
 pub puts_first : (c : ChangeData) (cs : List ChangeData) → puts_in (c ∷ cs) ≡ puts_in (c ∷ []) + puts_in cs
 puts_first (put id f) cs = omega arith

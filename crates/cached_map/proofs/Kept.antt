@@ -171,7 +171,7 @@ read_beside_cut m cells last number old new z x y bytes kept before =
     one_or_same Cut m cells last old new z x y (record { origin = Read; number = number; bytes = bytes }) before
     (λ from. absurd (cut_is_not_read (sym from))) kept
 
--- what was read of an earlier map that has the layers of this one where no edit behind its number reaches
+-- what was read of an earlier map that has the layers of this one where no edit after its number reaches
 pub read_kept : (m : FeatureMap) (cells : List ℕ) (last number : ℕ) (old new : CacheView) (z x y : ℕ) (bytes : List ℕ) (was : FeatureMap)
     → KeepsOrNot z x y (record { origin = Read; number = number; bytes = bytes }) old new
     → WasMap m cells last number was → IsTileContent (layers was z x y) (Some bytes) → AreReadRight m cells last old → AreReadRight m cells last new
@@ -201,7 +201,7 @@ keeps_or_not (Err fault) old new z x y t kept large others latest same = inr sam
 
 -- ---- the newest edit that reaches a tile
 
--- no edit behind it reaches the tile
+-- no edit after it reaches the tile
 untouched_behind : (marks : List Mark) (z x y newest n : ℕ) → IsNewest marks z x y newest → newest ≤ n → IsUntouched marks z x y n
 untouched_behind marks z x y newest n is le =
     All-weaker (λ (k : Mark). Reaches k.0 z x y → k.1 ≤ newest) (λ (k : Mark). Reaches k.0 z x y → k.1 ≤ n)

@@ -1,7 +1,7 @@
 //! A map with a cache of its tiles.
 
 ghost use Rattle.std.specs.Prelude.{◌≡◌, ◌↔◌, ◌≢◌, ◌<◌, ◌≤◌, ◌+◌, ℕ, List, [], ◌∷◌, length, map, All, true, Some, None};
-ghost use Rattle.std.specs.Prelude.{IsSome, IsTrue, IfOk, IfSome, OnOk, OnErr};
+ghost use Rattle.std.specs.Prelude.{IsSome, IsTrue, IfOk, IfSome, IfNone, OnOk, OnErr};
 ghost use Rattle.feature_model.specs.Data.{put, delete, change_data};
 ghost use Rattle.feature_model.specs.Limits.{IsAllowedChange};
 ghost use Rattle.feature_model.specs.Spelled.{spelled_changes};
@@ -312,6 +312,9 @@ impl CachedMap {
         ensures same { self.new ≡ record self.old { kept = self.new.kept } }
         ensures keeps { IfOk result (λ content. IfSome content (λ bytes.
             KeepsOrNot at.z at.x at.y (record { origin = Cut; number = self.old.last; bytes = bytes }) self.old.kept self.new.kept)) }
+        // If there is nothing to be cached, the cache is unchanged.
+        ensures empty { IfOk result (λ content. IfNone content (self.new.kept ≡ self.old.kept)) }
+        ensures failed { OnErr result (self.new.kept ≡ self.old.kept) }
         ensures reads { AreReadRight self.old.features self.old.touched self.old.last self.old.kept
             → AreReadRight self.new.features self.new.touched self.new.last self.new.kept }
     {

@@ -15,7 +15,8 @@ invariant-loop-change l = record {
   items : l.yielded ++ into_iter_items l.change-iterator ≡ l.fn.changes.items;
   left : into_iter_len l.change-iterator ≡ length (into_iter_items l.change-iterator);
   map_is : l.store.features ≡ edited l.fn.store.features (map prepared_data l.yielded);
-  marks : (marks : List Mark) → Remembers l.fn.touched marks → Remembers l.touched (marks_after l.fn.store.features (map prepared_data l.yielded) l.number marks);
+  marks : (marks : List Mark) → Remembers l.fn.touched marks
+      → Remembers l.touched (marks_after l.fn.store.features (map prepared_data l.yielded) l.number marks);
   stays : (marks : List Mark) (first : List ℕ) → StaysElsewhere marks first l.fn.touched
       → StaysElsewhere (marks_after l.fn.store.features (map prepared_data l.yielded) l.number marks) first l.touched;
   room : puts_in (map prepared_data (into_iter_items l.change-iterator)) ≤ l.store.spare;
