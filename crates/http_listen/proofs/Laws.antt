@@ -29,7 +29,7 @@ module _ {S : Type 0} (replies fails : S → RequestView → ReplyView → S →
   serves_parts old (event ∷ front) back new both =
       let parts = serves_parts both.0 front back new both.2 in (parts.0, (both.0, both.1, parts.1), parts.2)
 
-  -- events of so many connections, whose stretches are over known bytes, lead from the old state to the new one
+  -- events of this many connections, whose stretches are over known bytes, lead from the old state to the new one
   abbrev pub ServesCount : ℕ → S → S → Type 0
   ServesCount count old new = (served : List Event) × Serves replies fails reads old served new × (begun served ≡ count) × AreOverKnown served
 

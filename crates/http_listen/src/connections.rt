@@ -178,7 +178,7 @@ where
 /// all others with it. Once all connections hold 256 MiB, so is each reply, and a connection that has begun a request and sends more of it
 /// ends with `memory`.
 ///
-/// At most `Waits::max_open` connections are open, and never more than `MAX_KEPT`. When so many are, or when one can't be accepted for
+/// At most `Waits::max_open` connections are open, and never more than `MAX_KEPT`. At that limit, or when one can't be accepted for
 /// want of descriptors or memory, room is made for it: a connection that has ended is closed, or else the one that waits longest for a
 /// request is ended and logged as `closed`, if it has waited for a second and has sent nothing. If there is none, the new one waits in
 /// the listener's queue, and is accepted once it can be.

@@ -31,7 +31,7 @@ impl Deadlines {
         self.next = self.next.min(end);
     }
 
-    /// Begins a look at so many connections: the times of all peers are noted again.
+    /// Begins a look at this many connections: the times of all peers are noted again.
     pub(crate) fn begin_look(&mut self, now: u64, connections: usize)
         ensures { self.new ≡ record { next = 2 ^ 64 - 1; pause = min (now + min (connections * 10_000) (2 ^ 64 - 1)) (2 ^ 64 - 1) } }
     {

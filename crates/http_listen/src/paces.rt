@@ -94,7 +94,7 @@ impl Pace {
         Pace { left, ..self }
     }
 
-    /// So many bytes of a reply were sent.
+    /// This many bytes of a reply were sent.
     pub(crate) fn sent(self, bytes: usize) -> Pace
         ensures { result ≡ earned self bytes }
     {

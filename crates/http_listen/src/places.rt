@@ -1,4 +1,6 @@
 //! The places of open connections: which may have their turn, and which may be closed for others.
+ghost use Rattle.std.specs.Prelude.{◌≡◌};
+ghost use Rattle.http_listen.specs.Places.{KeepsAll, Reports};
 
 use crate::kept::Kept;
 use crate::rooms::MAX_OUTPUT;
@@ -117,7 +119,9 @@ impl<S> Places<S> {
     }
 
     /// Changes the ends of a list.
-    fn set_ends(&mut self, list: List, ends: Ends) {
+    fn set_ends(&mut self, list: List, ends: Ends)
+        ensures { self.new.places ≡ self.old.places }
+    {
         match list {
             List::Ready => self.ready = ends,
             List::Unwatched => self.unwatched = ends,
@@ -144,37 +148,73 @@ impl<S> Places<S> {
         waiting.or(working).or(self.first(List::Ready))
     }
 
-    /// Makes two connections neighbours in a list. `None` is its end.
-    fn join(&mut self, list: List, before: Option<usize>, after: Option<usize>) {
-        let mut ends = self.ends(list);
+    /// Sets which connection of a list comes after another one, or after `None` as its first. `None` ends the list.
+    fn set_after(&mut self, list: List, before: Option<usize>, after: Option<usize>)
+        ensures { KeepsAll self.old self.new }
+    {
         match before {
-            None => ends.first = after,
+            None => {
+                let ends = self.ends(list);
+                self.set_ends(
+                    list,
+                    Ends {
+                        first: after,
+                        ..ends
+                    },
+                );
+            }
             Some(key) => {
                 if let Some(place) = self.places.get_mut(key) {
                     place.after = after;
                 }
             }
         }
+    }
+
+    /// Sets which connection of a list comes before another one, or before `None` as its last. `None` begins the list.
+    fn set_before(&mut self, list: List, before: Option<usize>, after: Option<usize>)
+        ensures { KeepsAll self.old self.new }
+    {
         match after {
-            None => ends.last = before,
+            None => {
+                let ends = self.ends(list);
+                self.set_ends(
+                    list,
+                    Ends {
+                        last: before,
+                        ..ends
+                    },
+                );
+            }
             Some(key) => {
                 if let Some(place) = self.places.get_mut(key) {
                     place.before = before;
                 }
             }
         }
-        self.set_ends(list, ends);
+    }
+
+    /// Makes two connections neighbours in a list. `None` is its end.
+    fn join(&mut self, list: List, before: Option<usize>, after: Option<usize>)
+        ensures { KeepsAll self.old self.new }
+    {
+        self.set_after(list, before, after);
+        self.set_before(list, before, after);
     }
 
     /// Adds to the number of connections of a list.
-    fn add_count(&mut self, list: List, added: usize, removed: usize) {
+    fn add_count(&mut self, list: List, added: usize, removed: usize)
+        ensures { KeepsAll self.old self.new }
+    {
         let mut ends = self.ends(list);
         ends.count = ends.count.saturating_add(added).saturating_sub(removed);
         self.set_ends(list, ends);
     }
 
     /// Puts a connection, which is in no list, into this one between two neighbours.
-    fn link(&mut self, key: usize, list: List, before: Option<usize>, after: Option<usize>) {
+    fn link(&mut self, key: usize, list: List, before: Option<usize>, after: Option<usize>)
+        ensures { KeepsAll self.old self.new }
+    {
         self.join(list, before, Some(key));
         self.join(list, Some(key), after);
         self.add_count(list, 1, 0);
@@ -184,7 +224,9 @@ impl<S> Places<S> {
     }
 
     /// Takes a connection out of its list.
-    fn unlink(&mut self, key: usize) {
+    fn unlink(&mut self, key: usize)
+        ensures { KeepsAll self.old self.new }
+    {
         let Some(place) = self.places.get(key) else {
             return;
         };
@@ -202,14 +244,18 @@ impl<S> Places<S> {
     }
 
     /// Puts a connection, which is in no list, at the end of the one that it is to be in.
-    fn link_last(&mut self, key: usize) {
+    fn link_last(&mut self, key: usize)
+        ensures { KeepsAll self.old self.new }
+    {
         let list = self.list_of(key);
         let last = self.ends(list).last;
         self.link(key, list, last, None);
     }
 
     /// Moves a connection to the beginning of its list.
-    pub(crate) fn move_first(&mut self, key: usize) {
+    pub(crate) fn move_first(&mut self, key: usize)
+        ensures { KeepsAll self.old self.new }
+    {
         self.unlink(key);
         let list = self.list_of(key);
         let first = self.ends(list).first;
@@ -217,7 +263,9 @@ impl<S> Places<S> {
     }
 
     /// Moves a connection if it is to be in another list.
-    fn move_to_its_list(&mut self, key: usize) {
+    fn move_to_its_list(&mut self, key: usize)
+        ensures { KeepsAll self.old self.new }
+    {
         let wanted = self.list_of(key);
         match self.places.get(key) {
             Some(place) if place.list != wanted => {}
@@ -275,7 +323,9 @@ impl<S> Places<S> {
     }
 
     /// Reports what the stream of the connection at a key has become ready for. If there is none, nothing happens.
-    pub fn report(&mut self, key: usize, change: Change) {
+    pub fn report(&mut self, key: usize, change: Change)
+        ensures { Reports key change self.old self.new }
+    {
         let Some(place) = self.places.get_mut(key) else {
             return;
         };

@@ -37,8 +37,8 @@ impl Readiness {
         }
     }
 
-    /// A read returned so many of the bytes that it might. If it might have returned more, there are none until the poll reports the
-    /// stream again (epoll(7), question 9). The end of the input isn't reported again once it was.
+    /// A read returned as many bytes as it might, or fewer. If fewer, there are none until the poll reports the stream again (epoll(7),
+    /// question 9). The end of the input isn't reported again once it was.
     pub(crate) fn read(self, is_full: bool) -> Readiness
         ensures { result ≡ record { reads = self.ends || is_full; writes = self.writes; ends = self.ends } }
     {

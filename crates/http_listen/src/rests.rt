@@ -106,7 +106,7 @@ pub(crate) fn add_part<H: Downloads>(
     output: &mut Output,
 ) -> Result<Option<Unsent>, ServeFault>
     ensures read { (outcome : Option (List ℕ)) × H.reads handler.old unsent.ticket unsent.at outcome handler.new }
-    // What is added is what was read by the ticket, and the next part is read behind it.
+    // What is added is what was read by the ticket, and the next part is read after it.
     ensures added { IfOk result (λ left. (bytes : List ℕ) × H.reads handler.old unsent.ticket unsent.at (Some bytes) handler.new
         × (output.new ≡ output.old ++ bytes)
         × MatchOption left (unsent.end ≤ unsent.at + length bytes) (λ next. next ≡ record unsent { at = unsent.at + length bytes })) }

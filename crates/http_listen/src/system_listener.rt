@@ -1,4 +1,7 @@
 //! Listeners of TCP whose streams the system watches.
+ghost use Rattle.std.specs.Prelude.{◌≡◌, ℕ, [], IfOk, OnOk, OnErr};
+ghost use Rattle.http_listen.specs.Listeners.{is_of_listener, has_listener, change_of, after_event, after_events};
+ghost use Rattle.http_listen.specs.Places.{kept_at, KeepsAll};
 
 use crate::places::Places;
 use crate::waits::{Change, Waits};
@@ -7,6 +10,7 @@ use mio::unix::SourceFd;
 use mio::{Events, Interest, Poll, Token};
 use std::alloc::{AllocError, Global};
 use std::io::{self, ErrorKind};
+use std::marker::Model;
 use std::net::{Net, OpenListener, SocketAddr, TcpListener, TcpStream};
 use std::os::fd::{AsRawFd, RawFd};
 use std::time::Duration;
@@ -26,6 +30,15 @@ pub struct SystemListener {
     events: Events,
 }
 
+impl Model for SystemListener {
+    ghost use Rattle.http_listen.specs.Listeners.{ListenerView};
+    ghost use Rattle.mio.specs.Events.{items};
+
+    ghost Value = { ListenerView };
+
+    ghost view = { λ l. record { max_open = l.max_open; events = items l.events } };
+}
+
 impl SystemListener {
     /// Watches a listener, of whose connections at most `max_open` are to be open at once.
     ///
@@ -37,7 +50,9 @@ impl SystemListener {
         alloc: Global,
         listener: TcpListener,
         max_open: usize,
-    ) -> io::Result<Self> {
+    ) -> io::Result<Self>
+        ensures { IfOk result (λ made. made ≡ record { max_open = max_open; events = [] }) }
+    {
         listener.set_nonblocking(true)?;
         let poll = Poll::new(net)?;
         let fd = listener.as_raw_fd();
@@ -68,13 +83,28 @@ impl SystemListener {
 }
 
 /// What an event says of a stream.
-fn change_of(event: &Event) -> Change {
+fn change_of(event: &Event) -> Change
+    ensures { result ≡ change_of event.now }
+{
     let ends = event.is_read_closed() || event.is_error();
     Change {
         reads: event.is_readable() || ends,
         writes: event.is_writable() || event.is_write_closed() || event.is_error(),
         ends,
     }
+}
+
+/// Reports an event of a stream. Whether it is one of the listener itself, which isn't reported.
+fn report_event(event: &Event, places: &mut Places<TcpStream>) -> bool
+    ensures is { result ≡ is_of_listener event.now }
+    ensures reported { (key : ℕ) → kept_at places.new key ≡ after_event key event.now (kept_at places.old key) }
+{
+    let Token(key) = event.token();
+    if key == LISTENER {
+        return true;
+    }
+    places.report(key, change_of(event));
+    false
 }
 
 impl OpenListener for SystemListener {
@@ -86,11 +116,15 @@ impl OpenListener for SystemListener {
 }
 
 impl Waits for SystemListener {
-    fn max_open(&self) -> usize {
+    fn max_open(&self) -> usize
+        ensures { result ≡ self.now.max_open }
+    {
         self.max_open
     }
 
-    fn watch(&mut self, stream: &TcpStream, key: usize, sends: bool) -> io::Result<()> {
+    fn watch(&mut self, stream: &TcpStream, key: usize, sends: bool) -> io::Result<()>
+        ensures { self.new ≡ self.old }
+    {
         let interest = if sends {
             Interest::READABLE | Interest::WRITABLE
         } else {
@@ -99,16 +133,18 @@ impl Waits for SystemListener {
         self.watch_fd(stream.as_raw_fd(), key, interest)
     }
 
-    fn wait(&mut self, longest: Duration, places: &mut Places<TcpStream>) -> io::Result<bool> {
+    fn wait(&mut self, longest: Duration, places: &mut Places<TcpStream>) -> io::Result<bool>
+        ensures same { self.new ≡ record self.old { events = self.new.events } }
+        // What the system gave is reported, and nothing else.
+        ensures comes { IfOk result (λ comes. comes ≡ has_listener self.new.events) }
+        ensures reported { OnOk result ((key : ℕ) → kept_at places.new key ≡ after_events key self.new.events (kept_at places.old key)) }
+        ensures failed { OnErr result (KeepsAll places.old places.new) }
+    {
         self.poll.poll(&mut self.events, Some(longest))?;
         let mut comes = false;
         for event in self.events.iter() {
-            let Token(key) = event.token();
-            if key == LISTENER {
-                comes = true;
-            } else {
-                places.report(key, change_of(event));
-            }
+            let of_listener = report_event(event, places);
+            comes = comes || of_listener;
         }
         Ok(comes)
     }

@@ -1,6 +1,7 @@
 //! Replies whose content is read from the handler in parts.
 ghost use Rattle.std.specs.Prelude.{◌≡◌, ◌↔◌, ◌≤◌, ◌<◌, ◌+◌, IsTrue, length, take, drop, vec_len, vec_capacity, IfErr, OnOk};
-ghost use Rattle.http_serve.specs.Parts.{GivesOrFails, IsCutIn, IsLater, IsReadable, IsLeft, IsStopped, IfRest, IsNoRest, IsNoContentFault, cut_after, rest_bytes};
+ghost use Rattle.http_serve.specs.Parts.{GivesOrFails, IsCutIn, IsLater, IsReadable, IsLeft, IsStopped, IfRest, IsNoRest, IsNoContentFault};
+ghost use Rattle.http_serve.specs.Parts.{cut_after, rest_bytes};
 ghost use Rattle.http_serve.specs.declared.contents.Rests.TheVariants.{Sent, Left};
 ghost use Rattle.http_serve.specs.declared.handlers.TheConstants.{PART_SIZE};
 ghost use Rattle.http_serve.specs.declared.replies.TheConstants.{REPLY_SPACE};
