@@ -1,55 +1,66 @@
 //! Lines about the bytes of archives.
-use archive_commands::{Verdict, show, verify};
+use crate::texts::{debug_text, read_text, shown_text};
+use archive_commands::{ShowFault, Verdict, show, verify};
 use pm_archive::{Archive, ArchiveFault, Lookup};
-use pm_directory::{find, read_directory};
+use pm_directory::{DirectoryEntry, find, read_directory};
 use pm_header::{HEADER_BYTES, Header};
 use pm_metadata::is_metadata;
 use script_bytes::number_in;
 use std::alloc::{AllocError, Global};
 
-/// The header, and whether it is encoded as it was decoded.
+/// A header, and whether it is encoded as it was decoded from these bytes.
+fn header_text(alloc: Global, header: &Header, bytes: &[u8]) -> Result<String, AllocError> {
+    let is_same = bytes.get(..HEADER_BYTES) == Some(header.to_bytes().as_slice());
+    let written = if is_same { "the same" } else { "otherwise" };
+    format!(in alloc; "{header:?}, written {written}")
+}
+
 fn header(alloc: Global, bytes: &[u8]) -> Result<String, AllocError> {
     match Header::from_bytes(bytes) {
-        Ok(header) => {
-            let is_same = bytes.get(..HEADER_BYTES) == Some(header.to_bytes().as_slice());
-            format!(in alloc;
-                "{header:?}, written {}",
-                if is_same { "the same" } else { "otherwise" }
-            )
-        }
-        Err(fault) => format!(in alloc; "{fault:?}"),
+        Ok(header) => header_text(alloc, &header, bytes),
+        Err(fault) => debug_text(alloc, fault),
     }
 }
 
 fn directory(alloc: Global, bytes: &[u8]) -> Result<String, AllocError> {
-    match read_directory(alloc, bytes) {
-        Ok(entries) => format!(in alloc; "{entries:?}"),
-        Err(fault) => format!(in alloc; "{fault:?}"),
-    }
+    read_text(alloc, read_directory(alloc, bytes))
 }
 
 /// The entry of a directory that leads to an id.
 fn found(alloc: Global, id: u64, bytes: &[u8]) -> Result<String, AllocError> {
     match read_directory(alloc, bytes) {
-        Ok(entries) => format!(in alloc; "{:?}", find(&entries, id)),
-        Err(fault) => format!(in alloc; "{fault:?}"),
+        Ok(entries) => {
+            let entry = find(&entries, id);
+            drop(entries);
+            debug_text(alloc, entry)
+        }
+        Err(fault) => debug_text(alloc, fault),
     }
 }
 
 fn metadata(alloc: Global, bytes: &[u8]) -> Result<String, AllocError> {
-    let is = is_metadata(alloc, bytes)?;
-    format!(in alloc; "{is}")
+    shown_text(alloc, is_metadata(alloc, bytes)?)
 }
 
 /// The tile entries of all directories.
 fn list(alloc: Global, bytes: &[u8]) -> Result<String, AllocError> {
-    let mut archive = match Archive::open(alloc, bytes) {
-        Ok(archive) => archive,
-        Err((_, fault)) => return fault.to_string(alloc),
-    };
-    match archive.list() {
-        Ok(entries) => format!(in alloc; "{entries:?}"),
-        Err(fault) => fault.to_string(alloc),
+    match Archive::open(alloc, bytes) {
+        Ok(mut archive) => {
+            let listed = archive.list();
+            drop(archive);
+            list_text(alloc, listed)
+        }
+        Err((_, fault)) => shown_text(alloc, fault),
+    }
+}
+
+fn list_text(
+    alloc: Global,
+    listed: Result<Vec<DirectoryEntry>, ArchiveFault>,
+) -> Result<String, AllocError> {
+    match listed {
+        Ok(entries) => debug_text(alloc, entries),
+        Err(fault) => shown_text(alloc, fault),
     }
 }
 
@@ -61,7 +72,7 @@ fn content(
     match found {
         Ok(Some(content)) => hex::encode(alloc, content.as_slice()),
         Ok(None) => String::from_str(alloc, "none"),
-        Err(fault) => fault.to_string(alloc),
+        Err(fault) => shown_text(alloc, fault),
     }
 }
 
@@ -75,24 +86,42 @@ fn add_content(
     Ok(())
 }
 
-/// The contents of an archive for these ids.
-fn contents_of(
+/// Adds the contents of an archive for these ids.
+fn add_contents(
     alloc: Global,
+    told: &mut Vec<String>,
     archive: &mut Archive<&[u8]>,
     ids: &str,
-) -> Result<String, AllocError> {
-    let mut told = Vec::new(alloc);
+) -> Result<(), AllocError> {
     for id in ids.split(',') {
         let found = archive.tile(number_in(id));
-        add_content(alloc, &mut told, found)?;
+        add_content(alloc, told, found)?;
     }
-    format!(in alloc; "{told:?}")
+    Ok(())
 }
 
+/// The text for the contents that were added.
+fn contents_text(
+    alloc: Global,
+    added: Result<(), AllocError>,
+    told: Vec<String>,
+) -> Result<String, AllocError> {
+    match added {
+        Ok(()) => debug_text(alloc, told),
+        Err(fault) => Err(fault),
+    }
+}
+
+/// The contents of an archive for these ids.
 fn contents(alloc: Global, ids: &str, bytes: &[u8]) -> Result<String, AllocError> {
     match Archive::open(alloc, bytes) {
-        Ok(mut archive) => contents_of(alloc, &mut archive, ids),
-        Err((_, fault)) => fault.to_string(alloc),
+        Ok(mut archive) => {
+            let mut told = Vec::new(alloc);
+            let added = add_contents(alloc, &mut told, &mut archive, ids);
+            drop(archive);
+            contents_text(alloc, added, told)
+        }
+        Err((_, fault)) => shown_text(alloc, fault),
     }
 }
 
@@ -121,12 +150,23 @@ fn judged(alloc: Global, bytes: &[u8]) -> Result<String, AllocError> {
 /// The text that `show` writes, or the name of its fault.
 fn shown(alloc: Global, bytes: &[u8]) -> Result<String, AllocError> {
     let mut out = Vec::new(alloc);
-    match show(bytes, &mut out) {
-        Ok(()) => {
-            let text = String::from_utf8_lossy(alloc, &out)?;
-            format!(in alloc; "{text:?}")
+    let outcome = show(bytes, &mut out);
+    let text = show_text(alloc, outcome, &out);
+    drop(out);
+    text
+}
+
+fn show_text(
+    alloc: Global,
+    outcome: Result<(), ShowFault>,
+    written: &[u8],
+) -> Result<String, AllocError> {
+    match outcome {
+        Ok(()) => debug_text(alloc, String::from_utf8_lossy(alloc, written)?),
+        Err(fault) => {
+            let len = written.len();
+            format!(in alloc; "{fault}, {len} bytes written")
         }
-        Err(fault) => format!(in alloc; "{fault}, {} bytes written", out.len()),
     }
 }
 

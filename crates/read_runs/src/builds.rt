@@ -1,7 +1,8 @@
 //! Lines about archives that are built.
 use crate::lines::{Line, place};
+use crate::texts::shown_text;
 use archive_commands::{Verdict, verify};
-use pm_build::{ArchiveBuilder, BuildFault};
+use pm_build::{ArchiveBuilder, BuildFault, BuiltArchive};
 use pm_metadata::is_metadata;
 use script_bytes::{number_in, parted};
 use std::alloc::{AllocError, Global};
@@ -12,51 +13,83 @@ const METADATA: &[u8] = br#"{"vector_layers":[{"fields":{},"id":"p","maxzoom":2,
 /// The id of a tile, and its content.
 type Tile = (u64, Vec<u8>);
 
+/// Which tiles a line is about.
+#[derive(Clone, Copy)]
+enum Listed {
+    /// Those of its words: an id, `:`, and the content.
+    Words,
+    /// A count of even ids, all with one content.
+    Even,
+    /// A count of even ids, each with a content of its own.
+    Apart,
+}
+
+/// What is told of an archive.
+#[derive(Clone, Copy)]
+enum Told {
+    Bytes,
+    /// The line of `verify` about it.
+    Verdict,
+}
+
 /// Adds tiles to an archive. Returns false if one isn't a tile, or its id isn't greater than those before it.
-fn add_all(builder: &mut ArchiveBuilder, tiles: Vec<Tile>) -> Result<bool, BuildFault> {
+fn add_all(builder: &mut ArchiveBuilder, tiles: &[Tile]) -> Result<bool, BuildFault> {
     for (id, content) in tiles {
-        if !builder.can_add(id, &content) {
+        let (id, content) = (*id, content.as_slice());
+        if !builder.can_add(id, content) {
             return Ok(false);
         }
-        builder.add(id, &content)?;
+        builder.add(id, content)?;
     }
     Ok(true)
 }
 
-/// The archive of tiles, or `None` if they aren't tiles.
-fn built(
-    alloc: Global,
-    tiles: Vec<Tile>,
-) -> Result<Option<Result<Vec<u8>, BuildFault>>, AllocError> {
+/// What is told of an archive's bytes.
+fn bytes_text(alloc: Global, bytes: &[u8], what: Told) -> Result<String, AllocError> {
+    match what {
+        Told::Bytes => hex::encode(alloc, bytes),
+        Told::Verdict => shown_text(alloc, Verdict::of(verify(alloc, bytes))),
+    }
+}
+
+/// The same of an archive in two parts.
+fn archive_text(alloc: Global, archive: BuiltArchive, what: Told) -> Result<String, AllocError> {
+    let BuiltArchive {
+        mut front,
+        contents,
+    } = archive;
+    let joined = front.extend_from_slice(&contents);
+    drop(contents);
+    let text = match joined {
+        Ok(()) => bytes_text(alloc, &front, what),
+        Err(fault) => Err(fault),
+    };
+    drop(front);
+    text
+}
+
+fn no_tiles(alloc: Global) -> Result<String, AllocError> {
+    String::from_str(alloc, "no tiles")
+}
+
+/// The same of the archive of what a builder has.
+fn finished(alloc: Global, builder: ArchiveBuilder, what: Told) -> Result<String, AllocError> {
+    if builder.is_empty() || !is_metadata(alloc, METADATA)? {
+        return no_tiles(alloc);
+    }
+    match builder.finish(METADATA) {
+        Ok(archive) => archive_text(alloc, archive, what),
+        Err(fault) => Err(fault),
+    }
+}
+
+/// The same of the archive of tiles.
+fn built(alloc: Global, tiles: &[Tile], what: Told) -> Result<String, AllocError> {
     let mut builder = ArchiveBuilder::new(alloc);
     match add_all(&mut builder, tiles) {
-        Ok(true) => {}
-        Ok(false) => return Ok(None),
-        Err(fault) => return Ok(Some(Err(fault))),
-    }
-    if builder.is_empty() || !is_metadata(alloc, METADATA)? {
-        return Ok(None);
-    }
-    let mut archive = builder.finish(METADATA)?;
-    archive.front.extend_from_slice(&archive.contents)?;
-    Ok(Some(Ok(archive.front)))
-}
-
-/// The bytes of an archive.
-fn told(alloc: Global, built: Option<Result<Vec<u8>, BuildFault>>) -> Result<String, AllocError> {
-    match built {
-        None => String::from_str(alloc, "no tiles"),
-        Some(Err(fault)) => fault.to_string(alloc),
-        Some(Ok(bytes)) => hex::encode(alloc, bytes.as_slice()),
-    }
-}
-
-/// The line of `verify` about an archive.
-fn judged(alloc: Global, built: Option<Result<Vec<u8>, BuildFault>>) -> Result<String, AllocError> {
-    match built {
-        None => String::from_str(alloc, "no tiles"),
-        Some(Err(fault)) => fault.to_string(alloc),
-        Some(Ok(bytes)) => Verdict::of(verify(alloc, &bytes)).to_string(alloc),
+        Ok(true) => finished(alloc, builder, what),
+        Ok(false) => no_tiles(alloc),
+        Err(fault) => shown_text(alloc, fault),
     }
 }
 
@@ -65,67 +98,75 @@ fn content(alloc: Global, text: &str) -> Vec<u8> {
     hex::decode(alloc, text).unwrap_or(Vec::new(alloc))
 }
 
-/// The tiles of words: an id, `:`, and the content.
-fn tiles_in(alloc: Global, rest: &str) -> Result<Vec<Tile>, AllocError> {
-    let mut tiles = Vec::new(alloc);
+/// Adds the tiles of words: an id, `:`, and the content.
+fn add_words(alloc: Global, tiles: &mut Vec<Tile>, rest: &str) -> Result<(), AllocError> {
     for word in rest.split_whitespace() {
         let (id, text) = word.split_once(':').unwrap_or((word, ""));
         tiles.push((number_in(id), content(alloc, text)))?;
     }
-    Ok(tiles)
+    Ok(())
 }
 
-/// `count` tiles of even ids, all with this content.
-fn even_tiles(alloc: Global, rest: &str) -> Result<Vec<Tile>, AllocError> {
+/// Adds `count` tiles of even ids, all with this content.
+fn add_even(alloc: Global, tiles: &mut Vec<Tile>, rest: &str) -> Result<(), AllocError> {
     let (count, text) = parted(rest);
     let content = content(alloc, text);
-    let mut tiles = Vec::new(alloc);
     for index in 0..number_in(count).min(1 << 20) {
         tiles.push((2 * index, Vec::from_slice(alloc, &content)?))?;
     }
-    Ok(tiles)
+    Ok(())
 }
 
-/// `count` tiles of even ids, each with a content of `len` bytes of its own: its number, least significant byte first, and zeros.
-fn apart_tiles(alloc: Global, rest: &str) -> Result<Vec<Tile>, AllocError> {
+/// The content of `len` bytes of tile `index`: its number, least significant byte first, and zeros.
+fn own_content(alloc: Global, index: u64, len: usize) -> Result<Vec<u8>, AllocError> {
+    let mut content = Vec::from_slice(alloc, &index.to_le_bytes())?;
+    content.resize(len, 0)?;
+    Ok(content)
+}
+
+/// Adds `count` tiles of even ids, each with a content of `len` bytes of its own.
+fn add_apart(alloc: Global, tiles: &mut Vec<Tile>, rest: &str) -> Result<(), AllocError> {
     let (count, len) = parted(rest);
     let len = place(number_in(len)).min(1_000);
-    let mut tiles = Vec::new(alloc);
     for index in 0..number_in(count).min(1 << 20) {
-        let mut content = Vec::from_slice(alloc, &index.to_le_bytes())?;
-        content.resize(len, 0)?;
-        tiles.push((2 * index, content))?;
+        tiles.push((2 * index, own_content(alloc, index, len)?))?;
     }
-    Ok(tiles)
+    Ok(())
 }
 
-fn some(alloc: Global, rest: &str) -> Result<String, AllocError> {
-    let tiles = tiles_in(alloc, rest)?;
-    told(alloc, built(alloc, tiles)?)
+/// Adds the tiles that a line is about.
+fn add_listed(
+    alloc: Global,
+    tiles: &mut Vec<Tile>,
+    listed: Listed,
+    rest: &str,
+) -> Result<(), AllocError> {
+    match listed {
+        Listed::Words => add_words(alloc, tiles, rest),
+        Listed::Even => add_even(alloc, tiles, rest),
+        Listed::Apart => add_apart(alloc, tiles, rest),
+    }
 }
 
-fn even(alloc: Global, rest: &str) -> Result<String, AllocError> {
-    let tiles = even_tiles(alloc, rest)?;
-    told(alloc, built(alloc, tiles)?)
-}
-
-fn apart(alloc: Global, rest: &str) -> Result<String, AllocError> {
-    let tiles = apart_tiles(alloc, rest)?;
-    told(alloc, built(alloc, tiles)?)
-}
-
-fn even_judged(alloc: Global, rest: &str) -> Result<String, AllocError> {
-    let tiles = even_tiles(alloc, rest)?;
-    judged(alloc, built(alloc, tiles)?)
+/// What is told of the archive of the tiles that a line is about.
+fn line_text(alloc: Global, listed: Listed, rest: &str, what: Told) -> Result<String, AllocError> {
+    let mut tiles = Vec::new(alloc);
+    let text = match add_listed(alloc, &mut tiles, listed, rest) {
+        Ok(()) => built(alloc, &tiles, what),
+        Err(fault) => Err(fault),
+    };
+    drop(tiles);
+    text
 }
 
 /// The answer to a line about an archive that is built.
 pub(crate) fn answer(alloc: Global, line: Line<'_>) -> Option<Result<String, AllocError>> {
-    match line.word {
-        "build" => Some(some(alloc, line.rest)),
-        "even" => Some(even(alloc, line.rest)),
-        "apart" => Some(apart(alloc, line.rest)),
-        "evenjudged" => Some(even_judged(alloc, line.rest)),
-        _ => None,
-    }
+    let (listed, what) = match line.word {
+        "build" => (Listed::Words, Told::Bytes),
+        "even" => (Listed::Even, Told::Bytes),
+        "apart" => (Listed::Apart, Told::Bytes),
+        "evenjudged" => (Listed::Even, Told::Verdict),
+        _ => return None,
+    };
+    Some(line_text(alloc, listed, line.rest, what))
 }

@@ -39,10 +39,11 @@ mod inputs;
 mod lines;
 mod messages;
 mod numbers;
+mod texts;
 
 use answers::answer;
 use inputs::Inputs;
-use std::io::{self, BufRead, BufReader};
+use std::io;
 
 fn answer_line(rt: &HostRuntime, inputs: &mut Inputs, text: &str) -> io::Result<()> {
     let told = answer(rt.alloc(), inputs, text)?;
@@ -51,7 +52,7 @@ fn answer_line(rt: &HostRuntime, inputs: &mut Inputs, text: &str) -> io::Result<
 
 /// Answers each line. The bytes that got names are lent, so that no way out of the loop has them to drop.
 fn answer_lines(rt: &HostRuntime, inputs: &mut Inputs) -> io::Result<()> {
-    for line in BufReader::new(rt.alloc(), rt.reader())?.lines(rt.alloc()) {
+    for line in rt.lines(rt.alloc()) {
         answer_line(rt, inputs, line?.as_str())?;
     }
     Ok(())
@@ -59,5 +60,7 @@ fn answer_lines(rt: &HostRuntime, inputs: &mut Inputs) -> io::Result<()> {
 
 fn main(rt: HostRuntime) -> io::Result<()> {
     let mut inputs = Inputs::new(rt.alloc());
-    answer_lines(&rt, &mut inputs)
+    let answered = answer_lines(&rt, &mut inputs);
+    drop(inputs);
+    answered
 }

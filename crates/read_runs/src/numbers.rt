@@ -1,6 +1,7 @@
 //! Lines about numbers: of shapes, signed ones, ids of tiles, and those that texts write.
 use crate::examples::example;
 use crate::lines::Line;
+use crate::texts::{read_text, shown_text};
 use byte_range::byte_range;
 use decimal_number::{are_digits, digits_number, push_number, push_text};
 use geometry_commands::{ShapeKind, decode, encode_lines, encode_rings};
@@ -25,10 +26,9 @@ fn shape(alloc: Global, rest: &str) -> Result<String, AllocError> {
     for word in others.split_whitespace() {
         integers.push(short(number_in(word)))?;
     }
-    match decode(alloc, kind_in(kind), &integers) {
-        Ok(shape) => format!(in alloc; "{shape:?}"),
-        Err(fault) => format!(in alloc; "{fault:?}"),
-    }
+    let shape = decode(alloc, kind_in(kind), &integers);
+    drop(integers);
+    read_text(alloc, shape)
 }
 
 /// The integers of no lines, and of no rings.
@@ -59,7 +59,7 @@ fn id(alloc: Global, rest: &str) -> Result<String, AllocError> {
         short(column),
         short(row),
     ) {
-        Some(at) => format!(in alloc; "{}", id_of(at)),
+        Some(at) => shown_text(alloc, id_of(at)),
         None => String::from_str(alloc, "no tile"),
     }
 }
@@ -86,7 +86,7 @@ fn digits(alloc: Global, text: &str) -> Result<String, AllocError> {
         return String::from_str(alloc, "no digits");
     }
     match digits_number(digits) {
-        Some(number) => format!(in alloc; "{number}"),
+        Some(number) => shown_text(alloc, number),
         None => String::from_str(alloc, "too great"),
     }
 }
@@ -111,11 +111,8 @@ pub(crate) fn answer(alloc: Global, line: Line<'_>) -> Option<Result<String, All
         "example" => Some(example(alloc, line.rest)),
         "nothing" => Some(nothing(alloc)),
         "spell" => Some(spell(alloc, line.rest)),
-        "zigzag" => {
-            let number = line.rest.parse::<i64>().unwrap_or(0);
-            Some(format!(in alloc; "{}", zigzag(number)))
-        }
-        "unzigzag" => Some(format!(in alloc; "{}", unzigzag(first))),
+        "zigzag" => Some(shown_text(alloc, zigzag(line.rest.parse::<i64>().unwrap_or(0)))),
+        "unzigzag" => Some(shown_text(alloc, unzigzag(first))),
         "id" => Some(id(alloc, line.rest)),
         "place" => Some(tile(alloc, first)),
         "range" => Some(range(alloc, line.rest.as_bytes())),

@@ -1,6 +1,7 @@
 //! Answers as text.
 use script_bytes::{digest, spelled_briefly};
 use std::alloc::{AllocError, Global};
+use std::fmt::Debug;
 use tile_service::Answer;
 
 /// The longest text that is printed in full.
@@ -14,6 +15,28 @@ pub(crate) fn briefly(alloc: Global, text: String) -> Result<String, AllocError>
     }
     let hash = digest(text.as_bytes());
     format!(in alloc; "{count} letters {hash:016x}")
+}
+
+/// The text of a value.
+pub(crate) fn debug_text(
+    alloc: Global,
+    value: impl Debug + Drop,
+) -> Result<Option<String>, AllocError> {
+    Ok(Some(format!(in alloc; "{value:?}")?))
+}
+
+/// The text of an outcome, with the number of calls that it took.
+pub(crate) fn calls_text(
+    alloc: Global,
+    outcome: impl Debug + Drop,
+    calls: u64,
+) -> Result<Option<String>, AllocError> {
+    Ok(Some(format!(in alloc; "{outcome:?} in {calls}")?))
+}
+
+/// A fixed answer.
+pub(crate) fn fixed_text(alloc: Global, text: &str) -> Result<Option<String>, AllocError> {
+    Ok(Some(String::from_str(alloc, text)?))
 }
 
 /// The bytes of a tile, or any other answer in the form of `{:?}`.

@@ -1,20 +1,29 @@
 //! Calls of a service, one a function.
-use crate::answers::{answers_text, briefly};
-use crate::events::events_in;
+use crate::answers::{answers_text, briefly, debug_text};
+use crate::events::add_events;
 use crate::lines::CallVerb;
-use crate::sessions::{Served, Session, Trial};
+use crate::sessions::{Served, Trial};
 use pm_archive::Archive;
 use script_bytes::spelled_briefly;
 use std::alloc::{AllocError, Global};
-use std::fmt::Debug;
-use tile_service::{Event, ServiceFault};
+use tile_service::{Answer, Event, ServiceFault};
 
 /// The most bytes of an archive that are read.
 const MAX_READ: u64 = 1_048_576;
 
-/// The text of an outcome.
-fn outcome_text(alloc: Global, outcome: impl Debug + Drop) -> Result<Option<String>, AllocError> {
-    Ok(Some(format!(in alloc; "{outcome:?}")?))
+/// The text of an outcome of a run.
+fn run_text(
+    alloc: Global,
+    outcome: Result<Vec<Answer>, ServiceFault>,
+) -> Result<Option<String>, AllocError> {
+    match outcome {
+        Ok(answers) => {
+            let text = answers_text(alloc, &answers);
+            drop(answers);
+            Ok(Some(text?))
+        }
+        Err(fault) => debug_text(alloc, fault),
+    }
 }
 
 fn run(
@@ -22,9 +31,16 @@ fn run(
     service: &mut Served,
     events: Vec<Event>,
 ) -> Result<Option<String>, AllocError> {
-    match service.run(events) {
-        Ok(answers) => Ok(Some(answers_text(alloc, &answers)?)),
-        Err(fault) => outcome_text(alloc, fault),
+    run_text(alloc, service.run(events))
+}
+
+/// The answers to a run of events. `None` if it can't be parsed.
+fn run_line(alloc: Global, service: &mut Served, line: &str) -> Result<Option<String>, AllocError> {
+    let mut events = Vec::new(alloc);
+    match add_events(alloc, &mut events, line) {
+        Ok(true) => run(alloc, service, events),
+        Ok(false) => Ok(None),
+        Err(fault) => Err(fault),
     }
 }
 
@@ -34,14 +50,48 @@ pub(crate) fn run_answered(
     trial: &mut Trial,
     line: &str,
 ) -> Result<Option<String>, AllocError> {
-    match (&mut trial.session, events_in(alloc, line)?) {
-        (Session::Open(service), Some(events)) => run(alloc, service, events),
-        _ => Ok(None),
+    match trial.open_service() {
+        Some(service) => run_line(alloc, service, line),
+        None => Ok(None),
     }
 }
 
 fn publish(alloc: Global, service: &mut Served) -> Result<Option<String>, AllocError> {
-    outcome_text(alloc, service.publish())
+    debug_text(alloc, service.publish())
+}
+
+/// What is printed of the bytes of an archive.
+#[derive(Clone, Copy)]
+enum Shown {
+    Bytes,
+    /// The verdict on them.
+    Verdict,
+}
+
+/// The verdict on the bytes of an archive.
+fn verdict(alloc: Global, bytes: &[u8]) -> Result<Option<String>, AllocError> {
+    match Archive::open(alloc, bytes) {
+        Ok(mut archive) => {
+            let outcome = pm_verify::verify(alloc, &mut archive);
+            drop(archive);
+            debug_text(alloc, outcome)
+        }
+        Err(fault) => debug_text(alloc, fault),
+    }
+}
+
+/// The text of bytes that were read, or of the fault of reading them.
+fn read_text(
+    alloc: Global,
+    outcome: Result<(), ServiceFault>,
+    bytes: &[u8],
+    shown: Shown,
+) -> Result<Option<String>, AllocError> {
+    match (outcome, shown) {
+        (Ok(()), Shown::Bytes) => Ok(Some(spelled_briefly(alloc, bytes)?)),
+        (Ok(()), Shown::Verdict) => verdict(alloc, bytes),
+        (Err(fault), _) => debug_text(alloc, fault),
+    }
 }
 
 /// Reads bytes of the archive. `None` if it is shorter.
@@ -53,61 +103,37 @@ fn read(service: &mut Served, at: u64, into: &mut [u8]) -> Option<Result<(), Ser
     Some(service.archive_read(at, into))
 }
 
-/// `count` bytes of the archive from an offset on, or the fault of reading them. `None` if it is shorter.
-fn bytes_of(
-    alloc: Global,
-    service: &mut Served,
-    at: u64,
-    count: u64,
-) -> Result<Option<Result<Vec<u8>, ServiceFault>>, AllocError> {
-    let mut bytes = vec![in alloc; 0; count.min(MAX_READ) as usize]?;
-    match read(service, at, &mut bytes) {
-        Some(Ok(())) => Ok(Some(Ok(bytes))),
-        Some(Err(fault)) => Ok(Some(Err(fault))),
-        None => Ok(None),
-    }
-}
-
+/// What is shown of `count` bytes of the archive from an offset on. `None` if it is shorter.
 fn part(
     alloc: Global,
     service: &mut Served,
     at: u64,
     count: u64,
+    shown: Shown,
 ) -> Result<Option<String>, AllocError> {
-    match bytes_of(alloc, service, at, count)? {
-        Some(Ok(bytes)) => Ok(Some(spelled_briefly(alloc, &bytes)?)),
-        Some(Err(fault)) => outcome_text(alloc, fault),
+    let mut bytes = vec![in alloc; 0; count.min(MAX_READ) as usize]?;
+    let text = match read(service, at, &mut bytes) {
+        Some(outcome) => read_text(alloc, outcome, &bytes, shown),
         None => Ok(None),
-    }
+    };
+    drop(bytes);
+    text
 }
 
-fn archive(alloc: Global, service: &mut Served) -> Result<Option<String>, AllocError> {
+/// The same of the whole archive.
+fn whole(alloc: Global, service: &mut Served, shown: Shown) -> Result<Option<String>, AllocError> {
     let len = service.archive_len();
-    part(alloc, service, 0, len)
-}
-
-/// The verdict on the bytes of an archive.
-fn verified(alloc: Global, bytes: &[u8]) -> Result<Option<String>, AllocError> {
-    let archive = Archive::open(alloc, bytes);
-    match archive {
-        Ok(mut archive) => outcome_text(alloc, pm_verify::verify(alloc, &mut archive)),
-        Err(fault) => outcome_text(alloc, fault),
-    }
-}
-
-fn verify(alloc: Global, service: &mut Served) -> Result<Option<String>, AllocError> {
-    let len = service.archive_len();
-    match bytes_of(alloc, service, 0, len)? {
-        Some(Ok(bytes)) => verified(alloc, &bytes),
-        Some(Err(fault)) => outcome_text(alloc, fault),
-        None => Ok(None),
-    }
+    part(alloc, service, 0, len, shown)
 }
 
 fn metadata(alloc: Global, service: &Served) -> Result<Option<String>, AllocError> {
     match service.metadata() {
-        Ok(value) => Ok(Some(briefly(alloc, value.to_string(alloc)?)?)),
-        Err(fault) => outcome_text(alloc, fault),
+        Ok(value) => {
+            let text = value.to_string(alloc);
+            drop(value);
+            Ok(Some(briefly(alloc, text?)?))
+        }
+        Err(fault) => debug_text(alloc, fault),
     }
 }
 
@@ -120,11 +146,11 @@ fn call_answered(
 ) -> Result<Option<String>, AllocError> {
     match (verb, numbers) {
         (CallVerb::Publish, []) => publish(alloc, service),
-        (CallVerb::Archive, []) => archive(alloc, service),
-        (CallVerb::Archive, [at, count]) => part(alloc, service, *at, *count),
-        (CallVerb::Verify, []) => verify(alloc, service),
+        (CallVerb::Archive, []) => whole(alloc, service, Shown::Bytes),
+        (CallVerb::Archive, [at, count]) => part(alloc, service, *at, *count, Shown::Bytes),
+        (CallVerb::Verify, []) => whole(alloc, service, Shown::Verdict),
         (CallVerb::Metadata, []) => metadata(alloc, service),
-        (CallVerb::Version, []) => outcome_text(alloc, service.version()),
+        (CallVerb::Version, []) => debug_text(alloc, service.version()),
         _ => Ok(None),
     }
 }
@@ -136,8 +162,8 @@ pub(crate) fn answered(
     verb: CallVerb,
     numbers: &[u64],
 ) -> Result<Option<String>, AllocError> {
-    match &mut trial.session {
-        Session::Open(service) => call_answered(alloc, service, verb, numbers),
-        Session::Closed(_) => Ok(None),
+    match trial.open_service() {
+        Some(service) => call_answered(alloc, service, verb, numbers),
+        None => Ok(None),
     }
 }

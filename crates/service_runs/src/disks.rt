@@ -1,10 +1,11 @@
 //! Commands on the sectors of a closed disk.
-use crate::exports;
+use crate::answers::{debug_text, fixed_text};
+use crate::exports::exported;
 use crate::lines::{DiskVerb, Line};
-use crate::sessions::{Session, Trial};
+use crate::sessions::{ServedDisk, Trial};
 use generations::{FIRST_VERSION, LAST_VERSION, StoreFault, format_version};
 use script_bytes::{push_number, sector_of, spelled, used_part};
-use sector_disk::{FaultyDisk, MemoryDisk, Sectors};
+use sector_disk::{MemoryDisk, Sectors};
 use std::alloc::{AllocError, Global};
 use tile_service::Service;
 
@@ -27,10 +28,7 @@ fn write(
     bytes: &[u8],
 ) -> Result<Option<String>, AllocError> {
     match sector_of(bytes) {
-        Some(sector) if at < disk.count() => {
-            let outcome = disk.write(at, &sector);
-            Ok(Some(format!(in alloc; "{outcome:?}")?))
-        }
+        Some(sector) if at < disk.count() => debug_text(alloc, disk.write(at, &sector)),
         _ => Ok(None),
     }
 }
@@ -69,13 +67,22 @@ enum Work {
     FormatFirst,
     /// The disk is upgraded.
     Upgrade,
+    /// Its archive is copied, to a writer with room for this many bytes if there is a number.
+    Export(Option<u64>),
 }
 
-fn worked(disk: &mut FaultyDisk<MemoryDisk>, work: Work) -> Result<(), StoreFault> {
+/// The text of a disk's outcome.
+fn store_text(alloc: Global, outcome: Result<(), StoreFault>) -> Result<String, AllocError> {
+    format!(in alloc; "{outcome:?}")
+}
+
+/// Does the work on a disk, and prints the outcome.
+fn worked(alloc: Global, disk: &mut ServedDisk, work: Work) -> Result<String, AllocError> {
     match work {
-        Work::Format => Service::format(disk),
-        Work::FormatFirst => format_version(disk, FIRST_VERSION),
-        Work::Upgrade => Service::upgrade(disk),
+        Work::Format => store_text(alloc, Service::format(disk)),
+        Work::FormatFirst => store_text(alloc, format_version(disk, FIRST_VERSION)),
+        Work::Upgrade => store_text(alloc, Service::upgrade(disk)),
+        Work::Export(room) => exported(alloc, disk, room),
     }
 }
 
@@ -85,12 +92,33 @@ fn work_answered(
     trial: &mut Trial,
     work: Work,
 ) -> Result<Option<String>, AllocError> {
-    let (disk, _) = trial.take_disk(alloc)?;
-    let mut disk = FaultyDisk::new(disk, trial.take_failing());
-    let outcome = worked(&mut disk, work);
+    let mut disk = trial.take_disk(alloc)?;
+    let outcome = worked(alloc, &mut disk, work);
     let calls = disk.calls();
-    trial.session = Session::Closed(disk.into_disk());
-    Ok(Some(format!(in alloc; "{outcome:?} in {calls}")?))
+    trial.put_back(disk);
+    with_calls(alloc, outcome, calls)
+}
+
+/// An outcome with the number of calls.
+fn with_calls(
+    alloc: Global,
+    outcome: Result<String, AllocError>,
+    calls: u64,
+) -> Result<Option<String>, AllocError> {
+    let outcome = outcome?;
+    Ok(Some(format!(in alloc; "{outcome} in {calls}")?))
+}
+
+/// Exports the archive of a closed disk. `None` if the disk is open.
+fn export(
+    alloc: Global,
+    trial: &mut Trial,
+    room: Option<u64>,
+) -> Result<Option<String>, AllocError> {
+    if trial.is_open() {
+        return Ok(None);
+    }
+    work_answered(alloc, trial, Work::Export(room))
 }
 
 /// Formats the disk in a version. `None` if there is no such version.
@@ -105,8 +133,13 @@ fn format_in(alloc: Global, trial: &mut Trial, version: u64) -> Result<Option<St
 }
 
 fn make(alloc: Global, trial: &mut Trial, sectors: u64) -> Result<Option<String>, AllocError> {
-    trial.session = Session::Closed(MemoryDisk::new(alloc, sectors)?);
-    Ok(Some(String::from_str(alloc, "made")?))
+    match MemoryDisk::new(alloc, sectors) {
+        Ok(disk) => {
+            trial.begin(disk);
+            fixed_text(alloc, "made")
+        }
+        Err(fault) => Err(fault),
+    }
 }
 
 /// The answer to a command on a closed disk. `None` if its numbers don't fit.
@@ -136,11 +169,11 @@ pub(crate) fn answered(
         (DiskVerb::Format, []) => work_answered(alloc, trial, Work::Format),
         (DiskVerb::FormatVersion, [version]) => format_in(alloc, trial, *version),
         (DiskVerb::Upgrade, []) => work_answered(alloc, trial, Work::Upgrade),
-        (DiskVerb::Export, []) => exports::answered(alloc, trial, None),
-        (DiskVerb::Export, [room]) => exports::answered(alloc, trial, Some(*room)),
-        _ => match &mut trial.session {
-            Session::Closed(disk) => closed_answered(alloc, disk, verb, line),
-            Session::Open(_) => Ok(None),
+        (DiskVerb::Export, []) => export(alloc, trial, None),
+        (DiskVerb::Export, [room]) => export(alloc, trial, Some(*room)),
+        _ => match trial.closed_disk() {
+            Some(disk) => closed_answered(alloc, disk, verb, line),
+            None => Ok(None),
         },
     }
 }

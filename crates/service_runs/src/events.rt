@@ -29,19 +29,18 @@ fn change_in(alloc: Global, text: &str) -> Result<Option<Change>, AllocError> {
     }
 }
 
-/// Parses the changes of a batch, with ` & ` between them. No text is a batch of none.
-fn changes_in(alloc: Global, text: &str) -> Result<Option<Vec<Change>>, AllocError> {
-    let mut changes = Vec::new(alloc);
+/// Adds the changes of a batch, with ` & ` between them. No text is a batch of none. Returns false at a text that is no change.
+fn add_changes(alloc: Global, changes: &mut Vec<Change>, text: &str) -> Result<bool, AllocError> {
     if text.is_empty() {
-        return Ok(Some(changes));
+        return Ok(true);
     }
     for change in text.split(" & ") {
         match change_in(alloc, change)? {
             Some(change) => changes.push(change)?,
-            None => return Ok(None),
+            None => return Ok(false),
         }
     }
-    Ok(Some(changes))
+    Ok(true)
 }
 
 /// The event of one change.
@@ -62,9 +61,11 @@ fn single_in(alloc: Global, text: &str) -> Result<Option<Event>, AllocError> {
 
 /// Parses a batch. `None` if the text is none.
 fn batch_in(alloc: Global, text: &str) -> Result<Option<Event>, AllocError> {
-    match changes_in(alloc, text)? {
-        Some(changes) => Ok(Some(Event::Batch { changes })),
-        None => Ok(None),
+    let mut changes = Vec::new(alloc);
+    match add_changes(alloc, &mut changes, text) {
+        Ok(true) => Ok(Some(Event::Batch { changes })),
+        Ok(false) => Ok(None),
+        Err(fault) => Err(fault),
     }
 }
 
@@ -100,17 +101,20 @@ fn event_in(alloc: Global, text: &str) -> Result<Option<Event>, AllocError> {
     }
 }
 
-/// Parses a run of events. `None` if one can't be parsed; `nothing` is a run of none.
-pub(crate) fn events_in(alloc: Global, line: &str) -> Result<Option<Vec<Event>>, AllocError> {
-    let mut events = Vec::new(alloc);
+/// Adds a run of events; `nothing` is a run of none. Returns false at a text that is no event.
+pub(crate) fn add_events(
+    alloc: Global,
+    events: &mut Vec<Event>,
+    line: &str,
+) -> Result<bool, AllocError> {
     if line == "nothing" {
-        return Ok(Some(events));
+        return Ok(true);
     }
     for text in line.split("; ") {
         match event_in(alloc, text)? {
             Some(event) => events.push(event)?,
-            None => return Ok(None),
+            None => return Ok(false),
         }
     }
-    Ok(Some(events))
+    Ok(true)
 }

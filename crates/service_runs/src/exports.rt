@@ -2,16 +2,25 @@
 ghost use Rattle.std.specs.Prelude.{◌≤◌, ◌+◌};
 ghost use Rattle.generations.specs.Areas.{sectors_of};
 
-use crate::sessions::{Session, Trial};
-use archive_export::{ArchivePlace, copy_archive, find_archive};
+use archive_export::{ArchivePlace, CopyFault, copy_archive, find_archive};
 use script_bytes::spelled_briefly;
-use sector_disk::{FaultyDisk, Sectors};
+use sector_disk::Sectors;
 use std::alloc::{AllocError, Global};
 
 /// The most bytes that a writer has room for.
 const MAX_ROOM: u64 = 1_048_576;
 
-/// Copies an archive to a vector: the outcome, and the bytes that were written.
+/// The outcome of a copy, and the bytes that were written.
+fn copied_text(
+    alloc: Global,
+    outcome: Result<(), CopyFault>,
+    bytes: &[u8],
+) -> Result<String, AllocError> {
+    let written = spelled_briefly(alloc, bytes)?;
+    format!(in alloc; "{outcome:?} {written}")
+}
+
+/// Copies an archive to a vector.
 fn copied<D: Sectors>(
     alloc: Global,
     disk: &mut D,
@@ -21,8 +30,23 @@ fn copied<D: Sectors>(
 {
     let mut bytes = Vec::new(alloc);
     let outcome = copy_archive(disk, archive, &mut bytes);
-    let written = spelled_briefly(alloc, &bytes)?;
-    format!(in alloc; "{outcome:?} {written}")
+    let text = copied_text(alloc, outcome, &bytes);
+    drop(bytes);
+    text
+}
+
+/// Copies an archive to a writer with room for as many bytes as there are. The outcome, and how many were written.
+fn copied_to<D: Sectors>(
+    disk: &mut D,
+    archive: ArchivePlace,
+    bytes: &mut [u8],
+) -> (Result<(), CopyFault>, usize)
+    requires on_disk { archive.first + sectors_of archive.len ≤ D.sectors disk.old }
+{
+    let room = bytes.len();
+    let mut rest = bytes;
+    let outcome = copy_archive(disk, archive, &mut rest);
+    (outcome, room.saturating_sub(rest.len()))
 }
 
 /// Copies an archive to a writer with room for `room` bytes.
@@ -35,16 +59,14 @@ fn copied_into<D: Sectors>(
     requires on_disk { archive.first + sectors_of archive.len ≤ D.sectors disk.old }
 {
     let mut bytes = vec![in alloc; 0; room.min(MAX_ROOM) as usize]?;
-    let mut rest = bytes.as_mut_slice();
-    let outcome = copy_archive(disk, archive, &mut rest);
-    let left = rest.len();
-    let end = bytes.len().saturating_sub(left);
-    let written = spelled_briefly(alloc, &bytes[..end])?;
-    format!(in alloc; "{outcome:?} {written}")
+    let (outcome, written) = copied_to(disk, archive, &mut bytes);
+    let text = copied_text(alloc, outcome, bytes.get(..written).unwrap_or(&[]));
+    drop(bytes);
+    text
 }
 
 /// Finds the archive of a disk and copies it.
-fn exported<D: Sectors>(
+pub(crate) fn exported<D: Sectors>(
     alloc: Global,
     disk: &mut D,
     room: Option<u64>,
@@ -54,22 +76,4 @@ fn exported<D: Sectors>(
         (Ok(archive), None) => copied(alloc, disk, archive),
         (Err(fault), _) => format!(in alloc; "Err({fault:?})"),
     }
-}
-
-/// Exports the archive of the disk with its failing calls, and prints the outcome with the number of calls. `None` if the disk is open.
-pub(crate) fn answered(
-    alloc: Global,
-    trial: &mut Trial,
-    room: Option<u64>,
-) -> Result<Option<String>, AllocError> {
-    if trial.is_open() {
-        return Ok(None);
-    }
-    let (disk, _) = trial.take_disk(alloc)?;
-    let mut disk = FaultyDisk::new(disk, trial.take_failing());
-    let outcome = exported(alloc, &mut disk, room);
-    let calls = disk.calls();
-    trial.session = Session::Closed(disk.into_disk());
-    let outcome = outcome?;
-    Ok(Some(format!(in alloc; "{outcome} in {calls}")?))
 }

@@ -106,15 +106,20 @@ fn add_word(alloc: Global, parts: &mut Parts, word: &str) -> Result<bool, AllocE
     }
 }
 
+/// The last one of lists, or an empty one.
+fn last_of<T: Drop>(alloc: Global, lists: Vec<Vec<T>>) -> Vec<T> {
+    let mut lists = lists;
+    let last = lists.pop();
+    drop(lists);
+    last.unwrap_or(Vec::new(alloc))
+}
+
 /// The geometry of this kind.
-fn geometry_of(alloc: Global, kind: &str, mut polygons: Vec<Vec<Vec<World>>>) -> Option<Geometry> {
+fn geometry_of(alloc: Global, kind: &str, polygons: Vec<Vec<Vec<World>>>) -> Option<Geometry> {
     match kind {
         "polygons" => Some(Geometry::Polygons(polygons)),
-        "lines" => Some(Geometry::Lines(polygons.pop().unwrap_or(Vec::new(alloc)))),
-        "points" => {
-            let mut rings = polygons.pop().unwrap_or(Vec::new(alloc));
-            Some(Geometry::Points(rings.pop().unwrap_or(Vec::new(alloc))))
-        }
+        "lines" => Some(Geometry::Lines(last_of(alloc, polygons))),
+        "points" => Some(Geometry::Points(last_of(alloc, last_of(alloc, polygons)))),
         _ => None,
     }
 }
@@ -143,18 +148,33 @@ fn front_in(text: &str) -> Option<(Front<'_>, &str)> {
     Some((front, rest))
 }
 
-/// Parses points and tags. `None` if a word is neither.
-fn parts_in(alloc: Global, words: &str) -> Result<Option<Parts>, AllocError> {
-    let mut parts = Parts {
-        polygons: vec![in alloc; empty_polygon(alloc)?]?,
-        tags: Vec::new(alloc),
-    };
+/// Adds points, separators and tags. Returns false at a word that is none.
+fn add_words(alloc: Global, parts: &mut Parts, words: &str) -> Result<bool, AllocError> {
     for word in words.split_whitespace() {
-        if !add_word(alloc, &mut parts, word)? {
-            return Ok(None);
+        if !add_word(alloc, parts, word)? {
+            return Ok(false);
         }
     }
-    Ok(Some(parts))
+    Ok(true)
+}
+
+/// Makes a feature.
+fn with_layer(
+    alloc: Global,
+    front: Front<'_>,
+    geometry: Geometry,
+    tags: Vec<Tag>,
+) -> Result<Option<Feature>, AllocError> {
+    match String::from_str(alloc, front.layer) {
+        Ok(layer) => Ok(Some(Feature {
+            layer,
+            minzoom: front.minzoom,
+            maxzoom: front.maxzoom,
+            geometry,
+            tags,
+        })),
+        Err(fault) => Err(fault),
+    }
 }
 
 /// Makes a feature. `None` if its kind is unknown.
@@ -163,26 +183,34 @@ fn feature_of(
     front: Front<'_>,
     parts: Parts,
 ) -> Result<Option<Feature>, AllocError> {
-    let layer = String::from_str(alloc, front.layer)?;
-    let Some(geometry) = geometry_of(alloc, front.kind, parts.polygons) else {
-        return Ok(None);
+    let Parts { polygons, tags } = parts;
+    match geometry_of(alloc, front.kind, polygons) {
+        Some(geometry) => with_layer(alloc, front, geometry, tags),
+        None => Ok(None),
+    }
+}
+
+/// Parses points and tags, and makes a feature. `None` if a word is neither.
+fn feature_with(
+    alloc: Global,
+    front: Front<'_>,
+    words: &str,
+) -> Result<Option<Feature>, AllocError> {
+    let mut parts = Parts {
+        polygons: vec![in alloc; empty_polygon(alloc)?]?,
+        tags: Vec::new(alloc),
     };
-    Ok(Some(Feature {
-        layer,
-        minzoom: front.minzoom,
-        maxzoom: front.maxzoom,
-        geometry,
-        tags: parts.tags,
-    }))
+    match add_words(alloc, &mut parts, words) {
+        Ok(true) => feature_of(alloc, front, parts),
+        Ok(false) => Ok(None),
+        Err(fault) => Err(fault),
+    }
 }
 
 /// Parses a feature. `None` if the text is none.
 pub(crate) fn feature_in(alloc: Global, text: &str) -> Result<Option<Feature>, AllocError> {
-    let Some((front, words)) = front_in(text) else {
-        return Ok(None);
-    };
-    match parts_in(alloc, words)? {
-        Some(parts) => feature_of(alloc, front, parts),
+    match front_in(text) {
+        Some((front, words)) => feature_with(alloc, front, words),
         None => Ok(None),
     }
 }

@@ -1,5 +1,5 @@
 //! Commands as lines of text.
-use script_bytes::{add_bytes, numbers_in};
+use script_bytes::{add_bytes, numbers_in, parted};
 use std::alloc::{AllocError, Global};
 
 /// Commands on the sectors of a closed disk.
@@ -54,83 +54,72 @@ pub(crate) struct Line {
     pub(crate) bytes: Vec<u8>,
 }
 
-fn disk_verb_in(word: &str) -> Option<Verb> {
-    match word {
-        "disk" => Some(Verb::Disk(DiskVerb::Disk)),
-        "write" => Some(Verb::Disk(DiskVerb::Write)),
-        "sector" => Some(Verb::Disk(DiskVerb::Sector)),
-        "sectors" => Some(Verb::Disk(DiskVerb::Sectors)),
-        "format" => Some(Verb::Disk(DiskVerb::Format)),
-        "format_version" => Some(Verb::Disk(DiskVerb::FormatVersion)),
-        "upgrade" => Some(Verb::Disk(DiskVerb::Upgrade)),
-        "export" => Some(Verb::Disk(DiskVerb::Export)),
-        _ => None,
+/// The words of commands.
+const VERBS: [(&str, Verb); 20] = [
+    ("disk", Verb::Disk(DiskVerb::Disk)),
+    ("write", Verb::Disk(DiskVerb::Write)),
+    ("sector", Verb::Disk(DiskVerb::Sector)),
+    ("sectors", Verb::Disk(DiskVerb::Sectors)),
+    ("format", Verb::Disk(DiskVerb::Format)),
+    ("format_version", Verb::Disk(DiskVerb::FormatVersion)),
+    ("upgrade", Verb::Disk(DiskVerb::Upgrade)),
+    ("export", Verb::Disk(DiskVerb::Export)),
+    ("fail_from", Verb::Session(SessionVerb::FailFrom)),
+    ("fail_not_made", Verb::Session(SessionVerb::FailNotMade)),
+    ("fail_made", Verb::Session(SessionVerb::FailMade)),
+    ("open", Verb::Session(SessionVerb::Open)),
+    ("stop", Verb::Session(SessionVerb::Stop)),
+    ("resume", Verb::Session(SessionVerb::Resume)),
+    ("crash", Verb::Session(SessionVerb::Crash)),
+    ("publish", Verb::Call(CallVerb::Publish)),
+    ("archive", Verb::Call(CallVerb::Archive)),
+    ("verify", Verb::Call(CallVerb::Verify)),
+    ("metadata", Verb::Call(CallVerb::Metadata)),
+    ("version", Verb::Call(CallVerb::Version)),
+];
+
+fn verb_in(text: &str) -> Option<Verb> {
+    for (word, verb) in &VERBS {
+        if *word == text {
+            return Some(*verb);
+        }
     }
+    None
 }
 
-fn session_verb_in(word: &str) -> Option<Verb> {
-    match word {
-        "fail_from" => Some(Verb::Session(SessionVerb::FailFrom)),
-        "fail_not_made" => Some(Verb::Session(SessionVerb::FailNotMade)),
-        "fail_made" => Some(Verb::Session(SessionVerb::FailMade)),
-        "open" => Some(Verb::Session(SessionVerb::Open)),
-        "stop" => Some(Verb::Session(SessionVerb::Stop)),
-        "resume" => Some(Verb::Session(SessionVerb::Resume)),
-        "crash" => Some(Verb::Session(SessionVerb::Crash)),
-        _ => None,
-    }
-}
-
-fn call_verb_in(word: &str) -> Option<Verb> {
-    match word {
-        "publish" => Some(Verb::Call(CallVerb::Publish)),
-        "archive" => Some(Verb::Call(CallVerb::Archive)),
-        "verify" => Some(Verb::Call(CallVerb::Verify)),
-        "metadata" => Some(Verb::Call(CallVerb::Metadata)),
-        "version" => Some(Verb::Call(CallVerb::Version)),
-        _ => None,
-    }
-}
-
-fn verb_in(word: &str) -> Option<Verb> {
-    if let Some(verb) = disk_verb_in(word) {
-        return Some(verb);
-    }
-    if let Some(verb) = session_verb_in(word) {
-        return Some(verb);
-    }
-    call_verb_in(word)
-}
-
-/// A command with its numbers and bytes.
-fn command(
+/// The command with these bytes, spelled. `None` if they spell none.
+fn with_bytes(
     alloc: Global,
     verb: Verb,
-    numbers: &str,
-    bytes: &str,
+    numbers: Vec<u64>,
+    spelled: &str,
 ) -> Result<Option<Line>, AllocError> {
-    let Some(numbers) = numbers_in(alloc, numbers)? else {
-        return Ok(None);
-    };
-    let mut spelled = Vec::new(alloc);
-    if !add_bytes(&mut spelled, alloc, bytes)? {
-        return Ok(None);
-    }
-    Ok(Some(Line {
+    let mut line = Line {
         verb,
         numbers,
-        bytes: spelled,
-    }))
+        bytes: Vec::new(alloc),
+    };
+    match add_bytes(&mut line.bytes, alloc, spelled) {
+        Ok(true) => Ok(Some(line)),
+        Ok(false) => Ok(None),
+        Err(fault) => Err(fault),
+    }
+}
+
+/// The command with these numbers and bytes. `None` if they can't be parsed.
+fn command(alloc: Global, verb: Verb, rest: &str) -> Result<Option<Line>, AllocError> {
+    let (numbers, spelled) = rest.split_once('=').unwrap_or((rest, ""));
+    match numbers_in(alloc, numbers)? {
+        Some(numbers) => with_bytes(alloc, verb, numbers, spelled),
+        None => Ok(None),
+    }
 }
 
 /// Parses a line. `None` if its numbers or bytes can't be parsed. A line with no other command is a run of events.
 pub(crate) fn line_in(alloc: Global, text: &str) -> Result<Option<Line>, AllocError> {
-    let (word, rest) = text.split_once(' ').unwrap_or((text, ""));
+    let (word, rest) = parted(text);
     match verb_in(word) {
-        Some(verb) => {
-            let (numbers, bytes) = rest.split_once('=').unwrap_or((rest, ""));
-            command(alloc, verb, numbers, bytes)
-        }
-        None => command(alloc, Verb::Events, "", ""),
+        Some(verb) => command(alloc, verb, rest),
+        None => command(alloc, Verb::Events, ""),
     }
 }

@@ -38,11 +38,9 @@ mod lines;
 mod sessions;
 
 use lines::{Line, Verb, line_in};
-use sector_disk::MemoryDisk;
 use sessions::Trial;
 use std::alloc::{AllocError, Global};
 use std::io;
-use std::io::{BufRead, BufReader};
 
 /// The answer to a command. `None` if it does not fit or no service is open.
 fn answered(
@@ -59,12 +57,20 @@ fn answered(
     }
 }
 
+/// The answer to a line of text. `None` if it is no command, does not fit, or no service is open.
+fn answer_to(alloc: Global, trial: &mut Trial, text: &str) -> Result<Option<String>, AllocError> {
+    match line_in(alloc, text)? {
+        Some(line) => {
+            let answer = answered(alloc, trial, &line, text);
+            drop(line);
+            answer
+        }
+        None => Ok(None),
+    }
+}
+
 fn answer_command(rt: &HostRuntime, trial: &mut Trial, text: &str) -> io::Result<()> {
-    let alloc = rt.alloc();
-    let Some(line) = line_in(alloc, text)? else {
-        return println!(rt; "? {text}");
-    };
-    match answered(alloc, trial, &line, text)? {
+    match answer_to(rt.alloc(), trial, text)? {
         Some(answer) => println!(rt; "{answer}"),
         None => println!(rt; "? {text}"),
     }
@@ -79,16 +85,15 @@ fn answer_line(rt: &HostRuntime, trial: &mut Trial, text: &str) -> io::Result<()
 
 /// Answers each line. The service is borrowed, so that no way out of the loop drops it.
 fn answer_lines(rt: &HostRuntime, trial: &mut Trial) -> io::Result<()> {
-    for line in BufReader::new(rt.alloc(), rt.reader())?.lines(rt.alloc()) {
+    for line in rt.lines(rt.alloc()) {
         answer_line(rt, trial, line?.as_str())?;
     }
     Ok(())
 }
 
 fn main(rt: HostRuntime) -> io::Result<()> {
-    let mut trial = Trial::new(
-        MemoryDisk::new(rt.alloc(), 0)?,
-        MemoryDisk::new(rt.alloc(), 0)?,
-    );
-    answer_lines(&rt, &mut trial)
+    let mut trial = Trial::new(rt.alloc())?;
+    let answered = answer_lines(&rt, &mut trial);
+    drop(trial);
+    answered
 }

@@ -1,113 +1,145 @@
 //! A disk, and its service while it is open.
+use crate::answers::{calls_text, debug_text, fixed_text};
 use crate::lines::{Line, SessionVerb};
-use generations::StoreFault;
 use script_bytes::choices_of;
 use sector_disk::{FailingCalls, FaultyDisk, MemoryDisk};
 use std::alloc::{AllocError, Global};
 use std::mem;
 use tile_service::Service;
 
-/// The service of a script.
-pub(crate) type Served = Service<FaultyDisk<MemoryDisk>>;
+/// The disk of a service, whose calls may fail.
+pub(crate) type ServedDisk = FaultyDisk<MemoryDisk>;
 
-/// A closed disk, or an open service.
-#[derive(Drop)]
-pub(crate) enum Session {
-    Closed(MemoryDisk),
-    Open(Served),
-}
+/// The service of a script.
+pub(crate) type Served = Service<ServedDisk>;
 
 /// No call fails.
-pub(crate) const NONE: FailingCalls = FailingCalls::OneNotMade(0);
+const NONE: FailingCalls = FailingCalls::OneNotMade(0);
 
-/// The state of a script: a session, the disk that was stopped last, and the failing calls of the next session.
+/// The state of a script: a closed disk or an open service, the disk that was stopped last, and the failing calls of the next session.
 #[derive(Drop)]
 pub(crate) struct Trial {
-    pub(crate) session: Session,
+    /// The closed disk. While a service is open it has no sectors.
+    disk: MemoryDisk,
+    service: Option<Served>,
     stopped: MemoryDisk,
     failing: FailingCalls,
 }
 
-/// The disk of a session, and the number of its calls.
-fn disk_of(session: Session) -> (MemoryDisk, u64) {
-    match session {
-        Session::Closed(disk) => (disk, 0),
-        Session::Open(service) => {
-            let disk = service.into_disk();
-            let calls = disk.calls();
-            (disk.into_disk(), calls)
-        }
-    }
-}
-
 impl Trial {
-    pub(crate) fn new(disk: MemoryDisk, stopped: MemoryDisk) -> Trial {
-        Trial {
-            session: Session::Closed(disk),
-            stopped,
+    /// A closed disk without sectors.
+    pub(crate) fn new(alloc: Global) -> Result<Trial, AllocError> {
+        Ok(Trial {
+            disk: MemoryDisk::new(alloc, 0)?,
+            service: None,
+            stopped: MemoryDisk::new(alloc, 0)?,
             failing: NONE,
-        }
+        })
     }
 
     pub(crate) fn is_open(&self) -> bool {
-        matches!(self.session, Session::Open(_))
+        self.service.is_some()
     }
 
-    /// The failing calls of the next session. No call of a later one fails.
-    pub(crate) fn take_failing(&mut self) -> FailingCalls {
-        mem::replace(&mut self.failing, NONE)
+    /// The disk, if no service is open.
+    pub(crate) fn closed_disk(&mut self) -> Option<&mut MemoryDisk> {
+        if self.is_open() {
+            return None;
+        }
+        Some(&mut self.disk)
     }
 
-    /// Takes the disk out, with the number of its calls, and leaves one without sectors.
-    pub(crate) fn take_disk(&mut self, alloc: Global) -> Result<(MemoryDisk, u64), AllocError> {
-        let empty = Session::Closed(MemoryDisk::new(alloc, 0)?);
-        Ok(disk_of(mem::replace(&mut self.session, empty)))
+    /// The service, if one is open.
+    pub(crate) fn open_service(&mut self) -> Option<&mut Served> {
+        self.service.as_mut()
+    }
+
+    /// Closes the service, if one is open. Returns the number of calls of its disk.
+    fn close(&mut self) -> u64 {
+        let Some(service) = self.service.take() else {
+            return 0;
+        };
+        let disk = service.into_disk();
+        let calls = disk.calls();
+        self.put_back(disk);
+        calls
+    }
+
+    /// Replaces the closed disk.
+    fn replace(&mut self, disk: MemoryDisk) {
+        drop(mem::replace(&mut self.disk, disk));
+    }
+
+    /// Closes the session, and begins another one with this disk.
+    pub(crate) fn begin(&mut self, disk: MemoryDisk) {
+        self.close();
+        self.replace(disk);
+    }
+
+    /// Takes the disk of the session out, with its failing calls, and leaves one without sectors and failing calls.
+    pub(crate) fn take_disk(&mut self, alloc: Global) -> Result<ServedDisk, AllocError> {
+        self.close();
+        let failing = mem::replace(&mut self.failing, NONE);
+        let empty = MemoryDisk::new(alloc, 0)?;
+        Ok(FaultyDisk::new(mem::replace(&mut self.disk, empty), failing))
+    }
+
+    /// Puts a disk back.
+    pub(crate) fn put_back(&mut self, disk: ServedDisk) {
+        self.replace(disk.into_disk());
     }
 }
 
-/// Opens a disk. At a fault the session stays closed, and the fault comes with the number of calls.
+/// Opens a disk. At a fault the session stays closed, and the text is that of the fault with the number of calls.
 fn opened(
     alloc: Global,
-    disk: MemoryDisk,
-    failing: FailingCalls,
-) -> (Session, Option<(StoreFault, u64)>) {
-    match Service::open(alloc, FaultyDisk::new(disk, failing)) {
-        Ok(service) => (Session::Open(service), None),
+    trial: &mut Trial,
+    disk: ServedDisk,
+) -> Result<Option<String>, AllocError> {
+    match Service::open(alloc, disk) {
+        Ok(service) => {
+            drop(mem::replace(&mut trial.service, Some(service)));
+            fixed_text(alloc, "open")
+        }
         Err((disk, fault)) => {
             let calls = disk.calls();
-            (Session::Closed(disk.into_disk()), Some((fault, calls)))
+            trial.put_back(disk);
+            calls_text(alloc, fault, calls)
         }
     }
 }
 
 fn open(alloc: Global, trial: &mut Trial) -> Result<Option<String>, AllocError> {
-    let (disk, _) = trial.take_disk(alloc)?;
-    let (session, fault) = opened(alloc, disk, trial.take_failing());
-    trial.session = session;
-    match fault {
-        None => Ok(Some(String::from_str(alloc, "open")?)),
-        Some((fault, calls)) => Ok(Some(format!(in alloc; "{fault:?} in {calls}")?)),
+    match trial.take_disk(alloc) {
+        Ok(disk) => opened(alloc, trial, disk),
+        Err(fault) => Err(fault),
     }
 }
 
 fn stop(alloc: Global, trial: &mut Trial) -> Result<Option<String>, AllocError> {
-    let (disk, calls) = trial.take_disk(alloc)?;
-    trial.stopped = disk;
+    let calls = trial.close();
+    let empty = MemoryDisk::new(alloc, 0)?;
+    let stopped = mem::replace(&mut trial.disk, empty);
+    drop(mem::replace(&mut trial.stopped, stopped));
     Ok(Some(format!(in alloc; "stopped in {calls}")?))
 }
 
 fn resume(alloc: Global, trial: &mut Trial) -> Result<Option<String>, AllocError> {
     let empty = MemoryDisk::new(alloc, 0)?;
     let disk = mem::replace(&mut trial.stopped, empty);
-    trial.session = Session::Closed(disk);
-    Ok(Some(String::from_str(alloc, "resumed")?))
+    trial.begin(disk);
+    fixed_text(alloc, "resumed")
 }
 
 fn crash(alloc: Global, trial: &mut Trial, numbers: &[u64]) -> Result<Option<String>, AllocError> {
     let choices = choices_of(alloc, numbers)?;
-    let left = trial.stopped.crash(&choices)?;
-    trial.session = Session::Closed(left);
-    Ok(Some(String::from_str(alloc, "crashed")?))
+    match trial.stopped.crash(&choices) {
+        Ok(left) => {
+            trial.begin(left);
+            fixed_text(alloc, "crashed")
+        }
+        Err(fault) => Err(fault),
+    }
 }
 
 fn fail(
@@ -116,7 +148,7 @@ fn fail(
     failing: FailingCalls,
 ) -> Result<Option<String>, AllocError> {
     trial.failing = failing;
-    Ok(Some(format!(in alloc; "{failing:?}")?))
+    debug_text(alloc, failing)
 }
 
 /// The answer to a command on a session. `None` if its numbers don't fit.
