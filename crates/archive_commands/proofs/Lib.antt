@@ -1,4 +1,4 @@
+mod HeaderFaults
 mod Judged
 mod PutLaws
 mod Stored
-mod Written

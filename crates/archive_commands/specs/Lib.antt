@@ -1,4 +1,4 @@
 pub mod Faults
-pub mod Put
+pub mod Pieces
 pub mod Shown
 pub mod Verdicts

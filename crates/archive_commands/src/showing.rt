@@ -5,7 +5,7 @@ ghost use Rattle.std.specs.Io.KnownBytes.{Appends};
 ghost use Rattle.pm_header.specs.Layout.{IsHeader};
 ghost use Rattle.pm_archive.specs.Sections.{end_of, section_bytes};
 ghost use Rattle.archive_commands.specs.Shown.{HeaderHas, HasText, IfWrite, IsMetadataLine, IsShown, header_lines, metadata_line};
-ghost use Rattle.archive_commands.specs.Put.{AppendsPart, Puts};
+ghost use Rattle.whole_write.specs.Writes.{AppendsPart, WritesWhole};
 
 use crate::putting::{Piece, put_pieces};
 use pm_header::{Header, HeaderFault, SectionSpan};
@@ -58,7 +58,7 @@ fn metadata_text<'a>(archive: &'a [u8], header: &Header) -> Option<&'a str>
 /// Writes the lines of a header.
 #[tactic(auto, unfolding(crate::specs::Shown::header_lines))]
 fn write_header<W: Write>(header: &Header, out: &mut W) -> io::Result<()>
-    ensures { Puts (W.contents out.old) (W.contents out.new) result (header_lines header.now) }
+    ensures { WritesWhole (W.contents out.old) (W.contents out.new) result (header_lines header.now) }
 {
     let pieces = [
         Piece::Text("version: 3\ntile type: "),
@@ -111,7 +111,7 @@ fn metadata_of<'a>(archive: &'a [u8], header: &Header) -> Metadata<'a>
 /// Writes the line of the metadata.
 #[tactic(auto, unfolding(crate::specs::Shown::compressed_line, crate::specs::Shown::text_line, crate::specs::Shown::unreadable_line))]
 fn write_metadata<W: Write>(metadata: Metadata<'_>, out: &mut W) -> io::Result<()>
-    ensures { Puts (W.contents out.old) (W.contents out.new) result (metadata_line metadata.entry) }
+    ensures { WritesWhole (W.contents out.old) (W.contents out.new) result (metadata_line metadata.entry) }
 {
     match metadata {
         Metadata::Compressed(internal) => put_pieces(
@@ -136,7 +136,7 @@ fn write_metadata<W: Write>(metadata: Metadata<'_>, out: &mut W) -> io::Result<(
 
 /// Writes the lines of a header and the line of the metadata.
 fn write_shown<W: Write>(header: &Header, metadata: Metadata<'_>, out: &mut W) -> io::Result<()>
-    ensures { Puts (W.contents out.old) (W.contents out.new) result (header_lines header.now ++ metadata_line metadata.entry) }
+    ensures { WritesWhole (W.contents out.old) (W.contents out.new) result (header_lines header.now ++ metadata_line metadata.entry) }
 {
     write_header(header, out)?;
     write_metadata(metadata, out)

@@ -1,4 +1,4 @@
--- Bytes copied one behind the other.
+-- Bytes copied one after the other.
 use Rattle.std.proofs.Common.{◌≡◌, ℕ, ◌<◌, ◌≤◌, ◌+◌, ◌-◌, List, [], ◌++◌, length, Option, take, drop, slice_range}
 use Rattle.std.proofs.Common.{refl, sym, ap, ◌∙◌, subst, arith, length-append}
 use Rattle.std.proofs.lemmas.List.{take_all, take_at, take-take}
@@ -10,9 +10,9 @@ use Rattle.sector_bytes.specs.Source.{AreItsBytes}
 use Rattle.sector_bytes.proofs.Laws.{stands_read}
 use Rattle.generations.specs.Areas.{sectors_of}
 use Rattle.published_tiles.specs.declared.place.ArchivePlace.{ArchivePlace}
+use Rattle.whole_write.specs.Writes.{AppendsPart}
+use Rattle.whole_write.proofs.Written.{nothing_written}
 use Rattle.archive_export.specs.Copies.{CopiesBytes, CopiesArchive, CopiesFewer}
-use Rattle.archive_export.specs.Writes.{AppendsPart}
-use Rattle.archive_export.proofs.Written.{nothing_written}
 
 -- what is read of an archive, from one of its bytes on
 pub piece_read : (image : Image) (first len at n : ℕ) (archive into : List ℕ) → AreItsBytes first len archive image → at + n ≤ len
@@ -44,7 +44,7 @@ module _ {D : Type 0} (honest : D → Type 0) (history : D → History) (place :
     λ xs are honest_now. front_read at n xs piece part.0 part.1 size part.2 (read xs are honest_now),
   )
 
-  -- some more behind the first ones, but not all of a piece
+  -- some more after the first ones, but not all of a piece
   pub copies_fewer : (old middle new : D) (held between holds : Option (List ℕ)) (at count : ℕ) → at + count ≤ place.len
       → (honest new → honest middle) → (honest middle → history middle ≡ history old)
       → CopiesBytes honest history place old 0 at middle held between → CopiesFewer honest history place middle at count new between holds
@@ -61,7 +61,7 @@ module _ {D : Type 0} (honest : D → Type 0) (history : D → History) (place :
         ∙ ap (λ (n : ℕ). take n xs) (sym (length-append first.0 more.0 ∙ ap (λ (n : ℕ). n + length more.0) first.1)),
   )
 
-  -- some more behind the first ones
+  -- some more after the first ones
   pub copies_more : (old middle new : D) (held between holds : Option (List ℕ)) (at count long : ℕ) → long ≡ count
       → (honest new → honest middle) → (honest middle → history middle ≡ history old)
       → CopiesBytes honest history place old 0 at middle held between → CopiesBytes honest history place middle at long new between holds

@@ -1,3 +1,2 @@
 mod Finds
 mod Joined
-mod Written

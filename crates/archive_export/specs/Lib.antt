@@ -1,3 +1,2 @@
 pub mod Copies
 pub mod Finds
-pub mod Writes

@@ -4,12 +4,12 @@ ghost use Rattle.archive_export.specs.Copies.{CopiesBytes, CopiesArchive, Copies
 ghost use Rattle.generations.specs.Areas.{sectors_of};
 ghost use Rattle.sector_disk.specs.Asked.{OnlyReads};
 
-use crate::writing::write_whole;
 use published_tiles::ArchivePlace;
 use sector_bytes::read_bytes;
 use sector_disk::{DiskFault, Sectors};
 use std::io::Write;
 use thiserror::Error;
+use whole_write::write_whole;
 
 /// How many bytes are read and written at once.
 const PIECE_SIZE: usize = 65_536;

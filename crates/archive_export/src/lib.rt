@@ -3,7 +3,6 @@
 
 mod copying;
 mod finding;
-mod writing;
 
 pub use copying::{CopyFault, copy_archive};
 pub use finding::find_archive;

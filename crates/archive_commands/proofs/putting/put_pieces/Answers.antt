@@ -1,5 +1,5 @@
 use Rattle.std.proofs.lemmas.Result.{err_from_is_err_and}
-use Rattle.archive_commands.specs.Put.{pieces_text}
+use Rattle.archive_commands.specs.Pieces.{pieces_text}
 use Rattle.archive_commands.proofs.PutLaws.{pieces_on, pieces_fault}
 use Rattle.archive_commands.proofs.putting.put_pieces.Goals as goal
 

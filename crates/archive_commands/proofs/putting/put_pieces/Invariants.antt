@@ -1,5 +1,6 @@
 use Rattle.std.proofs.Common.{drop}
-use Rattle.archive_commands.specs.Put.{SoFar, pieces_text}
+use Rattle.whole_write.specs.Writes.{SoFar}
+use Rattle.archive_commands.specs.Pieces.{pieces_text}
 use Rattle.archive_commands.proofs.putting.put_pieces.Given as goal
 
 abbrev pub invariant-loop-piece : goal.invariant-loop-piece

@@ -1,4 +1,4 @@
-use Rattle.archive_commands.proofs.Written.{reported_of_header}
+use Rattle.archive_commands.proofs.HeaderFaults.{reported_of_header}
 use Rattle.archive_commands.proofs.showing.show.Goals as goal
 
 pub returns-in-Err-clause-header : goal.returns-in-Err-clause-header

@@ -1,6 +1,5 @@
--- What several writes leave, and the faults of a header.
-use Rattle.std.proofs.Common.{◌≡◌, ◌≢◌, ◌↔◌, ℕ, ◌<◌, ◌≤◌, List, length, take, slice_index, ◌++◌, Option, Some, None, Result, Err, ap, ◌∙◌, append_assoc}
-use Rattle.std.specs.Io.KnownBytes.{Appends}
+-- The fault of a header, as `show` reports it.
+use Rattle.std.proofs.Common.{◌≡◌, ◌≢◌, ◌↔◌, ℕ, ◌<◌, ◌≤◌, List, length, take, slice_index, Result, Err}
 use Rattle.pm_header.specs.declared.header.Header.{Header}
 use Rattle.pm_header.specs.declared.fault.HeaderFault.{HeaderFault}
 use Rattle.pm_header.specs.declared.fault.HeaderFault.TheVariants.{Short, Magic, Version}
@@ -9,13 +8,6 @@ use Rattle.pm_header.specs.Layout.{magic}
 use Rattle.archive_commands.specs.declared.showing.ShowFault.{ShowFault}
 use Rattle.archive_commands.specs.declared.showing.ShowFault.TheVariants as faults
 use Rattle.archive_commands.specs.Shown.{HeaderHas}
-
--- one write after another
-pub Appends-both : (old mid new : Option (List ℕ)) (xs ys : List ℕ) → Appends old mid xs → Appends mid new ys → Appends old new (xs ++ ys)
-Appends-both None mid new xs ys h k = tt
-Appends-both (Some o) None new xs ys h k = absurd h
-Appends-both (Some o) (Some m) None xs ys h k = absurd k
-Appends-both (Some o) (Some m) (Some n) xs ys h k = k ∙ (ap (λ s. s ++ ys) h ∙ append_assoc o xs ys)
 
 -- the fault of the header is the one that is reported
 abbrev read : HeaderFault → Result Header HeaderFault

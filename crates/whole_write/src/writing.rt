@@ -2,7 +2,7 @@
 
 ghost use Rattle.std.specs.Prelude.{◌<◌, length, MatchResult};
 ghost use Rattle.std.specs.Io.KnownBytes.{Keeps};
-ghost use Rattle.archive_export.specs.Writes.{SoFar, WritesWhole};
+ghost use Rattle.whole_write.specs.Writes.{SoFar, WritesWhole};
 
 use std::io::{self, ErrorKind, Write};
 
@@ -25,8 +25,12 @@ fn write_some<'a, W: Write>(into: &mut W, bytes: &'a [u8]) -> io::Result<&'a [u8
     }
 }
 
-/// Writes all of the bytes; short writes are continued and interrupted ones retried. After an error a proper prefix was written.
-pub(crate) fn write_whole<W: Write>(into: &mut W, bytes: &[u8]) -> io::Result<()>
+/// Writes all of the bytes. Short writes are continued and interrupted ones retried.
+///
+/// # Errors
+///
+/// The writer's fault, or `WriteZero` if a write took no byte. A proper prefix of the bytes was written then.
+pub fn write_whole<W: Write>(into: &mut W, bytes: &[u8]) -> io::Result<()>
     ensures { WritesWhole (W.contents into.old) (W.contents into.new) result bytes.now }
 {
     let mut rest = bytes;

@@ -1,5 +1,5 @@
-use Rattle.archive_export.proofs.Written.{written_on, written_all}
-use Rattle.archive_export.proofs.writing.write_whole.Goals as goal
+use Rattle.whole_write.proofs.Written.{written_on, written_all}
+use Rattle.whole_write.proofs.writing.write_whole.Goals as goal
 
 pub returns-then-rest-eq0 : goal.returns-then-rest-eq0
 returns-then-rest-eq0 g c = written_all (g.W.Write.contents c.args.into.now) (g.W.Write.contents c.loop.into) c.args.bytes.now c.loop.rest.now
