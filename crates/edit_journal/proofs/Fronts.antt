@@ -1,4 +1,4 @@
--- The front of a part's sector, and the bytes behind it.
+-- The front of a part's sector, and the bytes after it.
 use Rattle.std.proofs.Common.{◌≡◌, ◌↔◌, Bool, false, ℕ, ◌<◌, ◌≤◌, ◌+◌, ◌*◌, ◌-◌, ◌^◌, ◌==◌, if◌then◌else◌}
 use Rattle.std.proofs.Common.{List, ◌++◌, length, take, drop, replicate, min, sym, ap, subst, ◌∙◌, arith, refl}
 use Rattle.std.specs.Prelude.{slice_index, IsTrue}
@@ -78,7 +78,7 @@ put_front front bytes first len same is =
     let whole : 0 + length bytes ≡ 16 = omega (arith, ap length same, len) in
     is ∙ ap (λ (n : ℕ). bytes ++ drop n (replicate 512 0)) whole ∙ ap (λ (f : List ℕ). f ++ replicate PART_BYTES 0) same
 
--- and then with a piece behind it
+-- and then with a piece after it
 put_piece : (front bytes first second : List ℕ) → length front ≡ 16 → first ≡ front ++ replicate PART_BYTES 0
     → second ≡ take 16 first ++ (bytes ++ drop (16 + length bytes) first) → second ≡ front ++ (bytes ++ replicate (PART_BYTES - length bytes) 0)
 put_piece front bytes first second len is written =

@@ -1,4 +1,4 @@
--- A record counts once its head stands, and its bodies stand before that.
+-- A record counts once its head is written, and its bodies are written before that.
 use Rattle.std.proofs.Common.{◌≡◌, ◌⊎◌, inl, inr, ⊎_elim, ℕ, suc, ◌≤◌, ◌<◌, ◌+◌, ◌^◌, List, [], ◌∷◌, ◌++◌, length, length-append}
 use Rattle.std.proofs.Common.{sym, ◌∙◌, ap, subst, arith, Result, Ok, Err, OnOk}
 use Rattle.std.proofs.lemmas.Bool.{cases_eq}
@@ -122,7 +122,7 @@ module _ (start : History) (ring : Ring) (place edits used last : ℕ) (rs : Lis
     head_is = first_is_head r.version (last + 1) r.text (record_sector r.version (last + 1) r.text 0) fits
         (written_is_part r.version (last + 1) r.text 0)
 
-    -- the sector of each part has it once the head stands
+    -- the sector of each part has it once the head is written
     new_part : (image : Image) → ((at : ℕ) → StagedOrHead at (image at))
         → image (sector_at ring (place + used)) ≡ record_sector r.version (last + 1) r.text 0
         → (at part : ℕ) → part < parts_of (length r.text) → at ≡ sector_at ring (place + (used + part))
@@ -212,7 +212,7 @@ module _ (start : History) (ring : Ring) (place edits used last : ℕ) (rs : Lis
         end_leaves = sync_leaves start written after OneMore (any_sync result written after syncs) head_leaves
             (fits_image after StagedOrHead OneMore end_within head_decides)
 
-        -- it is done: the head stands in each image
+        -- it is done: each image has the head
         settled_keeps : written ≡ wrote at head staged → after ≡ synced written
             → Keeps ring place edits (used + parts_of (length r.text)) (last + 1) (rs ++ r ∷ []) after
         settled_keeps written_is after_is = record {

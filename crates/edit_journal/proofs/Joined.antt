@@ -38,7 +38,7 @@ kept_piece text cut count part len lt =
 new_piece : (text cut : List ℕ) (count : ℕ) → length text ≡ PART_BYTES * count → length cut ≤ PART_BYTES → piece (text ++ cut) count ≡ cut
 new_piece text cut count len short = ap (take PART_BYTES) (drop_at text cut (PART_BYTES * count) len) ∙ take_all PART_BYTES cut short
 
--- so many parts were read: their fronts stand, and the text has their bytes
+-- the first `count` parts were read: the image has their fronts, and the text has their bytes
 pub record AreRead (ring : Ring) (place used version number bytes : ℕ) (image : Image) (text : List ℕ) (count : ℕ) : Type 0 where
   pub fronts : (part : ℕ) → part < count → HasFront version number bytes part (image (sector_at ring (place + (used + part))))
   pub pieces : (part : ℕ) → part < count

@@ -10,7 +10,7 @@ module _ (size : ℕ) where
   pub cut_length : (bytes : List ℕ) (index : ℕ) → length (cut bytes index) ≡ min size (length bytes - size * index)
   cut_length bytes index = length-take size (drop (size * index) bytes) ∙ ap (min size) (length-drop (size * index) bytes)
 
-  -- of two lists of one length the same piece begins what stands there
+  -- of two lists of one length the same piece begins what is there
   pub one_cut : (bytes others : List ℕ) (index : ℕ) (there : List ℕ) → length bytes ≡ length others
       → take (length (cut bytes index)) there ≡ cut bytes index → take (length (cut others index)) there ≡ cut others index
       → cut bytes index ≡ cut others index

@@ -30,7 +30,7 @@ places_apart ring x y small small_too near near_too apart same = ⊎_elim
 pub in_ring : (ring : Ring) (place : ℕ) → 0 < ring.places → IsInRing ring (sector_at ring place)
 in_ring ring place pos = (omega arith, omega (arith, mod_below place ring.places pos))
 
--- the sector of a place that isn't behind the last one
+-- the sector of a place that isn't past the last one
 pub low_sector : (ring : Ring) (place index : ℕ) → place < ring.places → index ≡ place → ring.first + index ≡ sector_at ring place
 low_sector ring place index lt is = omega (arith, mod-eq_of_lt lt, is)
 

@@ -95,7 +95,7 @@ module _ (ring : Ring) (image : Image) where
       holds_drop rs count (place + parts_of (length r.text)) (suc number) other later (omega (arith, le)) (omega (arith, other_is))
       (omega (arith, later_is)) (holds_behind ring image (record { place = place; number = number }) r rs holds)
 
--- the journal from a start on, where so many records lie before it
+-- the journal from a start on, with `count` records before it
 module _ (ring : Ring) (place edits used last : ℕ) (rs : List RecordData) (history : History) (was : Keeps ring place edits used last rs history)
     (begins : place < ring.places) (room : used ≤ ring.places) where
   pub keeps_behind : (behind left other later count : ℕ) → left + behind ≡ used → MayTake (later - edits) behind

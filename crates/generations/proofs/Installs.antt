@@ -21,7 +21,7 @@ module _ (root : Root) (start : History) where
       (fits_image h (MayHold start) (Installs root start)
       (sync_within start h (MayHold start) (any_sync told start h syncs) (λ at left may. may)) (λ image fits. inl fits))
 
-  -- In each sector stands what a read gave, or the root in its own.
+  -- Each sector has what a read gave, or the root in its own.
   module _ (h : History) (is : h ≡ synced start) where
     in_sector : (image : Image) → ((at : ℕ) → IsOldOr h (root_at root.generation) (root_sector root) at (image at)) → (at : ℕ)
         → (image at ≡ seen start at) ⊎ ((at ≡ root_at root.generation) × (image at ≡ root_sector root))
@@ -43,7 +43,7 @@ module _ (root : Root) (start : History) where
         }))
         (in_sector image fits (root_at root.generation))
 
-    -- and so does the write of the root with the sync behind it
+    -- and so does the write of the root with the sync before it
     pub written_leaves : (told : Result (Unit {0}) DiskFault) → Syncs told start h → (bytes : List ℕ) → bytes ≡ root_sector root → (after : History)
         → LeavesOnly h after (λ image. (at : ℕ) → IsOldOr h (root_at root.generation) bytes at (image at)) → LeavesOnly start after (Installs root start)
     written_leaves told syncs bytes same after leaves = then_leaves start h after (Installs root start) (begun_leaves told h syncs)
@@ -114,6 +114,6 @@ module _ (count n : ℕ) (before image : Image) (old root : Root) (lives : LiveR
             (λ (second : IsRootOf n 1 (image 2) other). same (image 2) other here.stands second.stands) has;
       }
 
-  -- Where one root counts, the next one counts once it stands in its sector.
+  -- Where one root counts, the next one counts once its sector has it.
   pub next_lives : LiveRoot count image n root
   next_lives = ⊎_elim even_lives (λ (odd : root.generation % 2 ≡ 0 → ⊥). odd_lives (omega (arith, odd))) (cases_eq (root.generation % 2) 0)

@@ -1,4 +1,4 @@
--- Laws of what stands on a disk, for the crates above.
+-- Laws of what a disk has, for the crates above.
 use Rattle.std.proofs.Common.{◌≡◌, ◌⊎◌, inl, inr, ⊎_elim, ℕ, ◌≤◌, ◌<◌, ◌+◌, ◌^◌, ◌%◌, ◌==◌, if◌then◌else◌, List, take, Option, Some, None, true, false}
 use Rattle.std.proofs.Common.{refl, sym, ◌∙◌, ap, subst, arith, lit<, lit≤}
 use Rattle.std.proofs.lemmas.Bool.{cases_eq, cases_lt, cases_Bool, both_ways}

@@ -96,13 +96,13 @@ no_mark image empty mark = marks_apart (ap (λ (s : List ℕ). take 8 s) (sym em
 abbrev pub Stands : History → ℕ → List ℕ → Type 0
 Stands history at bytes = (left : List ℕ) → MayHold history at left → left ≡ bytes
 
--- what was written and synced stands
+-- what was written and synced is there
 stands_now : (at : ℕ) (bytes : List ℕ) (old new : History) → new ≡ synced (wrote at bytes old) → Stands new at bytes
 stands_now at bytes old new is left may =
     let holds : MayHold (synced (wrote at bytes old)) at left = subst (λ (h : History). MayHold h at left) is may in
     holds ∙ seen_same at bytes old at refl
 
--- and what stood in another sector stands still
+-- and what was in another sector is still there
 stands_still : (at : ℕ) (bytes : List ℕ) (old new : History) → new ≡ synced (wrote at bytes old)
     → (index : ℕ) (there : List ℕ) → (index ≡ at → ⊥) → Stands old index there → Stands new index there
 stands_still at bytes old new is index there apart stood left may =
@@ -202,7 +202,7 @@ module _ (version n : ℕ) (start : History) where
                       (three_empty at le lt) (image at) (may at);
                 }
 
-                -- what a crash may leave at any moment, and what it leaves once the format stands
+                -- what a crash may leave at any moment, and what it leaves once the format is written
                 pub fourth : LeavesOnly start four Formats
                     × (four ≡ synced (wrote 0 format three) → (image : Image) → MayLeave four image → IsFresh version n image)
                 fourth = (fourth_leaves, all_fresh)

@@ -37,7 +37,7 @@ one_more first [] bytes h = ap (λ (at : ℕ). wrote at bytes h) (omega arith)
 one_more first (other ∷ rest) bytes h = one_more (suc first) rest bytes (wrote first other h)
     ∙ ap (λ (at : ℕ). wrote at bytes (wrote_run (suc first) rest (wrote first other h))) (omega arith)
 
--- the same of the first so many of them
+-- the same of the first `len` of them
 pub taken : (len : ℕ) (sectors : List (List ℕ)) → len ≤ length sectors → length (take len sectors) ≡ len
 taken len sectors fits = length-take-le len sectors fits
 
@@ -89,14 +89,14 @@ after_gave old new at sectors is found honest =
     subst (λ (calls : List Call). IsHonest found calls → Shows (seen (replayed found calls)) at (length sectors) sectors)
     (sym is) (λ gives. subst (λ (n : ℕ). Shows (seen (replayed found old)) n (length sectors) sectors) (by_offset at) gives.1) honest
 
--- the same of the first so many sectors
+-- the same of the first `count` sectors
 pub after_gave_first : (old new : List Call) (at count : ℕ) (sectors : List (List ℕ)) → new ≡ gave_run (at * SECTOR_BYTES) (take count sectors) ∷ old
     → count ≤ length sectors → (found : History) → IsHonest found new → Shows (seen (replayed found new)) at count sectors
 after_gave_first old new at count sectors is fits found honest index within =
     sym (get_or-take count sectors index [] within)
     ∙ after_gave old new at (take count sectors) is found honest index (subst (λ (n : ℕ). index < n) (sym (taken count sectors fits)) within)
 
--- and it was a run of so many
+-- and it was a run of `count` sectors
 pub gave_first : (old new : List Call) (at count first len : ℕ) (sectors : List (List ℕ)) → new ≡ gave_run (at * SECTOR_BYTES) (take count sectors) ∷ old
     → 0 < count → count ≤ RUN_SECTORS → length sectors ≡ RUN_SECTORS → Apart at count first len → GaveRun at first len old new
 gave_first old new at count first len sectors is some few long apart =

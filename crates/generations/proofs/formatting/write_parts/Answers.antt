@@ -24,7 +24,7 @@ returns-in_err-write_and_sync-2-clause-any_moment g c honest =
     (c.clear.ensures.within two) (λ at pos lt. c.in_ok-clear.ensures.empty two at pos (omega (arith, lt, c.args.layout.journal_is)))
     _ c.root_bytes-first.ensures _ (c.write_and_sync-2.ensures.leaves honest)
 
--- after the last write: what a crash may leave at any moment, and what it leaves once the format stands
+-- after the last write: what a crash may leave at any moment, and what it leaves once the format is written
 written : (g : given.Over) (c : After-write_and_sync-3 g) → g.D.Sectors.honest c.write_and_sync-3.new.disk
     → LeavesOnly (g.D.Sectors.history c.args.disk.now) (g.D.Sectors.history c.write_and_sync-3.new.disk)
     (Formats c.args.version c.args.layout.sectors (g.D.Sectors.history c.args.disk.now))
