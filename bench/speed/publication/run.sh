@@ -15,3 +15,6 @@ g++ -O2 -std=c++17 -o "$work/peer" "$here/peer.cpp"
 cd "$work/crates/publication_bench"
 rt run -- "$folder" > /dev/null
 python3 "$here/../beside.py" "$folder" out/publication_bench "$work/peer"
+for subject in city points; do
+    python3 "$here/../beside.py" --word "$subject" "$folder" out/publication_bench "$work/peer"
+done
