@@ -10,7 +10,7 @@ use Rattle.edit_journal.specs.Appends.{start_of}
 use Rattle.edit_journal.specs.Recovers.{EndsAt, IsJournal, PartsStand, FrontsStand, IsNext, IsDamaged}
 use Rattle.edit_journal.specs.Releases.{MayTake}
 use Rattle.edit_journal.proofs.Fronts.{version_there, length_there}
-use Rattle.edit_journal.proofs.Recovers.{one_more, damaged_is_none}
+use Rattle.edit_journal.proofs.Recovers.{one_more, goes_on, longer_than_none, damaged_is_none}
 use Rattle.edit_journal.proofs.Releases.{records_take}
 
 -- ---- one record
@@ -55,6 +55,12 @@ module _ (ring : Ring) (place used number : ℕ) (image : Image) (sector : List 
         none (subst (λ (n : ℕ). FrontsStand version ring place used number n image) same
         (subst (λ (v : ℕ). FrontsStand v ring place used number (length r.text) image) (same_version r next)
         (λ part lt. (next.stands part lt).front)))
+
+  -- a journal goes on where a head that is expected is stored
+  pub no_end : (most : ℕ) → used < ring.places → number < 2 ^ 64 → FIRST_RECORD_VERSION ≤ version → version ≤ most
+      → EndsAt most ring place used number image → ⊥
+  no_end most left fits first allowed =
+      goes_on ring image most place used number left fits (subst (IsExpectedHead most number) is (version, first, allowed, head))
 
   pub damage : (most : ℕ) → used < ring.places → number < 2 ^ 64 → FIRST_RECORD_VERSION ≤ version → version ≤ most
       → ((r : RecordData) → IsNext ring place used number r image → ⊥) → IsDamaged most ring place used number image
@@ -105,6 +111,9 @@ module _ (ring now : Ring) (start : RecordStart) (place edits used last : ℕ) (
     pub no_journal : IsDamaged most now place used (last + 1) image
         → (others : List RecordData) → IsJournal most ring start others image → ⊥
     no_journal damaged = damaged_is_none ring image most start rs holds allowed (moved (λ q p u n. IsDamaged most q p u n image) damaged)
+
+    pub not_without : (EndsAt most now place used (last + 1) image → ⊥) → IsJournal most ring start [] image → ⊥
+    not_without more = longer_than_none ring image most start rs holds allowed (moved (λ q p u n. EndsAt most q p u n image → ⊥) more)
 
   module _ (r : RecordData) (length_is : IsRecordLength r.version (length r.text)) (room : used + parts_of (length r.text) ≤ now.places)
       (fits : last + 1 < 2 ^ 64) (stands : PartsStand now place used (last + 1) r image) where

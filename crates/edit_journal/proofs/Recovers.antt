@@ -73,7 +73,7 @@ module _ (ring : Ring) (image : Image) where
       )
 
   -- a journal doesn't end where a place and a number are left and an expected head is stored
-  goes_on : (most place used number : ℕ) → used < ring.places → number < 2 ^ 64 → IsExpectedHead most number (image (sector_at ring (place + used)))
+  pub goes_on : (most place used number : ℕ) → used < ring.places → number < 2 ^ 64 → IsExpectedHead most number (image (sector_at ring (place + used)))
       → EndsAt most ring place used number image → ⊥
   goes_on most place used number room fits head (inl full) = omega (arith, room, full)
   goes_on most place used number room fits head (inr (inl spent)) = omega (arith, fits, spent)
@@ -135,6 +135,22 @@ module _ (ring : Ring) (image : Image) where
       subst (λ (qs : List RecordData). HoldsRecords ring start qs image) is holds in
       absurd (next_goes_on most start.place (places_of rs) (start.number + length rs) r (next_behind start rs r rest whole)
       (number_behind start rs r rest whole) (version_behind most rs r rest (subst (AreUpTo most) is allowed)) journal.ends)
+
+  -- a ring with records from a start on has no journal without records
+  pub more_than_none : (most : ℕ) (start : RecordStart) (rs : List RecordData) (r : RecordData) → IsJournal most ring start [] image
+      → HoldsRecords ring start (rs ++ r ∷ []) image → AreUpTo most (rs ++ r ∷ []) → ⊥
+  more_than_none most start rs r journal holds allowed = omega (
+    arith,
+    ap length (no_more most start [] (rs ++ r ∷ []) (rs ++ r ∷ []) journal holds allowed refl),
+    length-append rs (r ∷ []),
+  )
+
+  -- nor has one where the journal goes on after them
+  pub longer_than_none : (most : ℕ) (start : RecordStart) (rs : List RecordData) → HoldsRecords ring start rs image → AreUpTo most rs
+      → (EndsAt most ring start.place (places_of rs) (start.number + length rs) image → ⊥) → IsJournal most ring start [] image → ⊥
+  longer_than_none most start rs holds allowed more journal =
+      more (subst (λ (qs : List RecordData). EndsAt most ring start.place (places_of qs) (start.number + length qs) image)
+      (sym (no_more most start [] rs rs journal holds allowed refl)) journal.ends)
 
   -- a ring has at most one journal from a start on
   pub one_journal : (most : ℕ) (start : RecordStart) (rs others : List RecordData) → IsJournal most ring start rs image

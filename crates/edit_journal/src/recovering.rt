@@ -1,5 +1,5 @@
 //! The journal that a ring of sectors has.
-ghost use Rattle.std.specs.Prelude.{◌≡◌, ◌≤◌, ◌<◌, ◌+◌, ◌-◌, ◌*◌, ◌^◌, ◌++◌, min, List, length, take, drop, IfOk, IfErr, OnOk, IfSome, MatchOption};
+ghost use Rattle.std.specs.Prelude.{◌≡◌, ◌≤◌, ◌<◌, ◌+◌, ◌-◌, ◌*◌, ◌^◌, ◌++◌, min, List, length, take, drop, IfOk, IfErr, OnOk, IfSome, MatchOption, []};
 ghost use Rattle.sector_disk.specs.Asked.{OnlyReads, TellsFailure};
 ghost use Rattle.sector_disk.specs.Disk.{seen};
 ghost use Rattle.edit_journal.specs.Records.{RecordData, record_of, record_data, records_of, IsRecordLength, AreUpTo, most_bytes, parts_of, HasFront};
@@ -114,6 +114,8 @@ fn read_record<D: Sectors>(
         (seen (D.history disk.old)))) }
     ensures damaged { D.honest disk.new → IfErr result (λ fault. fault ≡ Damaged
         → IsDamaged most (ring_of journal.now) journal.now.place journal.now.used (journal.now.last + 1) (seen (D.history disk.old))) }
+    ensures memory { D.honest disk.new → IfErr result (λ fault. fault ≡ Memory
+        → EndsAt most (ring_of journal.now) journal.now.place journal.now.used (journal.now.last + 1) (seen (D.history disk.old)) → ⊥) }
 {
     if journal.used == journal.places {
         return Ok(None);
@@ -179,7 +181,8 @@ impl Journal {
 
     /// Reads the records from a start on, in a ring of `places` places whose place 0 is sector `first`: the journal, and its records
     /// in order. A record is expected in a version from 1 to `version`, the disk's: at a head of a later one the journal ends.
-    /// Nothing is written. `Damaged`: a record that was expected isn't whole. The other errors are `Device` and `Memory`.
+    /// Nothing is written. `Damaged`: a record that was expected isn't whole. The other errors are `Device` and `Memory`, which a journal
+    /// without records never gives.
     pub fn recover<D: Sectors>(
         alloc: Global,
         disk: &mut D,
@@ -205,6 +208,8 @@ impl Journal {
             (start_of start.place start.edits) (records_of found.1.items) (seen (D.history disk.old))) }
         ensures damaged { (records : List RecordData) → D.honest disk.new → IfErr result (λ fault. fault ≡ Damaged
             → IsJournal version (record { first = first; places = places }) (start_of start.place start.edits) records (seen (D.history disk.old)) → ⊥) }
+        ensures memory { D.honest disk.new → IfErr result (λ fault. fault ≡ Memory
+            → IsJournal version (record { first = first; places = places }) (start_of start.place start.edits) [] (seen (D.history disk.old)) → ⊥) }
     {
         let mut journal = Journal::empty(first, places, start.place, start.edits);
         let mut records = Vec::new(alloc);

@@ -4,7 +4,7 @@ use Rattle.edit_journal.specs.Records.{IsRecordLength}
 use Rattle.edit_journal.specs.Ring.{Ring}
 use Rattle.edit_journal.specs.Appends.{ring_of}
 use Rattle.edit_journal.specs.Recovers.{FrontsStand}
-use Rattle.edit_journal.proofs.Reading.{damage, none_by_head, none_by_room, none_by_bodies}
+use Rattle.edit_journal.proofs.Reading.{damage, no_end, none_by_head, none_by_room, none_by_bodies}
 use Rattle.edit_journal.proofs.recovering.read_record.Goals as goal
 use Rattle.edit_journal.proofs.recovering.read_record.Goals.{in_default-via-in-Some-head_in+else-head-free, in_default-via-in_default}
 
@@ -49,3 +49,11 @@ returns-in_default-clause-damaged g c honest is =
           (omega (arith, w.if-head-free.false, w.free.ensures, w.in-Some-head_in.head.parts_is))
       | in_default-via-in_default w ↦ none_by_head ring place used number image first gives version c.in-Some.ensures.2 w.in_default.ensures
     ])
+
+pub returns-in-Err-clause-memory : goal.returns-in-Err-clause-memory
+returns-in-Err-clause-memory g c honest is =
+    let ring : Ring = ring_of c.args.journal.now in
+    let read = c.read_text.ensures.disk.was_honest honest in
+    no_end ring c.args.journal.now.place c.args.journal.now.used (c.args.journal.now.last + 1) (seen (g.D.Sectors.history c.args.disk.now))
+    c.in_ok-first.first (c.in_ok-first.ensures.gives read) c.in-Some.version c.in-Some.ensures.2 c.args.most (omega arith) (omega arith)
+    c.in-Some.ensures.0 c.in-Some.ensures.1

@@ -8,8 +8,8 @@ use Rattle.edit_journal.specs.Ring.{Ring, RecordStart, AreRecords, places_of, Ho
 use Rattle.edit_journal.specs.Appends.{ring_of, start_of}
 use Rattle.edit_journal.specs.Recovers.{EndsAt, PartsStand, IsDamaged}
 use Rattle.edit_journal.proofs.Heads.{places_push, records_push}
-use Rattle.edit_journal.proofs.Recovers.{no_records}
-use Rattle.edit_journal.proofs.Reading.{records_more, records_count, counted, whole_journal, no_journal, with_next}
+use Rattle.edit_journal.proofs.Recovers.{no_records, more_than_none}
+use Rattle.edit_journal.proofs.Reading.{records_more, records_count, counted, whole_journal, no_journal, not_without, with_next}
 use Rattle.edit_journal.proofs.journal.Journal.recover.Goals as goal
 
 pub loop-records-init : goal.loop-records-init
@@ -101,6 +101,43 @@ returns-in_err-next-clause-damaged g c rs honest =
     (inv.held before) c.args.version inv.versions
     (subst (λ (h : History). IsDamaged c.args.version (ring_of old) old.place old.used (old.last + 1) (seen h)) (inv.disk.same_history before)
     (told.damaged honest is)) rs)
+
+pub returns-in_err-next-clause-memory : goal.returns-in_err-next-clause-memory
+returns-in_err-next-clause-memory g c honest =
+    let inv = c.loop-records.invariant in
+    let told = c.in_err-next.ensures in
+    let before = told.disk.was_honest honest in
+    let old = c.loop-records.journal in
+    let image : Image = seen (g.D.Sectors.history c.args.disk.now) in
+    let ring : Ring = record { first = c.args.first; places = c.args.places } in
+    let start : RecordStart = start_of c.args.start.place c.args.start.edits in
+    let same : c.from_residual.result ≡ Err c.in_err-next.field-0.0 = search rules in
+    rw same (λ is. not_without ring (ring_of old) start old.place old.edits old.used old.last (records_of c.loop-records.records.items) image inv.ring
+    inv.start inv.used (omega (arith, inv.last, ap (λ (s : RecordStart). s.number) inv.start, records_count c.loop-records.records.items))
+    (inv.held before) c.args.version inv.versions
+    (subst (λ (h : History). EndsAt c.args.version (ring_of old) old.place old.used (old.last + 1) (seen h) → ⊥) (inv.disk.same_history before)
+    (told.memory honest is)))
+
+pub returns-in-Err-clause-memory : goal.returns-in-Err-clause-memory
+returns-in-Err-clause-memory g c honest is journal =
+    let inv = c.loop-records.invariant in
+    let ok = c.in_ok-next.ensures in
+    let old = c.loop-records.journal in
+    let next = c.in-Some.next in
+    let rs : List RecordData = records_of c.loop-records.records.items in
+    let image : Image = seen (g.D.Sectors.history c.args.disk.now) in
+    let ring : Ring = record { first = c.args.first; places = c.args.places } in
+    let start : RecordStart = start_of c.args.start.place c.args.start.edits in
+    let fits = rw c.in-Some.is at ok.fits in
+    let before = ok.disk.was_honest honest in
+    let stands : PartsStand (ring_of old) old.place old.used (old.last + 1) (record_data next) image =
+    subst (λ (h : History). PartsStand (ring_of old) old.place old.used (old.last + 1) (record_data next) (seen h))
+    (inv.disk.same_history before) (rw c.in-Some.is at ok.next honest) in
+    more_than_none ring image c.args.version start rs (record_data next) journal
+    (with_next ring (ring_of old) start old.place old.edits old.used old.last rs image inv.ring inv.start inv.used
+    (omega (arith, inv.last, ap (λ (s : RecordStart). s.number) inv.start, records_count c.loop-records.records.items))
+    (inv.held before) (record_data next) fits.0 fits.2 fits.3 stands)
+    (All-push (λ (r : RecordData). r.version ≤ c.args.version) rs (record_data next) inv.versions fits.1)
 
 pub returns-clause-counted : goal.returns-clause-counted
 returns-clause-counted g c =
