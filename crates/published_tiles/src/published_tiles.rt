@@ -1,5 +1,5 @@
 //! Tiles of the archives of a disk.
-ghost use Rattle.std.specs.Prelude.{◌≡◌, ◌≤◌, ◌+◌, ℕ, List, Err, MatchResult, option_map};
+ghost use Rattle.std.specs.Prelude.{◌≡◌, ◌≤◌, ◌+◌, ℕ, List, Ok, Err, None, MatchResult, option_map};
 ghost use Rattle.area_content.specs.Tiles.{IsArchiveOfMap};
 ghost use Rattle.feature_store.specs.Content.{IsTileContent};
 ghost use Rattle.feature_store.specs.Layers.{layers};
@@ -48,7 +48,8 @@ impl PublishedTiles {
         }
     }
 
-    /// The bytes of a tile in the archive stored on a disk, or `None` if the tile is empty. Nothing is written to the disk.
+    /// The bytes of a tile in the archive stored on a disk, or `None` if the tile is empty. Nothing is written to the disk, and of an
+    /// archive without bytes nothing is read.
     ///
     /// # Errors
     ///
@@ -69,6 +70,7 @@ impl PublishedTiles {
         ensures still { (bytes : List ℕ) → D.honest disk.new
             → AreItsBytes archive.first archive.len bytes (seen (D.history disk.old)) → ArePublished self.old archive bytes
             → ArePublished self.new archive bytes }
+        ensures none { archive.len ≡ 0 → (result ≡ Ok None) × (self.new ≡ self.old) × (disk.new ≡ disk.old) }
         ensures read { result ≡ Err ArchiveFault.Read → HasRisen (D.faults disk.old) (D.faults disk.new) }
     {
         if archive.len == 0 {
