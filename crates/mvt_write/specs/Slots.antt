@@ -6,7 +6,7 @@ use Rattle.mvt_write.specs.declared.pool.TheConstants.{SLOTS}
 
 -- the slot of a code
 unfoldable pub place_of : ℕ → ℕ
-place_of code = code * FACTOR % 2 ^ 64 / 2 ^ 55 % SLOTS
+place_of code = code * FACTOR % 2 ^ 64 / 2 ^ 57 % SLOTS
 
 -- where the number in an entry's slot leads: nowhere, to the entry that it names if that is the one, or to where the others are
 abbrev pub led : List (List ℕ) → ℕ → List ℕ → Option ℕ → Option ℕ

@@ -14,7 +14,7 @@ use std::alloc::{AllocError, Global};
 use std::collections::BTreeMap;
 
 /// The number of slots.
-const SLOTS: usize = 512;
+const SLOTS: usize = 128;
 
 /// The slot of a code.
 #[tactic(auto, unfolding(crate::specs::Slots::place_of))]
@@ -22,7 +22,7 @@ fn place_of(code: u64) -> usize
     ensures place { result ≡ place_of code }
     ensures within { result < SLOTS }
 {
-    (code.wrapping_mul(FACTOR) >> 55) as usize % SLOTS
+    (code.wrapping_mul(FACTOR) >> 57) as usize % SLOTS
 }
 
 /// The number of a key, which becomes `next` if it had none. An `Err` changes nothing.

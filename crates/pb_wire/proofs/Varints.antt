@@ -54,6 +54,11 @@ varint_step n small high =
     let behind = shortest_enough 8 (n / 128) (limit_step 9 8 n refl (limit_begins n small)) in
     rw (le-ltb n 128 high) (ap (λ (r : List ℕ). (128 + n % 128) ∷ r) behind)
 
+-- a number of two bytes
+pub varint_two : (n : ℕ) → 128 ≤ n → n < 16384 → varint n ≡ (128 + n % 128) ∷ n / 128 ∷ []
+varint_two n high low =
+    varint_step n (omega (arith, low)) high ∙ ap (λ (r : List ℕ). (128 + n % 128) ∷ r) (varint_last (n / 128) (omega (arith, low)))
+
 pub varint_goes_on : (front : List ℕ) (n : ℕ) (whole : List ℕ) → n < 2 ^ 64 → 128 ≤ n → front ++ varint n ≡ whole
     → (front ++ (128 + n % 128) ∷ []) ++ varint (n / 128) ≡ whole
 varint_goes_on front n whole small high so_far =

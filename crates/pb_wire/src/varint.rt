@@ -28,9 +28,12 @@ pub fn put_varint(out: &mut Vec<u8>, n: u64) -> Result<(), AllocError>
     ensures err { OnErr result (out.new.items ≡ out.old.items) }
     ensures full { OnErr result (vec_capacity out.old < vec_len out.old + length (varint n)) }
 {
-    // Most numbers take one byte.
+    // Most numbers take one byte, and most others two.
     if n < 128 {
         return put_byte(out, n as u8);
+    }
+    if n < 16_384 {
+        return put_two(out, n as u16);
     }
     put_groups(out, n)
 }
@@ -44,6 +47,19 @@ fn put_byte(out: &mut Vec<u8>, byte: u8) -> Result<(), AllocError>
 {
     out.reserve(1)?;
     out.push_reserved(byte);
+    Ok(())
+}
+
+/// Appends a number that takes two bytes.
+fn put_two(out: &mut Vec<u8>, n: u16) -> Result<(), AllocError>
+    requires { (128 ≤ n) × (n < 16384) }
+    ensures ok { OnOk result (out.new.items ≡ out.old.items ++ varint n) }
+    ensures err { OnErr result (out.new.items ≡ out.old.items) }
+    ensures full { OnErr result (vec_capacity out.old < vec_len out.old + length (varint n)) }
+{
+    out.reserve(2)?;
+    out.push_reserved(128 + (n % 128) as u8);
+    out.push_reserved((n / 128) as u8);
     Ok(())
 }
 
