@@ -7,7 +7,7 @@ use crate::files::{OpenedFile, opened_file};
 use crate::noted::Noted;
 use archive_export::{ArchivePlace, CopyFault, copy_archive, find_archive};
 use generations::StoreFault;
-use map_disks::sync_folder;
+use map_server::sync_folder;
 use sector_disk::{FileDisk, Sectors, Start};
 use std::cell::Cell;
 use std::fs::{self, File, OpenOptions, Permissions};

@@ -2,7 +2,7 @@
 
 use generations::StoreFault;
 use http_serve::ServeFault;
-use map_disks::FileFault;
+use map_server::FileFault;
 use std::cell::Cell;
 use std::{fmt, io};
 

@@ -9,7 +9,7 @@ use crate::regular::open_regular;
 use crate::serving::{Peers, serve};
 use crate::watching::{Watch, Watched};
 use generations::LAST_VERSION;
-use map_disks::{formatted_file, opened_service};
+use map_server::{formatted_file, opened_service};
 use sector_disk::{FileDisk, Start, SystemFile, Zeros};
 use std::cell::Cell;
 use std::fs::{File, OpenOptions, TryLockError};

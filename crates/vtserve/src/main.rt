@@ -28,7 +28,7 @@ use files::{format_file, serve_file, upgrade_file};
 use generations::StoreFault;
 use listening::listening_of;
 use looks::Looks;
-use map_disks::fresh_service;
+use map_server::fresh_service;
 use sector_disk::Unknown;
 use serving::{Peers, serve};
 use std::alloc::AllocError;

@@ -1,6 +1,6 @@
 //! Peers on this machine that edit one map.
 use http_listen::{ListenFault, SystemListener};
-use map_listen::serve_map_on;
+use map_server::serve_map_on;
 use map_replies::MapReplies;
 use sector_disk::MemoryDisk;
 use std::alloc::Global;

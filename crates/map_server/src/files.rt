@@ -8,8 +8,8 @@ ghost use Rattle.generations.specs.declared.fault.StoreFault.TheVariants.{TooSma
 ghost use Rattle.generations.specs.declared.fault.What.TheVariants.{Size};
 ghost use Rattle.generations.specs.declared.sizes.TheConstants.{MIN_SECTORS, MAX_SECTORS};
 ghost use Rattle.tile_service.specs.Stored.{Keeps, first_state};
-ghost use Rattle.map_disks.specs.Faults.{IsOfFile};
-ghost use Rattle.map_disks.specs.declared.fault.FileFault.TheVariants.{Store};
+ghost use Rattle.map_server.specs.Faults.{IsOfFile};
+ghost use Rattle.map_server.specs.declared.fault.FileFault.TheVariants.{Store};
 
 use crate::fault::FileFault;
 use generations::{MAX_SECTORS, MIN_SECTORS, StoreFault, What};

@@ -1,6 +1,6 @@
 use Rattle.std.proofs.Common.{◌≡◌, subst, sym}
 use Rattle.tile_service.specs.Service.{IsUp}
-use Rattle.map_disks.proofs.opening.opened_service.Goals as goal
+use Rattle.map_server.proofs.opening.opened_service.Goals as goal
 
 pub returns-clause-opened : goal.returns-clause-opened
 returns-clause-opened g c n stored holds honest =

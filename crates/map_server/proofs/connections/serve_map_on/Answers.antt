@@ -1,6 +1,6 @@
-use Rattle.map_listen.proofs.Chains.{stretches_run}
-use Rattle.map_listen.proofs.Told.{told_ok, told_err}
-use Rattle.map_listen.proofs.connections.serve_map_on.Goals as goal
+use Rattle.map_server.proofs.Chains.{stretches_run}
+use Rattle.map_server.proofs.Told.{told_ok, told_err}
+use Rattle.map_server.proofs.connections.serve_map_on.Goals as goal
 
 pub returns-clause-all : goal.returns-clause-all
 returns-clause-all g c = told_ok c.serve_on.result _ _

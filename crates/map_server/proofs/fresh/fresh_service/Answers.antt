@@ -6,7 +6,7 @@ use Rattle.sector_disk.specs.Views.{memory_history}
 use Rattle.tile_service.specs.Service.{IsUp}
 use Rattle.tile_service.specs.Stored.{Holds, first_state}
 use Rattle.map_replies.specs.State.{asked_service}
-use Rattle.map_disks.proofs.fresh.fresh_service.Goals as goal
+use Rattle.map_server.proofs.fresh.fresh_service.Goals as goal
 
 -- every disk in memory is honest
 memory_is_honest : {D : Type 0} → (disk : Option D) → IfSome disk (λ _. Unit {0})

@@ -1,7 +1,7 @@
 use Rattle.std.proofs.Common.{subst}
 use Rattle.sector_disk.specs.Views.{file_history}
 use Rattle.tile_service.specs.Stored.{Keeps, first_state}
-use Rattle.map_disks.proofs.files.formatted_file.Goals as goal
+use Rattle.map_server.proofs.files.formatted_file.Goals as goal
 
 pub returns-in-Ok-settle-clause-holds : goal.returns-in-Ok-settle-clause-holds
 returns-in-Ok-settle-clause-holds g c honest =
