@@ -1,8 +1,8 @@
 //! A disk, and what answers over it while it is open.
 use crate::lines::Failing;
 use generations::{FIRST_VERSION, StoreFault, format_version};
-use map_disks::{fresh_service, opened_service};
 use map_replies::MapReplies;
+use map_server::{fresh_service, opened_service};
 use sector_disk::{FailingCalls, FaultyDisk, MemoryDisk, SECTOR_BYTES, Sectors};
 use std::alloc::{AllocError, Global};
 use std::mem;
@@ -73,6 +73,25 @@ fn told(alloc: Global, fault: Option<StoreFault>) -> Result<String, AllocError> 
     }
 }
 
+/// Puts another stand in the place of one, which is dropped.
+fn replace(stand: &mut Stand, next: Stand) {
+    drop(mem::replace(stand, next));
+}
+
+/// Opens this disk in the place of what was there.
+fn open(
+    alloc: Global,
+    stand: &mut Stand,
+    disk: MemoryDisk,
+    access: Access,
+    failing: Failing,
+) -> Result<String, AllocError> {
+    let (calls, disk) = counted(alloc, disk);
+    let (next, fault) = opened(alloc, disk, access, failing.behind(calls))?;
+    replace(stand, next);
+    told(alloc, fault)
+}
+
 /// Opens the disk, so that these paths are served, and these calls behind its opening fail.
 pub(crate) fn open_again(
     alloc: Global,
@@ -80,27 +99,42 @@ pub(crate) fn open_again(
     access: Access,
     failing: Failing,
 ) -> Result<String, AllocError> {
-    let (calls, disk) = counted(alloc, taken(alloc, stand)?);
-    let (next, fault) = opened(alloc, disk, access, failing.behind(calls))?;
-    *stand = next;
-    told(alloc, fault)
+    let disk = taken(alloc, stand)?;
+    open(alloc, stand, disk, access, failing)
 }
 
 /// A disk of zeros.
 pub(crate) fn zeros(alloc: Global, stand: &mut Stand, sectors: u64) -> Result<String, AllocError> {
-    *stand = Stand::Closed(MemoryDisk::new(alloc, sectors)?);
+    replace(stand, Stand::Closed(MemoryDisk::new(alloc, sectors)?));
     String::from_str(alloc, "closed")
+}
+
+/// A disk of so many sectors that holds the empty map.
+fn fresh_disk(alloc: Global, sectors: u64) -> Result<MemoryDisk, StoreFault> {
+    match fresh_service(alloc, sectors, Access::Map) {
+        Ok(map) => Ok(map.into_service().into_disk()),
+        Err(fault) => Err(fault),
+    }
 }
 
 /// Makes a disk of so many sectors that holds the empty map, and opens it.
 pub(crate) fn begin(alloc: Global, stand: &mut Stand, sectors: u64) -> Result<String, AllocError> {
-    *stand = Stand::Closed(MemoryDisk::new(alloc, 1)?);
-    match fresh_service(alloc, sectors, Access::Map) {
-        Ok(map) => {
-            *stand = Stand::Closed(map.into_service().into_disk());
-            open_again(alloc, stand, Access::Map, Failing::None)
-        }
+    drop(taken(alloc, stand)?);
+    match fresh_disk(alloc, sectors) {
+        Ok(disk) => open(alloc, stand, disk, Access::Map, Failing::None),
         Err(fault) => told(alloc, Some(fault)),
+    }
+}
+
+/// A disk of so many sectors that holds the empty map in the first version of the format.
+fn first_disk(alloc: Global, sectors: u64) -> Result<MemoryDisk, StoreFault> {
+    let mut disk = match MemoryDisk::new(alloc, sectors) {
+        Ok(disk) => disk,
+        Err(AllocError) => return Err(StoreFault::Memory),
+    };
+    match format_version(&mut disk, FIRST_VERSION) {
+        Ok(()) => Ok(disk),
+        Err(fault) => Err(fault),
     }
 }
 
@@ -110,12 +144,8 @@ pub(crate) fn begin_first(
     stand: &mut Stand,
     sectors: u64,
 ) -> Result<String, AllocError> {
-    let mut disk = MemoryDisk::new(alloc, sectors)?;
-    match format_version(&mut disk, FIRST_VERSION) {
-        Ok(()) => {
-            *stand = Stand::Closed(disk);
-            open_again(alloc, stand, Access::Map, Failing::None)
-        }
+    match first_disk(alloc, sectors) {
+        Ok(disk) => open(alloc, stand, disk, Access::Map, Failing::None),
         Err(fault) => told(alloc, Some(fault)),
     }
 }
@@ -124,7 +154,7 @@ pub(crate) fn begin_first(
 pub(crate) fn upgrade(alloc: Global, stand: &mut Stand) -> Result<String, AllocError> {
     let mut disk = taken(alloc, stand)?;
     let outcome = Service::upgrade(&mut disk);
-    *stand = Stand::Closed(disk);
+    replace(stand, Stand::Closed(disk));
     match outcome {
         Ok(()) => String::from_str(alloc, "upgraded"),
         Err(fault) => told(alloc, Some(fault)),
@@ -147,6 +177,6 @@ pub(crate) fn overwrite(
 ) -> Result<String, AllocError> {
     let mut disk = taken(alloc, stand)?;
     let written = write(&mut disk, at, first);
-    *stand = Stand::Closed(disk);
+    replace(stand, Stand::Closed(disk));
     String::from_str(alloc, if written { "closed" } else { "not written" })
 }

@@ -29,10 +29,12 @@ pub(crate) struct Trial {
 impl Trial {
     /// A closed disk without sectors.
     pub(crate) fn new(alloc: Global) -> Result<Trial, AllocError> {
+        let disk = MemoryDisk::new(alloc, 0)?;
+        let stopped = MemoryDisk::new(alloc, 0)?;
         Ok(Trial {
-            disk: MemoryDisk::new(alloc, 0)?,
+            disk,
             service: None,
-            stopped: MemoryDisk::new(alloc, 0)?,
+            stopped,
             failing: NONE,
         })
     }

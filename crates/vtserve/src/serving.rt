@@ -26,6 +26,22 @@ fn serve_streams<D: Sectors + Drop>(
     }
 }
 
+/// Serves a map that is lent, over a disk file that is watched meanwhile.
+fn serve_peers<D: Sectors + Drop>(
+    rt: &HostRuntime,
+    map: &mut MapReplies<D>,
+    peers: Peers,
+    looks: &Looks<'_>,
+) -> Result<(), CommandFault> {
+    match peers {
+        Peers::Streams => {
+            looks.begin();
+            serve_streams(rt, map)
+        }
+        Peers::Port(asked) => serve_connections(rt, asked, map, looks),
+    }
+}
+
 /// Serves a map, over a disk file that is watched meanwhile.
 pub(crate) fn serve<D: Sectors + Drop>(
     rt: &HostRuntime,
@@ -34,11 +50,7 @@ pub(crate) fn serve<D: Sectors + Drop>(
     looks: &Looks<'_>,
 ) -> Result<(), CommandFault> {
     let mut map = map;
-    match peers {
-        Peers::Streams => {
-            looks.begin();
-            serve_streams(rt, &mut map)
-        }
-        Peers::Port(asked) => serve_connections(rt, asked, &mut map, looks),
-    }
+    let served = serve_peers(rt, &mut map, peers, looks);
+    drop(map);
+    served
 }
