@@ -1,12 +1,13 @@
 -- The sectors that aren't free are as they were.
-use Rattle.std.proofs.Common.{◌≡◌, inl, inr, ℕ, ◌≤◌, ◌+◌, List, length, arith, Result}
-use Rattle.sector_disk.specs.Disk.{History, MayHold, Writes, Syncs}
+use Rattle.std.proofs.Common.{◌≡◌, inl, inr, ℕ, ◌≤◌, ◌+◌, ◌∙◌, List, length, arith, Result}
+use Rattle.sector_disk.specs.Disk.{History, seen, MayHold, Writes, Syncs}
 use Rattle.sector_disk.specs.Moments.{Within, LeavesOnly}
 use Rattle.sector_disk.specs.declared.disk.DiskFault.{DiskFault}
 use Rattle.sector_disk.proofs.History.{started, fits_image, any_write, write_within, write_leaves, any_sync, sync_within, sync_leaves, weaken}
 use Rattle.edit_journal.specs.Records.{RecordData, parts_of}
 use Rattle.edit_journal.specs.Ring.{Ring, sector_at}
-use Rattle.edit_journal.specs.Appends.{IsFree, AsBefore, OldOrBody}
+use Rattle.edit_journal.specs.Appends.{IsFree, AsBefore, OldOrBody, ReadsAsBefore}
+use Rattle.edit_journal.proofs.Bodies.{write_reads, sync_reads}
 
 -- a call that does nothing
 pub frame_start : (start : History) (ring : Ring) (place used : ℕ) → LeavesOnly start start (AsBefore ring place used start)
@@ -23,7 +24,7 @@ module _ (start : History) (ring : Ring) (place used number : ℕ) (r : RecordDa
 
   module _ (staged : History) (within : Within staged (OldOrBody start ring place used number r))
       (leaves : LeavesOnly start staged (λ image. (at : ℕ) → OldOrBody start ring place used number r at (image at))) where
-    frame_staged : LeavesOnly start staged (AsBefore ring place used start)
+    pub frame_staged : LeavesOnly start staged (AsBefore ring place used start)
     frame_staged = weaken start staged _ (AsBefore ring place used start) leaves (λ image each at. staged_old at (image at) (each at))
 
     module _ (at : ℕ) (at_is : at ≡ sector_at ring (place + used)) (head : List ℕ) (reported : Result (Unit {0}) DiskFault) (written : History)
@@ -35,12 +36,20 @@ module _ (start : History) (ring : Ring) (place used number : ℕ) (r : RecordDa
       head_old = write_within at head staged written Old (any_write reported at head staged written writes)
           (λ other left may. staged_old other left (within other left may)) (λ taken. absurd (taken free))
 
-      frame_head : LeavesOnly start written (AsBefore ring place used start)
+      pub frame_head : LeavesOnly start written (AsBefore ring place used start)
       frame_head = write_leaves start staged written at head (AsBefore ring place used start) (any_write reported at head staged written writes) frame_staged
           (fits_image written Old (AsBefore ring place used start) head_old (λ image fits. fits))
+
+      -- a read gives of each other sector what it gave
+      pub head_reads : ReadsAsBefore ring place used (seen start) (seen staged) → ReadsAsBefore ring place used (seen start) (seen written)
+      head_reads was other taken = write_reads at head staged written other (any_write reported at head staged written writes)
+          (λ e. taken (used, omega arith, omega (arith, some, room), e ∙ at_is)) ∙ was other taken
 
       module _ (result : Result (Unit {0}) DiskFault) (after : History) (syncs : Syncs result written after) where
         pub frame_end : LeavesOnly start after (AsBefore ring place used start)
         frame_end = sync_leaves start written after (AsBefore ring place used start) (any_sync result written after syncs) frame_head
             (fits_image after Old (AsBefore ring place used start) (sync_within written after Old (any_sync result written after syncs) head_old)
             (λ image fits. fits))
+
+        pub end_reads : ReadsAsBefore ring place used (seen start) (seen staged) → ReadsAsBefore ring place used (seen start) (seen after)
+        end_reads was other taken = sync_reads result written after other syncs ∙ head_reads was other taken

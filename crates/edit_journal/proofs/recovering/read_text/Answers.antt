@@ -1,7 +1,7 @@
-use Rattle.std.proofs.Common.{◌≡◌, ◌<◌, ◌+◌, ◌∙◌, ap, refl, arith, length}
+use Rattle.std.proofs.Common.{◌≡◌, ◌<◌, ◌+◌, ◌∙◌, ℕ, List, sym, ap, subst, refl, arith, length}
 use Rattle.sector_disk.specs.Disk.{History, seen}
 use Rattle.sector_disk.proofs.AskedLaws.{reads_on, reads_none}
-use Rattle.edit_journal.specs.Records.{parts_of}
+use Rattle.edit_journal.specs.Records.{parts_of, HasFront}
 use Rattle.edit_journal.specs.Ring.{sector_at}
 use Rattle.edit_journal.specs.Appends.{ring_of}
 use Rattle.edit_journal.proofs.Joined.{longer, none_read, next_read, all_read}
@@ -51,6 +51,24 @@ loop-part-preserved g c =
           (journal.place + (journal.used + c.loop-part.part)))) (inv.disk.same_history before))
           (c.has_part.ensures.0 c.if-not-has_part.false) c.piece_in-in-loop-part.ensures c.in_ok-add_bytes-2.ensures.items (inv.read before);
     }
+
+pub returns-then-not-has_part-clause-damaged : goal.returns-then-not-has_part-clause-damaged
+returns-then-not-has_part-clause-damaged g c honest is fronts =
+    let journal = c.args.journal.now in
+    let head = c.args.head in
+    let inv = c.loop-part.invariant in
+    let ok = c.in_ok-sector.ensures in
+    let lt : c.loop-part.part < parts_of head.length = omega (arith, c.loop-part-test.true, head.parts_is) in
+    let read = ok.gives honest ∙ ap (λ (h : History). seen h (sector_at (ring_of journal)
+    (journal.place + (journal.used + c.loop-part.part)))) (inv.disk.same_history (ok.disk.was_honest honest)) in
+    let there = c.has_part.ensures.1
+    (subst (λ (s : List ℕ). HasFront head.version head.number head.length c.loop-part.part s) (sym read) (fronts c.loop-part.part lt)) in
+    let none = c.if-not-has_part.true in
+    absurd cc
+
+pub returns-clause-whole : goal.returns-clause-whole
+returns-clause-whole g c =
+    omega (arith, c.loop-part-test.false, c.loop-part.auto.part-end, c.args.head.parts_is, c.loop-part.invariant.bytes)
 
 pub returns-clause-stands : goal.returns-clause-stands
 returns-clause-stands g c honest =
