@@ -83,12 +83,6 @@ module _ {T : Type 0} where
   gap_in (e ∷ es) n zero h = omega arith
   gap_in (e ∷ es) n (suc i) h = omega (arith, gap_in es n i h.1)
 
-  -- a gap at the end
-  pub below_gap : (es : List (ℕ × T)) (n i : ℕ) → IsGapFor es n i → i ≡ length es → AreBelow n es
-  below_gap [] n i h is = tt
-  below_gap (e ∷ es) n zero h is = absurd (omega (arith, is))
-  below_gap (e ∷ es) n (suc i) h is = (h.0, below_gap es n i h.1 (omega (arith, is)))
-
   pub lookup_found : (es : List (ℕ × T)) (n i : ℕ) (d : ℕ × T) → HasAt es n i → lookup (is_at (nat_cmp n)) es ≡ Some (get_or es i d).1
   lookup_found [] n i d h = absurd h
   lookup_found (e ∷ es) n zero d h = lookup_here n e es (sym h)

@@ -1,10 +1,10 @@
 -- Blocks that have entries.
-use Rattle.std.proofs.Common.{◌≡◌, ℕ, ◌+◌, ◌<◌, List, ◌∷◌, ◌++◌, length, set, take, drop, sym, ap, subst, inl, inr, arith}
+use Rattle.std.proofs.Common.{◌≡◌, ℕ, ◌+◌, ◌<◌, List, [], ◌∷◌, ◌++◌, length, set, take, drop, sym, ap, subst, inl, inr, arith}
 use Rattle.std.specs.List.{insert, remove}
 use Rattle.std.proofs.lemmas.Bool.{cases_lt}
 use Rattle.std.proofs.lemmas.List.{length-append, get_or-set_other, length-set}
 use Rattle.std.proofs.lemmas.List.Edits.{length-remove, get_or-remove_below, get_or-remove_above}
-use Rattle.std.proofs.lemmas.List.Elements.{All-append, All-cons, All-take, All-drop, All-set}
+use Rattle.std.proofs.lemmas.List.Elements.{All-nil, All-append, All-cons, All-take, All-drop, All-set}
 use Rattle.number_map.specs.Blocks.{AreFilled, AreFilledBut}
 
 module _ {T : Type 0} where
@@ -20,6 +20,10 @@ module _ {T : Type 0} where
   pub filled_insert : (bs : List (List (ℕ × T))) (i : ℕ) (b : List (ℕ × T)) → IsFilled b → AreFilled bs → AreFilled (insert bs i b)
   filled_insert bs i b some all =
       All-append IsFilled (take i bs) (b ∷ drop i bs) (All-take IsFilled i bs all) (All-cons IsFilled b (drop i bs) some (All-drop IsFilled i bs all))
+
+  -- a block more at the end
+  pub filled_pushed : (bs : List (List (ℕ × T))) (b : List (ℕ × T)) → IsFilled b → AreFilled bs → AreFilled (bs ++ b ∷ [])
+  filled_pushed bs b some all = All-append IsFilled bs (b ∷ []) all (All-cons IsFilled b [] some (All-nil IsFilled))
 
   -- a block less
   pub filled_removed : (bs : List (List (ℕ × T))) (i : ℕ) → AreFilled bs → AreFilled (take i bs ++ drop (i + 1) bs)

@@ -1,5 +1,5 @@
 -- The first numbers of blocks.
-use Rattle.std.proofs.Common.{◌≡◌, ℕ, zero, suc, ◌+◌, ◌-◌, ◌<◌, ◌≤◌, List, [], ◌∷◌, ◌++◌, length, map, get_or, set, take, drop, true, false}
+use Rattle.std.proofs.Common.{◌≡◌, ℕ, zero, suc, ◌+◌, ◌-◌, ◌<◌, ◌≤◌, List, [], ◌∷◌, ◌++◌, length, get_or, set, take, drop, true, false}
 use Rattle.std.proofs.Common.{refl, sym, ap, subst, ◌∙◌, arith}
 use Rattle.std.specs.Prelude.{nat_le}
 use Rattle.std.specs.List.{insert, remove}
@@ -55,6 +55,10 @@ module _ {T : Type 0} where
       → there ≡ get_or (set bs i b) i there → r ≡ first_number there → set ns i r ≡ firsts_of (set bs i b)
   firsts_written bs ns i r b there lt is there_is r_is =
       ap (set ns i) (r_is ∙ ap first_number (there_is ∙ get_or-set_same bs i b there lt)) ∙ firsts_set bs ns i b is
+
+  -- a block replaced by itself
+  pub blocks_same : (bs : List (List (ℕ × T))) (i : ℕ) (b new : List (ℕ × T)) → b ≡ get_or bs i b → new ≡ b → set bs i new ≡ bs
+  blocks_same bs i b new b_is new_is = ap (set bs i) (new_is ∙ b_is) ∙ set-get_or bs i b
 
   -- a block more
   pub firsts_inserted : (bs : List (List (ℕ × T))) (ns : List ℕ) (i r : ℕ) (b : List (ℕ × T)) → ns ≡ firsts_of bs → r ≡ first_number b
