@@ -1,3 +1,4 @@
+pub mod CachedLeaves
 pub mod CountedListed
 pub mod KeepsLaws
 pub mod LimitNumbers
