@@ -97,6 +97,18 @@ module _ (number : ℕ) (level : ℕ) (range : Cells) where
       (record { left = has.left; right = has.right; top = near.1; bottom = omega (arith, near.2) }) (omega (arith, near.2, end)) in
       omega (arith, raised, same_row ys level column near.0 row near.3)
 
+-- the levels up to the one raised last
+pub raised_levels : (number : ℕ) (b : WorldBox) (at : ℕ) (xs ys : List ℕ) → RisesTo number xs ys
+    → ((column row : ℕ) → HasCell (cells_of at b) column row → number ≤ cell_at ys at column row)
+    → ((level column row : ℕ) → level < at → HasCell (cells_of level b) column row → number ≤ cell_at xs level column row)
+    → (level column row : ℕ) → level < at + 1 → HasCell (cells_of level b) column row → number ≤ cell_at ys level column row
+raised_levels number b at xs ys r here before level column row lt has =
+    either (λ (less : level < at). omega (arith, before level column row less has, r.rises (place_in level column row)))
+    (λ (not_less : at ≤ level).
+    let same : level ≡ at = omega (arith, lt, not_less) in
+    subst (λ l. number ≤ cell_at ys l column row) (sym same) (here column row (subst (λ l. HasCell (cells_of l b) column row) same has)))
+    (cases_lt level at)
+
 -- what is so of two numbers is so of the greater
 pub of_max : (P : ℕ → Type 0) (m n : ℕ) → P m → P n → P (max m n)
 of_max P m n p q = either (λ (is : max m n ≡ m). subst P (sym is) p) (λ (is : max m n ≡ n). subst P (sym is) q) (max_is m n)
