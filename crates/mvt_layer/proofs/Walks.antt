@@ -11,17 +11,24 @@ abbrev pub Leads : {X S A : Type 0} → (X → S) → Result X TileFault → (S 
 Leads view (Ok x) next whole = next (view x) ≡ whole
 Leads view (Err d) next whole = d ≢ Memory → whole ≡ Err d
 
+-- one item more, after which the state is seen another way
+pub leads_to : {X S I : Type 0} (view later : X → S) (step : S → I → Read TileFault S)
+    → (before next : Result X TileFault) (item : I) (left others : List I) (whole : Read TileFault S)
+    → left ≡ item ∷ others → Leads view before (λ s. folded step s left) whole → Gives Memory later next (onward view before (λ s. step s item))
+    → Leads later next (λ s. folded step s others) whole
+leads_to view later step (Ok x) (Ok y) item left others whole first so_far e = folded_on step (view x) (later y) item left others whole first so_far e
+leads_to view later step (Ok x) (Err d) item left others whole first so_far e = λ other. folded_stop step (view x) item left others d whole first so_far (e other)
+leads_to view later step (Err c) (Ok y) item left others whole first so_far e = absurd (not_both (later y) c (sym e))
+leads_to {X} {S} view later step (Err c) (Err d) item left others whole first so_far e = λ other.
+    let same : c ≡ d = same_fault {A = S} c d (e other) in
+    rw same at so_far other
+
 module _ {X S I : Type 0} (view : X → S) (step : S → I → Read TileFault S) where
   -- one item more
   pub leads_on : (before next : Result X TileFault) (item : I) (left others : List I) (whole : Read TileFault S)
       → left ≡ item ∷ others → Leads view before (λ s. folded step s left) whole → Gives Memory view next (onward view before (λ s. step s item))
       → Leads view next (λ s. folded step s others) whole
-  leads_on (Ok x) (Ok y) item left others whole first so_far e = folded_on step (view x) (view y) item left others whole first so_far e
-  leads_on (Ok x) (Err d) item left others whole first so_far e = λ other. folded_stop step (view x) item left others d whole first so_far (e other)
-  leads_on (Err c) (Ok y) item left others whole first so_far e = absurd (not_both (view y) c (sym e))
-  leads_on (Err c) (Err d) item left others whole first so_far e = λ other.
-      let same : c ≡ d = same_fault {A = S} c d (e other) in
-      rw same at so_far other
+  leads_on = leads_to view view step
 
   -- nothing is left
   pub leads_done : (state : Result X TileFault) (left : List I) (whole : Read TileFault S)

@@ -10,52 +10,58 @@ use crate::passes::{FieldItem, number_then, numbers_then};
 use pb_wire::Fields;
 
 /// What the fields of a feature say, for each field number separately: a fault of one is not a fault of the others.
-#[derive(Drop)]
+/// The numbers of tags and geometry are in two lists of the caller's.
+#[derive(Clone, Copy)]
 pub(crate) struct FeatureFields {
     pub(crate) id: Result<Option<u64>, TileFault>,
     pub(crate) kind: Result<Option<u64>, TileFault>,
-    pub(crate) indices: Result<Vec<u32>, TileFault>,
-    pub(crate) ints: Result<Vec<u32>, TileFault>,
+    pub(crate) indices: Result<(), TileFault>,
+    pub(crate) ints: Result<(), TileFault>,
 }
 
 /// What they say after one item more.
-fn with_item(before: FeatureFields, item: FieldItem<'_>) -> FeatureFields
+fn with_item(
+    before: FeatureFields,
+    indices: &mut Vec<u32>,
+    ints: &mut Vec<u32>,
+    item: FieldItem<'_>,
+) -> FeatureFields
     ensures id { Gives TileFault.Memory (λ n. n) result.id (onward (λ n. n) before.id (λ n. after FEATURE_ID number_after n (item_view item.entry))) }
     ensures kind { Gives TileFault.Memory (λ n. n) result.kind (onward (λ n. n) before.kind (λ n. after FEATURE_TYPE number_after n (item_view item.entry))) }
-    ensures indices { Gives TileFault.Memory (λ v. v.items) result.indices
-        (onward (λ v. v.items) before.indices (λ ns. after FEATURE_TAGS numbers_after ns (item_view item.entry))) }
-    ensures ints { Gives TileFault.Memory (λ v. v.items) result.ints
-        (onward (λ v. v.items) before.ints (λ ns. after FEATURE_GEOMETRY numbers_after ns (item_view item.entry))) }
+    ensures indices { Gives TileFault.Memory (λ _. indices.new.items) result.indices
+        (onward (λ _. indices.old.items) before.indices (λ ns. after FEATURE_TAGS numbers_after ns (item_view item.entry))) }
+    ensures ints { Gives TileFault.Memory (λ _. ints.new.items) result.ints
+        (onward (λ _. ints.old.items) before.ints (λ ns. after FEATURE_GEOMETRY numbers_after ns (item_view item.entry))) }
 {
     FeatureFields {
         id: number_then(FEATURE_ID, before.id, item),
         kind: number_then(FEATURE_TYPE, before.kind, item),
-        indices: numbers_then(FEATURE_TAGS, before.indices, item),
-        ints: numbers_then(FEATURE_GEOMETRY, before.ints, item),
+        indices: numbers_then(FEATURE_TAGS, before.indices, indices, item),
+        ints: numbers_then(FEATURE_GEOMETRY, before.ints, ints, item),
     }
 }
 
-/// What all the fields say, in the memory of two lists that are no longer needed.
+/// What all the fields say. The two lists are cleared first.
 pub(crate) fn feature_fields(
-    mut indices: Vec<u32>,
-    mut ints: Vec<u32>,
+    indices: &mut Vec<u32>,
+    ints: &mut Vec<u32>,
     bytes: &[u8],
 ) -> FeatureFields
     ensures id { Gives TileFault.Memory (λ n. n) result.id (last_number_in FEATURE_ID bytes.now) }
     ensures kind { Gives TileFault.Memory (λ n. n) result.kind (last_number_in FEATURE_TYPE bytes.now) }
-    ensures indices { Gives TileFault.Memory (λ v. v.items) result.indices (numbers_in FEATURE_TAGS bytes.now) }
-    ensures ints { Gives TileFault.Memory (λ v. v.items) result.ints (numbers_in FEATURE_GEOMETRY bytes.now) }
+    ensures indices { Gives TileFault.Memory (λ _. indices.new.items) result.indices (numbers_in FEATURE_TAGS bytes.now) }
+    ensures ints { Gives TileFault.Memory (λ _. ints.new.items) result.ints (numbers_in FEATURE_GEOMETRY bytes.now) }
 {
     indices.clear();
     ints.clear();
     let mut fields = FeatureFields {
         id: Ok(None),
         kind: Ok(None),
-        indices: Ok(indices),
-        ints: Ok(ints),
+        indices: Ok(()),
+        ints: Ok(()),
     };
     for item in Fields::new(bytes) {
-        fields = with_item(fields, item);
+        fields = with_item(fields, indices, ints, item);
     }
     fields
 }

@@ -73,17 +73,17 @@ fn check_new(is_new: bool) -> Result<(), TileFault>
     Ok(())
 }
 
-/// The tags of these indices, a key's and a value's in turn. A key index comes once. The memory of `used` is reused and returned.
+/// The tags of these indices, a key's and a value's in turn. A key index comes once. What `used` holds is cleared first.
 fn tags_of<'a>(
     alloc: Global,
     keys: &[&'a str],
     values: &[TagValue<'a>],
     indices: &[u32],
-    used: UsedKeys,
-) -> Result<(Vec<(&'a str, TagValue<'a>)>, UsedKeys), TileFault>
-    ensures { Gives TileFault.Memory (λ r. tagged r.0.items) result (tags_at (bytes_of keys.entry.now) (tag_views values.entry.now) [] [] indices.now) }
+    used: &mut UsedKeys,
+) -> Result<Vec<(&'a str, TagValue<'a>)>, TileFault>
+    ensures { Gives TileFault.Memory (λ v. tagged v.items) result (tags_at (bytes_of keys.entry.now) (tag_views values.entry.now) [] [] indices.now) }
 {
-    let mut used = used.cleared();
+    used.clear();
     let mut tags = Vec::with_capacity(alloc, indices.len() / 2)?;
     let mut rest = indices;
     while rest.len() > 0 {
@@ -94,7 +94,7 @@ fn tags_of<'a>(
         tags.push(tag)?;
         rest = &rest[2..];
     }
-    Ok((tags, used))
+    Ok(tags)
 }
 
 /// The kind of a feature; unknown if it has none, or one that the standard does not define.
@@ -122,33 +122,23 @@ fn shape_of(alloc: Global, kind: ShapeKind, ints: &[u32]) -> Result<Shape, TileF
     }
 }
 
-/// A feature, with the pools of its layer, and the lists for the next one.
+/// A feature, with the pools of its layer.
 #[tactic(auto, unfolding(crate::specs::Reading::feature_at, crate::specs::Reading::feature_of_parts))]
 pub(crate) fn feature_of<'a>(
     alloc: Global,
     keys: &[&'a str],
     values: &[TagValue<'a>],
     bytes: &'a [u8],
-    lists: FeatureLists,
-) -> Result<(TileFeature<'a>, FeatureLists), TileFault>
-    ensures { Gives TileFault.Memory (λ r. feature_view r.0) result (feature_at (bytes_of keys.entry.now) (tag_views values.entry.now) bytes.entry.now) }
+    lists: &mut FeatureLists,
+) -> Result<TileFeature<'a>, TileFault>
+    ensures { Gives TileFault.Memory feature_view result (feature_at (bytes_of keys.entry.now) (tag_views values.entry.now) bytes.entry.now) }
 {
-    let FeatureLists {
-        indices,
-        ints,
-        used,
-    } = lists;
-    let fields = feature_fields(indices, ints, bytes);
+    let fields = feature_fields(&mut lists.indices, &mut lists.ints, bytes);
     let id = fields.id?;
     let kind = fields.kind?;
-    let indices = fields.indices?;
-    let ints = fields.ints?;
-    let (tags, used) = tags_of(alloc, keys, values, &indices, used)?;
-    let shape = shape_of(alloc, kind_said(kind), &ints)?;
-    let lists = FeatureLists {
-        indices,
-        ints,
-        used,
-    };
-    Ok((TileFeature { id, tags, shape }, lists))
+    fields.indices?;
+    fields.ints?;
+    let tags = tags_of(alloc, keys, values, &lists.indices, &mut lists.used)?;
+    let shape = shape_of(alloc, kind_said(kind), &lists.ints)?;
+    Ok(TileFeature { id, tags, shape })
 }

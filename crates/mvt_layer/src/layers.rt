@@ -7,12 +7,13 @@ ghost use Rattle.mvt_layer.specs.Reads.{ReadsAs};
 ghost use Rattle.std.specs.Option.{option_map};
 ghost use Rattle.mvt_layer.specs.Tile.{bytes_of, tag_view, tag_views, feature_view, layer_view, layer_views, LayerView};
 ghost use Rattle.mvt_layer.specs.Reading.{text_at, tag_value_at, feature_at, each_in, name_at, small_at, version_at, extent_at, layer_at, layer_more};
-ghost use Rattle.mvt_layer.specs.Reading.{layers_in, tile_at};
+ghost use Rattle.mvt_layer.specs.Reading.{onward, layers_in, tile_at};
+ghost use Rattle.mvt_layer.specs.Fields.{featured, layer_from};
 
 use crate::fault::TileFault;
 use crate::features::{FeatureLists, feature_of};
 use crate::field_numbers::TILE_LAYERS;
-use crate::layer_fields::layer_fields;
+use crate::layer_fields::{LayerFields, layer_fields};
 use crate::named::NamedLayers;
 use crate::passes::parts;
 use crate::tile::{Layer, TagValue, TileFeature};
@@ -40,8 +41,21 @@ fn texts_of<'a>(alloc: Global, raw: &[&'a [u8]]) -> Result<Vec<&'a str>, TileFau
     Ok(texts)
 }
 
-/// The values of tags.
-fn values_of<'a>(alloc: Global, raw: &[&'a [u8]]) -> Result<Vec<TagValue<'a>>, TileFault>
+/// The keys of a layer, where its fields could be read.
+fn keys_of<'a>(
+    alloc: Global,
+    raw: &Result<Vec<&'a [u8]>, TileFault>,
+) -> Result<Vec<&'a str>, TileFault>
+    ensures { Gives TileFault.Memory (λ v. bytes_of v.items) result (onward (λ v. bytes_of v.items) raw.entry.now (each_in text_at)) }
+{
+    match raw {
+        Ok(list) => texts_of(alloc, list),
+        Err(fault) => Err(*fault),
+    }
+}
+
+/// The tag values that these parts encode.
+fn tag_values_of<'a>(alloc: Global, raw: &[&'a [u8]]) -> Result<Vec<TagValue<'a>>, TileFault>
     ensures { Gives TileFault.Memory (λ v. tag_views v.items) result (each_in tag_value_at (bytes_of raw.entry.now)) }
 {
     let mut values = Vec::with_capacity(alloc, raw.len())?;
@@ -52,31 +66,62 @@ fn values_of<'a>(alloc: Global, raw: &[&'a [u8]]) -> Result<Vec<TagValue<'a>>, T
     Ok(values)
 }
 
-/// The features, with the pools of their layer.
-fn features_of<'a>(
+/// The tag values of a layer, where its fields could be read.
+fn values_of<'a>(
+    alloc: Global,
+    raw: &Result<Vec<&'a [u8]>, TileFault>,
+) -> Result<Vec<TagValue<'a>>, TileFault>
+    ensures { Gives TileFault.Memory (λ v. tag_views v.items) result (onward (λ v. bytes_of v.items) raw.entry.now (each_in tag_value_at)) }
+{
+    match raw {
+        Ok(list) => tag_values_of(alloc, list),
+        Err(fault) => Err(*fault),
+    }
+}
+
+/// The features that these parts encode, with the pools of their layer.
+fn read_features<'a>(
     alloc: Global,
     keys: &[&'a str],
     values: &[TagValue<'a>],
     raw: &[&'a [u8]],
+    lists: &mut FeatureLists,
 ) -> Result<Vec<TileFeature<'a>>, TileFault>
     ensures { Gives TileFault.Memory (λ v. map feature_view v.items) result
         (each_in (feature_at (bytes_of keys.entry.now) (tag_views values.entry.now)) (bytes_of raw.entry.now)) }
 {
     let mut features = Vec::with_capacity(alloc, raw.len())?;
-    let mut lists = FeatureLists::new(alloc);
     for part in raw {
-        let (feature, left) = feature_of(alloc, keys, values, *part, lists)?;
+        let feature = feature_of(alloc, keys, values, *part, lists)?;
         features.push(feature)?;
-        lists = left;
     }
     Ok(features)
 }
 
-/// The layer's name.
-fn name_of(last: Option<&[u8]>) -> Result<&str, TileFault>
-    ensures { Reads (λ t. t.now) result (name_at (option_map (λ b. b.now) last.entry)) }
+/// The features of a layer, where its fields could be read.
+fn features_of<'a>(
+    alloc: Global,
+    keys: &[&'a str],
+    values: &[TagValue<'a>],
+    raw: &Result<Vec<&'a [u8]>, TileFault>,
+) -> Result<Vec<TileFeature<'a>>, TileFault>
+    ensures { Gives TileFault.Memory (λ v. map feature_view v.items) result
+        (onward (λ v. bytes_of v.items) raw.entry.now (each_in (feature_at (bytes_of keys.entry.now) (tag_views values.entry.now)))) }
 {
-    match last {
+    match raw {
+        Ok(list) => {
+            let mut lists = FeatureLists::new(alloc);
+            read_features(alloc, keys, values, list, &mut lists)
+        },
+        Err(fault) => Err(*fault),
+    }
+}
+
+/// The layer's name.
+fn name_of(last: Result<Option<&[u8]>, TileFault>) -> Result<&str, TileFault>
+    ensures { Reads (λ t. t.now) result (onward (option_map (λ b. b.now)) last.entry name_at) }
+{
+    match last? {
         Some(part) => text_of(part),
         None => Err(TileFault::Name),
     }
@@ -100,10 +145,10 @@ fn small(otherwise: u32, last: Option<u64>) -> Result<u32, TileFault>
 
 /// The layer's version, `DEFAULT_VERSION` if it states none.
 #[tactic(auto, unfolding(crate::specs::Reading::version_at))]
-fn version_of(last: Option<u64>) -> Result<u32, TileFault>
-    ensures { Reads (λ n. n) result (version_at last) }
+fn version_of(last: Result<Option<u64>, TileFault>) -> Result<u32, TileFault>
+    ensures { Reads (λ n. n) result (onward (λ n. n) last version_at) }
 {
-    let n = small(DEFAULT_VERSION, last)?;
+    let n = small(DEFAULT_VERSION, last?)?;
     if n == DEFAULT_VERSION || n == CURRENT_VERSION {
         Ok(n)
     } else {
@@ -113,10 +158,10 @@ fn version_of(last: Option<u64>) -> Result<u32, TileFault>
 
 /// The layer's extent, `DEFAULT_EXTENT` if it states none.
 #[tactic(auto, unfolding(crate::specs::Reading::extent_at))]
-fn extent_of(last: Option<u64>) -> Result<u32, TileFault>
-    ensures { Reads (λ n. n) result (extent_at last) }
+fn extent_of(last: Result<Option<u64>, TileFault>) -> Result<u32, TileFault>
+    ensures { Reads (λ n. n) result (onward (λ n. n) last extent_at) }
 {
-    let n = small(DEFAULT_EXTENT, last)?;
+    let n = small(DEFAULT_EXTENT, last?)?;
     if n == 0 {
         Err(TileFault::Extent)
     } else {
@@ -124,27 +169,43 @@ fn extent_of(last: Option<u64>) -> Result<u32, TileFault>
     }
 }
 
-/// A layer: its pools first, wherever they are in the bytes, and then its features.
-#[tactic(auto, unfolding(crate::specs::Reading::layer_at))]
-fn layer_of<'a>(alloc: Global, bytes: &'a [u8]) -> Result<Layer<'a>, TileFault>
-    ensures { Gives TileFault.Memory layer_view result (layer_at bytes.entry.now) }
+/// The layer of this name, version and extent: its pools first, wherever they are in the bytes, and then its features.
+fn with_features<'a>(
+    alloc: Global,
+    name: &'a str,
+    version: u32,
+    extent: u32,
+    fields: &LayerFields<'a>,
+) -> Result<Layer<'a>, TileFault>
+    ensures { Gives TileFault.Memory layer_view result (featured name.entry.now version extent fields.entry.now) }
 {
-    let fields = layer_fields(alloc, bytes);
-    let name = name_of(fields.name?)?;
-    let version = version_of(fields.version?)?;
-    let extent = extent_of(fields.extent?)?;
-    let raw_keys = fields.keys?;
-    let keys = texts_of(alloc, &raw_keys)?;
-    let raw_values = fields.values?;
-    let values = values_of(alloc, &raw_values)?;
-    let raw_features = fields.features?;
-    let features = features_of(alloc, &keys, &values, &raw_features)?;
+    let keys = keys_of(alloc, &fields.keys)?;
+    let values = values_of(alloc, &fields.values)?;
+    let features = features_of(alloc, &keys, &values, &fields.features)?;
     Ok(Layer {
         name,
         version,
         extent,
         features,
     })
+}
+
+/// The layer that these fields say.
+fn layer_said<'a>(alloc: Global, fields: &LayerFields<'a>) -> Result<Layer<'a>, TileFault>
+    ensures { Gives TileFault.Memory layer_view result (layer_from fields.entry.now) }
+{
+    let name = name_of(fields.name)?;
+    let version = version_of(fields.version)?;
+    let extent = extent_of(fields.extent)?;
+    with_features(alloc, name, version, extent, fields)
+}
+
+/// A layer.
+fn layer_of<'a>(alloc: Global, bytes: &'a [u8]) -> Result<Layer<'a>, TileFault>
+    ensures { Gives TileFault.Memory layer_view result (layer_at bytes.entry.now) }
+{
+    let fields = layer_fields(alloc, bytes);
+    layer_said(alloc, &fields)
 }
 
 /// The layers with the one that this part encodes.

@@ -134,15 +134,6 @@ fn add_number(numbers: &mut Vec<u32>, n: u64) -> Result<(), TileFault>
     Ok(())
 }
 
-/// The numbers with one of 32 bits more.
-fn with_number(before: Vec<u32>, n: u64) -> Result<Vec<u32>, TileFault>
-    ensures { Finds TileFault.Memory (λ v. v.items) result (number_more before.items n) }
-{
-    let mut numbers = before;
-    add_number(&mut numbers, n)?;
-    Ok(numbers)
-}
-
 /// The first of packed numbers, and its length in bytes.
 fn packed_number(bytes: &[u8]) -> Result<(u64, usize), TileFault>
     ensures within { IfOk result (λ r. (0 < r.1) × (r.1 ≤ length bytes.now)) }
@@ -155,44 +146,46 @@ fn packed_number(bytes: &[u8]) -> Result<(u64, usize), TileFault>
 }
 
 /// The packed numbers of `bytes`, appended to those before. Memory is reserved for as many numbers as there are bytes.
-fn with_packed(before: Vec<u32>, bytes: &[u8]) -> Result<Vec<u32>, TileFault>
-    ensures { Gives TileFault.Memory (λ v. v.items) result (packed_in (length bytes.now) before.items bytes.now) }
+fn add_packed(numbers: &mut Vec<u32>, bytes: &[u8]) -> Result<(), TileFault>
+    ensures { Gives TileFault.Memory (λ _. numbers.new.items) result (packed_in (length bytes.now) numbers.old.items bytes.now) }
 {
-    let mut numbers = before;
     numbers.reserve(bytes.len())?;
     let mut rest = bytes;
     while rest.len() > 0 {
         let (n, len) = packed_number(rest)?;
-        add_number(&mut numbers, n)?;
+        add_number(numbers, n)?;
         rest = &rest[len..];
     }
-    Ok(numbers)
+    Ok(())
 }
 
-/// The numbers of a field, packed or not, after one item more.
-fn numbers_behind(number: u32, before: Vec<u32>, item: FieldItem<'_>) -> Result<Vec<u32>, TileFault>
-    ensures exact { Gives TileFault.Memory (λ v. v.items) result (after number numbers_after before.items (item_view item.entry)) }
+/// The numbers of a field, packed or not, with those of one item more.
+fn add_numbers(number: u32, numbers: &mut Vec<u32>, item: FieldItem<'_>) -> Result<(), TileFault>
+    ensures exact { Gives TileFault.Memory (λ _. numbers.new.items) result (after number numbers_after numbers.old.items (item_view item.entry)) }
     // An allocation fails only if the item may hold numbers.
     ensures memory { IfErr result (λ d. d ≡ TileFault.Memory → IsTrue (holds_numbers (item_view item.entry))) }
 {
     match item {
         Err(_) => Err(TileFault::Wire),
-        Ok(field) if field.number != number => Ok(before),
+        Ok(field) if field.number != number => Ok(()),
         Ok(field) => match field.value {
-            FieldValue::Varint(n) => with_number(before, n),
-            FieldValue::Bytes(part) => with_packed(before, part),
+            FieldValue::Varint(n) => add_number(numbers, n),
+            FieldValue::Bytes(part) => add_packed(numbers, part),
             _ => Err(TileFault::Kind),
         },
     }
 }
 
-/// The numbers of a field, packed or not, after one item more.
+/// The same after what was said before, which may be a fault.
 pub(crate) fn numbers_then(
     number: u32,
-    before: Result<Vec<u32>, TileFault>,
+    before: Result<(), TileFault>,
+    numbers: &mut Vec<u32>,
     item: FieldItem<'_>,
-) -> Result<Vec<u32>, TileFault>
-    ensures { Gives TileFault.Memory (λ v. v.items) result (onward (λ v. v.items) before (λ ns. after number numbers_after ns (item_view item.entry))) }
+) -> Result<(), TileFault>
+    ensures { Gives TileFault.Memory (λ _. numbers.new.items) result
+        (onward (λ _. numbers.old.items) before (λ ns. after number numbers_after ns (item_view item.entry))) }
 {
-    numbers_behind(number, before?, item)
+    before?;
+    add_numbers(number, numbers, item)
 }

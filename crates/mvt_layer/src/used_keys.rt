@@ -28,14 +28,12 @@ impl UsedKeys {
         }
     }
 
-    /// No key indices, in the same memory.
-    pub(crate) fn cleared(self) -> Self
-        ensures { (q : ℕ) → uses result q ≡ false }
+    /// Forgets all key indices.
+    pub(crate) fn clear(&mut self)
+        ensures { (q : ℕ) → uses self.new q ≡ false }
     {
-        let UsedKeys { mut few, mut many } = self;
-        few.clear();
-        many.clear();
-        UsedKeys { few, many }
+        self.few.clear();
+        self.many.clear();
     }
 
     /// Whether the key index was used.

@@ -1,6 +1,6 @@
 use Rattle.pb_wire.specs.Items.{item_view, fields_rest}
 use Rattle.mvt_layer.specs.Reading.{after, number_after, numbers_after}
-use Rattle.mvt_layer.proofs.Walks.{leads_on, leads_done}
+use Rattle.mvt_layer.proofs.Walks.{leads_on, leads_to, leads_done}
 use Rattle.mvt_layer.proofs.feature_fields.feature_fields.Goals as goal
 
 pub loop-item-preserved : goal.loop-item-preserved
@@ -11,13 +11,16 @@ loop-item-preserved c =
     let first = c.in-Some.ensures.steps in
     let before = c.loop-item.fields in
     let next = c.with_item-fields.result in
+    let added = c.with_item-fields.new in
     let so_far = c.loop-item.invariant in
     let stepped = c.with_item-fields.ensures in
     record {
       id = leads_on (λ n. n) (after 1 number_after) before.id next.id item left others _ first so_far.id stepped.id;
       kind = leads_on (λ n. n) (after 3 number_after) before.kind next.kind item left others _ first so_far.kind stepped.kind;
-      indices = leads_on (λ v. v.items) (after 2 numbers_after) before.indices next.indices item left others _ first so_far.indices stepped.indices;
-      ints = leads_on (λ v. v.items) (after 4 numbers_after) before.ints next.ints item left others _ first so_far.ints stepped.ints;
+      indices = leads_to (λ _. c.loop-item.indices.items) (λ _. added.indices.items) (after 2 numbers_after) before.indices next.indices item left others _
+          first so_far.indices stepped.indices;
+      ints = leads_to (λ _. c.loop-item.ints.items) (λ _. added.ints.items) (after 4 numbers_after) before.ints next.ints item left others _
+          first so_far.ints stepped.ints;
     }
 
 pub returns-clause-id : goal.returns-clause-id
@@ -29,9 +32,9 @@ returns-clause-kind c = leads_done (λ n. n) (after 3 number_after) c.loop-item.
     c.in-None.ensures.steps.0 c.loop-item.invariant.kind
 
 pub returns-clause-indices : goal.returns-clause-indices
-returns-clause-indices c = leads_done (λ v. v.items) (after 2 numbers_after) c.loop-item.fields.indices (fields_rest c.loop-item.item-iterator) _
+returns-clause-indices c = leads_done (λ _. c.loop-item.indices.items) (after 2 numbers_after) c.loop-item.fields.indices (fields_rest c.loop-item.item-iterator) _
     c.in-None.ensures.steps.0 c.loop-item.invariant.indices
 
 pub returns-clause-ints : goal.returns-clause-ints
-returns-clause-ints c = leads_done (λ v. v.items) (after 4 numbers_after) c.loop-item.fields.ints (fields_rest c.loop-item.item-iterator) _
+returns-clause-ints c = leads_done (λ _. c.loop-item.ints.items) (after 4 numbers_after) c.loop-item.fields.ints (fields_rest c.loop-item.item-iterator) _
     c.in-None.ensures.steps.0 c.loop-item.invariant.ints

@@ -2,7 +2,7 @@ use Rattle.std.proofs.Common.{◌≡◌, drop}
 use Rattle.reader.specs.Reading.{folded}
 use Rattle.mvt_layer.specs.Tile.{bytes_of, tag_views}
 use Rattle.mvt_layer.specs.Reading.{part_more, each_in, tag_value_at}
-use Rattle.mvt_layer.proofs.layers.values_of.Given as goal
+use Rattle.mvt_layer.proofs.layers.tag_values_of.Given as goal
 
 abbrev pub invariant-loop-part : goal.invariant-loop-part
 invariant-loop-part l =

@@ -2,7 +2,7 @@ use Rattle.std.proofs.lemmas.Result.{err_from_is_err_and}
 use Rattle.mvt_layer.specs.Tile.{tag_view, tag_views}
 use Rattle.mvt_layer.specs.Reading.{tag_value_at, part_more}
 use Rattle.mvt_layer.proofs.Folds.{each_on, each_stop, parts_done}
-use Rattle.mvt_layer.proofs.layers.values_of.Goals as goal
+use Rattle.mvt_layer.proofs.layers.tag_values_of.Goals as goal
 
 pub returns-in_err-value : goal.returns-in_err-value
 returns-in_err-value c =

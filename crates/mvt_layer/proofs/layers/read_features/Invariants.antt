@@ -2,7 +2,7 @@ use Rattle.std.proofs.Common.{◌≡◌, drop, map}
 use Rattle.reader.specs.Reading.{folded}
 use Rattle.mvt_layer.specs.Tile.{bytes_of, tag_views, feature_view}
 use Rattle.mvt_layer.specs.Reading.{part_more, each_in, feature_at}
-use Rattle.mvt_layer.proofs.layers.features_of.Given as goal
+use Rattle.mvt_layer.proofs.layers.read_features.Given as goal
 
 abbrev pub invariant-loop-part : goal.invariant-loop-part
 invariant-loop-part l =

@@ -5,7 +5,7 @@ use Rattle.std.proofs.Common.{map}
 use Rattle.mvt_layer.specs.Tile.{bytes_of, tag_views, feature_view}
 use Rattle.mvt_layer.specs.Reading.{feature_at, part_more}
 use Rattle.mvt_layer.proofs.Folds.{part_at, each_on, each_stop, parts_done}
-use Rattle.mvt_layer.proofs.layers.features_of.Goals as goal
+use Rattle.mvt_layer.proofs.layers.read_features.Goals as goal
 
 pub returns-in_err-feature : goal.returns-in_err-feature
 returns-in_err-feature c =

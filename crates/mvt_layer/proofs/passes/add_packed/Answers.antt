@@ -4,7 +4,7 @@ use Rattle.pb_wire.proofs.Message.{back}
 use Rattle.mvt_layer.specs.declared.fault.TileFault.TheVariants.{Memory}
 use Rattle.mvt_layer.specs.Reading.{number_more}
 use Rattle.mvt_layer.proofs.Folds.{packed_on, packed_range, packed_broken, packed_done}
-use Rattle.mvt_layer.proofs.passes.with_packed.Goals as goal
+use Rattle.mvt_layer.proofs.passes.add_packed.Goals as goal
 
 pub returns-in_err-n : goal.returns-in_err-n
 returns-in_err-n c =
