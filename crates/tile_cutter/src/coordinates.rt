@@ -1,9 +1,9 @@
 //! Coordinates of the world, of a zoom and of a tile.
 
-ghost use Rattle.std.specs.Prelude.{◌≡◌, ◌<◌, ◌≤◌, ◌^◌};
+ghost use Rattle.std.specs.Prelude.{◌≡◌, pos, ◌-ℤ◌, ◌*◌, ◌<◌, ◌≤◌, ◌^◌};
 ghost use Rattle.tile_cutter.specs.Cut.{quantised_axis, quantised, position_in};
 ghost use Rattle.tile_cutter.specs.Passes.{repeats};
-ghost use Rattle.tile_cutter.specs.Range.{IsOfTile};
+ghost use Rattle.tile_cutter.specs.Range.{IsOfSide, IsOfTile};
 
 use feature_model::{MAX_ZOOM, World};
 use geometry_commands::Pt;
@@ -28,16 +28,24 @@ pub(crate) fn quantise(coordinate: u32, zoom: u8) -> u32
     coordinate >> (WORLD_ZOOM - zoom)
 }
 
+/// A coordinate of the world in the tiles of this column or row, at their zoom.
+fn coordinate_in(at: u32, zoom: u8, coordinate: u32) -> i64
+    requires { zoom ≤ MAX_ZOOM }
+    ensures position { result ≡ pos (quantised_axis zoom coordinate) -ℤ pos (EXTENT * at) }
+    ensures of_side { IsOfSide at result }
+{
+    i64::from(quantise(coordinate, zoom)) - i64::from(EXTENT) * i64::from(at)
+}
+
 /// The coordinates of a point of the world in a tile, at the tile's zoom.
 pub(crate) fn position(point: World, at: TileAt) -> Pt
     requires { at.z ≤ MAX_ZOOM }
     ensures position { result ≡ position_in at.x at.y (quantised at.z point) }
     ensures of_tile { IsOfTile at.x at.y result }
 {
-    let extent = i64::from(EXTENT);
     Pt {
-        x: i64::from(quantise(point.x, at.z)) - extent * i64::from(at.x),
-        y: i64::from(quantise(point.y, at.z)) - extent * i64::from(at.y),
+        x: coordinate_in(at.x, at.z, point.x),
+        y: coordinate_in(at.y, at.z, point.y),
     }
 }
 
