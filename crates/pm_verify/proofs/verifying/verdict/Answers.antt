@@ -8,7 +8,7 @@ use Rattle.pm_archive.specs.Reading.{list_at}
 use Rattle.pm_archive.specs.Answers.{UnlessOutside}
 use Rattle.pm_archive.proofs.CountedListed.{listed_fit, listed_inside}
 use Rattle.pm_metadata.specs.Archive.{HasCounts}
-use Rattle.pm_archive.proofs.KeepsLaws.{passed_on}
+use Rattle.pm_archive.proofs.KeepsLaws.{keeps_on, passed_on}
 use Rattle.pm_verify.specs.Verified.{AreVector, HasTile}
 use Rattle.pm_verify.specs.VerifiedPieces.{IsCountFault, IsFirstTileFault}
 use Rattle.pm_verify.proofs.VerifiedFaults.{same_listed, other_listing, other_count, other_tile}
@@ -94,3 +94,38 @@ returns-in_err-check_vector_tiles-clause-read g c =
     rw (p.1, p.2) (λ e.
     let before = g.met.B.Bytes.unchanged_on _ _ _ c.in_ok-check_metadata.ensures.source.same_behind c.in_ok-listed.ensures.source.same_behind in
     g.met.B.Bytes.failed_on _ _ _ before (c.in_err-check_vector_tiles.ensures.read (passed_on _ _ _ _ e)))
+
+pub returns-in_err-listed-clause-source : goal.returns-in_err-listed-clause-source
+returns-in_err-listed-clause-source g c =
+    keeps_on g.met.B.Bytes.unchanged_on c.in_ok-check_metadata.ensures.source c.in_err-listed.ensures.source
+
+pub returns-in_err-report-clause-source : goal.returns-in_err-report-clause-source
+returns-in_err-report-clause-source g c =
+    keeps_on g.met.B.Bytes.unchanged_on c.in_ok-check_metadata.ensures.source c.in_ok-listed.ensures.source
+
+pub returns-in_err-check_vector_tiles-clause-source : goal.returns-in_err-check_vector_tiles-clause-source
+returns-in_err-check_vector_tiles-clause-source g c =
+    let on = g.met.B.Bytes.unchanged_on in
+    keeps_on on (keeps_on on c.in_ok-check_metadata.ensures.source c.in_ok-listed.ensures.source) c.in_err-check_vector_tiles.ensures.source
+
+pub returns-clause-source : goal.returns-clause-source
+returns-clause-source g c =
+    let on = g.met.B.Bytes.unchanged_on in
+    keeps_on on (keeps_on on c.in_ok-check_metadata.ensures.source c.in_ok-listed.ensures.source) c.in_ok-check_vector_tiles.ensures.source
+
+pub returns-in_err-listed-clause-memory : goal.returns-in_err-listed-clause-memory
+returns-in_err-listed-clause-memory g c = λ _. c.in_ok-check_metadata.ensures.some
+
+pub returns-in_err-report-clause-memory : goal.returns-in_err-report-clause-memory
+returns-in_err-report-clause-memory g c = λ _. c.in_ok-check_metadata.ensures.some
+
+pub returns-in_err-check_vector_tiles-clause-memory : goal.returns-in_err-check_vector_tiles-clause-memory
+returns-in_err-check_vector_tiles-clause-memory g c = λ _. c.in_ok-check_metadata.ensures.some
+
+pub returns-clause-memory : goal.returns-clause-memory
+returns-clause-memory g c = λ _. c.in_ok-check_metadata.ensures.some
+
+pub returns-in_err-report-clause-read : goal.returns-in_err-report-clause-read
+returns-in_err-report-clause-read g c =
+    let p = err_from_is_err_and c.from_residual-in_err-report.result c.from_residual-in_err-report.ensures.1 in
+    rw (p.1, p.2) (λ e. absurd (c.in_err-report.ensures.read (passed_on _ _ _ _ e)))
