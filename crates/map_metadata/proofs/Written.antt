@@ -11,6 +11,7 @@ use Rattle.std.specs.declared.alloc.Global.{Global}
 use Rattle.std.specs.declared.alloc.AllocError.{AllocError}
 use Rattle.std.specs.declared.string.String.{String}
 use Rattle.std.proofs.lemmas.Cmp.{nat_list_cmp_total}
+use Rattle.std.proofs.lemmas.List.{map-append}
 use Rattle.std.proofs.lemmas.Map.Keys.{sorted_head, sorted_tail}
 use Rattle.serde_json.specs.Data.{Data, Members, put, string, member, depth, items_depth, members_depth}
 use Rattle.serde_json.specs.Read.{read, max_depth}
@@ -19,9 +20,10 @@ use Rattle.serde_json.specs.View.{items_of, view}
 use Rattle.serde_json.specs.Written.{has_float, items_have_float, members_have_float, compact_text}
 use Rattle.feature_store.specs.Store.{FeatureMap}
 use Rattle.map_metadata.specs.declared.field_kind.FieldKind.{FieldKind}
+use Rattle.map_metadata.specs.declared.summary.LayerSummary.{LayerSummary}
 use Rattle.map_metadata.specs.Fields.{kind_name}
 use Rattle.map_metadata.specs.Metadata.{LayerData, fields_json, layer_json, IsMetadata}
-use Rattle.map_metadata.specs.Summaries.{Fields, HasOrder, fields_data}
+use Rattle.map_metadata.specs.Summaries.{Fields, HasOrder, fields_data, layer_data}
 
 -- a key with its kind
 abbrev pub Field : Type 0
@@ -51,6 +53,20 @@ put_next fields ys rest now x d before after order step all value so_far more =
     let parts : ys ++ x ∷ rest ≡ fields.entries = ap (λ l. ys ++ l) (sym step) ∙ all in
     more ∙ ap (λ e. put x.0.now e before) value ∙ ap (put x.0.now (string (kind_name x.1))) so_far
     ∙ put_behind ys x rest (subst (λ es. IsStrictlySortedBy (λ a b. slice_cmp nat_cmp a.now b.now) (keys_of es)) (sym parts) order)
+
+-- a loop that pushes one layer after the other
+pub layers_next : (vs next : List Value) (v : Value) (es : List (Bor (List ℕ) × LayerSummary)) (e : Bor (List ℕ) × LayerSummary)
+    → next ≡ vs ++ v ∷ [] → view v ≡ layer_json (layer_data e) → map view vs ≡ map layer_json (map layer_data es)
+    → map view next ≡ map layer_json (map layer_data (es ++ e ∷ []))
+layers_next vs next v es e more one so_far =
+    rw (
+      more,
+      map-append view vs (v ∷ []),
+      map-append layer_data es (e ∷ []),
+      map-append layer_json (map layer_data es) (layer_data e ∷ []),
+      so_far,
+      one,
+    ) refl
 
 -- ---- no number is a float
 

@@ -1,12 +1,12 @@
 //! The metadata of a map, as a JSON value and as text.
 
-ghost use Rattle.std.specs.Prelude.{◌≡◌, map, Some, IfOk, string_bytes, All};
+ghost use Rattle.std.specs.Prelude.{◌≡◌, map, Some, IfOk, OnOk, string_bytes, All};
 ghost use Rattle.std.specs.BTreeMap.{IsOrdered};
 ghost use Rattle.std.specs.Ordering.{nat_cmp};
 ghost use Rattle.std.specs.Cmp.Lexicographic.{slice_cmp};
 ghost use Rattle.serde_json.specs.Data.{Data, object, array, member, no_members};
 ghost use Rattle.serde_json.specs.Read.{read};
-ghost use Rattle.serde_json.specs.View.{view, items_of};
+ghost use Rattle.serde_json.specs.View.{view, items_of, members_view};
 ghost use Rattle.serde_json.specs.Written.{compact_text};
 ghost use Rattle.map_metadata.specs.Fields.{name_bytes};
 ghost use Rattle.map_metadata.specs.Metadata.{fields_json, layer_json, IsMetadata};
@@ -35,11 +35,17 @@ fn fields_value(alloc: Global, fields: Fields<'_>) -> Result<Value, AllocError>
     Ok(Value::Object(members))
 }
 
-/// The object of a layer.
+/// Puts the members of a layer into an empty object.
 #[tactic(auto, unfolding(crate::specs::Fields::name_bytes))]
-fn layer_value(alloc: Global, name: &str, summary: LayerSummary<'_>) -> Result<Value, AllocError>
-    ensures value { IfOk result (λ v. view v ≡ layer_json (layer_data (name.entry, summary.entry))) }
-    ensures ordered { IfOk result (λ _. HasOrder summary.entry.fields) }
+fn put_members(
+    members: &mut Map<String, Value>,
+    alloc: Global,
+    name: &str,
+    summary: LayerSummary<'_>,
+) -> Result<(), AllocError>
+    requires { members_view members.old.entries ≡ no_members }
+    ensures value { OnOk result (object (members_view members.new.entries) ≡ layer_json (layer_data (name.entry, summary.entry))) }
+    ensures ordered { OnOk result (HasOrder summary.entry.fields) }
 {
     let LayerSummary {
         minzoom,
@@ -47,12 +53,20 @@ fn layer_value(alloc: Global, name: &str, summary: LayerSummary<'_>) -> Result<V
         fields,
     } = summary;
     let fields = fields_value(alloc, fields)?;
+    put(members, alloc, "fields", fields)?;
     let id = Value::try_from_str(alloc, name)?;
+    put(members, alloc, "id", id)?;
+    put(members, alloc, "maxzoom", Value::from(maxzoom))?;
+    put(members, alloc, "minzoom", Value::from(minzoom))
+}
+
+/// The object of a layer.
+fn layer_value(alloc: Global, name: &str, summary: LayerSummary<'_>) -> Result<Value, AllocError>
+    ensures value { IfOk result (λ v. view v ≡ layer_json (layer_data (name.entry, summary.entry))) }
+    ensures ordered { IfOk result (λ _. HasOrder summary.entry.fields) }
+{
     let mut members = Map::new(alloc);
-    put(&mut members, alloc, "fields", fields)?;
-    put(&mut members, alloc, "id", id)?;
-    put(&mut members, alloc, "maxzoom", Value::from(maxzoom))?;
-    put(&mut members, alloc, "minzoom", Value::from(minzoom))?;
+    put_members(&mut members, alloc, name, summary)?;
     Ok(Value::Object(members))
 }
 
