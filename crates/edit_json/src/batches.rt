@@ -11,7 +11,7 @@ ghost use Rattle.edit_json.specs.Batches.{AskedData, delete_asked, put_asked, as
 ghost use Rattle.edit_json.specs.Batches.{HasMembers, BeginsAsked};
 ghost use Rattle.edit_json.specs.Batches.{IsJsonChange, IsBatch, NumbersDiffer, IsFirstAskedFault, IsFirstAsked, IsFirstBatchFault};
 
-use crate::outline::{next_named, read_outline};
+use crate::outline::{next_named, next_number, read_outline};
 use crate::reading::feature_from_json;
 use feature_model::{Change, EditFault, NUMBER_END, change_count_fits};
 use serde_json::Value;
@@ -47,7 +47,7 @@ fn read_delete(value: &Value) -> Option<u64>
         (λ id. view value.now ≡ asked_json (delete_asked id)) }
 {
     let mut members = value.as_object()?.iter();
-    let id = next_named(&mut members, "delete")?.as_u64()?;
+    let id = next_number(&mut members, "delete")?;
     if members.next().is_some() {
         return None;
     }
@@ -63,7 +63,7 @@ fn read_put(value: &Value) -> Option<(u64, &Value)>
 {
     let mut members = value.as_object()?.iter();
     let feature = next_named(&mut members, "feature")?;
-    let id = next_named(&mut members, "put")?.as_u64()?;
+    let id = next_number(&mut members, "put")?;
     if members.next().is_some() {
         return None;
     }

@@ -13,7 +13,7 @@ ghost use Rattle.edit_json.specs.Checked.{CheckedData, checked_data, with_was, c
 ghost use Rattle.edit_json.specs.Checked.{IsWas, Were, IsChecked, IsFirstWas, IsFirstCheckedFault};
 
 use crate::batches::{Asked, changes_of, number, read_list};
-use crate::outline::{next_named, read_outline};
+use crate::outline::{next_named, next_number, read_outline};
 use crate::reading::feature_from_json;
 use feature_model::{Change, EditFault, Feature, Seen};
 use serde_json::Value;
@@ -34,7 +34,7 @@ fn read_delete_was(value: &Value) -> Option<(u64, &Value)>
         (λ found. view value.now ≡ with_was (delete_asked found.0) (view found.1.now)) }
 {
     let mut members = value.as_object()?.iter();
-    let id = next_named(&mut members, "delete")?.as_u64()?;
+    let id = next_number(&mut members, "delete")?;
     let was = next_named(&mut members, "was")?;
     if members.next().is_some() {
         return None;
@@ -51,7 +51,7 @@ fn read_put_was(value: &Value) -> Option<(u64, &Value, &Value)>
 {
     let mut members = value.as_object()?.iter();
     let feature = next_named(&mut members, "feature")?;
-    let id = next_named(&mut members, "put")?.as_u64()?;
+    let id = next_number(&mut members, "put")?;
     let was = next_named(&mut members, "was")?;
     if members.next().is_some() {
         return None;

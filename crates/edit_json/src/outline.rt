@@ -1,7 +1,7 @@
 //! The members of a feature's object.
 
-ghost use Rattle.std.specs.Prelude.{◌≡◌, ◌≢◌, ℕ, ◌<◌, MatchOption};
-ghost use Rattle.serde_json.specs.Data.{Data, Members, number, unsigned, member as with_member};
+ghost use Rattle.std.specs.Prelude.{◌≡◌, ◌≢◌, ℕ, ◌<◌, List, MatchOption};
+ghost use Rattle.serde_json.specs.Data.{Data, Members, number, unsigned, string, object, member as with_member};
 ghost use Rattle.serde_json.specs.View.{view, members_view};
 ghost use Rattle.edit_json.specs.Faults.{IsOutline};
 ghost use Rattle.edit_json.specs.Json.{ShapeData, shape_json, OutlineData};
@@ -43,6 +43,36 @@ pub(crate) fn next_named<'v>(members: &mut Iter<'v, String, Value>, name: &str) 
     }
 }
 
+/// The number that is the next member, which must have this name.
+pub(crate) fn next_number(members: &mut Iter<'_, String, Value>, name: &str) -> Option<u64>
+    ensures { MatchOption result
+        ((n : ℕ) (ms : Members) → members_view members.old ≢ with_member name.now (number (unsigned n)) ms)
+        (λ n. members_view members.old ≡ with_member name.now (number (unsigned n)) (members_view members.new)) }
+{
+    next_named(members, name)?.as_u64()
+}
+
+/// The text that is the next member, which must have this name.
+fn next_text<'v>(members: &mut Iter<'v, String, Value>, name: &str) -> Option<&'v str>
+    ensures { MatchOption result
+        ((t : List ℕ) (ms : Members) → members_view members.old ≢ with_member name.now (string t) ms)
+        (λ t. members_view members.old ≡ with_member name.now (string t.now) (members_view members.new)) }
+{
+    next_named(members, name)?.as_str()
+}
+
+/// The object that is the next member, which must have this name.
+fn next_object<'v>(
+    members: &mut Iter<'v, String, Value>,
+    name: &str,
+) -> Option<&'v Map<String, Value>>
+    ensures { MatchOption result
+        ((inner ms : Members) → members_view members.old ≢ with_member name.now (object inner) ms)
+        (λ inner. members_view members.old ≡ with_member name.now (object (members_view inner.now.entries)) (members_view members.new)) }
+{
+    next_named(members, name)?.as_object()
+}
+
 /// A whole number of 0 to 255.
 fn read_zoom(value: &Value) -> Option<u8>
     ensures { MatchOption result
@@ -50,6 +80,15 @@ fn read_zoom(value: &Value) -> Option<u8>
         (λ n. view value.now ≡ number (unsigned n)) }
 {
     u8::try_from(value.as_u64()?).ok()
+}
+
+/// The whole number of 0 to 255 that is the next member, which must have this name.
+fn next_zoom(members: &mut Iter<'_, String, Value>, name: &str) -> Option<u8>
+    ensures { MatchOption result
+        ((n : ℕ) (ms : Members) → n < 256 → members_view members.old ≢ with_member name.now (number (unsigned n)) ms)
+        (λ n. members_view members.old ≡ with_member name.now (number (unsigned n)) (members_view members.new)) }
+{
+    read_zoom(next_named(members, name)?)
 }
 
 /// The one list of a geometry's object.
@@ -73,19 +112,27 @@ fn read_shape(value: &Value) -> Option<Shape<'_>>
     }
 }
 
-/// The five members, in the order in which an object has them.
-#[tactic(auto, unfolding(crate::specs::Json::name_bytes))]
-pub(crate) fn read_outline(value: &Value) -> Option<Outline<'_>>
+/// The geometry that is the next member, which must have this name.
+fn next_shape<'v>(members: &mut Iter<'v, String, Value>, name: &str) -> Option<Shape<'v>>
     ensures { MatchOption result
-        ((o : OutlineData) → ¬ IsOutline (view value.now) o)
-        (λ o. IsOutline (view value.now) (outline_data o)) }
+        ((s : ShapeData) (ms : Members) → members_view members.old ≢ with_member name.now (shape_json s) ms)
+        (λ s. members_view members.old ≡ with_member name.now (shape_json (shape_data s)) (members_view members.new)) }
 {
-    let mut members = value.as_object()?.iter();
-    let shape = read_shape(next_named(&mut members, "geometry")?)?;
-    let layer = next_named(&mut members, "layer")?.as_str()?;
-    let maxzoom = read_zoom(next_named(&mut members, "maxzoom")?)?;
-    let minzoom = read_zoom(next_named(&mut members, "minzoom")?)?;
-    let tags = next_named(&mut members, "tags")?.as_object()?;
+    read_shape(next_named(members, name)?)
+}
+
+/// The five members, in the order in which an object has them, and no other.
+#[tactic(auto, unfolding(crate::specs::Json::name_bytes))]
+fn only_members<'v>(members: &mut Iter<'v, String, Value>) -> Option<Outline<'v>>
+    ensures { MatchOption result
+        ((o : OutlineData) → ¬ IsOutline (object (members_view members.old)) o)
+        (λ o. IsOutline (object (members_view members.old)) (outline_data o)) }
+{
+    let shape = next_shape(members, "geometry")?;
+    let layer = next_text(members, "layer")?;
+    let maxzoom = next_zoom(members, "maxzoom")?;
+    let minzoom = next_zoom(members, "minzoom")?;
+    let tags = next_object(members, "tags")?;
     if members.next().is_some() {
         return None;
     }
@@ -96,4 +143,14 @@ pub(crate) fn read_outline(value: &Value) -> Option<Outline<'_>>
         shape,
         tags,
     })
+}
+
+/// The members of a feature's object.
+pub(crate) fn read_outline(value: &Value) -> Option<Outline<'_>>
+    ensures { MatchOption result
+        ((o : OutlineData) → ¬ IsOutline (view value.now) o)
+        (λ o. IsOutline (view value.now) (outline_data o)) }
+{
+    let mut members = value.as_object()?.iter();
+    only_members(&mut members)
 }

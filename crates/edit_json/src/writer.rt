@@ -1,8 +1,8 @@
 //! A feature's JSON value.
 
-ghost use Rattle.std.specs.Prelude.{◌≡◌, IfOk};
+ghost use Rattle.std.specs.Prelude.{◌≡◌, IfOk, OnOk};
 ghost use Rattle.serde_json.specs.Data.{object, member, no_members};
-ghost use Rattle.serde_json.specs.View.{view};
+ghost use Rattle.serde_json.specs.View.{view, members_view};
 ghost use Rattle.feature_model.specs.Limits.{HasAscendingKeys, TagsFit, ValueFits, ValuesFit};
 ghost use Rattle.feature_text.specs.Views.{points_view, lines_view, polygons_view, geometry_view, value_view, tags_view, feature_view};
 ghost use Rattle.edit_json.specs.Json.{point_json, points_json, lines_json, polygons_json, shape_of, shape_json, value_json, tags_json, json_of};
@@ -105,21 +105,35 @@ fn tags_value(alloc: Global, tags: Tags<'_>) -> Result<Value, AllocError>
     Ok(Value::Object(members))
 }
 
-/// The one JSON value of a feature.
+/// Puts the members of a feature into an empty object.
 #[tactic(auto, unfolding(crate::specs::Json::name_bytes))]
+fn put_members(
+    members: &mut Map<String, Value>,
+    alloc: Global,
+    feature: FeatureText<'_>,
+) -> Result<(), AllocError>
+    requires empty { members_view members.old.entries ≡ no_members }
+    requires tags { TagsFit (feature_view feature).tags }
+    requires values { ValuesFit (feature_view feature).tags }
+    ensures { OnOk result (object (members_view members.new.entries) ≡ json_of (feature_view feature.entry)) }
+{
+    let geometry = geometry_value(alloc, feature.geometry)?;
+    put(members, alloc, "geometry", geometry)?;
+    let layer = Value::try_from_str(alloc, feature.layer)?;
+    put(members, alloc, "layer", layer)?;
+    put(members, alloc, "maxzoom", Value::from(feature.maxzoom))?;
+    put(members, alloc, "minzoom", Value::from(feature.minzoom))?;
+    let tags = tags_value(alloc, feature.tags)?;
+    put(members, alloc, "tags", tags)
+}
+
+/// The one JSON value of a feature.
 pub fn feature_to_json(alloc: Global, feature: FeatureText<'_>) -> Result<Value, AllocError>
     requires tags { TagsFit (feature_view feature).tags }
     requires values { ValuesFit (feature_view feature).tags }
     ensures { IfOk result (λ v. view v ≡ json_of (feature_view feature.entry)) }
 {
-    let geometry = geometry_value(alloc, feature.geometry)?;
-    let layer = Value::try_from_str(alloc, feature.layer)?;
-    let tags = tags_value(alloc, feature.tags)?;
     let mut members = Map::new(alloc);
-    put(&mut members, alloc, "geometry", geometry)?;
-    put(&mut members, alloc, "layer", layer)?;
-    put(&mut members, alloc, "maxzoom", Value::from(feature.maxzoom))?;
-    put(&mut members, alloc, "minzoom", Value::from(feature.minzoom))?;
-    put(&mut members, alloc, "tags", tags)?;
+    put_members(&mut members, alloc, feature)?;
     Ok(Value::Object(members))
 }
