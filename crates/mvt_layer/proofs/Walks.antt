@@ -17,7 +17,8 @@ pub leads_to : {X S I : Type 0} (view later : X → S) (step : S → I → Read 
     → left ≡ item ∷ others → Leads view before (λ s. folded step s left) whole → Gives Memory later next (onward view before (λ s. step s item))
     → Leads later next (λ s. folded step s others) whole
 leads_to view later step (Ok x) (Ok y) item left others whole first so_far e = folded_on step (view x) (later y) item left others whole first so_far e
-leads_to view later step (Ok x) (Err d) item left others whole first so_far e = λ other. folded_stop step (view x) item left others d whole first so_far (e other)
+leads_to view later step (Ok x) (Err d) item left others whole first so_far e = λ other.
+    folded_stop step (view x) item left others d whole first so_far (e other)
 leads_to view later step (Err c) (Ok y) item left others whole first so_far e = absurd (not_both (later y) c (sym e))
 leads_to {X} {S} view later step (Err c) (Err d) item left others whole first so_far e = λ other.
     let same : c ≡ d = same_fault {A = S} c d (e other) in

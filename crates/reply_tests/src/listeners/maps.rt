@@ -1,7 +1,7 @@
 //! Peers on this machine that edit one map.
 use http_listen::{ListenFault, SystemListener};
-use map_server::serve_map_on;
 use map_replies::MapReplies;
+use map_server::serve_map_on;
 use sector_disk::MemoryDisk;
 use std::alloc::Global;
 use std::io::{self, Read, Write};

@@ -50,7 +50,8 @@ pub returns-in_err-write-clause-reads : goal.returns-in_err-write-clause-reads
 returns-in_err-write-clause-reads g c honest =
     let journal = c.args.journal.now in
     let before = c.write.ensures.disk.was_honest honest in
-    body_reads (g.D.Sectors.history c.args.disk.now) (ring_of journal) journal.place journal.used c.args.number (record_of c.args.version c.args.text.now) (omega arith) c.requires.room
+    body_reads (g.D.Sectors.history c.args.disk.now) (ring_of journal) journal.place journal.used c.args.number (record_of c.args.version c.args.text.now)
+    (omega arith) c.requires.room
     c.loop-part.part (omega arith) (omega arith) _ c.sector_of-at.ensures.is _ c.part_sector-sector.ensures _ _ _ (c.write.ensures.writes honest)
     (c.loop-part.invariant.reads before)
 

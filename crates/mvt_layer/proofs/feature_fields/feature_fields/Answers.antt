@@ -32,7 +32,8 @@ returns-clause-kind c = leads_done (λ n. n) (after 3 number_after) c.loop-item.
     c.in-None.ensures.steps.0 c.loop-item.invariant.kind
 
 pub returns-clause-indices : goal.returns-clause-indices
-returns-clause-indices c = leads_done (λ _. c.loop-item.indices.items) (after 2 numbers_after) c.loop-item.fields.indices (fields_rest c.loop-item.item-iterator) _
+returns-clause-indices c =
+    leads_done (λ _. c.loop-item.indices.items) (after 2 numbers_after) c.loop-item.fields.indices (fields_rest c.loop-item.item-iterator) _
     c.in-None.ensures.steps.0 c.loop-item.invariant.indices
 
 pub returns-clause-ints : goal.returns-clause-ints
