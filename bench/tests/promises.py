@@ -4,8 +4,8 @@
     python3 bench/tests/promises.py
 
 It reads the tables' cells. `crate::Type::function` (`clause`, ..) is a function of that crate whose contract has these clauses, lemma `name`
-of `crate` a lemma in its proofs/, `.._tests` (`name`, ..) tests of that crate, `.._runs` (lines `word`, ..) lines of its script that begin
-with the word. It prints what it doesn't find, and ends with 1 then.
+of `crate` a lemma in its proofs/, `.._tests` (`name`, ..) tests of that crate, `.._tests` (rows `name`, ..) rows of the tables that its
+tests run, `.._runs` (lines `word`, ..) lines of its script that begin with the word. It prints what it doesn't find, and ends with 1 then.
 """
 import functools
 import re
@@ -59,6 +59,13 @@ def tests_of(crate):
 
 
 @functools.cache
+def rows_of(crate):
+    """The names of the rows of a crate's tables, which end where a name has a comma."""
+    texts = [source.read_text() for source in (CRATES / crate / "src").rglob("*.rt")]
+    return {name for text in texts for name in re.findall(r'^ *name: "(\w+)', text, re.M)}
+
+
+@functools.cache
 def words_of(crate):
     """The words with which lines of a script begin, each call of a line that has several."""
     lines = (CRATES / crate / "stdin").read_text().splitlines()
@@ -90,6 +97,8 @@ def missing_in(text):
         yield from (f"lemma {name} of {table}" for name in names if name not in lemmas_of(table))
     for crate, tests in re.findall(r"`(\w+_tests)` \(((?:`\w+`(?:, )?)+)\)", text):
         yield from (f"test {test} of {crate}" for test in listed(tests) if test not in tests_of(crate))
+    for crate, rows in re.findall(r"`(\w+_tests)` \(rows ((?:`\w+`(?:, )?)+)\)", text):
+        yield from (f"row {row} of {crate}" for row in listed(rows) if row not in rows_of(crate))
     for crate, words in re.findall(r"`(\w+_runs)` \(lines ((?:`\w+`(?:, )?)+)\)", text):
         yield from (f"line {word} of {crate}" for word in listed(words) if word not in words_of(crate))
 

@@ -1,5 +1,5 @@
 //! Connections to a handler that echoes, with readers and writers that count and fail.
-ghost use Rattle.std.specs.Prelude.{◌≡◌, ◌≤◌, length};
+ghost use Rattle.std.specs.Prelude.{◌≡◌};
 ghost use Rattle.http_serve.specs.Reply.{IsWhole};
 
 mod clients;
@@ -7,6 +7,7 @@ mod costs;
 mod faults;
 mod fields;
 
+use crate::streams::take_from;
 use http_serve::{
     Buffers, Content, ContentFault, ContentRange, Handler, Reply, Request, ServeFault, Served,
     Status, serve_with,
@@ -63,18 +64,29 @@ fn echo_reply(alloc: Global, request: &Request<'_>) -> Reply
     ensures { IsWhole result }
 {
     match request.range {
-        Some(b"bytes=42-") => return part_of_all(),
-        Some(b"bytes=1234-") => return outside_all(),
-        _ => {}
+        Some(b"bytes=42-") => part_of_all(),
+        Some(b"bytes=1234-") => outside_all(),
+        _ if request.path == b"/none".as_slice() => no_content(),
+        _ => whole_reply(echo_of(alloc, request)),
     }
-    let kind = Some("text/plain");
-    if request.path == b"/none".as_slice() {
-        return Reply::plain(Status::NoContent, kind, Content::Fixed(b"never sent"));
-    }
-    match echo_of(alloc, request) {
-        Ok(text) => Reply::plain(Status::Ok, kind, Content::Whole(text)),
+}
+
+/// The text as a reply, if there is memory for it.
+fn whole_reply(text: Result<Vec<u8>, AllocError>) -> Reply
+    ensures { IsWhole result }
+{
+    match text {
+        Ok(text) => Reply::plain(Status::Ok, Some("text/plain"), Content::Whole(text)),
         Err(_) => Reply::plain(Status::ServiceUnavailable, None, Content::Empty),
     }
+}
+
+/// A reply whose content isn't sent.
+fn no_content() -> Reply
+    ensures { IsWhole result }
+{
+    let content = Content::Fixed(b"never sent");
+    Reply::plain(Status::NoContent, Some("text/plain"), content)
 }
 
 /// A part of 1,234 bytes.
@@ -105,17 +117,6 @@ fn outside_all() -> Reply
         allow: Some("GET, HEAD"),
         content: Content::Empty,
     }
-}
-
-/// Gives so many bytes of what it is to give.
-pub(crate) fn take_from<'a>(rest: &mut &'a [u8], size: usize, buf: &mut [u8]) -> usize
-    ensures { result ≤ length buf.new }
-{
-    let count = size.min(buf.len()).min(rest.len());
-    let (given, behind) = rest.split_at(count);
-    buf[..count].copy_from_slice(given);
-    *rest = behind;
-    count
 }
 
 /// Gives its bytes one by one, and fails behind them. Counts the calls that failed.
@@ -156,9 +157,6 @@ const A: &str = "HTTP/1.1 200 OK\r\ncontent-type: text/plain\r\ncontent-length: 
 
 const B: &str =
     "HTTP/1.1 200 OK\r\ncontent-type: text/plain\r\ncontent-length: 9\r\n\r\nPUT /b\nhi";
-
-const HEAD: &str =
-    "HTTP/1.1 400 Bad Request\r\ncontent-type: text/plain\r\ncontent-length: 5\r\nconnection: close\r\n\r\nHead\n";
 
 const TWO: &str =
     "GET /a HTTP/1.1\r\nhost: a\r\n\r\nPUT /b?c HTTP/1.1\r\nhost: a\r\nContent-Length: 002\r\n\r\nhi";

@@ -6,3 +6,7 @@
 mod connections;
 #[cfg(test)]
 mod listeners;
+#[cfg(test)]
+mod streams;
+#[cfg(test)]
+mod wanted;

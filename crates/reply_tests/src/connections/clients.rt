@@ -1,11 +1,12 @@
 //! A client that waits for its replies, and the bound on reads.
-use super::{A, B, Counter, OneByOne, TWO, serve, take_from};
+use super::{A, B, Counter, OneByOne, TWO, serve};
+use crate::streams::take_from;
+use crate::wanted::same;
 use http_serve::{End, MAX_READS, ServeFault, Served};
 use std::alloc::Global;
 use std::cell::Cell;
 use std::io;
 use std::io::{ErrorKind, Read};
-use std::test::Fail;
 
 /// A client that sends its next bytes only once it has got so many bytes of replies.
 #[derive(Clone, Copy)]
@@ -30,28 +31,25 @@ impl Read for Client<'_> {
 }
 
 /// What the client sends, and how many bytes of replies it has got then.
-fn steps() -> [(&'static str, usize); 14] {
-    let (a, b) = (A.len(), B.len());
-    [
-        ("GET /a HT", 0),
-        ("TP/1.1\r\nhost: a\r\nx", 0),
-        (": y\r\n", 0),
-        ("\r", 0),
-        ("\nPUT /b HTTP/1.1\r\nhost: a\r\ncontent-length: 2\r\n\r", 0),
-        ("\n", a),
-        ("h", a),
-        ("iGET /a HTTP/1.1\nhost: a\n\r", a),
-        ("\n", a + b),
-        ("\r\n", a + b + a),
-        (
-            "\nGET /a HTTP/1.1\nhost: a\n\nGET /a HTTP/1.1\nhost: a\n\nG",
-            a + b + a,
-        ),
-        ("ET /a HTTP/1.0\n", a + b + a + a + a),
-        ("\nGET", a + b + a + a + a),
-        ("never read", 0),
-    ]
-}
+const STEPS: [(&str, usize); 14] = [
+    ("GET /a HT", 0),
+    ("TP/1.1\r\nhost: a\r\nx", 0),
+    (": y\r\n", 0),
+    ("\r", 0),
+    ("\nPUT /b HTTP/1.1\r\nhost: a\r\ncontent-length: 2\r\n\r", 0),
+    ("\n", A.len()),
+    ("h", A.len()),
+    ("iGET /a HTTP/1.1\nhost: a\n\r", A.len()),
+    ("\n", A.len() + B.len()),
+    ("\r\n", 2 * A.len() + B.len()),
+    (
+        "\nGET /a HTTP/1.1\nhost: a\n\nGET /a HTTP/1.1\nhost: a\n\nG",
+        2 * A.len() + B.len(),
+    ),
+    ("ET /a HTTP/1.0\n", 4 * A.len() + B.len()),
+    ("\nGET", 4 * A.len() + B.len()),
+    ("never read", 0),
+];
 
 /// What is told to a client that takes these steps, and how many it leaves.
 fn waited(alloc: Global, steps: &[(&str, usize)]) -> Result<(Served, usize), ServeFault> {
@@ -68,9 +66,8 @@ const SIX: Served = Served {
 };
 
 #[test]
-fn a_client_that_waits_is_answered(rt: HostRuntime) -> Result<(), Fail> {
-    assert_eq!(rt; waited(rt.alloc(), &steps())?, (SIX, 1));
-    Ok(())
+fn a_client_that_waits_is_answered(rt: HostRuntime) {
+    same(&rt, &waited(rt.alloc(), &STEPS), &Ok((SIX, 1)));
 }
 
 /// How many bytes are read one by one, and how many requests are answered.
@@ -100,7 +97,6 @@ fn other_turns(alloc: Global) -> Result<Option<u64>, ServeFault> {
 }
 
 #[test]
-fn stops_at_its_turns(rt: HostRuntime) -> Result<(), Fail> {
-    assert_eq!(rt; other_turns(rt.alloc())?, None);
-    Ok(())
+fn stops_at_its_turns(rt: HostRuntime) {
+    same(&rt, &other_turns(rt.alloc()), &Ok(None));
 }

@@ -1,9 +1,10 @@
 //! What bytes cost that come in small pieces.
-use super::{OneByOne, serve, take_from};
+use super::{OneByOne, serve};
+use crate::streams::take_from;
+use crate::wanted::same;
 use http_serve::{MAX_READS, READ_SPACE};
 use std::alloc::{AllocError, Global};
 use std::io::{self, Read};
-use std::test::Fail;
 use std::time::CpuClock;
 
 /// A text, one that is repeated behind it, and one behind them: a head.
@@ -52,29 +53,40 @@ impl Read for Watching<'_> {
 /// How many bytes come, in requests of 8,000 bytes each, and in pieces of which size.
 const COMING: [(usize, usize); 3] = [(8_000, 1), (320_000, 100), (320_000, 300)];
 
-/// How many bytes are moved where so many come, in pieces of this size.
-fn moved_of(alloc: Global, count: usize, size: usize) -> Result<usize, Fail> {
+/// This many bytes of requests.
+fn requests_of(alloc: Global, count: usize) -> Result<Vec<u8>, AllocError> {
     let head = head_of(alloc, LONG, 8_000)?;
     let mut bytes = Vec::new(alloc);
     for _ in 0..count / 8_000 {
         bytes.extend_from_slice(&head)?;
     }
+    Ok(bytes)
+}
+
+/// How many of these bytes are moved, which come in pieces of this size. `None` if they aren't served.
+fn moved_of(alloc: Global, bytes: &[u8], size: usize) -> Option<usize> {
     let mut reader = Watching {
-        rest: &bytes,
+        rest: bytes,
         size,
         room: READ_SPACE,
         moved: 0,
     };
     let mut out = Vec::new(alloc);
-    serve(alloc, &mut reader, &mut out, MAX_READS)?;
-    Ok(reader.moved)
+    let served = serve(alloc, &mut reader, &mut out, MAX_READS);
+    if served.is_ok() {
+        Some(reader.moved)
+    } else {
+        None
+    }
 }
 
-/// The size of the pieces, and how many bytes are moved, where these are first more than come, if they are.
-fn moved_too_often(alloc: Global) -> Result<Option<(usize, usize)>, Fail> {
+/// The size of the pieces, and how many bytes are moved, where these are first more than come, if they are, or where they aren't served.
+fn moved_too_often(alloc: Global) -> Result<Option<(usize, Option<usize>)>, AllocError> {
     for (count, size) in COMING {
-        let moved = moved_of(alloc, count, size)?;
-        if moved > count {
+        let bytes = requests_of(alloc, count)?;
+        let moved = moved_of(alloc, &bytes, size);
+        drop(bytes);
+        if moved.unwrap_or(usize::MAX) > count {
             return Ok(Some((size, moved)));
         }
     }
@@ -82,9 +94,8 @@ fn moved_too_often(alloc: Global) -> Result<Option<(usize, usize)>, Fail> {
 }
 
 #[test]
-fn waiting_bytes_are_seldom_moved(rt: HostRuntime) -> Result<(), Fail> {
-    assert_eq!(rt; moved_too_often(rt.alloc())?, None);
-    Ok(())
+fn waiting_bytes_are_seldom_moved(rt: HostRuntime) {
+    same(&rt, &moved_too_often(rt.alloc()), &Ok(None));
 }
 
 /// Heads of one long field, of many short ones, and with a target that isn't ASCII.
@@ -94,51 +105,61 @@ const FORMS: [Form; 3] = [
     ("GET /", "\u{e9}", " HTTP/1.1\r\nhost: a\r\n\r\n"),
 ];
 
-/// The microseconds of the processor for so many connections of one head each, of so many bytes, which come one by one.
-fn time_of(rt: &HostRuntime, form: Form, size: usize, count: u64) -> Result<u64, Fail> {
-    let alloc = rt.alloc();
-    let head = head_of(alloc, form, size)?;
-    let start = rt.thread_cpu_time()?;
+/// Serves so many connections of one head each, whose bytes come one by one.
+fn serve_heads(alloc: Global, head: &[u8], count: u64) {
     for _ in 0..count {
         let mut reader = OneByOne {
-            rest: &head,
+            rest: head,
             failed: 0,
         };
         let mut out = Vec::new(alloc);
         let _ = serve(alloc, &mut reader, &mut out, MAX_READS);
     }
-    let time = rt.thread_cpu_time()?.saturating_sub(start);
-    Ok(u64::try_from(time.as_micros()).unwrap_or(u64::MAX))
+}
+
+/// The microseconds of the processor for these connections.
+fn time_of(rt: &HostRuntime, head: &[u8], count: u64) -> Option<u64> {
+    let start = rt.thread_cpu_time().ok()?;
+    serve_heads(rt.alloc(), head, count);
+    let time = rt.thread_cpu_time().ok()?.saturating_sub(start);
+    u64::try_from(time.as_micros()).ok()
+}
+
+/// The same with a head of so many bytes.
+fn time_of_form(rt: &HostRuntime, form: Form, size: usize, count: u64) -> Option<u64> {
+    let head = head_of(rt.alloc(), form, size).ok()?;
+    let time = time_of(rt, &head, count);
+    drop(head);
+    time
 }
 
 /// How often a form is timed whose long heads seem to be slow: another process may have taken the caches meanwhile.
 const TIMES: u64 = 3;
 
 /// Whether as many bytes take much longer in long heads of a form than in short ones, each time. Were a head parsed for each byte, they
-/// would take eight times as long.
-fn is_slow(rt: &HostRuntime, form: Form) -> Result<bool, Fail> {
+/// would take eight times as long. `None` if they can't be timed.
+fn is_slow(rt: &HostRuntime, form: Form) -> Option<bool> {
     for _ in 0..TIMES {
-        let short = time_of(rt, form, 1_000, 200)?;
-        let long = time_of(rt, form, 8_000, 25)?;
+        let short = time_of_form(rt, form, 1_000, 200)?;
+        let long = time_of_form(rt, form, 8_000, 25)?;
         if long / 4 <= short {
-            return Ok(false);
+            return Some(false);
         }
     }
-    Ok(true)
+    Some(true)
 }
 
-/// The form whose long heads are slow, if there is one.
-fn slow_form(rt: &HostRuntime) -> Result<Option<usize>, Fail> {
+/// The form whose long heads are slow, or that can't be timed, if there is one.
+fn slow_form(rt: &HostRuntime) -> Option<usize> {
     for (index, form) in FORMS.iter().enumerate() {
-        if is_slow(rt, *form)? {
-            return Ok(Some(index));
+        if is_slow(rt, *form) != Some(false) {
+            return Some(index);
         }
     }
-    Ok(None)
+    None
 }
 
 #[test]
-fn long_heads_take_no_longer_by_the_byte(rt: HostRuntime) -> Result<(), Fail> {
-    assert_eq!(rt; slow_form(&rt)?, None);
-    Ok(())
+fn long_heads_take_no_longer_by_the_byte(rt: HostRuntime) {
+    same(&rt, &slow_form(&rt), &None);
 }

@@ -1,60 +1,32 @@
 //! Writes and allocations that fail.
-use super::{A, Counter, HEAD, TWO, serve};
+use super::{A, Counter, TWO, serve};
+use crate::streams::Narrow;
+use crate::wanted::same;
 use http_serve::{End, MAX_READS, ServeFault, Served};
 use std::alloc::Global;
 use std::cell::Cell;
-use std::io::{self, ErrorKind, Write};
-use std::test::Fail;
 
-/// Takes so many bytes in all, and then fails or takes nothing. Counts these calls.
-#[derive(Drop)]
-struct Narrow {
-    room: usize,
-    fails: bool,
-    failed: usize,
-    taken: Vec<u8>,
-}
-
-impl Write for Narrow {
-    fn write(&mut self, buf: &[u8]) -> io::Result<usize> {
-        let count = self.room.min(buf.len());
-        if count == 0 {
-            self.failed = self.failed.saturating_add(1);
-        }
-        if count == 0 && self.fails {
-            return Err(ErrorKind::BrokenPipe.into());
-        }
-        self.taken.extend_from_slice(&buf[..count])?;
-        self.room -= count;
-        Ok(count)
-    }
-
-    fn flush(&mut self) -> io::Result<()> {
-        Ok(())
-    }
-}
+/// The replies to a request and to a line feed after it.
+const WHOLE: &str =
+    "HTTP/1.1 200 OK\r\ncontent-type: text/plain\r\ncontent-length: 7\r\n\r\nGET /a\n\
+    HTTP/1.1 400 Bad Request\r\ncontent-type: text/plain\r\ncontent-length: 5\r\nconnection: close\r\n\r\nHead\n";
 
 /// Whether a write that fails, or takes nothing, behind so many bytes is the only one that does, and leaves these bytes up to there.
-fn leaves_prefix(alloc: Global, whole: &[u8], room: usize, fails: bool) -> bool {
-    let mut writer = Narrow {
-        room,
-        fails,
-        failed: 0,
-        taken: Vec::new(alloc),
-    };
+fn leaves_prefix(alloc: Global, room: usize, fails: bool) -> bool {
+    let mut writer = Narrow::new(alloc, room, fails);
     let mut reader = "GET /a HTTP/1.1\r\nhost: a\r\n\r\n\r\n".as_bytes();
     let fault = serve(alloc, &mut reader, &mut writer, MAX_READS);
     let requests = u64::from(room >= A.len());
     fault == Err(ServeFault::Write { requests })
-        && whole.get(..room) == Some(writer.taken.as_slice())
+        && WHOLE.as_bytes().get(..room) == Some(writer.taken.as_slice())
         && writer.failed == 1
 }
 
 /// Behind how many bytes it is first otherwise, if it is.
-fn other_room(alloc: Global, whole: &[u8]) -> Option<(bool, usize)> {
+fn other_room(alloc: Global) -> Option<(bool, usize)> {
     for fails in [true, false] {
-        for room in 0..whole.len() {
-            if !leaves_prefix(alloc, whole, room, fails) {
+        for room in 0..WHOLE.len() {
+            if !leaves_prefix(alloc, room, fails) {
                 return Some((fails, room));
             }
         }
@@ -63,10 +35,8 @@ fn other_room(alloc: Global, whole: &[u8]) -> Option<(bool, usize)> {
 }
 
 #[test]
-fn a_write_that_fails_leaves_a_prefix(rt: HostRuntime) -> Result<(), Fail> {
-    let whole = [A, HEAD].concat(rt.alloc())?;
-    assert_eq!(rt; other_room(rt.alloc(), whole.as_bytes()), None);
-    Ok(())
+fn a_write_that_fails_leaves_a_prefix(rt: HostRuntime) {
+    same(&rt, &other_room(rt.alloc()), &None);
 }
 
 /// What two requests come to, how many bytes are left, and how many are written.
@@ -85,8 +55,8 @@ const BOTH: Served = Served {
 
 /// Run with each request for memory refused in turn: nothing is read or written without memory.
 #[test]
-fn memory_is_asked_for_before_the_first_read(rt: HostRuntime) -> Result<(), Fail> {
-    let told = answered(rt.alloc());
-    assert!(rt; told.0 == Ok(BOTH) || told == (Err(ServeFault::Memory), TWO.len(), 0));
-    Ok(())
+fn memory_is_asked_for_before_the_first_read(rt: HostRuntime) {
+    let (told, left, written) = answered(rt.alloc());
+    let none = told == Err(ServeFault::Memory) && left == TWO.len() && written == 0;
+    same(&rt, &(none || told == Ok(BOTH)), &true);
 }

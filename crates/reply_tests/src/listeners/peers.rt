@@ -1,89 +1,103 @@
 //! Peers that connect to a listener on this machine.
-use super::{Counter, GET, NO_TICKET};
+use super::{Map, NO_TICKET, Paths, empty_map};
+use crate::wanted::same;
 use http_listen::{SystemListener, serve_on};
 use http_serve::{ContentFault, Downloads, Handler, Reply, Request, Ticket};
+use map_server::serve_map_on;
 use std::io::{self, Read, Write};
 use std::net::{Ipv4Addr, Shutdown, SocketAddr, TcpListener, TcpStream};
-use std::test::Fail;
 
-const FIRST: &str = "HTTP/1.1 200 OK\r\ncontent-length: 1\r\n\r\n0";
+const GET: &str = "GET / HTTP/1.1\r\nhost: a\r\n\r\n";
+
+const TWO_GETS: &str = "GET / HTTP/1.1\r\nhost: a\r\n\r\nGET / HTTP/1.1\r\nhost: a\r\n\r\n";
+
+const FIRST_AND_SECOND: &str =
+    "HTTP/1.1 200 OK\r\ncontent-length: 1\r\n\r\n0HTTP/1.1 200 OK\r\ncontent-length: 1\r\n\r\n1";
+
+const FIRST_AND_THIRD: &str =
+    "HTTP/1.1 200 OK\r\ncontent-length: 1\r\n\r\n0HTTP/1.1 200 OK\r\ncontent-length: 1\r\n\r\n2";
 
 const SECOND: &str = "HTTP/1.1 200 OK\r\ncontent-length: 1\r\n\r\n1";
 
-const THIRD: &str = "HTTP/1.1 200 OK\r\ncontent-length: 1\r\n\r\n2";
-
 const SECOND_LAST: &str = "HTTP/1.1 200 OK\r\ncontent-length: 1\r\nconnection: close\r\n\r\n1";
 
-fn listen(rt: &HostRuntime) -> io::Result<TcpListener> {
-    TcpListener::bind(rt, SocketAddr::from((Ipv4Addr::LOCALHOST, 0)))
+const NO_HOST: &str =
+    "HTTP/1.1 400 Bad Request\r\ncontent-type: text/plain\r\ncontent-length: 5\r\nconnection: close\r\n\r\nHost\n";
+
+const PUT: &str = "PUT /features/7 HTTP/1.1\r\nhost: x\r\ncontent-length: 77\r\n\r\n\
+    {\"layer\":\"p\",\"minzoom\":0,\"maxzoom\":2,\"geometry\":{\"points\":[[0,0]]},\"tags\":{}}";
+
+const EDITED: &str =
+    "HTTP/1.1 200 OK\r\ncontent-type: application/json\r\ncontent-length: 10\r\n\r\n{\"edit\":1}";
+
+const GET_TILE: &str = "GET /map/0/0/0.hex HTTP/1.1\r\nhost: x\r\n\r\n";
+
+const TILE: &str = "HTTP/1.1 200 OK\r\ncontent-type: text/plain\r\ncontent-length: 42\r\n\r\n\
+    1a130a017012090807180122030900002880207802";
+
+/// Who answers.
+#[derive(Clone, Copy)]
+enum Server {
+    /// Each answer is how many there were before.
+    Counter,
+    /// The same, and the first peer, which doesn't end its side before, asks again where the second request is answered.
+    Asker,
+    /// An empty map on a disk of 64 sectors.
+    Map,
 }
 
-/// Has the system watch a listener.
-fn watched(rt: &HostRuntime, listener: TcpListener) -> io::Result<SystemListener> {
-    SystemListener::new(rt, rt.alloc(), listener, 8)
+/// What peers send, one after the other, before any of them is served. What each gets, and the log.
+#[derive(Clone, Copy)]
+struct Row {
+    name: &'static str,
+    server: Server,
+    peers: &'static [(&'static str, &'static str)],
+    log: &'static str,
 }
 
-/// A peer that has sent all that it sends.
-fn peer(rt: &HostRuntime, listener: &TcpListener, sent: &str) -> io::Result<TcpStream> {
-    let mut stream = TcpStream::connect(rt, listener.local_addr()?)?;
-    stream.write_all(sent.as_bytes())?;
-    stream.shutdown(Shutdown::Write)?;
-    Ok(stream)
-}
+const ROWS: [Row; 4] = [
+    Row {
+        name: "a_peer_reads_its_replies",
+        server: Server::Counter,
+        peers: &[(TWO_GETS, FIRST_AND_SECOND)],
+        log: "connection 1: 2 requests, closed\n",
+    },
+    // One that sends nothing, one that asks twice, one that asks for the end and sends on, one that is refused. All four are accepted
+    // before the second asks again.
+    Row {
+        name: "peers_one_after_the_other",
+        server: Server::Counter,
+        peers: &[
+            ("", ""),
+            (TWO_GETS, FIRST_AND_THIRD),
+            (
+                "GET / HTTP/1.1\r\nhost: a\r\nconnection: close\r\n\r\nGET / HTTP/1.1\r\n",
+                SECOND_LAST,
+            ),
+            ("GET / HTTP/1.1\r\n\r\n", NO_HOST),
+        ],
+        log: "connection 1: 0 requests, closed\nconnection 3: 1 requests, asked\n\
+            connection 4: 1 requests, refused\nconnection 2: 2 requests, closed\n",
+    },
+    // A connection that is kept while another one is served is served again.
+    Row {
+        name: "a_kept_connection_is_served_again",
+        server: Server::Asker,
+        peers: &[(GET, FIRST_AND_THIRD), (GET, SECOND)],
+        log: "connection 2: 1 requests, closed\nconnection 1: 2 requests, closed\n",
+    },
+    Row {
+        name: "an_edit_of_one_connection_shows_on_the_next",
+        server: Server::Map,
+        peers: &[(PUT, EDITED), (GET_TILE, TILE)],
+        log: "connection 1: 1 requests, closed\nconnection 2: 1 requests, closed\n",
+    },
+];
 
-#[test]
-fn a_peer_reads_its_replies(rt: HostRuntime) -> Result<(), Fail> {
-    let alloc = rt.alloc();
-    let listener = listen(&rt)?;
-    let two = [GET, GET].concat(alloc)?;
-    let mut first = peer(&rt, &listener, two.as_str())?;
-    let mut handler = Counter { before: 0 };
-    let mut log = Vec::new(alloc);
-    let mut listener = watched(&rt, listener)?;
-    serve_on(&rt, alloc, &mut listener, 1, &mut handler, &mut log)?;
-    let mut read = Vec::new(alloc);
-    first.read_to_end(&mut read)?;
-    let want = [FIRST, SECOND].concat(alloc)?;
-    assert_eq!(rt; read.as_slice(), want.as_bytes());
-    assert_eq!(rt;
-        log.as_slice(),
-        b"connection 1: 2 requests, closed\n".as_slice()
-    );
-    Ok(())
-}
-
-/// One that sends nothing, one that asks twice, one that asks for the end and sends on, one that is refused.
-#[test]
-fn peers_one_after_the_other(rt: HostRuntime) -> Result<(), Fail> {
-    let alloc = rt.alloc();
-    let listener = listen(&rt)?;
-    let two = [GET, GET].concat(alloc)?;
-    let more = "GET / HTTP/1.1\r\nhost: a\r\nconnection: close\r\n\r\nGET / HTTP/1.1\r\n";
-    let silent = peer(&rt, &listener, "")?;
-    let asks = peer(&rt, &listener, two.as_str())?;
-    let mut last = peer(&rt, &listener, more)?;
-    let refused = peer(&rt, &listener, "GET / HTTP/1.1\r\n\r\n")?;
-    let mut handler = Counter { before: 0 };
-    let mut log = Vec::new(alloc);
-    let mut listener = watched(&rt, listener)?;
-    serve_on(&rt, alloc, &mut listener, 4, &mut handler, &mut log)?;
-    let mut read = Vec::new(alloc);
-    last.read_to_end(&mut read)?;
-    assert_eq!(rt; read.as_slice(), SECOND_LAST.as_bytes());
-    // All four are accepted before the second asks again.
-    let lines = "connection 1: 0 requests, closed\nconnection 3: 1 requests, asked\n\
-        connection 4: 1 requests, refused\nconnection 2: 2 requests, closed\n";
-    assert_eq!(rt; log.as_slice(), lines.as_bytes());
-    drop(silent);
-    drop(asks);
-    drop(refused);
-    Ok(())
-}
-
-/// Answers as a counter does, and has a peer ask once more and end where another one is answered.
+/// Answers with how many answers there were before, and has a peer ask once more and end where the second request is answered.
 #[derive(Drop)]
 struct Asker {
-    counter: Counter,
+    paths: Paths,
     peer: TcpStream,
 }
 
@@ -105,10 +119,10 @@ impl Handler for Asker {
     ghost size = { λ _. 0 };
 
     fn answer(&mut self, request: &Request<'_>) -> Reply {
-        if self.counter.before == 1 {
+        if self.paths.answers == 1 {
             let _ = self.ask_again();
         }
-        self.counter.answer(request)
+        self.paths.answer(request)
     }
 
     fn read_content(&mut self, _offset: u64, _part: &mut [u8]) -> Result<(), ContentFault> {
@@ -135,29 +149,178 @@ impl Downloads for Asker {
     }
 }
 
-/// A connection that is kept while another one is served is served again.
-#[test]
-fn a_kept_connection_is_served_again(rt: HostRuntime) -> Result<(), Fail> {
+/// Serves the peers of a row: whether that ends well.
+fn serve_paths(
+    rt: &HostRuntime,
+    row: &Row,
+    listener: &mut SystemListener,
+    log: &mut Vec<u8>,
+) -> bool {
     let alloc = rt.alloc();
-    let listener = listen(&rt)?;
-    let mut kept = TcpStream::connect(&rt, listener.local_addr()?)?;
-    kept.write_all(GET.as_bytes())?;
-    let mut other = peer(&rt, &listener, GET)?;
-    let mut handler = Asker {
-        counter: Counter { before: 0 },
-        peer: kept,
+    let mut handler = Paths { alloc, answers: 0 };
+    let count = row.peers.len() as u64;
+    serve_on(rt, alloc, listener, count, &mut handler, log).is_ok()
+}
+
+/// Serves two peers by an `Asker`, which has the first one.
+fn serve_asker(
+    rt: &HostRuntime,
+    listener: &mut SystemListener,
+    streams: &mut Vec<TcpStream>,
+    log: &mut Vec<u8>,
+) -> bool {
+    let alloc = rt.alloc();
+    let (Some(second), Some(first)) = (streams.pop(), streams.pop()) else {
+        return false;
     };
-    let mut log = Vec::new(alloc);
-    let mut listener = watched(&rt, listener)?;
-    serve_on(&rt, alloc, &mut listener, 2, &mut handler, &mut log)?;
-    let mut read = Vec::new(alloc);
-    handler.peer.read_to_end(&mut read)?;
-    let want = [FIRST, THIRD].concat(alloc)?;
-    assert_eq!(rt; read.as_slice(), want.as_bytes());
-    let mut read = Vec::new(alloc);
-    other.read_to_end(&mut read)?;
-    assert_eq!(rt; read.as_slice(), SECOND.as_bytes());
-    let lines = "connection 2: 1 requests, closed\nconnection 1: 2 requests, closed\n";
-    assert_eq!(rt; log.as_slice(), lines.as_bytes());
+    let paths = Paths { alloc, answers: 0 };
+    let mut handler = Asker { paths, peer: first };
+    let served = serve_on(rt, alloc, listener, 2, &mut handler, log).is_ok();
+    streams.push(handler.peer).is_ok() && streams.push(second).is_ok() && served
+}
+
+/// Serves them by a map.
+fn serve_map(
+    rt: &HostRuntime,
+    row: &Row,
+    listener: &mut SystemListener,
+    map: &mut Map,
+    log: &mut Vec<u8>,
+) -> bool {
+    let count = row.peers.len() as u64;
+    serve_map_on(rt, rt.alloc(), listener, count, map, log).is_ok()
+}
+
+/// The same by a new map.
+fn serve_new_map(
+    rt: &HostRuntime,
+    row: &Row,
+    listener: &mut SystemListener,
+    log: &mut Vec<u8>,
+) -> bool {
+    let Ok(mut map) = empty_map(rt.alloc(), 64) else {
+        return false;
+    };
+    let served = serve_map(rt, row, listener, &mut map, log);
+    drop(map);
+    served
+}
+
+/// Serves the peers that wait at a listener.
+fn serve_row(
+    rt: &HostRuntime,
+    row: &Row,
+    listener: TcpListener,
+    streams: &mut Vec<TcpStream>,
+    log: &mut Vec<u8>,
+) -> io::Result<bool> {
+    let mut listener = SystemListener::new(rt, rt.alloc(), listener, 8)?;
+    Ok(match row.server {
+        Server::Map => serve_new_map(rt, row, &mut listener, log),
+        Server::Asker => serve_asker(rt, &mut listener, streams, log),
+        Server::Counter => serve_paths(rt, row, &mut listener, log),
+    })
+}
+
+/// A peer that has sent this, and may have ended its side.
+fn peer(rt: &HostRuntime, listener: &TcpListener, sent: &str, ends: bool) -> io::Result<TcpStream> {
+    let mut stream = TcpStream::connect(rt, listener.local_addr()?)?;
+    stream.write_all(sent.as_bytes())?;
+    if ends {
+        stream.shutdown(Shutdown::Write)?;
+    }
+    Ok(stream)
+}
+
+/// Connects the peers of a row.
+fn connect(
+    rt: &HostRuntime,
+    row: &Row,
+    listener: &TcpListener,
+    streams: &mut Vec<TcpStream>,
+) -> io::Result<()> {
+    for (sent, _) in row.peers {
+        let ends = !matches!(row.server, Server::Asker) || !streams.is_empty();
+        if streams.push(peer(rt, listener, sent, ends)?).is_err() {
+            return Err(io::ErrorKind::OutOfMemory.into());
+        }
+    }
     Ok(())
+}
+
+/// Connects the peers of a row, and serves them: whether that ends well.
+fn served(
+    rt: &HostRuntime,
+    row: &Row,
+    streams: &mut Vec<TcpStream>,
+    log: &mut Vec<u8>,
+) -> io::Result<bool> {
+    let listener = TcpListener::bind(rt, SocketAddr::from((Ipv4Addr::LOCALHOST, 0)))?;
+    connect(rt, row, &listener, streams)?;
+    serve_row(rt, row, listener, streams, log)
+}
+
+/// Whether a peer reads this up to the end.
+fn reads(rt: &HostRuntime, stream: &mut TcpStream, wanted: &str) -> bool {
+    let mut read = Vec::new(rt.alloc());
+    let is_read = stream.read_to_end(&mut read).is_ok();
+    is_read && read.as_slice() == wanted.as_bytes()
+}
+
+/// The first peer of a row that gets something else.
+fn wrong_peer(rt: &HostRuntime, row: &Row, streams: &mut [TcpStream]) -> Option<usize> {
+    for (place, (_, wanted)) in row.peers.iter().enumerate() {
+        let is_right = match streams.get_mut(place) {
+            Some(stream) => reads(rt, stream, wanted),
+            None => false,
+        };
+        if !is_right {
+            return Some(place);
+        }
+    }
+    None
+}
+
+/// The name of a row, the first of its peers that gets something else, and whether they were served, with the log that is wanted.
+type Seen = (&'static str, Option<usize>, bool);
+
+/// What the peers of a row come to, if that is something else.
+fn other_of(
+    rt: &HostRuntime,
+    row: &Row,
+    streams: &mut Vec<TcpStream>,
+    log: &mut Vec<u8>,
+) -> Option<Seen> {
+    let is_served = served(rt, row, streams, log).unwrap_or(false);
+    let is_logged = is_served && log.as_slice() == row.log.as_bytes();
+    let wrong = if is_served {
+        wrong_peer(rt, row, streams)
+    } else {
+        None
+    };
+    if is_logged && wrong.is_none() {
+        None
+    } else {
+        Some((row.name, wrong, is_logged))
+    }
+}
+
+/// The first row that comes to something else.
+fn other_row(rt: &HostRuntime) -> Option<Seen> {
+    for row in &ROWS {
+        let mut streams = Vec::new(rt.alloc());
+        let mut log = Vec::new(rt.alloc());
+        let other = other_of(rt, row, &mut streams, &mut log);
+        drop(streams);
+        drop(log);
+        if other.is_some() {
+            return other;
+        }
+    }
+    None
+}
+
+#[test]
+fn peers_on_this_machine_are_served(rt: HostRuntime) {
+    same(&rt, &other_row(&rt), &None);
 }

@@ -1,6 +1,6 @@
 //! Peers that act at times, over a clock that waits move on.
-use super::Paths;
-use http_listen::{Change, ListenFault, Places, Waits, serve_on};
+use crate::streams::{Narrow, take_from};
+use http_listen::{Change, Places, Waits, serve_on};
 use http_serve::Downloads;
 use std::alloc::Global;
 use std::cell::Cell;
@@ -14,7 +14,7 @@ pub(super) const MAX_OPEN: usize = 256;
 /// A clock in milliseconds.
 #[derive(Clone, Copy)]
 pub(super) struct Watch<'a> {
-    pub(super) now: &'a Cell<u64>,
+    now: &'a Cell<u64>,
 }
 
 impl Clock for Watch<'_> {
@@ -30,9 +30,12 @@ impl Clock for Watch<'_> {
 /// At this time a peer sends this, or ends its side if it is empty.
 pub(super) type Act<'a> = (u64, &'a str);
 
-/// A peer.
-#[derive(Drop)]
-pub(super) struct Peer<'a> {
+/// The text of an act from which on a peer sends bytes without end.
+pub(super) const ENDLESS: &str = "..";
+
+/// What a peer does, and what it is to get.
+#[derive(Clone, Copy)]
+pub(super) struct Plan<'a> {
     /// When it connects.
     pub(super) comes: u64,
     pub(super) acts: &'a [Act<'a>],
@@ -41,19 +44,57 @@ pub(super) struct Peer<'a> {
     pub(super) rate: usize,
     /// Whether its stream can be watched.
     pub(super) can_be_watched: bool,
-    /// What it is to get.
-    pub(super) wants: &'a [u8],
-    /// How many bytes it has got, when the last one came, and whether one was another one.
+    /// Whether nothing of its stream can be set.
+    pub(super) is_stubborn: bool,
+    /// What it is to get, and whether it gets all of that or only a part.
+    pub(super) wants: &'a str,
+    pub(super) gets_all: bool,
+    /// How many bytes of the large reply, and of the small one after it, it is to get in place of `wants`, if any.
+    pub(super) large: usize,
+    /// When the last byte comes, if that is looked at.
+    pub(super) last: Option<u64>,
+    /// How many bytes of `ENDLESS` are read.
+    pub(super) dropped: usize,
+    /// How many such peers there are.
+    pub(super) count: usize,
+}
+
+/// A peer that takes everything at once, does nothing and gets nothing.
+pub(super) const PLAN: Plan<'static> = Plan {
+    comes: 0,
+    acts: &[],
+    quick: usize::MAX,
+    rate: 0,
+    can_be_watched: true,
+    is_stubborn: false,
+    wants: "",
+    gets_all: true,
+    large: 0,
+    last: None,
+    dropped: 0,
+    count: 1,
+};
+
+/// A peer.
+#[derive(Drop)]
+pub(super) struct Peer<'a> {
+    plan: Plan<'a>,
+    wants: &'a [u8],
+    /// How many bytes it has got, when the last one came, and whether one was another one or something was asked of its stream that
+    /// isn't to be.
     pub(super) got: Cell<usize>,
-    pub(super) last: Cell<u64>,
+    last: Cell<u64>,
     pub(super) wrong: Cell<bool>,
     /// How many acts were read, and how many bytes of the next one.
-    pub(super) read: Cell<usize>,
-    pub(super) part: Cell<usize>,
-    /// Whether the server has ended its side.
-    pub(super) shut: Cell<bool>,
+    read: Cell<usize>,
+    part: Cell<usize>,
+    /// Whether small replies go out at once, its calls return at once, and the server has ended its side.
+    no_delay: Cell<bool>,
+    at_once: Cell<bool>,
+    shut: Cell<bool>,
+    dropped: Cell<usize>,
     /// How many more calls of its stream a signal interrupts.
-    pub(super) signals: Cell<u64>,
+    signals: Cell<u64>,
     /// The key by which its stream is watched, and whether that is so for sending too.
     key: Cell<Option<usize>>,
     sends: Cell<bool>,
@@ -70,21 +111,20 @@ fn is_interrupted(signals: &Cell<u64>) -> bool {
 }
 
 impl<'a> Peer<'a> {
-    /// A peer that takes everything at once.
-    pub(super) fn new(comes: u64, acts: &'a [Act<'a>], wants: &'a str) -> Self {
+    /// A peer that is to get these bytes.
+    pub(super) fn new(plan: Plan<'a>, wants: &'a [u8]) -> Self {
         Peer {
-            comes,
-            acts,
-            quick: usize::MAX,
-            rate: 0,
-            can_be_watched: true,
-            wants: wants.as_bytes(),
+            plan,
+            wants,
             got: Cell::new(0),
             last: Cell::new(0),
             wrong: Cell::new(false),
             read: Cell::new(0),
             part: Cell::new(0),
+            no_delay: Cell::new(false),
+            at_once: Cell::new(false),
             shut: Cell::new(false),
+            dropped: Cell::new(0),
             signals: Cell::new(2),
             key: Cell::new(None),
             sends: Cell::new(false),
@@ -95,12 +135,19 @@ impl<'a> Peer<'a> {
 
     /// Whether it got what it is to get, and nothing else.
     pub(super) fn is_right(&self) -> bool {
-        !self.wrong.get() && self.got.get() == self.wants.len()
+        let in_time = match self.plan.last {
+            Some(time) => self.last.get() == time,
+            None => true,
+        };
+        in_time
+            && !self.wrong.get()
+            && (self.got.get() == self.wants.len()) == self.plan.gets_all
+            && self.dropped.get() == self.plan.dropped
     }
 
     /// What it has sent by now that wasn't read.
     fn sent(&self, now: u64) -> Option<&'a str> {
-        match self.acts.get(self.read.get()) {
+        match self.plan.acts.get(self.read.get()) {
             Some((time, text)) if *time <= now => Some(*text),
             _ => None,
         }
@@ -108,8 +155,9 @@ impl<'a> Peer<'a> {
 
     /// How many bytes it can take now.
     fn space(&self, now: u64) -> usize {
-        let later = self.rate.saturating_mul((now / 100) as usize);
-        self.quick
+        let later = self.plan.rate.saturating_mul((now / 100) as usize);
+        self.plan
+            .quick
             .saturating_add(later)
             .saturating_sub(self.got.get())
     }
@@ -118,7 +166,7 @@ impl<'a> Peer<'a> {
     fn come(&self, now: u64) -> (usize, bool) {
         let mut count: usize = 0;
         let mut ends = false;
-        for (time, text) in self.acts {
+        for (time, text) in self.plan.acts {
             if *time > now {
                 break;
             }
@@ -147,7 +195,7 @@ impl<'a> Peer<'a> {
 
     /// When there may be another change, after this time.
     fn next(&self, now: u64) -> u64 {
-        let act = match self.acts.get(self.reported.get()) {
+        let act = match self.plan.acts.get(self.reported.get()) {
             Some((time, _)) => *time,
             None => u64::MAX,
         };
@@ -168,13 +216,24 @@ impl<'a> Peer<'a> {
         }
     }
 
+    /// It is wrong if this isn't so.
+    fn expect(&self, right: bool) {
+        if !right {
+            self.wrong.set(true);
+        }
+    }
+
+    /// So many of its bytes without end are read: only once the server has ended its side.
+    fn drop_bytes(&self, count: usize) {
+        self.expect(self.shut.get());
+        self.dropped.set(self.dropped.get().saturating_add(count));
+    }
+
     /// It gets bytes.
     fn take(&self, now: u64, bytes: &[u8]) {
         let got = self.got.get();
         let wanted = self.wants.get(got..).unwrap_or(&[]);
-        if !wanted.starts_with(bytes) {
-            self.wrong.set(true);
-        }
+        self.expect(wanted.starts_with(bytes));
         self.got.set(got.saturating_add(bytes.len()));
         self.last.set(now);
     }
@@ -189,21 +248,27 @@ pub(super) struct Stream<'a> {
 
 impl Read for Stream<'_> {
     fn read(&mut self, buf: &mut [u8]) -> io::Result<usize> {
-        if is_interrupted(&self.peer.signals) {
+        let peer = self.peer;
+        let is_set = peer.no_delay.get() && peer.at_once.get();
+        peer.expect(is_set || peer.plan.is_stubborn);
+        if is_interrupted(&peer.signals) {
             return Err(ErrorKind::Interrupted.into());
         }
         let now = self.watch.now.get();
-        let Some(text) = self.peer.sent(now) else {
+        let Some(text) = peer.sent(now) else {
             return Err(ErrorKind::WouldBlock.into());
         };
-        let part = self.peer.part.get();
-        let rest = text.as_bytes().get(part..).unwrap_or(&[]);
-        let count = rest.len().min(buf.len());
-        buf[..count].copy_from_slice(&rest[..count]);
-        if count < rest.len() {
-            self.peer.part.set(part.saturating_add(count));
+        if text == ENDLESS {
+            peer.drop_bytes(buf.len());
+            return Ok(buf.len());
+        }
+        let part = peer.part.get();
+        let mut rest = text.as_bytes().get(part..).unwrap_or(&[]);
+        let count = take_from(&mut rest, usize::MAX, buf);
+        if !rest.is_empty() {
+            peer.part.set(part.saturating_add(count));
         } else if !text.is_empty() {
-            self.peer.next_act(now);
+            peer.next_act(now);
         }
         Ok(count)
     }
@@ -211,17 +276,18 @@ impl Read for Stream<'_> {
 
 impl Write for Stream<'_> {
     fn write(&mut self, buf: &[u8]) -> io::Result<usize> {
-        if is_interrupted(&self.peer.signals) {
+        let peer = self.peer;
+        if is_interrupted(&peer.signals) {
             return Err(ErrorKind::Interrupted.into());
         }
         let now = self.watch.now.get();
-        let count = self.peer.space(now).min(buf.len());
-        self.peer.blocked.set(count < buf.len());
+        let count = peer.space(now).min(buf.len());
+        peer.blocked.set(count < buf.len());
         if count == 0 {
             return Err(ErrorKind::WouldBlock.into());
         }
-        self.peer.take(now, &buf[..count]);
-        self.peer.signals.set(1);
+        peer.take(now, &buf[..count]);
+        peer.signals.set(1);
         Ok(count)
     }
 
@@ -230,35 +296,58 @@ impl Write for Stream<'_> {
     }
 }
 
-impl OpenStream for Stream<'_> {
-    fn shutdown(&self, _how: Shutdown) -> io::Result<()> {
-        self.peer.shut.set(true);
+impl Stream<'_> {
+    /// Sets something of a stream, unless it is stubborn.
+    fn set(&self, what: &Cell<bool>, value: bool) -> io::Result<()> {
+        if self.peer.plan.is_stubborn {
+            return Err(ErrorKind::PermissionDenied.into());
+        }
+        what.set(value);
         Ok(())
     }
 }
 
+impl OpenStream for Stream<'_> {
+    fn shutdown(&self, how: Shutdown) -> io::Result<()> {
+        self.set(&self.peer.shut, how == Shutdown::Write)
+    }
+
+    fn set_nodelay(&self, nodelay: bool) -> io::Result<()> {
+        self.set(&self.peer.no_delay, nodelay)
+    }
+
+    fn set_nonblocking(&self, nonblocking: bool) -> io::Result<()> {
+        self.set(&self.peer.at_once, nonblocking)
+    }
+}
+
+/// How many accepts fail, and with which error of Linux: 0 if they don't.
+pub(super) type Failure = (usize, i32);
+
+/// Accepts fail with an error that is none of the system.
+pub(super) const NO_NUMBER: i32 = -1;
+
 /// A listener to which peers connect.
-#[derive(Clone, Copy)]
-pub(super) struct Listener<'a> {
-    pub(super) peers: &'a [Peer<'a>],
-    pub(super) accepted: &'a Cell<usize>,
-    /// The errors of Linux with which the first accepts fail: 0 if one doesn't.
-    pub(super) failures: &'a [i32],
-    pub(super) tried: &'a Cell<usize>,
+#[derive(Drop)]
+struct Listener<'a> {
+    peers: &'a [Peer<'a>],
+    accepted: Cell<usize>,
+    failures: &'a [Failure],
+    tried: Cell<usize>,
     /// How many peers were reported to have come.
-    pub(super) reported: &'a Cell<usize>,
+    reported: Cell<usize>,
     /// How many more waits a signal interrupts.
-    pub(super) signals: &'a Cell<u64>,
+    signals: Cell<u64>,
     /// When it stops.
-    pub(super) stops: u64,
-    pub(super) watch: Watch<'a>,
+    stops: u64,
+    watch: Watch<'a>,
 }
 
 impl Listener<'_> {
     /// When the next peer connects that wasn't reported.
     fn next_comes(&self) -> u64 {
         match self.peers.get(self.reported.get()) {
-            Some(peer) => peer.comes,
+            Some(peer) => peer.plan.comes,
             None => u64::MAX,
         }
     }
@@ -291,26 +380,43 @@ impl Listener<'_> {
         }
         if any { None } else { Some(next) }
     }
+
+    /// The error of this accept, before which so many were tried.
+    fn failure(&self, tried: usize) -> i32 {
+        let mut left = tried;
+        for (count, failure) in self.failures {
+            if left < *count {
+                return *failure;
+            }
+            left = left.saturating_sub(*count);
+        }
+        0
+    }
+
+    /// Tries an accept: whether it fails.
+    fn try_accept(&self) -> io::Result<()> {
+        let tried = self.tried.get();
+        self.tried.set(tried.saturating_add(1));
+        match self.failure(tried) {
+            0 => Ok(()),
+            NO_NUMBER => Err(ErrorKind::InvalidInput.into()),
+            number => Err(io::Error::from_raw_os_error(number)),
+        }
+    }
 }
 
 impl<'a> OpenListener for Listener<'a> {
     type Stream = Stream<'a>;
 
     fn accept(&self) -> io::Result<(Stream<'a>, SocketAddr)> {
-        let now = self.watch.now.get();
+        let watch = self.watch;
         let accepted = self.accepted.get();
         let peer = match self.peers.get(accepted) {
-            Some(peer) if peer.comes <= now => peer,
+            Some(peer) if peer.plan.comes <= watch.now.get() => peer,
             _ => return Err(ErrorKind::WouldBlock.into()),
         };
-        let tried = self.tried.get();
-        self.tried.set(tried.saturating_add(1));
-        match self.failures.get(tried) {
-            None | Some(0) => {}
-            Some(failure) => return Err(io::Error::from_raw_os_error(*failure)),
-        }
+        self.try_accept()?;
         self.accepted.set(accepted.saturating_add(1));
-        let watch = self.watch;
         Ok((
             Stream { peer, watch },
             SocketAddr::from((Ipv4Addr::LOCALHOST, 1)),
@@ -324,18 +430,19 @@ impl Waits for Listener<'_> {
     }
 
     fn watch(&mut self, stream: &Self::Stream, key: usize, sends: bool) -> io::Result<()> {
-        if !stream.peer.can_be_watched {
+        let peer = stream.peer;
+        if !peer.plan.can_be_watched {
             return Err(ErrorKind::StorageFull.into());
         }
-        stream.peer.key.set(Some(key));
-        stream.peer.sends.set(sends);
-        stream.peer.reported.set(stream.peer.read.get());
-        stream.peer.blocked.set(true);
+        peer.key.set(Some(key));
+        peer.sends.set(sends);
+        peer.reported.set(peer.read.get());
+        peer.blocked.set(true);
         Ok(())
     }
 
     fn wait(&mut self, longest: Duration, places: &mut Places<Self::Stream>) -> io::Result<bool> {
-        if is_interrupted(self.signals) {
+        if is_interrupted(&self.signals) {
             return Err(ErrorKind::Interrupted.into());
         }
         let milliseconds = u64::try_from(longest.as_millis()).unwrap_or(u64::MAX);
@@ -360,64 +467,28 @@ impl Waits for Listener<'_> {
     }
 }
 
-/// What serving peers came to.
-#[derive(Drop)]
-pub(super) struct Outcome {
-    pub(super) ended: Result<(), ListenFault>,
-    pub(super) log: Vec<u8>,
-    /// When it ended, and how many requests were answered by then.
-    pub(super) time: u64,
-    pub(super) answers: u64,
-}
-
-/// Serves these peers.
-pub(super) fn serve_peers(alloc: Global, peers: &[Peer<'_>]) -> Outcome {
-    serve_until(alloc, peers, &[], u64::MAX)
-}
-
-/// Serves these peers with a listener whose first accepts fail, and that stops at this time.
-pub(super) fn serve_until(
+/// Serves these peers with a listener whose first accepts fail, and that stops at this time. Whether it failed, and when it ended.
+pub(super) fn serve_peers<'a, H: Downloads>(
     alloc: Global,
-    peers: &[Peer<'_>],
-    failures: &[i32],
-    stops: u64,
-) -> Outcome {
-    let mut handler = Paths { alloc, answers: 0 };
-    let outcome = serve_with(alloc, peers, failures, stops, &mut handler);
-    Outcome {
-        answers: handler.answers,
-        ..outcome
-    }
-}
-
-/// Serves these peers with this handler.
-pub(super) fn serve_with<H: Downloads>(
-    alloc: Global,
-    peers: &[Peer<'_>],
-    failures: &[i32],
+    peers: &'a [Peer<'a>],
+    failures: &'a [Failure],
     stops: u64,
     handler: &mut H,
-) -> Outcome {
-    let (now, accepted, tried, reported) = (Cell::new(0), Cell::new(0), Cell::new(0), Cell::new(0));
-    let signals = Cell::new(2);
+    log: &mut Narrow,
+) -> (bool, u64) {
+    let now = Cell::new(0);
     let watch = Watch { now: &now };
     let mut listener = Listener {
         peers,
-        accepted: &accepted,
+        accepted: Cell::new(0),
         failures,
-        tried: &tried,
-        reported: &reported,
-        signals: &signals,
+        tried: Cell::new(0),
+        reported: Cell::new(0),
+        signals: Cell::new(2),
         stops,
         watch,
     };
-    let mut log = Vec::new(alloc);
     let count = peers.len() as u64;
-    let ended = serve_on(&watch, alloc, &mut listener, count, handler, &mut log);
-    Outcome {
-        ended,
-        log,
-        time: now.get(),
-        answers: 0,
-    }
+    let ended = serve_on(&watch, alloc, &mut listener, count, handler, log);
+    (ended.is_err(), now.get())
 }

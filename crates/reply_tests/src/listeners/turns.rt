@@ -1,20 +1,182 @@
 //! Connections that are served by turns: none waits for the peer of another one.
-use super::peers_in_time::{Act, Peer, serve_peers, serve_until};
+use super::cases::{
+    A, A_AND_B, ASKS_A, ASKS_B, ASKS_BIG, B, B_AND_A, BIG, BIG_AND_A, CASE, Case, LAST, LAST_A,
+    Seen, other_case, other_of,
+};
+use super::peers_in_time::{Act, ENDLESS, PLAN, Plan};
+use crate::wanted::same;
 use std::alloc::{AllocError, Global};
-use std::test::Fail;
 
-const ASKS_A: &str = "GET /a HTTP/1.1\r\nhost: x\r\n\r\n";
+const ASKS_BIG_AND_A: &str =
+    "GET /big HTTP/1.1\r\nhost: x\r\n\r\nGET /a HTTP/1.1\r\nhost: x\r\n\r\n";
 
-const ASKS_B: &str = "PUT /b HTTP/1.1\r\nhost: x\r\ncontent-length: 3\r\n\r\nabc";
+const ASKS_THRICE: &str =
+    "GET /a HTTP/1.1\r\nhost: x\r\n\r\nGET /a HTTP/1.1\r\nhost: x\r\n\r\nGET /a HTTP/1.1\r\nhost: x\r\n\r\n";
 
-const ASKS_BIG: &str = "GET /big HTTP/1.1\r\nhost: x\r\n\r\n";
+const THREE_A: &str =
+    "HTTP/1.1 200 OK\r\ncontent-length: 1\r\n\r\naHTTP/1.1 200 OK\r\ncontent-length: 1\r\n\r\naHTTP/1.1 200 OK\r\ncontent-length: 1\r\n\r\na";
 
-const A: &str = "HTTP/1.1 200 OK\r\ncontent-length: 1\r\n\r\na";
+/// More bytes are dropped of no peer: 16 MiB.
+const MAX_DROPPED: usize = 16_777_216;
 
-const B: &str = "HTTP/1.1 200 OK\r\ncontent-length: 1\r\n\r\nb";
+const CASES: [Case; 8] = [
+    // One that has sent several requests at once has a turn for each of them, as others have.
+    Case {
+        name: "several_requests_take_several_turns",
+        peers: &[
+            Plan {
+                acts: &[(0, ASKS_THRICE), (0, "")],
+                wants: THREE_A,
+                ..PLAN
+            },
+            Plan {
+                acts: &[(0, ASKS_B), (0, "")],
+                wants: B,
+                ..PLAN
+            },
+        ],
+        log: "connection 2: 1 requests, closed\nconnection 1: 3 requests, closed\n",
+        answers: 4,
+        ..CASE
+    },
+    // One that reads a large reply slowly, and has asked for more before: others are served meanwhile, and its next request only then. It
+    // asks after a while, in which its stream is watched for bytes alone.
+    Case {
+        name: "a_slow_reader_holds_nobody_up",
+        peers: &[
+            Plan {
+                acts: &[(100, ASKS_BIG_AND_A), (101, "")],
+                quick: 1_000,
+                rate: 1_000,
+                large: BIG_AND_A,
+                last: Some(30_000),
+                ..PLAN
+            },
+            Plan {
+                comes: 400,
+                acts: &[(500, ASKS_B), (600, ASKS_A), (700, "")],
+                wants: B_AND_A,
+                last: Some(600),
+                ..PLAN
+            },
+        ],
+        log: "connection 2: 2 requests, closed\nconnection 1: 2 requests, closed\n",
+        time: 30_000,
+        answers: 4,
+        ..CASE
+    },
+    // One that reads nothing more is given up after a minute, and only its first request was answered.
+    Case {
+        name: "nothing_is_answered_while_replies_wait",
+        peers: &[Plan {
+            acts: &[(0, ASKS_BIG_AND_A)],
+            quick: 1_000,
+            large: 1_000,
+            ..PLAN
+        }],
+        log: "connection 1: 0 requests, write\n",
+        time: 60_000,
+        answers: 1,
+        ..CASE
+    },
+    // Five peers have each begun a request, and another one asks twice.
+    Case {
+        name: "begun_requests_hold_nobody_up",
+        peers: &[
+            Plan {
+                acts: &[(0, "GET /a HT"), (90_000, "TP/1.1")],
+                count: 5,
+                ..PLAN
+            },
+            Plan {
+                comes: 1_000,
+                acts: &[(1_000, ASKS_A), (2_000, ASKS_B), (2_001, "")],
+                wants: A_AND_B,
+                last: Some(2_000),
+                ..PLAN
+            },
+        ],
+        log: "connection 6: 2 requests, closed\nconnection 1: 0 requests, read\n",
+        last_line: "\nconnection 5: 0 requests, read\n",
+        time: 60_000,
+        answers: 2,
+        ..CASE
+    },
+    // Where the listener stops, a connection that waits for a request ends at once, one whose reply is sent within a second ends then,
+    // and any other one after that second.
+    Case {
+        name: "what_waits_is_sent_for_a_second",
+        peers: &[
+            Plan {
+                acts: &[(0, ASKS_BIG)],
+                quick: 1_000,
+                rate: 1_000,
+                large: BIG,
+                gets_all: false,
+                ..PLAN
+            },
+            Plan {
+                acts: &[(0, ASKS_BIG)],
+                quick: 200_000,
+                rate: 20_000,
+                large: BIG,
+                ..PLAN
+            },
+            PLAN,
+            Plan { comes: 90, ..PLAN },
+        ],
+        stops: 50,
+        log: "connection 3: 0 requests, closed\nconnection 2: 1 requests, closed\nconnection 1: 0 requests, write\n",
+        fails: true,
+        time: 1_090,
+        answers: 2,
+        ..CASE
+    },
+    // What is still sent after the last reply is dropped, once the server has ended its side.
+    Case {
+        name: "a_peer_that_sends_on_is_read_for_a_while",
+        peers: &[Plan {
+            acts: &[(0, LAST), (0, ENDLESS)],
+            wants: LAST_A,
+            dropped: MAX_DROPPED,
+            ..PLAN
+        }],
+        log: "connection 1: 1 requests, asked\n",
+        answers: 1,
+        ..CASE
+    },
+    // What can't be set is left, and what is sent on isn't read then.
+    Case {
+        name: "a_stubborn_stream_is_served",
+        peers: &[Plan {
+            acts: &[(0, LAST), (0, ENDLESS)],
+            is_stubborn: true,
+            wants: LAST_A,
+            ..PLAN
+        }],
+        log: "connection 1: 1 requests, asked\n",
+        answers: 1,
+        ..CASE
+    },
+    Case {
+        name: "a_full_log_is_passed_over",
+        peers: &[Plan {
+            acts: &[(0, LAST), (0, ENDLESS)],
+            is_stubborn: true,
+            wants: LAST_A,
+            count: 3,
+            ..PLAN
+        }],
+        log_room: 0,
+        answers: 3,
+        ..CASE
+    },
+];
 
-/// The head of the reply to `ASKS_BIG`, whose content is 300,000 times an `x`.
-const BIG_HEAD: &str = "HTTP/1.1 200 OK\r\ncontent-length: 300000\r\n\r\n";
+#[test]
+fn connections_take_turns(rt: HostRuntime) {
+    same(&rt, &other_case(rt.alloc(), &CASES), &Ok(None));
+}
 
 /// At which times two peers send their halves: all orders.
 const ORDERS: [[u64; 4]; 6] = [
@@ -48,27 +210,61 @@ fn add_orders(all: &mut Vec<[Act<'static>; 3]>, cut: usize) -> Result<(), AllocE
     Ok(())
 }
 
-/// Two connections at a time whose requests are cut anywhere, in any order of the halves.
-#[test]
-fn requests_are_cut_anywhere(rt: HostRuntime) -> Result<(), Fail> {
-    let mut all = Vec::new(rt.alloc());
+/// The same of each cut.
+fn all_orders(alloc: Global) -> Result<Vec<[Act<'static>; 3]>, AllocError> {
+    let mut all = Vec::new(alloc);
     for cut in 1..ASKS_B.len() {
         add_orders(&mut all, cut)?;
     }
-    let mut peers = Vec::new(rt.alloc());
+    Ok(all)
+}
+
+/// The plans of peers that do this by turns, and each get the same as the last one but one. Each comes so many milliseconds before its
+/// third act, or at the beginning.
+fn plans_of<'a>(alloc: Global, all: &'a [[Act<'a>; 3]]) -> Result<Vec<Plan<'a>>, AllocError> {
+    let mut plans = Vec::new(alloc);
     let mut wants = [A, B];
-    for acts in all.iter() {
-        let comes = acts[2].0.saturating_sub(10);
-        peers.push(Peer::new(comes, acts, wants[0]))?;
+    for acts in all {
+        plans.push(Plan {
+            comes: acts[2].0.saturating_sub(10),
+            acts,
+            wants: wants[0],
+            ..PLAN
+        })?;
         wants = [wants[1], wants[0]];
     }
-    let outcome = serve_peers(rt.alloc(), &peers);
-    assert_eq!(rt; peers.iter().position(|peer| !peer.is_right()), None);
-    assert_eq!(rt;
-        (outcome.ended, outcome.answers),
-        (Ok(()), peers.len() as u64)
-    );
-    Ok(())
+    Ok(plans)
+}
+
+/// 49 cuts, with 6 orders of 2 peers each.
+const CUT: Case = Case {
+    name: "requests_are_cut_anywhere",
+    last_line: "\nconnection 588: 1 requests, closed\n",
+    time: 5_990,
+    answers: 588,
+    ..CASE
+};
+
+/// What peers that do this come to, if that is something else.
+fn other_orders(alloc: Global, all: &[[Act<'_>; 3]]) -> Result<Option<Seen>, AllocError> {
+    let plans = plans_of(alloc, all)?;
+    let other = other_of(alloc, &CUT, &plans, &[]);
+    drop(plans);
+    other
+}
+
+/// The same of all orders.
+fn other_cut(alloc: Global) -> Result<Option<Seen>, AllocError> {
+    let all = all_orders(alloc)?;
+    let other = other_orders(alloc, &all);
+    drop(all);
+    other
+}
+
+/// Two connections at a time whose requests are cut anywhere, in any order of the halves.
+#[test]
+fn requests_are_cut_anywhere(rt: HostRuntime) {
+    same(&rt, &other_cut(rt.alloc()), &Ok(None));
 }
 
 const ASKS_A_AND_B: &str =
@@ -76,12 +272,6 @@ const ASKS_A_AND_B: &str =
 
 const ASKS_B_AND_A: &str =
     "PUT /b HTTP/1.1\r\nhost: x\r\ncontent-length: 3\r\n\r\nabcGET /a HTTP/1.1\r\nhost: x\r\n\r\n";
-
-const A_AND_B: &str =
-    "HTTP/1.1 200 OK\r\ncontent-length: 1\r\n\r\naHTTP/1.1 200 OK\r\ncontent-length: 1\r\n\r\nb";
-
-const B_AND_A: &str =
-    "HTTP/1.1 200 OK\r\ncontent-length: 1\r\n\r\nbHTTP/1.1 200 OK\r\ncontent-length: 1\r\n\r\na";
 
 /// Each byte of a text as a piece: one in three milliseconds, from this one on.
 fn byte_by_byte(
@@ -99,295 +289,48 @@ fn byte_by_byte(
     Ok(acts)
 }
 
+const BYTE_BY_BYTE: Case = Case {
+    name: "three_come_byte_by_byte",
+    log: "connection 1: 2 requests, closed\nconnection 2: 2 requests, closed\nconnection 3: 2 requests, closed\n",
+    time: 236,
+    answers: 6,
+    ..CASE
+};
+
+/// A peer that does this.
+fn plan_of<'a>(acts: &'a [Act<'a>], wants: &'a str) -> Plan<'a> {
+    Plan {
+        acts,
+        wants,
+        ..PLAN
+    }
+}
+
+/// What three peers come to that do this, if that is something else.
+fn other_three(
+    alloc: Global,
+    first: &[Act<'_>],
+    second: &[Act<'_>],
+    third: &[Act<'_>],
+) -> Result<Option<Seen>, AllocError> {
+    let plans = [
+        plan_of(first, A_AND_B),
+        plan_of(second, B_AND_A),
+        plan_of(third, A_AND_B),
+    ];
+    other_of(alloc, &BYTE_BY_BYTE, &plans, &[])
+}
+
+/// The same of peers whose bytes come one by one.
+fn other_bytes(alloc: Global) -> Result<Option<Seen>, AllocError> {
+    let first = byte_by_byte(alloc, ASKS_A_AND_B, 0)?;
+    let second = byte_by_byte(alloc, ASKS_B_AND_A, 1)?;
+    let third = byte_by_byte(alloc, ASKS_A_AND_B, 2)?;
+    other_three(alloc, &first, &second, &third)
+}
+
 /// Three connections whose bytes come one by one, by turns: each with two requests.
 #[test]
-fn three_come_byte_by_byte(rt: HostRuntime) -> Result<(), Fail> {
-    let alloc = rt.alloc();
-    let mut all = Vec::new(alloc);
-    all.push(byte_by_byte(alloc, ASKS_A_AND_B, 0)?)?;
-    all.push(byte_by_byte(alloc, ASKS_B_AND_A, 1)?)?;
-    all.push(byte_by_byte(alloc, ASKS_A_AND_B, 2)?)?;
-    let mut peers = Vec::new(alloc);
-    let mut wants = [A_AND_B, B_AND_A];
-    for acts in all.iter() {
-        peers.push(Peer::new(0, acts, wants[0]))?;
-        wants = [wants[1], wants[0]];
-    }
-    let outcome = serve_peers(alloc, &peers);
-    assert_eq!(rt; peers.iter().position(|peer| !peer.is_right()), None);
-    assert_eq!(rt; (outcome.ended, outcome.answers), (Ok(()), 6));
-    Ok(())
-}
-
-const ASKS_THRICE: [Act<'static>; 2] = [
-    (
-        0,
-        "GET /a HTTP/1.1\r\nhost: x\r\n\r\nGET /a HTTP/1.1\r\nhost: x\r\n\r\nGET /a HTTP/1.1\r\nhost: x\r\n\r\n",
-    ),
-    (0, ""),
-];
-
-const ASKS_ONCE: [Act<'static>; 2] = [(0, ASKS_B), (0, "")];
-
-const THREE_TIMES_A: &str =
-    "HTTP/1.1 200 OK\r\ncontent-length: 1\r\n\r\naHTTP/1.1 200 OK\r\ncontent-length: 1\r\n\r\naHTTP/1.1 200 OK\r\ncontent-length: 1\r\n\r\na";
-
-/// One that has sent several requests at once has a turn for each of them, as others have.
-#[test]
-fn several_requests_take_several_turns(rt: HostRuntime) -> Result<(), Fail> {
-    let peers = [
-        Peer::new(0, &ASKS_THRICE, THREE_TIMES_A),
-        Peer::new(0, &ASKS_ONCE, B),
-    ];
-    let outcome = serve_peers(rt.alloc(), &peers);
-    let lines = "connection 2: 1 requests, closed\nconnection 1: 3 requests, closed\n";
-    assert_eq!(rt; outcome.log.as_slice(), lines.as_bytes());
-    assert_eq!(rt; peers.iter().all(|peer| peer.is_right()), true);
-    Ok(())
-}
-
-/// A reply to `ASKS_BIG`.
-fn big(alloc: Global) -> Result<String, AllocError> {
-    let mut text = String::from_str(alloc, BIG_HEAD)?;
-    for _ in 0..300_000 {
-        text.push('x')?;
-    }
-    Ok(text)
-}
-
-/// A peer that reads so many bytes at once, and in each tenth of a second.
-fn slow<'a>(quick: usize, rate: usize, acts: &'a [Act<'a>], wants: &'a str) -> Peer<'a> {
-    let mut peer = Peer::new(0, acts, wants);
-    peer.quick = quick;
-    peer.rate = rate;
-    peer
-}
-
-/// A large reply is asked for after a while, in which the stream is watched for bytes alone, and another one before it is sent.
-const ASKS_BIG_AND_A: [Act<'static>; 2] = [
-    (
-        100,
-        "GET /big HTTP/1.1\r\nhost: x\r\n\r\nGET /a HTTP/1.1\r\nhost: x\r\n\r\n",
-    ),
-    (101, ""),
-];
-
-const ASKS_LATER: [Act<'static>; 3] = [(500, ASKS_B), (600, ASKS_A), (700, "")];
-
-/// One that reads a large reply slowly, and has asked for more before: others are served meanwhile, and its next request only then.
-#[test]
-fn a_slow_reader_holds_nobody_up(rt: HostRuntime) -> Result<(), Fail> {
-    let alloc = rt.alloc();
-    let mut replies = big(alloc)?;
-    replies.push_str(A)?;
-    let peers = [
-        slow(1_000, 1_000, &ASKS_BIG_AND_A, &replies),
-        Peer::new(400, &ASKS_LATER, B_AND_A),
-    ];
-    let outcome = serve_peers(alloc, &peers);
-    assert_eq!(rt; peers.iter().all(|peer| peer.is_right()), true);
-    assert_eq!(rt; (peers[0].last.get(), peers[1].last.get()), (30_000, 600));
-    let lines = "connection 2: 2 requests, closed\nconnection 1: 2 requests, closed\n";
-    assert_eq!(rt;
-        (outcome.log.as_slice(), outcome.answers),
-        (lines.as_bytes(), 4)
-    );
-    Ok(())
-}
-
-/// One that reads nothing is given up after a minute, and only its first request was answered.
-#[test]
-fn nothing_is_answered_while_replies_wait(rt: HostRuntime) -> Result<(), Fail> {
-    let alloc = rt.alloc();
-    let large = big(alloc)?;
-    let two = [ASKS_BIG, ASKS_A].concat(alloc)?;
-    let acts = [(0, two.as_str())];
-    let peers = [slow(1_000, 0, &acts, &large)];
-    let outcome = serve_peers(alloc, &peers);
-    let line = "connection 1: 0 requests, write\n";
-    assert_eq!(rt;
-        (outcome.log.as_slice(), outcome.answers),
-        (line.as_bytes(), 1)
-    );
-    assert_eq!(rt;
-        (outcome.time, peers[0].got.get(), peers[0].wrong.get()),
-        (60_000, 1_000, false)
-    );
-    Ok(())
-}
-
-/// Five peers have each begun a request, and another one asks twice.
-#[test]
-fn begun_requests_hold_nobody_up(rt: HostRuntime) -> Result<(), Fail> {
-    let alloc = rt.alloc();
-    let begun = [(0, "GET /a HT"), (90_000, "TP/1.1")];
-    let asks = [(1_000, ASKS_A), (2_000, ASKS_B), (2_001, "")];
-    let both = [A, B].concat(alloc)?;
-    let peers = [
-        Peer::new(0, &begun, ""),
-        Peer::new(0, &begun, ""),
-        Peer::new(0, &begun, ""),
-        Peer::new(0, &begun, ""),
-        Peer::new(0, &begun, ""),
-        Peer::new(1_000, &asks, &both),
-    ];
-    let outcome = serve_peers(alloc, &peers);
-    assert_eq!(rt; peers.iter().all(|peer| peer.is_right()), true);
-    assert_eq!(rt; (peers[5].last.get(), outcome.time), (2_000, 60_000));
-    assert_eq!(rt;
-        outcome.log.starts_with(
-            b"connection 6: 2 requests, closed\nconnection 1: 0 requests, read\n"
-        ),
-        true
-    );
-    Ok(())
-}
-
-/// A peer's acts, what is logged of it, and when the last connection has gone.
-type Row<'a> = (&'a [Act<'a>], &'a str, u64);
-
-const FRONT: &str = "GET /a HT";
-
-const BACK: &str = "TP/1.1\r\nhost: x\r\n\r\n";
-
-const LAST: &str = "GET /a HTTP/1.1\r\nhost: x\r\nconnection: close\r\n\r\n";
-
-const ROWS: [Row<'static>; 10] = [
-    // The end of the input comes with the request.
-    (
-        &[(0, ASKS_A), (0, "")],
-        "connection 1: 1 requests, closed\n",
-        0,
-    ),
-    // A minute for the first bytes, one for the rest, and the same again.
-    (
-        &[
-            (59_999, FRONT),
-            (119_998, BACK),
-            (179_997, FRONT),
-            (239_996, BACK),
-            (299_995, ""),
-        ],
-        "connection 1: 2 requests, closed\n",
-        299_995,
-    ),
-    // Nothing in a minute. The peer has two seconds to send something else.
-    (&[], "connection 1: 0 requests, closed\n", 62_000),
-    (&[(0, ASKS_A)], "connection 1: 1 requests, closed\n", 62_000),
-    // A request that isn't whole after a minute. Its connection is closed at once.
-    (&[(10, FRONT)], "connection 1: 0 requests, read\n", 60_010),
-    (
-        &[
-            (0, FRONT),
-            (30_000, "TP/1.1\r\n"),
-            (59_999, "host: x\r\n"),
-            (60_000, "a"),
-        ],
-        "connection 1: 0 requests, read\n",
-        60_000,
-    ),
-    (
-        &[(0, FRONT), (60_000, BACK), (60_001, "")],
-        "connection 1: 1 requests, closed\n",
-        60_001,
-    ),
-    // A part of a request that came with the one before has a minute too.
-    (
-        &[(0, "GET /a HTTP/1.1\r\nhost: x\r\n\r\nGET /a HT")],
-        "connection 1: 1 requests, read\n",
-        60_000,
-    ),
-    // What comes after the last reply is dropped up to a pause of two seconds, or the input's end.
-    (
-        &[(0, LAST), (1_999, "a"), (3_998, "b"), (5_999, "c")],
-        "connection 1: 1 requests, asked\n",
-        5_998,
-    ),
-    (
-        &[(0, LAST), (1_999, "a"), (3_998, "")],
-        "connection 1: 1 requests, asked\n",
-        3_998,
-    ),
-];
-
-/// The first row that comes to something else.
-fn other_row(alloc: Global) -> Option<(usize, u64)> {
-    for (place, (acts, line, time)) in ROWS.into_iter().enumerate() {
-        let peers = [Peer::new(0, acts, "")];
-        let outcome = serve_peers(alloc, &peers);
-        if outcome.log.as_slice() != line.as_bytes() || outcome.time != time {
-            return Some((place, outcome.time));
-        }
-    }
-    None
-}
-
-#[test]
-fn each_stage_has_its_time(rt: HostRuntime) -> Result<(), Fail> {
-    assert_eq!(rt; other_row(rt.alloc()), None);
-    Ok(())
-}
-
-/// How many bytes of a reply of 300,043 a peer takes at once, and in a tenth of a second. When it ends, and whether it has all.
-const PACES: [(usize, usize, u64, bool); 7] = [
-    // Three seconds of four are earned, or four of four.
-    (0, 300, 73_000, false),
-    (0, 400, 75_100, true),
-    (0, 500, 60_100, true),
-    // Nothing is earned beyond a minute.
-    (150_000, 0, 60_000, false),
-    (150_000, 100, 64_000, false),
-    (150_000, 200, 68_000, false),
-    (250_000, 100, 50_100, true),
-];
-
-/// The first of these paces that comes to something else.
-fn other_pace(alloc: Global) -> Result<Option<(usize, u64)>, AllocError> {
-    let large = big(alloc)?;
-    for (quick, rate, time, whole) in PACES {
-        let acts = [(0, ASKS_BIG), (1, "")];
-        let peers = [slow(quick, rate, &acts, &large)];
-        let outcome = serve_peers(alloc, &peers);
-        let line = if whole {
-            "connection 1: 1 requests, closed\n"
-        } else {
-            "connection 1: 0 requests, write\n"
-        };
-        if outcome.log.as_slice() != line.as_bytes()
-            || outcome.time != time
-            || peers[0].wrong.get()
-        {
-            return Ok(Some((quick, outcome.time)));
-        }
-    }
-    Ok(None)
-}
-
-#[test]
-fn replies_earn_their_time(rt: HostRuntime) -> Result<(), Fail> {
-    assert_eq!(rt; other_pace(rt.alloc())?, None);
-    Ok(())
-}
-
-/// Where the listener stops, a connection that waits for a request ends at once, one whose reply is sent within a second ends then, and
-/// any other one after that second.
-#[test]
-fn what_waits_is_sent_for_a_second(rt: HostRuntime) -> Result<(), Fail> {
-    let alloc = rt.alloc();
-    let large = big(alloc)?;
-    let acts = [(0, ASKS_BIG)];
-    let silent = [];
-    let peers = [
-        slow(1_000, 1_000, &acts, &large),
-        slow(200_000, 20_000, &acts, &large),
-        Peer::new(0, &silent, ""),
-        Peer::new(90, &silent, ""),
-    ];
-    let outcome = serve_until(alloc, &peers, &[], 50);
-    let lines =
-        "connection 3: 0 requests, closed\nconnection 2: 1 requests, closed\nconnection 1: 0 requests, write\n";
-    assert_eq!(rt; outcome.log.as_slice(), lines.as_bytes());
-    assert_eq!(rt; (outcome.time, outcome.answers), (1_090, 2));
-    assert_eq!(rt; (peers[1].is_right(), outcome.ended.is_err()), (true, true));
-    Ok(())
+fn three_come_byte_by_byte(rt: HostRuntime) {
+    same(&rt, &other_bytes(rt.alloc()), &Ok(None));
 }
