@@ -10,6 +10,7 @@ import map_indexes
 from map_caches import cache_lines, grid_lines, kept_lines
 from map_features import any_map_lines, area_lines, batch_lines, map_lines, margin_lines, metadata_lines, snapshot_lines
 from map_json import changes_lines, checked_lines, json_lines
+from map_random import random_lines
 from map_stand import Stand
 from map_texts import limit_lines, record_lines, text_lines
 from map_tiles import cut_lines, reach_lines, tag_lines
@@ -17,7 +18,8 @@ from map_tiles import cut_lines, reach_lines, tag_lines
 CRATE = "map_runs"
 PARTS = [
     json_lines, limit_lines, changes_lines, checked_lines, record_lines, text_lines, cut_lines, tag_lines, reach_lines, map_lines, margin_lines,
-    any_map_lines, batch_lines, kept_lines, grid_lines, cache_lines, snapshot_lines, metadata_lines, area_lines, *map_indexes.PARTS, map_hostile.lines]
+    any_map_lines, random_lines, batch_lines, kept_lines, grid_lines, cache_lines, snapshot_lines, metadata_lines, area_lines,
+    *map_indexes.PARTS, map_hostile.lines]
 
 
 def files():

@@ -3,16 +3,19 @@
 It shares no code with the product. `crates/map_runs/src/main.rt` says what each command does.
 """
 import re
-from collections import OrderedDict
+from collections import OrderedDict, defaultdict
 
 import archives
 import features
+import map_random
 import texts
 import tiles
+from chance import Chance
 from disk import Change, NoEdit, Record, edit_text, first_tiles, record_text, snapshot_of, snapshot_text, text_of, whole_sectors
 from ids import is_tile
 from limits import MAX_ZOOM
 from rust_text import clipped, debug, option
+from words import digest
 
 LAST = 2**32 - 1
 SECTOR = 512
@@ -223,17 +226,36 @@ class Cache:
 # ---- the map
 
 
+def squares(across, down):
+    """The squares that a box touches, of 64 by 64 that the world has."""
+    columns, rows = (range(first >> 26, (last >> 26) + 1) for first, last in (across, down))
+    return [(column, row) for column in columns for row in rows]
+
+
 class Map:
     def __init__(self, last, held=None):
         self.last, self.held = last, held or {}
         self.grid, self.cache = Grid(), Cache()
+        # The numbers of the features whose bounding box touches a square.
+        self.numbers = defaultdict(set)
+        for number, feature in self.held.items():
+            for square in squares(*tiles.corners(feature)):
+                self.numbers[square].add(number)
 
     def change(self, made):
-        for feature in [self.held.pop(made.number, None), made.feature]:
+        for feature, step in [(self.held.pop(made.number, None), set.remove), (made.feature, set.add)]:
             if feature:
-                self.grid.mark(*tiles.corners(feature), self.last)
+                box = tiles.corners(feature)
+                self.grid.mark(*box, self.last)
+                for square in squares(*box):
+                    step(self.numbers[square], made.number)
         if made.feature:
             self.held[made.number] = made.feature
+
+    def near(self, z, x, y):
+        """The features that touch a square which the box of a tile touches. The tile shows nothing of others."""
+        found = set().union(*(self.numbers[square] for square in squares(axis_shown(z, x), axis_shown(z, y))))
+        return {number: self.held[number] for number in found}
 
     def edited(self):
         return f"edit {self.last}: {len(self.held)} features"
@@ -261,6 +283,17 @@ class Map:
             self.change(made)
         return self.edited()
 
+    def random(self, rest):
+        count, ids, seed, one_in, *_ = numbers_in(rest)
+        chance, taken, counts = Chance(seed), 0, 0
+        for _ in range(count):
+            made = map_random.any_edit(chance, ids, one_in)
+            taken += made.feature is None and made.number in self.held
+            self.last += 1
+            self.change(made)
+            counts = (counts * 31 + len(self.held)) % 2**64
+        return f"{self.edited()}, {taken} taken, digest {counts}"
+
     def restore(self, rest):
         try:
             self.__init__(self.last, snapshot_of(bytes.fromhex(rest)))
@@ -272,17 +305,26 @@ class Map:
         content = self.cache.get(place, self.grid.newest(*place))
         if content:
             return f"kept {content.hex()}"
-        content = tiles.tile(self.held, *place) if place[0] <= MAX_ZOOM else b""
+        content = tiles.tile(self.near(*place), *place) if place[0] <= MAX_ZOOM else b""
         if not content:
             return "nothing"
         self.cache.hold(place, self.last, content)
         return f"made {content.hex()}"
 
+    def square(self, rest):
+        zoom, column, row, side, *_ = numbers_in(rest)
+        cached, found = 0, 0
+        for place in ((zoom, x, y) for x in range(column, column + side) for y in range(row, row + side)):
+            answer = self.tile(place) if is_tile(*place) else "no tile"
+            cached += answer.startswith("kept")
+            found = (found * 31 + digest(answer.encode())) % 2**64
+        return f"{cached} cached, digest {found}"
+
     def anew(self, place):
-        return tiles.tile(self.held, *place).hex() if place[0] <= MAX_ZOOM else ""
+        return tiles.tile(self.near(*place), *place).hex() if place[0] <= MAX_ZOOM else ""
 
     def layers(self, place):
-        return debug([(name, 2, 4096, numbers) for name, numbers in tiles.layers(self.held, *place).items()])
+        return debug([(name, 2, 4096, numbers) for name, numbers in tiles.layers(self.near(*place), *place).items()])
 
     def newest(self, place):
         return str(self.grid.newest(*place))
@@ -314,8 +356,8 @@ class Map:
 
     PLACES = {"tile": tile, "anew": anew, "layers": layers, "newest": newest}
     LINES = {
-        "put": put, "delete": delete, "make": make, "restore": restore, "look": look, "tiles": tiles,
-        "snapshot": snapshot, "metadata": metadata, "area": area}
+        "put": put, "delete": delete, "make": make, "random": random, "restore": restore, "look": look, "tiles": tiles,
+        "snapshot": snapshot, "metadata": metadata, "area": area, "square": square}
 
 
 # ---- numbers with values

@@ -28,11 +28,13 @@
 //! | Line | Answer |
 //! |---|---|
 //! | `put ID FEATURE`, `delete ID`, `make TEXT` | the number of the edit, and how many features there are; `make` has the edit by its text |
+//! | `random COUNT IDS SEED ONE_IN` | the last of COUNT edits that look random, of ids below IDS, one in ONE_IN a deletion; counts and a digest |
 //! | `look ID` | the copy of a number's feature |
 //! | `tile Z X Y` | a tile's bytes, as they are kept or made |
 //! | `anew Z X Y` | its bytes, cut anew, none where it shows nothing |
 //! | `layers Z X Y` | its layers: name, version, extent, numbers of features |
 //! | `newest Z X Y` | the number of the newest edit that can have touched it |
+//! | `square Z X Y SIDE` | the tiles of SIDE columns and rows from this one: how many are cached, and a digest of what `tile` answers of each |
 //! | `tiles` | all tiles with their ids |
 //! | `snapshot`, `restore TEXT` | the snapshot of the map that is read back from the map's snapshot; the map of a snapshot replaces this one |
 //! | `metadata` | its metadata |
@@ -70,6 +72,7 @@ mod limits;
 mod lines;
 mod maps;
 mod numbers;
+mod random;
 mod stands;
 
 use stands::Stand;

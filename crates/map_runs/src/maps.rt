@@ -7,6 +7,7 @@ ghost use Rattle.feature_model.specs.declared.limits.TheConstants.{MAX_EDIT_BYTE
 
 use crate::features::{feature_in, kept};
 use crate::lines::{Line, byte};
+use crate::random::make_random;
 use cached_map::CachedMap;
 use edit_text::{decode, encode_change};
 use feature_model::{Change, Edit, Feature, check};
@@ -14,11 +15,14 @@ use feature_store::Store;
 use hilbert_id::TileAt;
 use map_metadata::{metadata, metadata_text};
 use mvt_layer::{Layer, read_tile};
-use script_bytes::{number_in, parted, short};
+use script_bytes::{digest, number_in, parted, short};
 use std::alloc::{AllocError, Global};
 
-/// The most features of a map, and the most bytes of a snapshot that is read.
+/// The most features of a map.
 const MOST: usize = 100_000;
+
+/// The most bytes of a snapshot that is read.
+const MOST_BYTES: usize = 16_777_216;
 
 /// The empty map, whose last edit has this number.
 pub(crate) fn empty_map(alloc: Global, last: u64) -> Result<CachedMap, AllocError> {
@@ -26,13 +30,13 @@ pub(crate) fn empty_map(alloc: Global, last: u64) -> Result<CachedMap, AllocErro
 }
 
 /// What is told of the edit of this number.
-fn edited(alloc: Global, number: u64, map: &CachedMap) -> Result<String, AllocError> {
+pub(crate) fn edited(alloc: Global, number: u64, map: &CachedMap) -> Result<String, AllocError> {
     let count = map.store().len();
     format!(in alloc; "edit {number}: {count} features")
 }
 
 /// Gives a number a feature.
-fn put(
+pub(crate) fn put(
     alloc: Global,
     map: &mut CachedMap,
     id: u64,
@@ -57,7 +61,7 @@ fn put_json(alloc: Global, map: &mut CachedMap, rest: &str) -> Result<String, Al
 }
 
 /// Takes the feature of a number away.
-fn delete(alloc: Global, map: &mut CachedMap, id: u64) -> Result<String, AllocError> {
+pub(crate) fn delete(alloc: Global, map: &mut CachedMap, id: u64) -> Result<String, AllocError> {
     let Some(number) = map.last().checked_add(1) else {
         return String::from_str(alloc, "numbers spent");
     };
@@ -167,7 +171,7 @@ fn tiles(alloc: Global, store: &Store) -> Result<String, AllocError> {
 /// The snapshot of the map that is read back from a map's snapshot.
 fn snapshot(alloc: Global, store: &Store) -> Result<String, AllocError> {
     let text = store.snapshot_text()?;
-    if text.len() > MOST {
+    if text.len() > MOST_BYTES {
         return String::from_str(alloc, "too many bytes");
     }
     match Store::from_snapshot(alloc, &text) {
@@ -181,7 +185,7 @@ fn restore(alloc: Global, map: &mut CachedMap, text: &str) -> Result<String, All
     let Ok(bytes) = hex::decode(alloc, text) else {
         return String::from_str(alloc, "no hex");
     };
-    if bytes.len() > MOST {
+    if bytes.len() > MOST_BYTES {
         return String::from_str(alloc, "too many bytes");
     }
     match Store::from_snapshot(alloc, &bytes) {
@@ -227,6 +231,35 @@ fn place_answer(alloc: Global, map: &mut CachedMap, line: Line<'_>) -> Result<St
     }
 }
 
+/// The tiles of a square, each as a line `tile` answers it: its zoom, its first column and row, and how many of these it has. The answer
+/// is how many are cached, and a digest: 31 times that of the tiles before, column by column, plus the hash of the answer, modulo 2^64.
+fn square(
+    alloc: Global,
+    map: &mut CachedMap,
+    [zoom, column, row, side, ..]: [u64; 8],
+) -> Result<String, AllocError> {
+    let mut cached = 0u64;
+    let mut sum = 0u64;
+    for across in 0..side {
+        for down in 0..side {
+            let x = column.wrapping_add(across);
+            let y = row.wrapping_add(down);
+            let line = Line {
+                word: "tile",
+                rest: "",
+                numbers: [zoom, x, y, 0, 0, 0, 0, 0],
+            };
+            let answer = place_answer(alloc, map, line)?;
+            if answer.as_str().starts_with("kept") {
+                cached = cached.wrapping_add(1);
+            }
+            let hash = digest(answer.as_str().as_bytes());
+            sum = sum.wrapping_mul(31).wrapping_add(hash);
+        }
+    }
+    format!(in alloc; "{cached} cached, digest {sum}")
+}
+
 /// What a line about what a map holds comes to.
 fn held_answer(alloc: Global, store: &Store, line: Line<'_>) -> Option<Result<String, AllocError>> {
     match line.word {
@@ -248,8 +281,10 @@ pub(crate) fn answer(
         "put" => Some(put_json(alloc, map, line.rest)),
         "delete" => Some(delete(alloc, map, line.numbers[0])),
         "make" => Some(make_text(alloc, map, line.rest)),
+        "random" => Some(make_random(alloc, map, line.numbers)),
         "restore" => Some(restore(alloc, map, line.rest)),
         "tile" | "anew" | "layers" | "newest" => Some(place_answer(alloc, map, line)),
+        "square" => Some(square(alloc, map, line.numbers)),
         _ => held_answer(alloc, map.store(), line),
     }
 }
