@@ -5,7 +5,8 @@
 
 It reads the tables' cells. `crate::Type::function` (`clause`, ..) is a function of that crate whose contract has these clauses, lemma `name`
 of `crate` a lemma in its proofs/, `.._tests` (`name`, ..) tests of that crate, `.._tests` (rows `name`, ..) rows of the tables that its
-tests run, `.._runs` (lines `word`, ..) lines of its script that begin with the word. It prints what it doesn't find, and ends with 1 then.
+tests run, `.._runs` (lines `word`, ..) lines of its script that begin with the word, and `NAME_runs` (blocks `name`, ..) functions of
+`bench/model/NAME_*.py`, which write such lines. It prints what it doesn't find, and ends with 1 then.
 """
 import functools
 import re
@@ -72,6 +73,13 @@ def words_of(crate):
     return {call.split(" ")[0] for line in lines for call in line.split("; ")}
 
 
+@functools.cache
+def blocks_of(script):
+    """The names of the functions of the models that write a script."""
+    texts = [model.read_text() for model in (ROOT / "bench" / "model").glob(f"{script}_*.py")]
+    return {name for text in texts for name in re.findall(r"^def (\w+)\(", text, re.M)}
+
+
 def listed(text):
     return re.findall(r"`(\w+)`", text or "")
 
@@ -101,6 +109,8 @@ def missing_in(text):
         yield from (f"row {row} of {crate}" for row in listed(rows) if row not in rows_of(crate))
     for crate, words in re.findall(r"`(\w+_runs)` \(lines ((?:`\w+`(?:, )?)+)\)", text):
         yield from (f"line {word} of {crate}" for word in listed(words) if word not in words_of(crate))
+    for script, blocks in re.findall(r"`(\w+)_runs` \(blocks ((?:`\w+`(?:, )?)+)\)", text):
+        yield from (f"block {block} of {script}_runs" for block in listed(blocks) if block not in blocks_of(script))
 
 
 def main():

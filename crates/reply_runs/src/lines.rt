@@ -1,4 +1,5 @@
 //! What a line of a script asks for.
+use crate::peers::{About, Room, about_in, room_in};
 use crate::streams::{Narrowness, WIDE};
 use http_serve::MAX_READS;
 use sector_disk::FailingCalls;
@@ -55,10 +56,14 @@ pub(crate) enum Line<'a> {
         sizes: &'a str,
         text: &'a str,
     },
+    /// Something of the peers that are served next.
+    Peers(About<'a>),
+    /// Peers are served by a listener with these bounds.
+    Serve(Room),
 }
 
 /// The first word of a line, and what stands behind the space that ends it.
-fn split_word(line: &str) -> (&str, &str) {
+pub(crate) fn split_word(line: &str) -> (&str, &str) {
     line.split_once(' ').unwrap_or((line, ""))
 }
 
@@ -101,7 +106,7 @@ fn connection_in(open: bool, text: &str) -> Line<'_> {
 }
 
 /// A number.
-fn number_in(text: &str) -> Option<u64> {
+pub(crate) fn number_in(text: &str) -> Option<u64> {
     text.parse::<u64>().ok()
 }
 
@@ -119,12 +124,8 @@ fn sector_in(text: &str) -> Option<Line<'_>> {
     Some(Line::Sector(number_in(at)?, first.parse::<u8>().ok()?))
 }
 
-/// What a line asks for, if anything.
-pub(crate) fn line_in(text: &str) -> Option<Line<'_>> {
-    if text.is_empty() || text.starts_with('#') {
-        return Some(Line::Remark);
-    }
-    let (word, rest) = split_word(text);
+/// What a line asks for that is about the disk, if anything.
+fn disk_line<'a>(word: &str, rest: &'a str) -> Option<Line<'a>> {
     match word {
         "disk" => Some(Line::Disk(number_in(rest)?)),
         "first" => Some(Line::First(number_in(rest)?)),
@@ -133,10 +134,25 @@ pub(crate) fn line_in(text: &str) -> Option<Line<'_>> {
         "sector" => sector_in(rest),
         "again" => Some(Line::Again(Access::Map, failing_in(rest)?)),
         "admin" => Some(Line::Again(Access::Admin, failing_in(rest)?)),
+        _ => None,
+    }
+}
+
+/// What a line asks for, if anything.
+pub(crate) fn line_in(text: &str) -> Option<Line<'_>> {
+    if text.is_empty() || text.starts_with('#') {
+        return Some(Line::Remark);
+    }
+    let (word, rest) = split_word(text);
+    match word {
         "writer" => Some(Line::Writer(narrowness_in(rest)?)),
         "turns" => Some(Line::Turns(turns_in(rest)?)),
         "ask" => Some(connection_in(false, rest)),
         "wait" => Some(connection_in(true, rest)),
-        _ => None,
+        "serve" => Some(Line::Serve(room_in(rest)?)),
+        _ => match about_in(word, rest) {
+            Some(about) => Some(Line::Peers(about)),
+            None => disk_line(word, rest),
+        },
     }
 }

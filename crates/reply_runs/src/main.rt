@@ -19,12 +19,23 @@
 //! | `ask SIZES TEXT` | serves a connection of these bytes, whose input then ends |
 //! | `wait SIZES TEXT` | the same, but a read behind these bytes fails, as where a connection stays open and is given up |
 //!
+//! | `peer AT`, `peer AT QUICK RATE` | a peer of the next listener connects after AT milliseconds, takes QUICK bytes at once, and RATE more in each |
+//! | | tenth of a second; without these all |
+//! | `sends AT TEXT`, `ends AT`, `floods AT` | it sends these bytes then, ends its side, or sends bytes without end |
+//! | `stubborn`, `unwatched` | nothing of its stream can be set, or it can't be watched |
+//! | `more N` | N more peers do the same |
+//! | `accepts N ERROR` | the next N accepts of that listener fail with this error of Linux: 0 if they don't, -1 for none of Linux |
+//! | `serve` | serves these peers by a listener and its clock, as the program does |
+//! | `serve log N`, `serve until AT` | the same with a log that takes N bytes, and with a listener that stops after AT milliseconds |
+//!
 //! SIZES are the most bytes that a read gives, such as `4096,1`: the connection is served once for each. How a TEXT spells bytes stands at
 //! `texts::bytes_of`. Told are the result, how many bytes were read, how many reads failed, and all that was written; where a further size
-//! gives the same result and the same bytes, that is said.
+//! gives the same result and the same bytes, that is said. Of peers are told whether the listener failed, after how many milliseconds it was
+//! over, the log, and for each when the last byte came and all that it got: `same` if it is what the peer before got.
 #![tactic(auto)]
 
 mod lines;
+mod peers;
 mod stands;
 mod streams;
 mod talks;
@@ -32,6 +43,7 @@ mod texts;
 
 use http_serve::MAX_READS;
 use lines::{Line, line_in};
+use peers::{About, Gathered, Room, gather, serve_peers};
 use sector_disk::MemoryDisk;
 use stands::{Stand, begin, begin_first, open_again, overwrite, upgrade, zeros};
 use std::alloc::{AllocError, Global};
@@ -62,11 +74,60 @@ fn connected(
     }
 }
 
+/// Gathers what a line says of peers: the line, if that can be.
+fn gathered_of(
+    alloc: Global,
+    gathered: &mut Gathered,
+    about: About<'_>,
+    text: &str,
+) -> Result<String, AllocError> {
+    if gather(alloc, gathered, about)? {
+        String::from_str(alloc, text)
+    } else {
+        String::from_str(alloc, "no bytes")
+    }
+}
+
+/// Serves peers, where a map is open, and adds what that came to.
+fn push_served(
+    alloc: Global,
+    stand: &mut Stand,
+    peers: &Gathered,
+    room: Room,
+    text: &mut String,
+) -> Result<(), AllocError> {
+    match stand {
+        Stand::Open(map) => serve_peers(alloc, map, peers, room, text),
+        Stand::Closed(_) => text.push_str("closed"),
+    }
+}
+
+/// Serves the peers that were gathered. They are gone then.
+fn listened(
+    alloc: Global,
+    stand: &mut Stand,
+    gathered: &mut Gathered,
+    room: Room,
+) -> Result<String, AllocError> {
+    let mut text = String::new(alloc);
+    let told = push_served(alloc, stand, gathered, room, &mut text);
+    gathered.clear();
+    told?;
+    Ok(text)
+}
+
+/// What lines before said of connections, and of the peers that are served next.
+#[derive(Drop)]
+struct Said {
+    bounds: Bounds,
+    gathered: Gathered,
+}
+
 /// What a line is answered.
 fn answer(
     alloc: Global,
     stand: &mut Stand,
-    bounds: &mut Bounds,
+    said: &mut Said,
     text: &str,
 ) -> Result<String, AllocError> {
     let Some(line) = line_in(text) else {
@@ -81,27 +142,32 @@ fn answer(
         Line::Sector(at, first) => overwrite(alloc, stand, at, first),
         Line::Again(access, failing) => open_again(alloc, stand, access, failing),
         Line::Writer(next) => {
-            bounds.narrowness = next;
+            said.bounds.narrowness = next;
             String::from_str(alloc, "writer")
         }
         Line::Turns(next) => {
-            bounds.turns = next;
+            said.bounds.turns = next;
             String::from_str(alloc, "turns")
         }
         Line::Connection { open, sizes, text } => {
-            connected(alloc, stand, (open, sizes, text), *bounds)
+            connected(alloc, stand, (open, sizes, text), said.bounds)
         }
+        Line::Peers(about) => gathered_of(alloc, &mut said.gathered, about, text),
+        Line::Serve(room) => listened(alloc, stand, &mut said.gathered, room),
     }
 }
 
 /// Answers each line. The map is lent: no way out of the loop has it to drop.
 fn answer_lines(rt: &HostRuntime, stand: &mut Stand) -> io::Result<()> {
-    let mut bounds = Bounds {
-        narrowness: WIDE,
-        turns: MAX_READS,
+    let mut said = Said {
+        bounds: Bounds {
+            narrowness: WIDE,
+            turns: MAX_READS,
+        },
+        gathered: Gathered::new(rt.alloc()),
     };
     for line in rt.lines(rt.alloc()) {
-        let text = answer(rt.alloc(), stand, &mut bounds, line?.as_str())?;
+        let text = answer(rt.alloc(), stand, &mut said, line?.as_str())?;
         println!(rt; "{text}")?;
     }
     Ok(())
@@ -109,5 +175,7 @@ fn answer_lines(rt: &HostRuntime, stand: &mut Stand) -> io::Result<()> {
 
 fn main(rt: HostRuntime) -> io::Result<()> {
     let mut stand = Stand::Closed(MemoryDisk::new(rt.alloc(), 1)?);
-    answer_lines(&rt, &mut stand)
+    let ended = answer_lines(&rt, &mut stand);
+    drop(stand);
+    ended
 }

@@ -1,7 +1,7 @@
 //! Connections, and what is told of them.
 use crate::stands::Map;
 use crate::streams::{Narrow, Narrowness, Pieces};
-use crate::texts::text_of;
+use crate::texts::push_text;
 use http_serve::{ServeFault, Served};
 use map_replies::serve_map_turns;
 use std::alloc::{AllocError, Global};
@@ -37,20 +37,19 @@ fn talk(alloc: Global, map: &mut Map, pieces: Pieces<'_>, bounds: Bounds) -> Out
 }
 
 /// Adds what a connection came to.
-fn push_outcome(alloc: Global, text: &mut String, outcome: &Outcome) -> Result<(), AllocError> {
-    let reply = text_of(alloc, &outcome.reply)?;
+fn push_outcome(text: &mut String, outcome: &Outcome) -> Result<(), AllocError> {
     let Outcome {
         result,
-        reply: _,
+        reply,
         read,
         failed,
     } = outcome;
-    write!(text, "{result:?}, {read} read, {failed} failed: {reply}")
+    write!(text, "{result:?}, {read} read, {failed} failed: ")?;
+    push_text(text, reply)
 }
 
 /// Adds what a connection came to in pieces of another size.
 fn push_other(
-    alloc: Global,
     text: &mut String,
     size: usize,
     outcome: &Outcome,
@@ -61,7 +60,7 @@ fn push_other(
         return write!(text, " | {size}: same, {read} read, {failed} failed");
     }
     write!(text, " | {size}: ")?;
-    push_outcome(alloc, text, outcome)
+    push_outcome(text, outcome)
 }
 
 /// The sizes of pieces, if these are some.
@@ -76,6 +75,48 @@ fn sizes_in(alloc: Global, text: &str) -> Result<Option<Vec<usize>>, AllocError>
     Ok(Some(sizes))
 }
 
+/// Serves a connection of the same bytes for each of these sizes, and adds what they came to beside the first one.
+fn push_others(
+    alloc: Global,
+    map: &mut Map,
+    sizes: &[usize],
+    given: Pieces<'_>,
+    bounds: Bounds,
+    first: &Outcome,
+    text: &mut String,
+) -> Result<(), AllocError> {
+    for size in sizes {
+        let size = *size;
+        let other = talk(alloc, map, Pieces { size, ..given }, bounds);
+        let pushed = push_other(text, size, &other, first);
+        drop(other);
+        pushed?;
+    }
+    Ok(())
+}
+
+/// The same of all sizes.
+fn push_talks(
+    alloc: Global,
+    map: &mut Map,
+    sizes: &[usize],
+    given: Pieces<'_>,
+    bounds: Bounds,
+    text: &mut String,
+) -> Result<(), AllocError> {
+    let Some((size, others)) = sizes.split_first() else {
+        return Ok(());
+    };
+    let size = *size;
+    let first = talk(alloc, map, Pieces { size, ..given }, bounds);
+    let pushed = match push_outcome(text, &first) {
+        Ok(()) => push_others(alloc, map, others, given, bounds, &first, text),
+        Err(fault) => Err(fault),
+    };
+    drop(first);
+    pushed
+}
+
 /// Serves a connection of the same bytes for each size of the pieces, and tells what they came to.
 pub(crate) fn talks(
     alloc: Global,
@@ -84,34 +125,12 @@ pub(crate) fn talks(
     given: Pieces<'_>,
     bounds: Bounds,
 ) -> Result<String, AllocError> {
-    let mut text = String::new(alloc);
     let Some(sizes) = sizes_in(alloc, sizes)? else {
         return String::from_str(alloc, "no sizes");
     };
-    let Some((first, others)) = sizes.split_first() else {
-        return Ok(text);
-    };
-    let told = talk(
-        alloc,
-        map,
-        Pieces {
-            size: *first,
-            ..given
-        },
-        bounds,
-    );
-    push_outcome(alloc, &mut text, &told)?;
-    for size in others {
-        let other = talk(
-            alloc,
-            map,
-            Pieces {
-                size: *size,
-                ..given
-            },
-            bounds,
-        );
-        push_other(alloc, &mut text, *size, &other, &told)?;
-    }
+    let mut text = String::new(alloc);
+    let pushed = push_talks(alloc, map, &sizes, given, bounds, &mut text);
+    drop(sizes);
+    pushed?;
     Ok(text)
 }

@@ -115,16 +115,15 @@ fn hash(bytes: &[u8]) -> u64 {
     hash
 }
 
-/// The text of bytes. Of many bytes it has the first ones, and then how many there are and their hash.
-pub(crate) fn text_of(alloc: Global, bytes: &[u8]) -> Result<String, AllocError> {
-    let mut text = String::new(alloc);
+/// Adds the text of bytes. Of many bytes it has the first ones, and then how many there are and their hash.
+pub(crate) fn push_text(text: &mut String, bytes: &[u8]) -> Result<(), AllocError> {
     let many = bytes.len() > MAX_TOLD;
     let told = if many { FRONT } else { MAX_TOLD };
     for byte in bytes.iter().take(told) {
-        push_byte(&mut text, *byte)?;
+        push_byte(text, *byte)?;
     }
     if many {
         write!(text, " .. {} bytes, {:016x}", bytes.len(), hash(bytes))?;
     }
-    Ok(text)
+    Ok(())
 }

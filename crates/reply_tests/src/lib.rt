@@ -1,5 +1,5 @@
-//! Tests of connections and listeners that need readers, writers, streams and listeners of their own. What is written for what is read is
-//! shown by the script of `reply_runs`.
+//! Tests of connections that need readers and writers of their own, and of peers that connect to a port of this machine. What is written for
+//! what is read, and what comes of peers that act at times, is shown by the script of `reply_runs`.
 #![tactic(auto)]
 
 #[cfg(test)]

@@ -1,9 +1,8 @@
 //! Peers that connect to a listener on this machine.
-use super::{Map, NO_TICKET, Paths, empty_map};
+use super::{Counter, NO_TICKET};
 use crate::wanted::same;
 use http_listen::{SystemListener, serve_on};
 use http_serve::{ContentFault, Downloads, Handler, Reply, Request, Ticket};
-use map_server::serve_map_on;
 use std::io::{self, Read, Write};
 use std::net::{Ipv4Addr, Shutdown, SocketAddr, TcpListener, TcpStream};
 
@@ -24,17 +23,6 @@ const SECOND_LAST: &str = "HTTP/1.1 200 OK\r\ncontent-length: 1\r\nconnection: c
 const NO_HOST: &str =
     "HTTP/1.1 400 Bad Request\r\ncontent-type: text/plain\r\ncontent-length: 5\r\nconnection: close\r\n\r\nHost\n";
 
-const PUT: &str = "PUT /features/7 HTTP/1.1\r\nhost: x\r\ncontent-length: 77\r\n\r\n\
-    {\"layer\":\"p\",\"minzoom\":0,\"maxzoom\":2,\"geometry\":{\"points\":[[0,0]]},\"tags\":{}}";
-
-const EDITED: &str =
-    "HTTP/1.1 200 OK\r\ncontent-type: application/json\r\ncontent-length: 10\r\n\r\n{\"edit\":1}";
-
-const GET_TILE: &str = "GET /map/0/0/0.hex HTTP/1.1\r\nhost: x\r\n\r\n";
-
-const TILE: &str = "HTTP/1.1 200 OK\r\ncontent-type: text/plain\r\ncontent-length: 42\r\n\r\n\
-    1a130a017012090807180122030900002880207802";
-
 /// Who answers.
 #[derive(Clone, Copy)]
 enum Server {
@@ -42,8 +30,6 @@ enum Server {
     Counter,
     /// The same, and the first peer, which doesn't end its side before, asks again where the second request is answered.
     Asker,
-    /// An empty map on a disk of 64 sectors.
-    Map,
 }
 
 /// What peers send, one after the other, before any of them is served. What each gets, and the log.
@@ -55,7 +41,7 @@ struct Row {
     log: &'static str,
 }
 
-const ROWS: [Row; 4] = [
+const ROWS: [Row; 3] = [
     Row {
         name: "a_peer_reads_its_replies",
         server: Server::Counter,
@@ -86,18 +72,12 @@ const ROWS: [Row; 4] = [
         peers: &[(GET, FIRST_AND_THIRD), (GET, SECOND)],
         log: "connection 2: 1 requests, closed\nconnection 1: 2 requests, closed\n",
     },
-    Row {
-        name: "an_edit_of_one_connection_shows_on_the_next",
-        server: Server::Map,
-        peers: &[(PUT, EDITED), (GET_TILE, TILE)],
-        log: "connection 1: 1 requests, closed\nconnection 2: 1 requests, closed\n",
-    },
 ];
 
 /// Answers with how many answers there were before, and has a peer ask once more and end where the second request is answered.
 #[derive(Drop)]
 struct Asker {
-    paths: Paths,
+    counter: Counter,
     peer: TcpStream,
 }
 
@@ -119,10 +99,10 @@ impl Handler for Asker {
     ghost size = { λ _. 0 };
 
     fn answer(&mut self, request: &Request<'_>) -> Reply {
-        if self.paths.answers == 1 {
+        if self.counter.answers == 1 {
             let _ = self.ask_again();
         }
-        self.paths.answer(request)
+        self.counter.answer(request)
     }
 
     fn read_content(&mut self, _offset: u64, _part: &mut [u8]) -> Result<(), ContentFault> {
@@ -150,14 +130,14 @@ impl Downloads for Asker {
 }
 
 /// Serves the peers of a row: whether that ends well.
-fn serve_paths(
+fn serve_counter(
     rt: &HostRuntime,
     row: &Row,
     listener: &mut SystemListener,
     log: &mut Vec<u8>,
 ) -> bool {
     let alloc = rt.alloc();
-    let mut handler = Paths { alloc, answers: 0 };
+    let mut handler = Counter { answers: 0 };
     let count = row.peers.len() as u64;
     serve_on(rt, alloc, listener, count, &mut handler, log).is_ok()
 }
@@ -173,37 +153,12 @@ fn serve_asker(
     let (Some(second), Some(first)) = (streams.pop(), streams.pop()) else {
         return false;
     };
-    let paths = Paths { alloc, answers: 0 };
-    let mut handler = Asker { paths, peer: first };
+    let mut handler = Asker {
+        counter: Counter { answers: 0 },
+        peer: first,
+    };
     let served = serve_on(rt, alloc, listener, 2, &mut handler, log).is_ok();
     streams.push(handler.peer).is_ok() && streams.push(second).is_ok() && served
-}
-
-/// Serves them by a map.
-fn serve_map(
-    rt: &HostRuntime,
-    row: &Row,
-    listener: &mut SystemListener,
-    map: &mut Map,
-    log: &mut Vec<u8>,
-) -> bool {
-    let count = row.peers.len() as u64;
-    serve_map_on(rt, rt.alloc(), listener, count, map, log).is_ok()
-}
-
-/// The same by a new map.
-fn serve_new_map(
-    rt: &HostRuntime,
-    row: &Row,
-    listener: &mut SystemListener,
-    log: &mut Vec<u8>,
-) -> bool {
-    let Ok(mut map) = empty_map(rt.alloc(), 64) else {
-        return false;
-    };
-    let served = serve_map(rt, row, listener, &mut map, log);
-    drop(map);
-    served
 }
 
 /// Serves the peers that wait at a listener.
@@ -216,9 +171,8 @@ fn serve_row(
 ) -> io::Result<bool> {
     let mut listener = SystemListener::new(rt, rt.alloc(), listener, 8)?;
     Ok(match row.server {
-        Server::Map => serve_new_map(rt, row, &mut listener, log),
         Server::Asker => serve_asker(rt, &mut listener, streams, log),
-        Server::Counter => serve_paths(rt, row, &mut listener, log),
+        Server::Counter => serve_counter(rt, row, &mut listener, log),
     })
 }
 

@@ -1,0 +1,293 @@
+"""Blocks of `reply_script.py` about peers that a listener serves by turns. Each is a function of a script."""
+import connections
+from listening import END, FLOOD, Peer, listen as listen_to, logged, pace, time_for
+from reply_stand import BEGIN, CANCEL, GET_ARCHIVE, PUBLISH, STEP, Often, put, put_parts, request, text_of, with_point
+
+# Linux's errors: no descriptor is left, a signal, a connection is gone, a fault of the protocol, an argument at fault. Then one that is none.
+EMFILE, EINTR, ECONNABORTED, EPROTO, EINVAL, NO_NUMBER = 24, 4, 103, 71, 22, -1
+MAX_OPEN = 256
+MAX_DROPPED = 2**24
+
+A = request("GET", "/map/0/0/0.hex")
+LAST = request("GET", "/map/0/0/0.hex", b"", "connection: close")
+FRONT, BACK = A[:21], A[21:]
+B = put(8)
+REFUSED = request("PUT", "/features/8", b"abc")
+NEXT, SHOWN, GONE = put(9), request("GET", "/features/9"), request("DELETE", "/features/9")
+
+
+def listen(script, *peers, **said):
+    listen_to(script, *peers, spelled=text_of, **said)
+
+
+# ---- room for new connections
+
+# There is no descriptor for the second one, each 10 ms from 500 ms to 1 s, and once more while one that was closed may still send.
+NONE_LEFT = [(1, 0), (52, EMFILE)]
+
+
+def no_descriptor(script):
+    script.say("While there is no descriptor left, a connection is closed for another one only after it has waited for a second.")
+    with_point(script)
+    listen(
+        script,
+        Peer((0, A), answered=[A]),
+        Peer((500, A), (1500, END), answered=[A], comes=500, last=1000),
+        accepts=NONE_LEFT, log=logged((1, 1, "closed"), (2, 1, "closed")), time=1500,
+    )
+    script.note("One that asks again within that second is served, and the new one waits until there is a descriptor: 52 tries take 520 ms.")
+    listen(
+        script,
+        Peer((0, A), (900, A), (1200, END), answered=[A, A], last=900),
+        Peer((500, A), (1500, END), answered=[A], comes=500, last=1020),
+        accepts=NONE_LEFT, log=logged((1, 2, "closed"), (2, 1, "closed")), time=1500,
+    )
+
+
+def accepts_that_fail(script):
+    script.say("An accept that fails for the connection that it accepts, and one that a signal interrupts: the next one is accepted.")
+    with_point(script)
+    twice = Peer((0, A), (1, END), answered=[A], more=1)
+    failing = [(1, ECONNABORTED), (1, EINTR), (1, 0), (1, EPROTO), (1, ECONNABORTED)]
+    listen(script, twice, accepts=failing, log=logged((1, 1, "closed"), (2, 1, "closed")), time=1)
+    script.note("A thousand may fail in a row, and no more.")
+    listen(script, Peer((0, A), (1, END), answered=[A]), accepts=[(1000, ECONNABORTED)], log=logged((1, 1, "closed")), time=1)
+    listen(script, Peer((0, A), (1, END)), accepts=[(1001, ECONNABORTED)], failed=True)
+    script.note("A listener that accepts no more ends what is open, and ends at once if nothing is.")
+    later = Peer((0, A), comes=5)
+    listen(script, Peer((0, A), answered=[A]), later, accepts=[(1, 0), (3, EINVAL)], log=logged((1, 1, "closed")), failed=True, time=5)
+    done = Peer((0, LAST), answered=[LAST], words=["stubborn"], more=1)
+    later = Peer((5, LAST), comes=5, more=1)
+    listen(script, done, later, accepts=[(2, 0), (1, NO_NUMBER)], log=logged((1, 1, "asked"), (2, 1, "asked")), failed=True, time=5)
+
+
+def so_many_are_open(script):
+    script.say("One more than may be open: the one that has waited longest is closed after a second, and the new one is served then.")
+    with_point(script)
+    others = [*range(3, MAX_OPEN + 2)]
+    log = logged((2, 1, "closed"), (1, 2, "closed"), *((number, 1, "closed") for number in others))
+    first = Peer((0, A), (1, A), (5000, END), answered=[A, A], last=1)
+    listen(
+        script,
+        first,
+        Peer((0, A), (5000, END), answered=[A], more=MAX_OPEN - 2),
+        Peer((0, A), (5001, END), answered=[A], last=1000),
+        log=log, time=5001,
+    )
+    script.note("While each of those that are open has begun a request, none is ended for another one, which waits until their time is over.")
+    log = logged(*((number, 0, "read") for number in range(1, MAX_OPEN + 2)))
+    listen(script, Peer((0, FRONT), more=MAX_OPEN), log=log, time=120_010)
+    script.note("A connection is ended whose stream can't be watched, and no other one.")
+    unwatched = Peer((5, A), (6, END), words=["unwatched"])
+    listen(script, unwatched, Peer((5, A), (6, END), answered=[A], last=5), log=logged((1, 0, "closed"), (2, 1, "closed")), time=6)
+
+
+# ---- turns
+
+
+def points_between(first, second, pairs):
+    """The parts of a feature that goes from one point to another so often."""
+    front, back = b'{"layer":"p","minzoom":0,"maxzoom":2,"tags":{},"geometry":{"points":[%s' % first, b"]}}"
+    return [front, Often(pairs, b",%s,%s" % (second, first)), back]
+
+
+# The points are in one tile at zoom 2, and apart from each other at zoom 0.
+PARTS = points_between(b"[0,0]", b"[999999999,999999999]", 1249)
+FEATURES = 8
+
+
+def with_points(script):
+    """A disk whose tile of zoom 0 is some 160,000 bytes long as digits, and whose archive is longer than two parts of 65,536 bytes."""
+    script.disk(8192)
+    for number in range(1, FEATURES + 1):
+        script.ask(*put_parts(number, PARTS))
+
+
+def reply_size(script, asked):
+    """How many bytes the reply has that a map makes now."""
+    return len(connections.outcome(script.stand.service, asked, 4096).written)
+
+
+def turns(script):
+    script.say("One that has sent several requests at once has a turn for each of them, as others have.")
+    with_point(script)
+    listen(
+        script,
+        Peer((0, A * 3), (0, END), answered=[A] * 3),
+        Peer((0, B), (0, END), answered=[B]),
+        order=[0, 1, 0, 0], log=logged((2, 1, "closed"), (1, 3, "closed")),
+    )
+    script.note("Five peers have each begun a request, and another one asks twice.")
+    listen(
+        script,
+        Peer((0, FRONT), (90_000, BACK), more=4),
+        Peer((1000, A), (2000, B), (2001, END), answered=[A, B], comes=1000, last=2000),
+        log=logged((6, 2, "closed"), *((number, 0, "read") for number in range(1, 6))), time=60_000,
+    )
+    script.note("What is still sent after the last reply is dropped, once the server has ended its side.")
+    listen(script, Peer((0, LAST), (0, FLOOD), answered=[LAST], dropped=MAX_DROPPED), log=logged((1, 1, "asked")))
+    script.note("What can't be set is left, and what is sent on isn't read then. A full log is passed over.")
+    listen(script, Peer((0, LAST), (0, FLOOD), answered=[LAST], words=["stubborn"]), log=logged((1, 1, "asked")))
+    listen(script, Peer((0, LAST), (0, FLOOD), answered=[LAST], words=["stubborn"], more=2), word="log 0")
+
+
+def slow_readers(script):
+    script.say("One that reads a large reply slowly, and has asked for more before: others are served meanwhile, and its next request only then.")
+    with_points(script)
+    size = reply_size(script, A)
+    # (its next reply goes out at once, and is as long and longer by what the other one has put meanwhile)
+    script.ask(NEXT)
+    both = size + reply_size(script, A)
+    script.ask(GONE)
+    rate = 1000
+    last = time_for(both, 1000, rate)
+    listen(
+        script,
+        Peer((100, A * 2), (101, END), answered=[A, A], takes=(1000, rate), last=last),
+        Peer((500, SHOWN), (600, NEXT), (700, END), answered=[SHOWN, NEXT], comes=400, last=600),
+        order=[0, 1, 1, 0], log=logged((2, 2, "closed"), (1, 2, "closed")), time=last,
+    )
+    script.note("One that reads nothing more is given up after a minute, and only its first request was answered.")
+    listen(script, Peer((0, A + GONE), answered=[A], takes=(1000, 0), size=1000), log=logged((1, 0, "write")), time=60_000)
+    script.ask(SHOWN)
+    script.note("Where the listener stops, a connection that waits for a request ends at once, one whose reply is sent within a second ends then,")
+    script.note("and any other one after that second.")
+    size = reply_size(script, A)
+    quick, rate = size - 100_000, 20_000
+    listen(
+        script,
+        Peer((0, A), answered=[A], takes=(1000, 1000), size=11_000, last=1000),
+        Peer((0, A), answered=[A], takes=(quick, rate), last=time_for(size, quick, rate)),
+        Peer(),
+        Peer(comes=90),
+        word="until 50", log=logged((3, 0, "closed"), (2, 1, "closed"), (1, 0, "write")), failed=True, time=1090,
+    )
+
+
+# At which times two peers send their halves: all orders.
+ORDERS = [(1, 2, 3, 4), (1, 3, 2, 4), (1, 4, 2, 3), (2, 3, 1, 4), (2, 4, 1, 3), (3, 4, 1, 2)]
+
+
+def halves(asked, cut, start, first, second, end):
+    return Peer((start + first, asked[:cut]), (start + second, asked[cut:]), (start + end, END), answered=[asked], comes=start, last=start + second)
+
+
+def cut_anywhere(script):
+    script.say("Two connections at a time whose requests are cut anywhere, in any order of the halves: the next two come 20 ms later.")
+    with_point(script)
+    for cut in range(1, len(REFUSED)):
+        peers = []
+        for place, (first, second, third, fourth) in enumerate(ORDERS):
+            start = 20 * place
+            peers.append(halves(A, 1 + cut % (len(A) - 1), start, first, second, 9))
+            peers.append(halves(REFUSED, cut, start, third, fourth, 10))
+        log = logged(*((number, 1, "closed") for number in range(1, len(peers) + 1)))
+        listen(script, *peers, log=log, time=20 * (len(ORDERS) - 1) + 10)
+
+
+def byte_by_byte(script):
+    script.say("Three connections whose bytes come one by one, by turns: each with two requests.")
+    with_point(script)
+    peers = []
+    for number, asked in enumerate([(A, B), (B, A), (A, B)]):
+        held = asked[0] + asked[1]
+        acts = [(number + 3 * at, held[at : at + 1]) for at in range(len(held))]
+        peers.append(Peer(*acts, (number + 3 * len(held), END), answered=asked, last=number + 3 * (len(held) - 1)))
+    # (the shorter request is whole first, and the second of each at the end, by turns)
+    time = 2 + 3 * (len(A) + len(B))
+    listen(script, *peers, order=[0, 2, 1, 0, 1, 2], log=logged(*((number, 2, "closed") for number in (1, 2, 3))), time=time)
+
+
+# ---- times
+
+
+def stages(script):
+    closed, read, asked = logged((1, 1, "closed")), logged((1, 0, "read")), logged((1, 1, "asked"))
+    script.say("How long a peer is waited for. First the end of the input comes with the request.")
+    with_point(script)
+    listen(script, Peer((0, A), (0, END), answered=[A]), log=closed)
+    script.note("A minute for the first bytes, one for the rest, and the same again.")
+    twice = Peer((59_999, FRONT), (119_998, BACK), (179_997, FRONT), (239_996, BACK), (299_995, END), answered=[A, A], last=239_996)
+    listen(script, twice, log=logged((1, 2, "closed")), time=299_995)
+    script.note("Nothing in a minute, and nothing in a minute after a reply: the peer has two seconds to send something else.")
+    listen(script, Peer(), log=logged((1, 0, "closed")), time=62_000)
+    listen(script, Peer((0, A), answered=[A]), log=closed, time=62_000)
+    script.note("A request that isn't whole after a minute, one of which a part comes then, and one of which the rest does: closed at once, or served.")
+    listen(script, Peer((10, FRONT)), log=read, time=60_010)
+    listen(script, Peer((0, FRONT), (30_000, b"TP/1.1\r\n"), (59_999, b"host: x\r\n"), (60_000, b"a")), log=read, time=60_000)
+    listen(script, Peer((0, FRONT), (60_000, BACK), (60_001, END), answered=[A], last=60_000), log=closed, time=60_001)
+    script.note("A part of a request that came with the one before has a minute too.")
+    listen(script, Peer((0, A + FRONT), answered=[A]), log=logged((1, 1, "read")), time=60_000)
+    script.note("What comes after the last reply is dropped up to a pause of two seconds, or up to the input's end.")
+    listen(script, Peer((0, LAST), (1999, b"a"), (3998, b"b"), (5999, b"c"), answered=[LAST]), log=asked, time=5998)
+    listen(script, Peer((0, LAST), (1999, b"a"), (3998, END), answered=[LAST]), log=asked, time=3998)
+
+
+# How many bytes of a reply a peer takes at once, and in a tenth of a second.
+PACES = [(0, 150), (0, 200), (0, 250), (0, 300), (80_000, 0), (80_000, 100), (80_000, 150), (150_000, 100)]
+
+
+def paces(script):
+    script.say("A reply has a minute, and a second more for each 16,384 bytes of it that were sent, but never more than a minute at once.")
+    with_points(script)
+    size = reply_size(script, A)
+    for quick, rate in PACES:
+        got, last, time = pace(size, quick, rate)
+        end = logged((1, 1, "closed") if got == size else (1, 0, "write"))
+        listen(script, Peer((0, A), (1, END), answered=[A], takes=(quick, rate), size=got, last=last), log=end, time=max(time, 1))
+
+
+# ---- downloads
+
+EDIT = put(9)
+FIRST_PART = 16_384
+SLOW = (20_000, 10_000)
+
+
+def published(script):
+    with_points(script)
+    script.ask(PUBLISH)
+
+
+def part_of(script, at):
+    """How many bytes of a download are sent whose archive is gone from a time on, and when the last one comes: the parts that were read by then.
+    The first one is read with the head of the reply, and each other one once those before were sent."""
+    reply = connections.outcome(script.stand.service, GET_ARCHIVE, 4096).written
+    sent = reply.index(b"\r\n\r\n") + 4 + FIRST_PART
+    while time_for(sent, *SLOW) < at:
+        sent += connections.MAX_OF_A_PART
+    return min(sent, len(reply)), time_for(min(sent, len(reply)), *SLOW)
+
+
+def downloads(script):
+    gone = request("DELETE", "/features/1")
+    script.say("A download beside edits, steps and one whole publication.")
+    published(script)
+    last = time_for(reply_size(script, GET_ARCHIVE), *SLOW)
+    asked = [(50, EDIT), (150, BEGIN), (160, STEP), (250, gone), (260, STEP), (350, CANCEL), (360, PUBLISH), (450, gone)]
+    other = Peer(*asked, (451, END), answered=[what for _, what in asked], last=450)
+    slow = Peer((0, GET_ARCHIVE), (1, END), answered=[GET_ARCHIVE], takes=SLOW, last=last)
+    listen(script, slow, other, log=logged((2, 8, "closed"), (1, 1, "closed")), time=last)
+    script.note("It is cut from the first step of the second publication on, at any time.")
+    for at in (100, 650, 800, 1400):
+        published(script)
+        size, last = part_of(script, at)
+        cut = Peer((0, GET_ARCHIVE), (1, END), answered=[GET_ARCHIVE], takes=SLOW, size=size, last=last)
+        other = Peer((at, PUBLISH), (at, BEGIN), (at, STEP), (at, END), answered=[PUBLISH, BEGIN, STEP], last=at)
+        listen(script, cut, other, log=logged((2, 3, "closed"), (1, 0, "device")), time=last)
+    script.note("Two downloads of different archives at once, each of its own to the last byte.")
+    published(script)
+    last = time_for(reply_size(script, GET_ARCHIVE), *SLOW)
+    slow = Peer((0, GET_ARCHIVE), (1, END), answered=[GET_ARCHIVE], takes=SLOW, last=last)
+    other = Peer((100, EDIT), (110, PUBLISH), (120, END), answered=[EDIT, PUBLISH], last=110)
+    listen_second(script, slow, other, last)
+
+
+def listen_second(script, slow, other, last):
+    """The one of the first archive, edits, and a download of the second one, which is as long and longer by the point of the edit."""
+    second = Peer((200, GET_ARCHIVE), (201, END), answered=[GET_ARCHIVE], takes=SLOW, last=last)
+    log = logged((2, 2, "closed"), (1, 1, "closed"), (3, 1, "closed"))
+    listen(script, slow, other, second, log=log, time=last)
+
+
+BLOCKS = [no_descriptor, accepts_that_fail, so_many_are_open, turns, slow_readers, cut_anywhere, byte_by_byte, stages, paces, downloads]

@@ -1,0 +1,125 @@
+//! What the lines of a script say of the peers that are served next.
+use super::listener::Accepts;
+use super::{Act, Does, Peer, Plan};
+use std::alloc::{AllocError, Global};
+
+/// What bounds a listener.
+#[derive(Clone, Copy)]
+pub(crate) struct Room {
+    /// How many bytes its log takes; then it is full.
+    pub(crate) log: usize,
+    /// When it stops.
+    pub(crate) stops: u64,
+}
+
+/// Peers, with what they do and send, and how the first accepts end.
+#[derive(Drop)]
+pub(crate) struct Gathered {
+    plans: Vec<Plan>,
+    acts: Vec<Act>,
+    bytes: Vec<u8>,
+    accepts: Vec<Accepts>,
+}
+
+impl Gathered {
+    /// No peers.
+    pub(crate) fn new(alloc: Global) -> Gathered {
+        Gathered {
+            plans: Vec::new(alloc),
+            acts: Vec::new(alloc),
+            bytes: Vec::new(alloc),
+            accepts: Vec::new(alloc),
+        }
+    }
+
+    /// There are no peers any more.
+    pub(crate) fn clear(&mut self) {
+        self.plans.clear();
+        self.acts.clear();
+        self.bytes.clear();
+        self.accepts.clear();
+    }
+
+    /// Another peer. What is said next is said of it.
+    pub(crate) fn add(&mut self, plan: Plan) -> Result<(), AllocError> {
+        let first = self.acts.len();
+        self.plans.push(Plan {
+            first,
+            behind: first,
+            ..plan
+        })?;
+        Ok(())
+    }
+
+    /// So many more peers like the last one.
+    pub(crate) fn add_more(&mut self, count: u64) -> Result<(), AllocError> {
+        if let Some(plan) = self.plans.last() {
+            let plan = *plan;
+            for _ in 0..count {
+                self.plans.push(plan)?;
+            }
+        }
+        Ok(())
+    }
+
+    /// Nothing of the last peer's stream can be set.
+    pub(crate) fn set_stubborn(&mut self) {
+        if let Some(plan) = self.plans.last_mut() {
+            plan.is_stubborn = true;
+        }
+    }
+
+    /// The last peer's stream can't be watched.
+    pub(crate) fn set_unwatched(&mut self) {
+        if let Some(plan) = self.plans.last_mut() {
+            plan.is_unwatched = true;
+        }
+    }
+
+    /// The last peer does something at a time.
+    fn act(&mut self, at: u64, does: Does) -> Result<(), AllocError> {
+        self.acts.push(Act { at, does })?;
+        if let Some(plan) = self.plans.last_mut() {
+            plan.behind = self.acts.len();
+        }
+        Ok(())
+    }
+
+    /// It sends these bytes.
+    pub(crate) fn send(&mut self, at: u64, bytes: &[u8]) -> Result<(), AllocError> {
+        let from = self.bytes.len();
+        self.bytes.extend_from_slice(bytes)?;
+        let to = self.bytes.len();
+        self.act(at, Does::Sends { from, to })
+    }
+
+    /// It ends its side.
+    pub(crate) fn end(&mut self, at: u64) -> Result<(), AllocError> {
+        self.act(at, Does::Ends)
+    }
+
+    /// It sends bytes without end.
+    pub(crate) fn flood(&mut self, at: u64) -> Result<(), AllocError> {
+        self.act(at, Does::Floods)
+    }
+
+    /// So many accepts fail with this error of Linux: 0 if they don't, -1 if it is none of the system.
+    pub(crate) fn accept(&mut self, count: usize, error: i32) -> Result<(), AllocError> {
+        self.accepts.push(Accepts { count, error })?;
+        Ok(())
+    }
+
+    /// How the first accepts end.
+    pub(super) fn accepts(&self) -> &[Accepts] {
+        &self.accepts
+    }
+
+    /// The peers.
+    pub(super) fn peers(&self, alloc: Global) -> Result<Vec<Peer<'_>>, AllocError> {
+        let mut peers = Vec::new(alloc);
+        for plan in &self.plans {
+            peers.push(Peer::new(alloc, *plan, &self.acts, &self.bytes))?;
+        }
+        Ok(peers)
+    }
+}

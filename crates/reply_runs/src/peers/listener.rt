@@ -1,0 +1,178 @@
+//! A listener to which peers connect.
+use super::{Peer, Stream, Watch, is_interrupted};
+use http_listen::{Places, Waits};
+use std::cell::Cell;
+use std::io::{self, ErrorKind};
+use std::net::{Ipv4Addr, OpenListener, SocketAddr};
+use std::time::Duration;
+
+/// How many connections may be open.
+const MAX_OPEN: usize = 256;
+
+/// How so many accepts end.
+#[derive(Clone, Copy)]
+pub(super) struct Accepts {
+    pub(super) count: usize,
+    /// The error of Linux with which they fail: 0 if they don't, `NO_NUMBER` if it is none of the system.
+    pub(super) error: i32,
+}
+
+const NO_NUMBER: i32 = -1;
+
+/// A listener to which peers connect.
+#[derive(Drop)]
+pub(super) struct Listener<'a> {
+    peers: &'a [Peer<'a>],
+    accepted: Cell<usize>,
+    accepts: &'a [Accepts],
+    tried: Cell<usize>,
+    /// How many peers were reported to have come.
+    reported: Cell<usize>,
+    /// How many more waits a signal interrupts.
+    signals: Cell<u64>,
+    /// When it stops.
+    stops: u64,
+    watch: Watch<'a>,
+}
+
+impl<'a> Listener<'a> {
+    pub(super) fn new(
+        peers: &'a [Peer<'a>],
+        accepts: &'a [Accepts],
+        stops: u64,
+        watch: Watch<'a>,
+    ) -> Self {
+        Listener {
+            peers,
+            accepted: Cell::new(0),
+            accepts,
+            tried: Cell::new(0),
+            reported: Cell::new(0),
+            signals: Cell::new(2),
+            stops,
+            watch,
+        }
+    }
+
+    /// When the next peer connects that wasn't reported.
+    fn next_comes(&self) -> u64 {
+        match self.peers.get(self.reported.get()) {
+            Some(peer) => peer.plan.comes,
+            None => u64::MAX,
+        }
+    }
+
+    /// Whether a peer has connected since that was reported.
+    fn comes(&self, now: u64) -> bool {
+        let before = self.reported.get();
+        for _ in before..self.peers.len() {
+            if self.next_comes() > now {
+                break;
+            }
+            self.reported.set(self.reported.get().saturating_add(1));
+        }
+        self.reported.get() > before
+    }
+
+    /// Reports what the streams have become ready for. Returns `None` if one has, and otherwise when one may.
+    fn report(&self, now: u64, places: &mut Places<Stream<'_>>) -> Option<u64> {
+        let mut any = false;
+        let mut next = u64::MAX;
+        for peer in self.peers {
+            let Some(key) = peer.key.get() else {
+                continue;
+            };
+            if let Some(change) = peer.change(now) {
+                places.report(key, change);
+                any = true;
+            }
+            next = next.min(peer.next(now));
+        }
+        if any { None } else { Some(next) }
+    }
+
+    /// The error of this accept, before which so many were tried.
+    fn error(&self, tried: usize) -> i32 {
+        let mut left = tried;
+        for Accepts { count, error } in self.accepts {
+            if left < *count {
+                return *error;
+            }
+            left = left.saturating_sub(*count);
+        }
+        0
+    }
+
+    /// Tries an accept: whether it fails.
+    fn try_accept(&self) -> io::Result<()> {
+        let tried = self.tried.get();
+        self.tried.set(tried.saturating_add(1));
+        match self.error(tried) {
+            0 => Ok(()),
+            NO_NUMBER => Err(ErrorKind::InvalidInput.into()),
+            number => Err(io::Error::from_raw_os_error(number)),
+        }
+    }
+}
+
+impl<'a> OpenListener for Listener<'a> {
+    type Stream = Stream<'a>;
+
+    fn accept(&self) -> io::Result<(Stream<'a>, SocketAddr)> {
+        let watch = self.watch;
+        let accepted = self.accepted.get();
+        let peer = match self.peers.get(accepted) {
+            Some(peer) if peer.plan.comes <= watch.now.get() => peer,
+            _ => return Err(ErrorKind::WouldBlock.into()),
+        };
+        self.try_accept()?;
+        self.accepted.set(accepted.saturating_add(1));
+        Ok((
+            Stream { peer, watch },
+            SocketAddr::from((Ipv4Addr::LOCALHOST, 1)),
+        ))
+    }
+}
+
+impl Waits for Listener<'_> {
+    fn max_open(&self) -> usize {
+        MAX_OPEN
+    }
+
+    fn watch(&mut self, stream: &Self::Stream, key: usize, sends: bool) -> io::Result<()> {
+        let peer = stream.peer;
+        if peer.plan.is_unwatched {
+            return Err(ErrorKind::StorageFull.into());
+        }
+        peer.key.set(Some(key));
+        peer.sends.set(sends);
+        peer.reported.set(peer.read.get());
+        peer.blocked.set(true);
+        Ok(())
+    }
+
+    fn wait(&mut self, longest: Duration, places: &mut Places<Self::Stream>) -> io::Result<bool> {
+        if is_interrupted(&self.signals) {
+            return Err(ErrorKind::Interrupted.into());
+        }
+        let milliseconds = u64::try_from(longest.as_millis()).unwrap_or(u64::MAX);
+        let end = self.watch.now.get().saturating_add(milliseconds);
+        for _ in 0..=milliseconds {
+            let now = self.watch.now.get();
+            let comes = self.comes(now);
+            let Some(next) = self.report(now, places) else {
+                return Ok(comes);
+            };
+            if comes || now >= end {
+                return Ok(comes);
+            }
+            let next = next.min(self.next_comes()).min(end);
+            self.watch.now.set(next.max(now.saturating_add(1)));
+        }
+        Ok(false)
+    }
+
+    fn stops(&self) -> bool {
+        self.watch.now.get() >= self.stops
+    }
+}
