@@ -9,8 +9,6 @@ use Rattle.feature_model.specs.declared.feature.World.{World}
 use Rattle.feature_model.specs.Data.{GeometryData, world_points, world_lines, world_polygons, ValueData, text_value}
 use Rattle.feature_model.specs.Data.{natural_value, negative_value, truth_value, TagData, FeatureData}
 use Rattle.edit_json.specs.Json.{json_of, point_json, points_json, lines_json, shape_json, shape_of, value_json, tags_json}
-use Rattle.feature_store.specs.Store.{FeatureMap}
-use Rattle.map_metadata.specs.Metadata.{LayerData, fields_json, layer_json, IsMetadata}
 
 -- the methods that a path allows make a short word
 pub allow_short : (asked : Asked) → length (allow_of asked) ≤ 64
@@ -21,19 +19,6 @@ allow_short (asked_from id) = omega arith
 allow_short (asked_view view) = omega arith
 allow_short (asked_action action) = omega arith
 allow_short asked_nothing = omega arith
-
--- ---- metadata has no float
-
-fields_whole : (fs : _) → members_have_float (fields_json fs) ≡ false
-fields_whole [] = refl
-fields_whole (f ∷ fs) = fields_whole fs
-
-layers_whole : (ls : List LayerData) → items_have_float (items_of (map layer_json ls)) ≡ false
-layers_whole [] = refl
-layers_whole (l ∷ ls) = rw (fields_whole l.fields, layers_whole ls) refl
-
-pub metadata_whole : (m : FeatureMap) (d : Data) → IsMetadata m d → has_float d ≡ false
-metadata_whole m d (ls, are, is) = rw (is, layers_whole ls) refl
 
 -- ---- a feature has no float
 

@@ -159,7 +159,7 @@ impl<D: Sectors + Drop> Calls<D> {
         ensures held { KeepsTickets D.honest D.history self.old self.new }
     {
         match self.service.metadata() {
-            Ok(value) => json_value(self.alloc, &value),
+            Ok(text) => Ok(replies::json(text.into_bytes())),
             Err(_) => Err(RequestFault::Memory),
         }
     }

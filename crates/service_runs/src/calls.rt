@@ -128,11 +128,7 @@ fn whole(alloc: Global, service: &mut Served, shown: Shown) -> Result<Option<Str
 
 fn metadata(alloc: Global, service: &Served) -> Result<Option<String>, AllocError> {
     match service.metadata() {
-        Ok(value) => {
-            let text = value.to_string(alloc);
-            drop(value);
-            Ok(Some(briefly(alloc, text?)?))
-        }
+        Ok(text) => Ok(Some(briefly(alloc, text)?)),
         Err(fault) => debug_text(alloc, fault),
     }
 }

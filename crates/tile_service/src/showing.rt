@@ -1,5 +1,5 @@
 //! What a service shows.
-ghost use Rattle.std.specs.Prelude.{◌≡◌, ℕ, List, Some, not, false, true, IfErr, IfOk, IfSome, MatchResult, option_map};
+ghost use Rattle.std.specs.Prelude.{◌≡◌, ℕ, List, Some, not, false, true, IfErr, IfOk, IfSome, MatchResult, option_map, string_bytes};
 ghost use Rattle.feature_model.specs.Limits.{IsAllowed};
 ghost use Rattle.feature_store.specs.Content.{IsTileContent};
 ghost use Rattle.feature_store.specs.Layers.{layers};
@@ -9,7 +9,9 @@ ghost use Rattle.map_metadata.specs.Metadata.{IsMetadata};
 ghost use Rattle.pm_archive.specs.Answers.{IsOutside};
 ghost use Rattle.sector_bytes.specs.Counts.{NeverFalls};
 ghost use Rattle.sector_disk.specs.Asked.{OnlyReads};
-ghost use Rattle.serde_json.specs.View.{view};
+ghost use Rattle.serde_json.specs.Data.{Data};
+ghost use Rattle.serde_json.specs.Read.{read};
+ghost use Rattle.serde_json.specs.Written.{compact_text};
 ghost use Rattle.tile_cache.specs.Kept.{kept_at, fresh};
 ghost use Rattle.tile_cache.specs.Touched.{IsNewestOf};
 ghost use Rattle.tile_service.specs.Machine.{tile, Happens};
@@ -23,10 +25,9 @@ use crate::service::Service;
 use bytes::Bytes;
 use feature_text::FeatureText;
 use hilbert_id::TileAt;
-use map_metadata::metadata;
+use map_metadata::metadata_text;
 use pm_archive::ArchiveFault;
 use sector_disk::Sectors;
-use serde_json::Value;
 use std::alloc::AllocError;
 
 /// What was read, with bytes that can be shared.
@@ -141,14 +142,15 @@ impl<D: Sectors + Drop> Service<D> {
         }
     }
 
-    /// The JSON metadata of the map after the last acknowledged edit, as in an archive of its tiles. The only error is
-    /// `Memory`.
-    pub fn metadata(&self) -> Result<Value, ServiceFault>
-        ensures metadata { IfOk result (λ v. IsMetadata self.now.features (view v)) }
+    /// The JSON metadata of the map after the last acknowledged edit, as in an archive of its tiles: as compact text, which reads as it.
+    /// The only error is `Memory`.
+    pub fn metadata(&self) -> Result<String, ServiceFault>
+        ensures metadata { IfOk result (λ text. (d : Data) × IsMetadata self.now.features d × (string_bytes text ≡ compact_text d)
+            × (read (string_bytes text) ≡ Some d)) }
         ensures fault { IfErr result (λ fault. fault ≡ Memory) }
     {
-        match metadata(self.alloc, self.map.store()) {
-            Ok(value) => Ok(value),
+        match metadata_text(self.alloc, self.map.store()) {
+            Ok(text) => Ok(text),
             Err(AllocError) => Err(ServiceFault::Memory),
         }
     }
