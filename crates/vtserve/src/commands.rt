@@ -209,12 +209,17 @@ fn with_row<'a>(alloc: Global, command: Command<'a>, row: Row) -> Result<Command
     }
 }
 
-/// The command line of the program.
-pub(crate) fn command_line<'a>(alloc: Global) -> Result<Command<'a>, AllocError> {
-    let mut command = Command::new(alloc, "vtserve")
+/// The program, without commands.
+fn program<'a>(alloc: Global) -> Command<'a> {
+    Command::new(alloc, "vtserve")
         .version("0.1.0")
         .about("A vector tile server whose map is edited over HTTP")
-        .subcommand_required(true);
+        .subcommand_required(true)
+}
+
+/// The command line of the program.
+pub(crate) fn command_line<'a>(alloc: Global) -> Result<Command<'a>, AllocError> {
+    let mut command = program(alloc);
     for row in COMMANDS {
         command = with_row(alloc, command, row)?;
     }

@@ -65,7 +65,55 @@ fn listen_on(rt: &HostRuntime, port: u16) -> io::Result<SystemListener> {
     SystemListener::new(rt, rt.alloc(), listener, max_connections())
 }
 
-/// Serves the connections by turns, with their log on standard error. The disk file is watched meanwhile.
+/// Listens on a port, and says so.
+fn listener_on(rt: &HostRuntime, port: u16) -> Result<SystemListener, CommandFault> {
+    let listener = match listen_on(rt, port) {
+        Ok(listener) => listener,
+        Err(error) => {
+            let cause = Some(error);
+            return Err(CommandFault::Listen { port, cause });
+        }
+    };
+    match tell_port(rt, port) {
+        Ok(()) => Ok(listener),
+        Err(error) => Err(CommandFault::Write(Some(error))),
+    }
+}
+
+/// Serves the connections by turns, with this log. The disk file is watched meanwhile.
+fn serve_log<D: Sectors + Drop, W: Write>(
+    rt: &HostRuntime,
+    asked: Listening,
+    service: &mut MapReplies<D>,
+    looks: &Looks<'_>,
+    log: &mut W,
+) -> Result<(), CommandFault>
+    ensures all { OnOk result ((served : List Event) × (begun served ≡ asked.connections) × (run : List Happening)
+        × Serves (Tells D.sectors D.honest D.history D.faults) (TellsCut D.sectors D.honest D.history D.faults)
+        (TellsRead D.sectors D.honest D.history D.faults) (course service.old []) served (course service.new run)
+        × TakesRun D.sectors D.honest D.history (asked_service service.old) run (asked_service service.new)) }
+{
+    let mut listener = Halting {
+        listener: listener_on(rt, asked.port)?,
+        halts: asked.stops,
+        looks,
+    };
+    looks.begin();
+    let connections = u64::from(asked.connections);
+    let outcome = serve_map_on(rt, rt.alloc(), &mut listener, connections, service, log);
+    drop(listener);
+    match outcome {
+        _ if asked.stops && looks.has_failed() => Err(CommandFault::Told),
+        Ok(()) => Ok(()),
+        Err(ListenFault::Accept) => Err(CommandFault::Listen {
+            port: asked.port,
+            cause: None,
+        }),
+    }
+}
+
+/// Serves the connections by turns, with their log on standard error, of which each line is one call of the system. The disk file is
+/// watched meanwhile.
 pub(crate) fn serve_connections<D: Sectors + Drop>(
     rt: &HostRuntime,
     asked: Listening,
@@ -77,43 +125,8 @@ pub(crate) fn serve_connections<D: Sectors + Drop>(
         (TellsRead D.sectors D.honest D.history D.faults) (course service.old []) served (course service.new run)
         × TakesRun D.sectors D.honest D.history (asked_service service.old) run (asked_service service.new)) }
 {
-    let listener = match listen_on(rt, asked.port) {
-        Ok(listener) => listener,
-        Err(error) => {
-            return Err(CommandFault::Listen {
-                port: asked.port,
-                cause: Some(error),
-            });
-        }
-    };
-    // Each line of the log is one call of the system.
-    let Ok(mut log) = LineWriter::new(rt.alloc(), rt.stderr()) else {
-        return Err(CommandFault::Store(StoreFault::Memory));
-    };
-    match tell_port(rt, asked.port) {
-        Ok(()) => {}
-        Err(error) => return Err(CommandFault::Write(Some(error))),
-    }
-    let mut listener = Halting {
-        listener,
-        halts: asked.stops,
-        looks,
-    };
-    looks.begin();
-    let connections = u64::from(asked.connections);
-    match serve_map_on(
-        rt,
-        rt.alloc(),
-        &mut listener,
-        connections,
-        service,
-        &mut log,
-    ) {
-        _ if asked.stops && looks.has_failed() => Err(CommandFault::Told),
-        Ok(()) => Ok(()),
-        Err(ListenFault::Accept) => Err(CommandFault::Listen {
-            port: asked.port,
-            cause: None,
-        }),
+    match LineWriter::new(rt.alloc(), rt.stderr()) {
+        Ok(mut log) => serve_log(rt, asked, service, looks, &mut log),
+        Err(_) => Err(CommandFault::Store(StoreFault::Memory)),
     }
 }
