@@ -94,8 +94,8 @@ void city_tile(const char* name, std::uint64_t count, bool is_whole) {
 int main() {
     const std::pair<Numbers, const char*> orders[] = {
         {Numbers::by_place, "numbers by place"}, {Numbers::mixed, "numbers in no order"}, {Numbers::mixed_put, "put in no order"}};
-    for (const auto& [numbers, name] : orders) {
-        for (const std::uint64_t count : {1'000, 100'000, 1'000'000}) {
+    for (const std::uint64_t count : {1'000, 100'000, 1'000'000}) {
+        for (const auto& [numbers, name] : orders) {
             small_tiles(count, numbers, name);
         }
     }
