@@ -12,7 +12,8 @@ def number_lines():
     yield from ["numbers", "entries", ("set 7 70", "None"), ("set 3 30", "None"), (f"set {2**64 - 1} 1", "None"), ("set 0 2", "None"),
                 ("set 3 31", "Some(30)"), ("get 0", "Some(2)"), ("get 3", "Some(31)"), ("get 4", "None"), ("get 7", "Some(70)"),
                 (f"get {2**64 - 1}", "Some(1)"), ("from 0", "Some((0, 2))"), ("from 1", "Some((3, 31))"), ("from 3", "Some((3, 31))"),
-                ("from 4", "Some((7, 70))"), ("from 8", f"Some(({2**64 - 1}, 1))"), (f"from {2**64 - 1}", f"Some(({2**64 - 1}, 1))"), "entries", ("unset 4", "None"), ("unset 3", "Some(31)"), ("unset 3", "None"), ("get 3", "None"),
+                ("from 4", "Some((7, 70))"), ("from 8", f"Some(({2**64 - 1}, 1))"), (f"from {2**64 - 1}", f"Some(({2**64 - 1}, 1))"),
+                "entries", ("unset 4", "None"), ("unset 3", "Some(31)"), ("unset 3", "None"), ("get 3", "None"),
                 "entries"]
     for way in ("fillup", "filldown"):
         yield f"# 10,000 numbers, {'from the first up' if way == 'fillup' else 'from the last down'}: a full block is halved."

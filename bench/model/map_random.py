@@ -90,8 +90,8 @@ def turn_lines(chance):
 
 def random_lines():
     yield "# Edits that look random: few of them, and all that the map holds then."
-    yield from ["map 0", ("random 0 9 1 4", "edit 0: 0 features, 0 taken, digest 0"), "random 60 40 12345678901234567 4", *(f"look {number}" for number in range(40)),
-                "snapshot", "metadata", "tiles", "area 4000"]
+    yield from ["map 0", ("random 0 9 1 4", "edit 0: 0 features, 0 taken, digest 0"), "random 60 40 12345678901234567 4"]
+    yield from [*(f"look {number}" for number in range(40)), "snapshot", "metadata", "tiles", "area 4000"]
     yield "# 20,000 edits of 500 ids: most replace a feature by one elsewhere."
     yield from ["map 0", "random 20000 500 88172645463325252 5", "snapshot", "metadata", *square_lines(Chance(500))]
     yield "# 100,000 edits of 75,000 ids in no order: new features, features that move, deletions."

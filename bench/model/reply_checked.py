@@ -49,7 +49,8 @@ def worked(script):
     for sizes in ("4096", "1"):
         begin(script)
         script.ask(post(seen(sets(7))), *shown(7), post(seen(sets(7, OTHER), FEATURE)), *shown(7), A, sizes=sizes)
-        script.ask(post(seen(sets(7, with_tag(3)), FEATURE)), *shown(7), post(seen(deletes(7), FEATURE)), post(seen(deletes(7), OTHER)), *shown(7), A, sizes=sizes)
+        gone = [post(seen(deletes(7), FEATURE)), post(seen(deletes(7), OTHER))]
+        script.ask(post(seen(sets(7, with_tag(3)), FEATURE)), *shown(7), *gone, *shown(7), A, sizes=sizes)
     script.note("Two create the same number; one deletes what the other has deleted; a request that is sent twice.")
     script.ask(post(seen(sets(8))), post(seen(sets(8, OTHER))), *shown(8), post(seen(deletes(8), FEATURE)), post(seen(deletes(8), FEATURE)))
     script.ask(post(seen(sets(8), None)), post(seen(sets(8), None)), post(seen(sets(8, OTHER), FEATURE)), post(seen(sets(8, OTHER), FEATURE)), *shown(8))
@@ -159,7 +160,9 @@ def plain_bodies():
     for body in [*reply_edits.of_other_forms(), *reply_edits.with_faults()]:
         yield body
         if isinstance(body, bytes) and body.startswith(b'{"changes":[{'):
-            yield body.replace(b'{"delete":', b'{"was":null,"delete":').replace(b'{"feature":', b'{"was":null,"feature":').replace(b'{"put":', b'{"was":null,"put":')
+            for word in (b"delete", b"feature", b"put"):
+                body = body.replace(b'{"%s":' % word, b'{"was":null,"%s":' % word)
+            yield body
 
 
 def other_members():
@@ -193,7 +196,8 @@ def faults_in_order():
     bad, worse = {**FEATURE, "layer": ""}, {**FEATURE, "maxzoom": 20}
     yield from [body_of(seen(sets(8), bad), seen(sets(9, worse))), body_of(seen(deletes(7), bad), seen(deletes(2**63))), body_of(seen(sets(7, worse), bad))]
     yield from [body_of(seen(deletes(7), bad), seen(deletes(7))), body_of(*(seen(deletes(number), bad) for number in range(65)))]
-    yield from [body_of(seen(deletes(7), bad), seen(sets(8, worse), {})), body_of(seen(deletes(2**63)), seen(deletes(2**63), [])), body_of(seen(sets(7, bad), 7))]
+    yield from [body_of(seen(deletes(7), bad), seen(sets(8, worse), {})), body_of(seen(deletes(2**63)), seen(deletes(2**63), []))]
+    yield body_of(seen(sets(7, bad), 7))
     yield "of two that were seen the first is named"
     yield from [body_of(seen(deletes(7), bad), seen(deletes(8), worse)), body_of(seen(deletes(8), worse), seen(deletes(7), bad))]
     yield body_of(seen(deletes(8)), seen(deletes(7), {**FEATURE, "tags": {"k": None}}), seen(deletes(9), bad))
@@ -224,7 +228,8 @@ def at_the_limits(script):
     large = [seen(sets(number, with_tag(1000)), with_tag(900)) for number in range(33)]
     script.ask(post(*large), post(*large[:32]), post(*large[:31]), *shown(0, 31, 32), sizes="65536")
     script.ask(post(*large[:31], seen(deletes(39))), post(seen(deletes(99)), seen(sets(41, OTHER), OTHER)), A, sizes="65536")
-    script.note("A feature of more than half of a body can be put with null as what was seen, and is deleted with what was seen; to be put over it it is too long.")
+    script.note("A feature of more than half of a body can be put with null as what was seen, and is deleted with what was seen; to be put over it it is "
+                "too long.")
     points = [b'{"geometry":{"points":[[4000000000,4000000000]', Often(1500, b",[4000000000,4000000000]"), b']},"layer":"p","maxzoom":2,"minzoom":0,"tags":{}}']
     script.ask(*post_parts([b'{"changes":[{"put":50,"feature":', *points, b',"was":null}]}']), sizes="65536")
     script.ask(*post_parts([b'{"changes":[{"put":50,"feature":', *points, b',"was":', *points, b"}]}"]), sizes="65536")
@@ -243,7 +248,8 @@ def first_disks(script):
     script.first(256)
     script.ask(put(7))
     script.admin()
-    script.ask(post(seen(deletes(7), FEATURE)), post(seen(deletes(7))), post(seen(sets(8))), post(seen(sets(8), FEATURE)), post_body(b"{"), post(), *shown(7, 8))
+    unseen = [post(seen(deletes(7))), post(seen(sets(8)))]
+    script.ask(post(seen(deletes(7), FEATURE)), *unseen, post(seen(sets(8), FEATURE)), post_body(b"{"), post(), *shown(7, 8))
     script.ask(post(seen(deletes(9))), post(seen(sets(8, {**FEATURE, "layer": ""}), FEATURE)))
     script.upgrade()
     script.admin()
@@ -253,7 +259,8 @@ def first_disks(script):
 def in_the_journal(script):
     script.say("Checked edits while a publication is under way, and in a journal that is full.")
     begin(script, features=[(1, FEATURE), (2, OTHER)])
-    script.ask(BEGIN, post(seen(sets(3)), seen(deletes(1), FEATURE)), STEP, GET_ARCHIVE, A, BEGIN, post(seen(deletes(2)), seen(deletes(3), FEATURE)), CANCEL, STEP, A)
+    first, second = post(seen(sets(3)), seen(deletes(1), FEATURE)), post(seen(deletes(2)), seen(deletes(3), FEATURE))
+    script.ask(BEGIN, first, STEP, GET_ARCHIVE, A, BEGIN, second, CANCEL, STEP, A)
     script.ask(post(seen(deletes(2), OTHER), seen(deletes(3), FEATURE)), PUBLISH, GET_ARCHIVE, A)
     begin(script, 64, [(number, with_tag(900)) for number in range(16)])
     script.ask(post(seen(deletes(1), with_tag(900))), post(seen(deletes(1))), post(seen(sets(1, with_tag(900)), with_tag(900))), PUBLISH, *shown(1))
@@ -281,8 +288,8 @@ def in_connections(script):
     script.say("Checked edits among other requests of a connection, in pieces of some sizes.")
     for sizes in ("65536", "1", "2", "7", "64", "100"):
         begin(script)
-        script.ask(put(1), post(seen(sets(2)), seen(deletes(1), FEATURE)), A, post(seen(deletes(1), FEATURE)), post_body(b"{"), post(seen(sets(4))), *shown(1, 2),
-                   PUBLISH, post(seen(deletes(2), FEATURE), seen(deletes(4), FEATURE)), GET_ARCHIVE, A, sizes=sizes)
+        script.ask(put(1), post(seen(sets(2)), seen(deletes(1), FEATURE)), A, post(seen(deletes(1), FEATURE)), post_body(b"{"),
+                   post(seen(sets(4))), *shown(1, 2), PUBLISH, post(seen(deletes(2), FEATURE), seen(deletes(4), FEATURE)), GET_ARCHIVE, A, sizes=sizes)
     script.note("HTTP/1.0, and a connection that is to be closed")
     body = body_of(seen(sets(7)))
     plain = f"content-length: {len(body)}"

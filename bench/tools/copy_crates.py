@@ -35,6 +35,8 @@ def copy(names, below, goal):
     """Puts the crates and their lines into a repository."""
     listed = goal / "crates.txt"
     text = listed.read_text() if listed.exists() else ""
+    if text and not text.endswith("\n"):
+        text += "\n"
     for name in names:
         shutil.copytree(ROOT / "crates" / name, goal / "crates" / name, ignore=shutil.ignore_patterns("out", "must-fail"), dirs_exist_ok=True)
         if not any(line.startswith(f"{name}:") for line in text.splitlines()):
