@@ -4,7 +4,7 @@
     python3 bench/tools/costs.py crates FILE             seconds of the processor of each crate: its proof, its edits, its tests, its programs
     python3 bench/tools/costs.py functions FILE [CRATE]  the dearest functions of all crates, or of one
 
-`rattle` writes a file for each part of a function's proof into a folder of its own below /tmp, one after the other, and removes the folder at
+`rattle` writes a file for each part of a function's proof into a folder of its own among the temporary files, one after the other, and removes the folder at
 the end. So the time between two files is what the later one took, if the process has one job: `rt ci` gives a crate more only where
 processors are idle, and `RT_JOBS` sets how many crates are under way. Of each part the name tells the kind: `Lts` is the borrow checker's,
 `Proof` the search for what no `Answers.antt` answers, `Answers` what these take.
@@ -17,6 +17,7 @@ import pickle
 import re
 import subprocess
 import sys
+import tempfile
 import time
 
 KINDS = "Lts Proof Answers Tie Reads Code Mir Layout Kinds Named Met Given Goals View Statement Said Invariants".split()
@@ -42,7 +43,7 @@ def watch(file):
         for pid, seconds, crate, kind in processes():
             one = seen.setdefault((pid, crate), {"kind": kind, "seconds": 0, "parts": {}})
             one["seconds"] = max(one["seconds"], seconds)
-            for folder in glob.glob(f"/tmp/rattle-logic-built-locked-{pid}-*"):
+            for folder in glob.glob(f"{tempfile.gettempdir()}/rattle-logic-built-locked-{pid}-*"):
                 try:
                     for part in os.scandir(folder):
                         if part.name not in one["parts"]:

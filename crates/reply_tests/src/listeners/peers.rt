@@ -1,8 +1,9 @@
 //! Peers that connect to a listener on this machine.
-use super::{Counter, NO_TICKET};
+ghost use Rattle.http_serve.specs.Reply.{IsWhole};
+
 use crate::wanted::same;
 use http_listen::{SystemListener, serve_on};
-use http_serve::{ContentFault, Downloads, Handler, Reply, Request, Ticket};
+use http_serve::{Content, ContentFault, Downloads, Handler, Reply, Request, Status, Ticket};
 use std::io::{self, Read, Write};
 use std::net::{Ipv4Addr, Shutdown, SocketAddr, TcpListener, TcpStream};
 
@@ -74,22 +75,54 @@ const ROWS: [Row; 3] = [
     },
 ];
 
-/// Answers with how many answers there were before, and has a peer ask once more and end where the second request is answered.
+/// The ticket of handlers whose contents are whole.
+const NO_TICKET: Ticket = Ticket {
+    generation: 0,
+    place: 0,
+    total: 0,
+    first: 0,
+};
+
+/// Answers with how many answers there were before. Has a peer ask once more and end where the second request is answered, if it is given one.
 #[derive(Drop)]
-struct Asker {
-    counter: Counter,
-    peer: TcpStream,
+struct Counter {
+    answers: u64,
+    asker: Option<TcpStream>,
 }
 
-impl Asker {
-    /// The peer asks once more, and sends nothing behind that.
-    fn ask_again(&mut self) -> io::Result<()> {
-        self.peer.write_all(GET.as_bytes())?;
-        self.peer.shutdown(Shutdown::Write)
+/// A peer asks once more, and sends nothing behind that.
+fn ask_last(peer: &mut TcpStream) -> io::Result<()> {
+    peer.write_all(GET.as_bytes())?;
+    peer.shutdown(Shutdown::Write)
+}
+
+impl Counter {
+    /// The peer that it was given asks once more.
+    fn ask_again(&mut self) {
+        if let Some(peer) = &mut self.asker {
+            let _ = ask_last(peer);
+        }
     }
 }
 
-impl Handler for Asker {
+/// `0`, `1`, `2`, and then `many`.
+fn number_of(before: u64) -> &'static [u8] {
+    match before {
+        0 => b"0",
+        1 => b"1",
+        2 => b"2",
+        _ => b"many",
+    }
+}
+
+fn reply_of(before: u64) -> Reply
+    ensures { IsWhole result }
+{
+    let content = Content::Fixed(number_of(before));
+    Reply::plain(Status::Ok, None, content)
+}
+
+impl Handler for Counter {
     ghost replies = { λ _ _ _ _. Unit {0} };
 
     ghost sends = { λ _ _ _ _. ⊥ };
@@ -98,11 +131,13 @@ impl Handler for Asker {
 
     ghost size = { λ _. 0 };
 
-    fn answer(&mut self, request: &Request<'_>) -> Reply {
-        if self.counter.answers == 1 {
-            let _ = self.ask_again();
+    fn answer(&mut self, _request: &Request<'_>) -> Reply {
+        let before = self.answers;
+        if before == 1 {
+            self.ask_again();
         }
-        self.counter.answer(request)
+        self.answers = before.saturating_add(1);
+        reply_of(before)
     }
 
     fn read_content(&mut self, _offset: u64, _part: &mut [u8]) -> Result<(), ContentFault> {
@@ -110,7 +145,7 @@ impl Handler for Asker {
     }
 }
 
-impl Downloads for Asker {
+impl Downloads for Counter {
     ghost reads = { λ _ _ _ _ _. Unit {0} };
 
     ghost ticket_of = { λ _. record { generation = 0; place = 0; total = 0; first = 0 } };
@@ -137,12 +172,15 @@ fn serve_counter(
     log: &mut Vec<u8>,
 ) -> bool {
     let alloc = rt.alloc();
-    let mut handler = Counter { answers: 0 };
+    let mut handler = Counter {
+        answers: 0,
+        asker: None,
+    };
     let count = row.peers.len() as u64;
     serve_on(rt, alloc, listener, count, &mut handler, log).is_ok()
 }
 
-/// Serves two peers by an `Asker`, which has the first one.
+/// Serves two peers, of which the first one asks again.
 fn serve_asker(
     rt: &HostRuntime,
     listener: &mut SystemListener,
@@ -153,12 +191,15 @@ fn serve_asker(
     let (Some(second), Some(first)) = (streams.pop(), streams.pop()) else {
         return false;
     };
-    let mut handler = Asker {
-        counter: Counter { answers: 0 },
-        peer: first,
+    let mut handler = Counter {
+        answers: 0,
+        asker: Some(first),
     };
     let served = serve_on(rt, alloc, listener, 2, &mut handler, log).is_ok();
-    streams.push(handler.peer).is_ok() && streams.push(second).is_ok() && served
+    let Some(first) = handler.asker else {
+        return false;
+    };
+    streams.push(first).is_ok() && streams.push(second).is_ok() && served
 }
 
 /// Serves the peers that wait at a listener.

@@ -1,7 +1,7 @@
 use Rattle.std.proofs.Common.{[]}
 use Rattle.http_serve.specs.Reply.{reply_view}
 use Rattle.http_serve.proofs.HandlerLemmas.{none_in_parts, whole_reply}
-use Rattle.reply_tests.proofs.listeners.CounterHandler.answer.Goals as goal
+use Rattle.reply_tests.proofs.listeners.peers.CounterHandler.answer.Goals as goal
 
 pub returns-clause-replied : goal.returns-clause-replied
 returns-clause-replied c =
