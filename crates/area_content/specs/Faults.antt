@@ -1,4 +1,5 @@
 -- Why a map has no content for an area.
+use Rattle.pm_header.specs.declared.header.TheConstants.{HEADER_BYTES}
 use Rattle.std.specs.Prelude.{◌≡◌, ◌<◌, ◌≤◌, ◌+◌, ◌*◌, ◌^◌, ◌⊎◌, ℕ, List, [], ◌∷◌, ◌++◌, length, map, All, Contains, ⊤}
 use Rattle.std.specs.List.{AllByRecursion, concat}
 use Rattle.feature_store.specs.Store.{FeatureMap, snapshot}
@@ -45,7 +46,7 @@ pub record IsBounded (tiles : List Tile) (metadata : ℕ) (archive : List ℕ) :
   pub contents : List (List ℕ)
   pub different : AreDifferent contents
   pub used : AllByRecursion (λ c. Contains (map (λ r. r.content) runs) c) contents
-  pub size : length archive ≤ 127 + metadata + 64 * length runs + length (concat contents)
+  pub size : length archive ≤ HEADER_BYTES + metadata + 64 * length runs + length (concat contents)
 
 -- the tiles of the map are short, and bound the archive
 abbrev pub IsBoundedFor : FeatureMap → (metadata : ℕ) → (archive : List ℕ) → Type 0
@@ -61,7 +62,7 @@ pub record IsBuiltFor (m : FeatureMap) (metadata : ℕ) (archive : List ℕ) : T
 -- the number of sectors that the snapshot of the map takes, and an archive of these tiles at least: a header, the metadata, and each
 -- different content once
 abbrev pub least_sectors : FeatureMap → (metadata : ℕ) → List Tile → ℕ
-least_sectors m metadata tiles = sectors_of (length (snapshot m)) + sectors_of (127 + metadata + length (concat (contents_of tiles)))
+least_sectors m metadata tiles = sectors_of (length (snapshot m)) + sectors_of (HEADER_BYTES + metadata + length (concat (contents_of tiles)))
 
 -- there are no tiles, or the area has at least these sectors
 abbrev pub CanFit : FeatureMap → (metadata area : ℕ) → List Tile → Type 0

@@ -1,4 +1,5 @@
 //! The archive of the tiles of a map.
+ghost use Rattle.pm_header.specs.declared.header.TheConstants.{HEADER_BYTES};
 ghost use Rattle.std.specs.Prelude.{◌≡◌, ◌≢◌, ◌<◌, ◌≤◌, ◌^◌, ◌+◌, ◌++◌, ◌∷◌, [], ℕ, Ok, true, false, length, OnOk, IfOk, IfErr};
 ghost use Rattle.std.specs.List.{concat};
 ghost use Rattle.hilbert_id.specs.declared.number.TheConstants.{TILE_IDS};
@@ -106,7 +107,7 @@ pub(crate) fn archive_of(
     requires metadata { IsMetadata metadata.now }
     ensures archive { (m : FeatureMap) → IsMap m → AreTiles m builder → IfOk result (λ a. IsArchiveOfMap m (archive_bytes a)) }
     ensures of_tiles { builder ≢ [] → IfOk result (λ a. IsArchiveOf (archive_bytes a) (tile_content builder)) }
-    ensures least { builder ≢ [] → IfOk result (λ a. 127 + length metadata.now + length (concat (contents_of builder)) ≤ length (archive_bytes a)) }
+    ensures least { builder ≢ [] → IfOk result (λ a. HEADER_BYTES + length metadata.now + length (concat (contents_of builder)) ≤ length (archive_bytes a)) }
     ensures bounded { IfOk result (λ a. IsBounded builder (length metadata.now) (archive_bytes a)) }
 {
     if builder.is_empty() {

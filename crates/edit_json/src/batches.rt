@@ -119,6 +119,7 @@ pub(crate) fn number(asked: Asked<'_>) -> u64
     }
 }
 
+/// The numbers of the changes, in their order. The only error is out of memory.
 fn read_numbers(alloc: Global, all: &[Asked<'_>]) -> Result<Vec<u64>, EditFault>
     ensures numbers { IfOk result (λ numbers. numbers.items ≡ map asked_number (map asked_data all.now)) }
     ensures memory { IfErr result (λ fault. fault ≡ EditFault.Memory) }

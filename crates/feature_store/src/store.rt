@@ -75,6 +75,7 @@ impl Store {
         self.features.len()
     }
 
+    /// Whether there is no feature.
     pub fn is_empty(&self) -> bool
         ensures { IsTrue result ↔ (self.now.features ≡ []) }
     {

@@ -3,6 +3,7 @@ use Rattle.std.specs.Prelude.{ℕ, zero, suc, ◌*◌, ◌==◌, true, false, if
 use Rattle.std.specs.Int.{w16, w32, w64, from_le_bytes, cast_signed}
 use Rattle.std.specs.Str.{is_utf8}
 use Rattle.feature_model.specs.declared.feature.World.{World}
+use Rattle.feature_model.specs.declared.kinds.TheConstants.{POINTS_KIND, LINES_KIND, TEXT_KIND, NATURAL_KIND, NEGATIVE_KIND, FALSE_KIND}
 use Rattle.feature_model.specs.Data.{GeometryData, world_points, world_lines, world_polygons, ValueData, text_value, natural_value}
 use Rattle.feature_model.specs.Data.{negative_value, truth_value, TagData, FeatureData}
 
@@ -66,8 +67,8 @@ polygons_in bytes = let count = count_in bytes in each_in lines_in count.0 count
 -- the lists of a geometry of this kind
 unfoldable pub shape_in : ℕ → Front GeometryData
 shape_in kind bytes =
-    if kind == 1 then (let r = line_in bytes in (world_points r.0, r.1))
-    else (if kind == 2 then (let r = lines_in bytes in (world_lines r.0, r.1))
+    if kind == POINTS_KIND then (let r = line_in bytes in (world_points r.0, r.1))
+    else (if kind == LINES_KIND then (let r = lines_in bytes in (world_lines r.0, r.1))
     else (let r = polygons_in bytes in (world_polygons r.0, r.1)))
 
 unfoldable pub geometry_in : Front GeometryData
@@ -77,10 +78,10 @@ geometry_in bytes = let kind = byte_in bytes in shape_in kind.0 kind.1
 
 unfoldable pub value_of : ℕ → Front ValueData
 value_of kind bytes =
-    if kind == 1 then (let r = long_text_in bytes in (text_value r.0, r.1))
-    else (if kind == 2 then (let r = number_in bytes in (natural_value r.0, r.1))
-    else (if kind == 3 then (let r = number_in bytes in (negative_value (cast_signed w64 r.0), r.1))
-    else (if kind == 4 then (truth_value false, bytes)
+    if kind == TEXT_KIND then (let r = long_text_in bytes in (text_value r.0, r.1))
+    else (if kind == NATURAL_KIND then (let r = number_in bytes in (natural_value r.0, r.1))
+    else (if kind == NEGATIVE_KIND then (let r = number_in bytes in (negative_value (cast_signed w64 r.0), r.1))
+    else (if kind == FALSE_KIND then (truth_value false, bytes)
     else (truth_value true, bytes))))
 
 unfoldable pub value_in : Front ValueData

@@ -5,6 +5,7 @@ ghost use Rattle.feature_text.specs.Trusted.{byte_in, count_in, number_in, point
 
 use feature_model::World;
 
+/// The first byte.
 #[tactic(auto, unfolding(crate::specs::Trusted::byte_in))]
 pub(crate) fn byte_in(bytes: &[u8]) -> (u8, &[u8])
     ensures number { result.0 ≡ (byte_in bytes.now).0 }
@@ -16,6 +17,7 @@ pub(crate) fn byte_in(bytes: &[u8]) -> (u8, &[u8])
     }
 }
 
+/// A count of two bytes, least significant byte first.
 #[tactic(auto, unfolding(crate::specs::Trusted::count_in))]
 pub(crate) fn count_in(bytes: &[u8]) -> (u16, &[u8])
     ensures number { result.0 ≡ (count_in bytes.now).0 }
@@ -27,6 +29,7 @@ pub(crate) fn count_in(bytes: &[u8]) -> (u16, &[u8])
     }
 }
 
+/// A number of eight bytes, least significant byte first.
 #[tactic(auto, unfolding(crate::specs::Trusted::number_in))]
 pub(crate) fn number_in(bytes: &[u8]) -> (u64, &[u8])
     ensures number { result.0 ≡ (number_in bytes.now).0 }
@@ -41,6 +44,7 @@ pub(crate) fn number_in(bytes: &[u8]) -> (u64, &[u8])
     }
 }
 
+/// A point: x and y, four bytes each, least significant byte first.
 #[tactic(auto, unfolding(crate::specs::Trusted::point_in))]
 pub(crate) fn point_in(bytes: &[u8]) -> (World, &[u8])
     ensures point { result.0 ≡ (point_in bytes.now).0 }

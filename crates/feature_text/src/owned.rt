@@ -11,6 +11,7 @@ use crate::tags::{TagText, Tags, ValueText};
 use feature_model::{EditValue, Feature, Geometry, Tag, World};
 use std::alloc::{AllocError, Global};
 
+/// The points of a view. As for all that own here, the only error is out of memory.
 fn own_points(alloc: Global, points: Points<'_>) -> Result<Vec<World>, AllocError>
     ensures { IfOk result (λ v. v.items ≡ points_view points.entry) }
 {
@@ -21,6 +22,7 @@ fn own_points(alloc: Global, points: Points<'_>) -> Result<Vec<World>, AllocErro
     Ok(owned)
 }
 
+/// The lines of a view.
 fn own_lines(alloc: Global, lines: Lines<'_>) -> Result<Vec<Vec<World>>, AllocError>
     ensures { IfOk result (λ v. map (λ l. l.items) v.items ≡ lines_view lines.entry) }
 {
@@ -31,6 +33,7 @@ fn own_lines(alloc: Global, lines: Lines<'_>) -> Result<Vec<Vec<World>>, AllocEr
     Ok(owned)
 }
 
+/// The polygons of a view: the rings of each, and their points.
 fn own_polygons(alloc: Global, polygons: Polygons<'_>) -> Result<Vec<Vec<Vec<World>>>, AllocError>
     ensures { IfOk result (λ v. map (λ p. map (λ r. r.items) p.items) v.items ≡ polygons_view polygons.entry) }
 {
@@ -41,6 +44,7 @@ fn own_polygons(alloc: Global, polygons: Polygons<'_>) -> Result<Vec<Vec<Vec<Wor
     Ok(owned)
 }
 
+/// The geometry of a view.
 fn own_geometry(alloc: Global, geometry: GeometryText<'_>) -> Result<Geometry, AllocError>
     ensures { IfOk result (λ g. geometry_data g ≡ geometry_view geometry.entry) }
 {
@@ -51,12 +55,14 @@ fn own_geometry(alloc: Global, geometry: GeometryText<'_>) -> Result<Geometry, A
     }
 }
 
+/// A copy of a text.
 fn own_text(alloc: Global, text: &str) -> Result<String, AllocError>
     ensures { IfOk result (λ t. string_bytes t ≡ text.now) }
 {
     String::from_str(alloc, text)
 }
 
+/// The value of a view.
 fn own_value(alloc: Global, value: ValueText<'_>) -> Result<EditValue, AllocError>
     ensures { IfOk result (λ v. value_data v ≡ value_view value.entry) }
 {
@@ -68,6 +74,7 @@ fn own_value(alloc: Global, value: ValueText<'_>) -> Result<EditValue, AllocErro
     })
 }
 
+/// The tag of a view.
 fn own_tag(alloc: Global, tag: TagText<'_>) -> Result<Tag, AllocError>
     ensures { IfOk result (λ t. tag_data t ≡ tag_view tag.entry) }
 {
@@ -76,6 +83,7 @@ fn own_tag(alloc: Global, tag: TagText<'_>) -> Result<Tag, AllocError>
     Ok(Tag { key, value })
 }
 
+/// The tags of a view, in their order.
 fn own_tags(alloc: Global, tags: Tags<'_>) -> Result<Vec<Tag>, AllocError>
     ensures { IfOk result (λ v. map tag_data v.items ≡ tags_view tags.entry) }
 {

@@ -6,6 +6,7 @@ ghost use Rattle.feature_text.specs.Views.{geometry_view};
 
 use crate::lists::{GeometryText, Lines, Points, Polygons};
 use crate::numbers::byte_in;
+use feature_model::{LINES_KIND, POINTS_KIND};
 
 /// The lists of a geometry of this kind.
 #[tactic(auto, unfolding(crate::specs::Trusted::shape_in))]
@@ -14,11 +15,11 @@ fn shape_in(kind: u8, bytes: &[u8]) -> (GeometryText<'_>, &[u8])
     ensures rest { result.1.now ≡ (shape_in kind bytes.now).1 }
 {
     match kind {
-        1 => {
+        POINTS_KIND => {
             let (points, rest) = Points::front(bytes);
             (GeometryText::Points(points), rest)
         }
-        2 => {
+        LINES_KIND => {
             let (lines, rest) = Lines::front(bytes);
             (GeometryText::Lines(lines), rest)
         }
@@ -29,6 +30,7 @@ fn shape_in(kind: u8, bytes: &[u8]) -> (GeometryText<'_>, &[u8])
     }
 }
 
+/// The geometry at the start of bytes, whose first one is its kind, and the bytes after it.
 #[tactic(auto, unfolding(crate::specs::Trusted::geometry_in))]
 pub(crate) fn geometry_in(bytes: &[u8]) -> (GeometryText<'_>, &[u8])
     ensures geometry { geometry_view result.0 ≡ (geometry_in bytes.now).0 }

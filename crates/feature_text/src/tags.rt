@@ -2,6 +2,7 @@
 
 use crate::numbers::{byte_in, number_in};
 use crate::texts::{long_text_in, name_in};
+use feature_model::{FALSE_KIND, NATURAL_KIND, NEGATIVE_KIND, TEXT_KIND};
 
 /// The value of a tag.
 #[derive(Clone, Copy, Debug)]
@@ -32,23 +33,24 @@ impl<'a> ValueText<'a> {
         ensures rest { result.1.now ≡ (value_of kind bytes.entry.now).1 }
     {
         match kind {
-            1 => {
+            TEXT_KIND => {
                 let (text, rest) = long_text_in(bytes);
                 (ValueText::Text(text), rest)
             }
-            2 => {
+            NATURAL_KIND => {
                 let (number, rest) = number_in(bytes);
                 (ValueText::Natural(number), rest)
             }
-            3 => {
+            NEGATIVE_KIND => {
                 let (bits, rest) = number_in(bytes);
                 (ValueText::Negative(bits.cast_signed()), rest)
             }
-            4 => (ValueText::Truth(false), bytes),
+            FALSE_KIND => (ValueText::Truth(false), bytes),
             _ => (ValueText::Truth(true), bytes),
         }
     }
 
+    /// The value at the start of bytes, whose first one is its kind, and the bytes after it.
     #[tactic(auto, unfolding(crate::specs::Trusted::value_in))]
     fn front(bytes: &'a [u8]) -> (Self, &'a [u8])
         ensures value { value_view result.0 ≡ (value_in bytes.entry.now).0 }
@@ -64,6 +66,7 @@ impl<'a> TagText<'a> {
     ghost use Rattle.feature_text.specs.Trusted.{tag_in};
     ghost use Rattle.feature_text.specs.Views.{tag_view};
 
+    /// The tag at the start of bytes, and the bytes after it.
     #[tactic(auto, unfolding(crate::specs::Trusted::tag_in))]
     fn front(bytes: &'a [u8]) -> (Self, &'a [u8])
         ensures tag { tag_view result.0 ≡ (tag_in bytes.entry.now).0 }

@@ -16,6 +16,7 @@ fn utf8_in(bytes: &[u8]) -> &str
     }
 }
 
+/// A text at the start of bytes, after its length of one byte, and the bytes after it.
 #[tactic(auto, unfolding(crate::specs::Trusted::name_in))]
 pub(crate) fn name_in(bytes: &[u8]) -> (&str, &[u8])
     ensures text { result.0.now ≡ (name_in bytes.now).0 }
@@ -26,6 +27,7 @@ pub(crate) fn name_in(bytes: &[u8]) -> (&str, &[u8])
     (utf8_in(front), rest)
 }
 
+/// A text at the start of bytes, after its length of two bytes, and the bytes after it.
 #[tactic(auto, unfolding(crate::specs::Trusted::long_text_in))]
 pub(crate) fn long_text_in(bytes: &[u8]) -> (&str, &[u8])
     ensures text { result.0.now ≡ (long_text_in bytes.now).0 }

@@ -10,6 +10,7 @@ use crate::layout::{Layout, sectors_for};
 use crate::root::Root;
 use sector_disk::SECTOR_BYTES;
 
+/// Whether a sector begins as that of a formatted disk.
 #[tactic(auto, unfolding(crate::specs::Sectors::disk_mark))]
 pub(crate) fn has_mark(sector: &[u8; SECTOR_BYTES]) -> bool
     ensures { IsTrue result ↔ HasMark sector.now }
@@ -27,6 +28,7 @@ pub(crate) fn layout_in(sector: &[u8; SECTOR_BYTES], count: u64) -> Option<Layou
     }
 }
 
+/// Whether the root's snapshot and archive fit an area, and its journal place is one of the layout's.
 fn is_possible(root: Root, layout: Layout) -> bool
     ensures { IsTrue result ↔ CanStand layout.sectors root }
 {

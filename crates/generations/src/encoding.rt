@@ -15,6 +15,7 @@ pub(crate) const DISK_MARK: [u8; 8] = *b"VTILEDSK";
 
 const ROOT_MARK: [u8; 8] = *b"VTROOT01";
 
+/// Writes a number of eight bytes, least significant byte first.
 fn put_number(sector: &mut [u8; SECTOR_BYTES], at: usize, number: u64)
     requires { at + 8 ≤ SECTOR_BYTES }
     ensures { sector.new ≡ take at sector.old ++ to_le_bytes w64 number ++ drop (at + 8) sector.old }
@@ -22,6 +23,7 @@ fn put_number(sector: &mut [u8; SECTOR_BYTES], at: usize, number: u64)
     LittleEndian::write_u64(&mut sector[at..at + 8], number);
 }
 
+/// The number of eight bytes at an offset, least significant byte first.
 pub(crate) fn number_at(sector: &[u8; SECTOR_BYTES], at: usize) -> u64
     requires { at + 8 ≤ SECTOR_BYTES }
     ensures { result ≡ number_from at sector.now }

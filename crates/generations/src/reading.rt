@@ -15,6 +15,7 @@ use crate::layout::Layout;
 use crate::root::Root;
 use sector_disk::{DiskFault, SECTOR_BYTES, Sectors};
 
+/// What a sector has. The only error is `Device`.
 fn read_sector<D: Sectors>(disk: &mut D, at: u64) -> Result<[u8; SECTOR_BYTES], StoreFault>
     requires { at < D.sectors disk.old }
     ensures disk { OnlyReads D.sectors D.honest D.history disk.old disk.new }
@@ -66,6 +67,7 @@ pub(crate) fn read_layout<D: Sectors>(disk: &mut D) -> Result<(Layout, u32), Sto
     }
 }
 
+/// The root in the sector of even generations, for parity 0, or of odd ones, for parity 1; none if it has none.
 fn read_slot<D: Sectors>(
     disk: &mut D,
     layout: Layout,

@@ -9,7 +9,7 @@ use slab::Slab;
 use std::alloc::Global;
 
 /// What the connections of a list have in common.
-#[derive(Clone, Copy, Debug, PartialEq, Eq)]
+#[derive(Clone, Copy, PartialEq, Eq)]
 pub(crate) enum List {
     /// They may have their turn. The one whose last turn is longest ago comes first.
     Ready,
@@ -24,7 +24,7 @@ pub(crate) enum List {
 }
 
 /// The keys of the first and the last connection of a list, and how many it has.
-#[derive(Clone, Copy, Debug, PartialEq, Eq)]
+#[derive(Clone, Copy, PartialEq, Eq)]
 struct Ends {
     first: Option<usize>,
     last: Option<usize>,

@@ -13,7 +13,7 @@ const EPROTO: i32 = 71;
 const ENOBUFS: i32 = 105;
 
 /// What a failed accept means.
-#[derive(Clone, Copy, Debug, PartialEq, Eq)]
+#[derive(Clone, Copy, PartialEq, Eq)]
 pub(crate) enum Refusal {
     /// This one failed, or a signal came: the next may be accepted.
     Passing,

@@ -83,7 +83,7 @@ pub enum ServeFault {
 }
 
 /// Why answering requests stops.
-#[derive(Clone, Copy, Debug)]
+#[derive(Clone, Copy)]
 enum Pause {
     /// The connection ended.
     Ended(Served),

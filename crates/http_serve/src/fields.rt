@@ -16,7 +16,7 @@ use httparse::spans::{HeaderSpan, Span};
 pub(crate) const MAX_BODY: u64 = 65_536;
 
 /// How often a field name occurs.
-#[derive(Clone, Copy, Debug)]
+#[derive(Clone, Copy)]
 pub(crate) enum Stated {
     /// There is no such field.
     Never,

@@ -19,7 +19,7 @@ pub(crate) const MAX_FIELDS: usize = 32;
 pub const MAX_REQUEST: usize = MAX_HEAD + MAX_BODY as usize;
 
 /// Where the parts of a request are.
-#[derive(Clone, Copy, Debug)]
+#[derive(Clone, Copy)]
 pub(crate) struct Frame {
     pub(crate) method: Span,
     pub(crate) target: Span,
@@ -40,7 +40,7 @@ pub(crate) struct Missing {
 }
 
 /// What bytes begin with.
-#[derive(Clone, Copy, Debug)]
+#[derive(Clone, Copy)]
 pub(crate) enum Next {
     /// A request.
     Whole(Frame),

@@ -112,6 +112,7 @@ impl Reply {
     }
 }
 
+/// The line that says that the connection ends, if it does.
 #[tactic(auto, unfolding(crate::specs::Reply::closing_line))]
 fn closing_line(close: bool) -> &'static [u8]
     ensures value { result.now ≡ closing_line close }

@@ -8,7 +8,7 @@ ghost use Rattle.map_metadata.specs.Summaries.{joined};
 use feature_text::ValueText;
 
 /// The kind of a value, or of all values of a key.
-#[derive(Clone, Copy, Debug, PartialEq, Eq)]
+#[derive(Clone, Copy, PartialEq, Eq)]
 pub(crate) enum FieldKind {
     Text,
     Number,

@@ -24,6 +24,7 @@ pub(crate) struct FeatureLists {
 }
 
 impl FeatureLists {
+    /// Empty lists. It takes no memory.
     pub(crate) fn new(alloc: Global) -> Self {
         FeatureLists {
             indices: Vec::new(alloc),

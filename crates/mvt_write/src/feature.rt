@@ -1,6 +1,6 @@
 //! The messages of features.
 
-ghost use Rattle.std.specs.Prelude.{◌≡◌, ◌++◌, ◌<◌, ◌^◌, IfSome, OnOk};
+ghost use Rattle.std.specs.Prelude.{◌≡◌, ◌++◌, ◌<◌, ◌^◌, [], IfOk, IfSome, OnOk};
 ghost use Rattle.mvt_write.specs.Parts.{type_of, tags_head, geometry_head, message_of};
 ghost use Rattle.mvt_write.specs.Written.{id_written, bytes_field};
 
@@ -24,7 +24,9 @@ pub(crate) struct FeatureHeads {
 
 impl FeatureHeads {
     /// No bytes, and room for most heads.
-    pub fn new(alloc: Global) -> Result<Self, AllocError> {
+    pub fn new(alloc: Global) -> Result<Self, AllocError>
+        ensures empty { IfOk result (λ heads. (heads.tags.items ≡ []) × (heads.geometry.items ≡ [])) }
+    {
         Ok(FeatureHeads {
             tags: Vec::with_capacity(alloc, FIRST_HEAD_BYTES)?,
             geometry: Vec::with_capacity(alloc, FIRST_HEAD_BYTES)?,

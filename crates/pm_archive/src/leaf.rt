@@ -20,7 +20,7 @@ use pm_header::Header;
 use std::alloc::Global;
 use std::marker::Model;
 
-// The entry of a directory that leads to an id.
+/// The entry of a directory that leads to an id.
 #[tactic(auto, unfolding(crate::specs::Looked::leading_of))]
 pub(crate) fn leading(entries: &[DirectoryEntry], id: u64) -> Option<DirectoryEntry>
     requires { IsAscending entries.now }
@@ -29,7 +29,7 @@ pub(crate) fn leading(entries: &[DirectoryEntry], id: u64) -> Option<DirectoryEn
     find(entries, id)
 }
 
-// A leaf directory, and the entry that names it.
+/// A leaf directory, and the entry that names it.
 #[derive(Drop)]
 pub(crate) struct Leaf {
     entry: DirectoryEntry,
@@ -45,7 +45,7 @@ impl Model for Leaf {
 }
 
 impl Leaf {
-    // Reads the leaf directory that an entry names.
+    /// Reads the leaf directory that an entry names.
     pub(crate) fn read<B: Bytes>(
         alloc: Global,
         source: &mut B,
@@ -67,21 +67,21 @@ impl Leaf {
         }
     }
 
-    // Whether this entry names it.
+    /// Whether this entry names it.
     pub(crate) fn is_of(&self, entry: DirectoryEntry) -> bool
         ensures { IsTrue result ↔ (self.now.entry ≡ entry) }
     {
         self.entry == entry
     }
 
-    // Its stored length in bytes.
+    /// Its stored length in bytes.
     pub(crate) fn len(&self) -> u32
         ensures { result ≡ leaf_bytes self.now }
     {
         self.entry.length
     }
 
-    // Its entry that leads to an id.
+    /// Its entry that leads to an id.
     pub(crate) fn leading(&self, id: u64) -> Option<DirectoryEntry>
         ensures { result ≡ leading_of id self.now.entries }
     {

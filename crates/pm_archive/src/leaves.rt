@@ -20,7 +20,7 @@ use pm_header::Header;
 use std::alloc::Global;
 use std::marker::Model;
 
-// Cached leaf directories, the latest at the end.
+/// Cached leaf directories, the latest at the end.
 #[derive(Drop)]
 pub(crate) struct Leaves {
     all: Vec<Leaf>,
@@ -37,7 +37,7 @@ impl Model for Leaves {
 }
 
 impl Leaves {
-    // An empty cache. It allocates nothing.
+    /// An empty cache. It allocates nothing.
     pub(crate) fn none(alloc: Global) -> Leaves
         ensures { result ≡ [] }
     {
@@ -47,7 +47,7 @@ impl Leaves {
         }
     }
 
-    // The directory that this entry names, if it is cached.
+    /// The directory that this entry names, if it is cached.
     fn find(&self, entry: DirectoryEntry) -> Option<&Leaf>
         ensures of_entry { IfSome result (λ leaf. leaf.now.entry ≡ entry) }
         ensures cached { IfSome result (λ leaf. Contains self.now leaf.now) }
@@ -64,7 +64,7 @@ impl Leaves {
         None
     }
 
-    // Drops all of them if a directory of this length wouldn't fit as well.
+    /// Drops all of them if a directory of this length wouldn't fit as well.
     fn make_room(&mut self, length: u32)
         requires { length ≤ MAX_CACHED_LEAF_BYTES }
         ensures { self.new ≡ left_beside length self.old }
@@ -75,7 +75,7 @@ impl Leaves {
         }
     }
 
-    // Adds a directory that fits. If memory runs out, it isn't added.
+    /// Adds a directory that fits. If memory runs out, it isn't added.
     fn push(&mut self, leaf: Leaf)
         requires small { leaf_bytes leaf ≤ MAX_CACHED_LEAF_BYTES }
         requires fits { bytes_of self.old + leaf_bytes leaf ≤ MAX_CACHED_BYTES }
@@ -88,7 +88,7 @@ impl Leaves {
         }
     }
 
-    // Caches a directory if it is small. If it doesn't fit beside the others, they are dropped first. If memory runs out, it isn't cached.
+    /// Caches a directory if it is small. If it doesn't fit beside the others, they are dropped first. If memory runs out, it isn't cached.
     fn insert(&mut self, leaf: Leaf)
         ensures large { MAX_CACHED_LEAF_BYTES < leaf_bytes leaf → self.new ≡ self.old }
         ensures cached { leaf_bytes leaf ≤ MAX_CACHED_LEAF_BYTES → IsCachedBeside leaf self.old self.new }
@@ -105,7 +105,7 @@ impl Leaves {
     }
 }
 
-// The entry that leads to an id in the leaf directory that an entry names. The directory is taken from the cache, or read and cached.
+/// The entry that leads to an id in the leaf directory that an entry names. The directory is taken from the cache, or read and cached.
 #[tactic(auto, unfolding(crate::specs::Looked::leading_at))]
 pub(crate) fn leading_below<B: Bytes>(
     alloc: Global,

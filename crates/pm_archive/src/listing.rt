@@ -18,7 +18,7 @@ use pm_directory::DirectoryEntry;
 use pm_header::Header;
 use std::alloc::Global;
 
-// The bound below which an entry leads to ids, by the entries after it.
+/// The bound below which an entry leads to ids, by the entries after it.
 fn bound_behind(entries: &[DirectoryEntry], bound: u64) -> u64
     ensures { result ≡ bound_of bound entries.now }
 {
@@ -28,7 +28,7 @@ fn bound_behind(entries: &[DirectoryEntry], bound: u64) -> u64
     }
 }
 
-// An id of an entry that is below `from`, or isn't below `bound`.
+/// An id of an entry that is below `from`, or isn't below `bound`.
 fn stray(entry: DirectoryEntry, from: u64, bound: u64) -> Option<u64>
     ensures { result ≡ stray_of from bound entry }
 {
@@ -41,7 +41,7 @@ fn stray(entry: DirectoryEntry, from: u64, bound: u64) -> Option<u64>
     }
 }
 
-// The least id of the entries that is below `from`, or isn't below `bound`.
+/// The least id of the entries that is below `from`, or isn't below `bound`.
 fn least_stray(entries: &[DirectoryEntry], from: u64, bound: u64) -> Option<u64>
     ensures { result ≡ stray_id from bound entries.now }
 {
@@ -53,7 +53,7 @@ fn least_stray(entries: &[DirectoryEntry], from: u64, bound: u64) -> Option<u64>
     None
 }
 
-// Checks that the ids of the entries are from `from` on and below `bound`.
+/// Checks that the ids of the entries are from `from` on and below `bound`.
 fn check_between(entries: &[DirectoryEntry], from: u64, bound: u64) -> Result<(), ArchiveFault>
     ensures { result ≡ stray_fault (stray_id from bound entries.now) }
 {
@@ -63,7 +63,7 @@ fn check_between(entries: &[DirectoryEntry], from: u64, bound: u64) -> Result<()
     }
 }
 
-// The entries of the leaf directory that an entry names, if their ids are below the bound.
+/// The entries of the leaf directory that an entry names, if their ids are below the bound.
 #[tactic(auto, unfolding(crate::specs::Reading::leaf_at))]
 fn leaf_of<B: Bytes>(
     alloc: Global,
@@ -85,7 +85,7 @@ fn leaf_of<B: Bytes>(
     Ok(entries)
 }
 
-// Adds a tile entry.
+/// Adds a tile entry.
 #[tactic(auto, unfolding(crate::specs::Reading::tile_at))]
 fn push_tile(
     header: &Header,
@@ -106,7 +106,7 @@ fn push_tile(
     }
 }
 
-// Adds what an entry lists; `more` is the number of levels of leaf directories that may follow.
+/// Adds what an entry lists; `more` is the number of levels of leaf directories that may follow.
 #[cycle(listing)]
 fn push_listed<B: Bytes>(
     alloc: Global,
@@ -136,7 +136,7 @@ fn push_listed<B: Bytes>(
     push_each(alloc, source, header, &entries, bound, more - 1, tiles)
 }
 
-// Adds what the entries list, one after the other.
+/// Adds what the entries list, one after the other.
 #[cycle(listing)]
 fn push_each<B: Bytes>(
     alloc: Global,
@@ -161,7 +161,7 @@ fn push_each<B: Bytes>(
     Ok(())
 }
 
-// The tile entries of a root directory and its leaf directories, or the first fault.
+/// The tile entries of a root directory and its leaf directories, or the first fault.
 pub(crate) fn entries_below<B: Bytes>(
     alloc: Global,
     source: &mut B,

@@ -22,7 +22,7 @@ use pm_directory::DirectoryEntry;
 use pm_header::Header;
 use std::alloc::Global;
 
-// The tile entry that an entry is, or to which its leaf directory leads; `more` is the number of levels of leaf directories that may follow.
+/// The tile entry that an entry is, or to which its leaf directory leads; `more` is the number of levels of leaf directories that may follow.
 #[tactic(auto, unfolding(crate::specs::Looked::reached_at))]
 fn tile_entry<B: Bytes>(
     alloc: Global,
@@ -62,7 +62,7 @@ fn tile_entry<B: Bytes>(
     tile_entry(alloc, source, header, below, cached, id, more - 1)
 }
 
-// The content of a tile entry, if there is one.
+/// The content of a tile entry, if there is one.
 #[tactic(auto, unfolding(crate::specs::Looked::content_at, crate::specs::Reading::content_of_tile))]
 fn content_in<B: Bytes>(
     alloc: Global,
@@ -84,7 +84,7 @@ fn content_in<B: Bytes>(
     Ok(Some(content))
 }
 
-// The content of an id, by the directories on the way to its entry: cached ones, and others that are read and cached.
+/// The content of an id, by the directories on the way to its entry: cached ones, and others that are read and cached.
 pub(crate) fn content_below<B: Bytes>(
     alloc: Global,
     source: &mut B,

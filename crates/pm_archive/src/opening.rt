@@ -19,7 +19,7 @@ use pm_directory::DirectoryEntry;
 use pm_header::{HEADER_BYTES, Header, HeaderFault, SectionSpan};
 use std::alloc::Global;
 
-// The header with which the bytes begin.
+/// The header with which the bytes begin.
 fn header_in<B: Bytes>(source: &mut B) -> Result<Header, ArchiveFault>
     ensures source { Keeps B.count B.holds B.unchanged source.old source.new }
     ensures found { (bytes : List ℕ) → B.holds source.new bytes → IfOk result (IsHeader bytes) }
@@ -42,14 +42,14 @@ fn header_in<B: Bytes>(source: &mut B) -> Result<Header, ArchiveFault>
     }
 }
 
-// Whether the section ends inside the first `count` bytes.
+/// Whether the section ends inside the first `count` bytes.
 fn ends_by(section: SectionSpan, count: u64) -> bool
     ensures { IsTrue result ↔ (end_of section ≤ count) }
 {
     section.offset <= count && section.length <= count - section.offset
 }
 
-// The first section that isn't inside a file of `count` bytes, or the root directory if it isn't early enough.
+/// The first section that isn't inside a file of `count` bytes, or the root directory if it isn't early enough.
 fn misplaced(header: &Header, count: u64) -> Option<Section>
     ensures section { IfSome result (IsMisplaced count header.now) }
     ensures none { IfNone result (ArePlaced count header.now) }
@@ -67,7 +67,7 @@ fn misplaced(header: &Header, count: u64) -> Option<Section>
     }
 }
 
-// The header, and the entries of the root directory.
+/// The header, and the entries of the root directory.
 pub(crate) fn header_and_root<B: Bytes>(
     alloc: Global,
     source: &mut B,

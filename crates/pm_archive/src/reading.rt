@@ -17,7 +17,7 @@ use pm_directory::{DirectoryEntry, DirectoryFault, read_directory};
 use pm_header::{Header, SectionSpan};
 use std::alloc::Global;
 
-// Reads the bytes from an offset on, as many as `into` has.
+/// Reads the bytes from an offset on, as many as `into` has.
 fn read_into<B: Bytes>(source: &mut B, offset: u64, into: &mut [u8]) -> Result<(), ArchiveFault>
     requires { offset + length into.old ≤ B.count source.old }
     ensures source { Keeps B.count B.holds B.unchanged source.old source.new }
@@ -30,7 +30,7 @@ fn read_into<B: Bytes>(source: &mut B, offset: u64, into: &mut [u8]) -> Result<(
     }
 }
 
-// `count` bytes from an offset on.
+/// `count` bytes from an offset on.
 pub(crate) fn bytes_at<B: Bytes>(
     alloc: Global,
     source: &mut B,
@@ -55,7 +55,7 @@ pub(crate) fn bytes_at<B: Bytes>(
     Ok(bytes)
 }
 
-// The archive's fault for a fault of the directory at an offset.
+/// The archive's fault for a fault of the directory at an offset.
 fn directory_fault(offset: u64, fault: DirectoryFault) -> ArchiveFault
     ensures { result ≡ fault_at offset fault }
 {
@@ -65,7 +65,7 @@ fn directory_fault(offset: u64, fault: DirectoryFault) -> ArchiveFault
     }
 }
 
-// The entries of the directory at an offset.
+/// The entries of the directory at an offset.
 pub(crate) fn directory_from<B: Bytes>(
     alloc: Global,
     source: &mut B,
@@ -87,14 +87,14 @@ pub(crate) fn directory_from<B: Bytes>(
     }
 }
 
-// Whether the bytes of an entry are inside its section.
+/// Whether the bytes of an entry are inside its section.
 pub(crate) fn lies_in(section: SectionSpan, entry: DirectoryEntry) -> bool
     ensures { IsTrue result ↔ LiesIn section entry }
 {
     entry.offset <= section.length && u64::from(entry.length) <= section.length - entry.offset
 }
 
-// The offset in the source of the bytes of an entry of a section.
+/// The offset in the source of the bytes of an entry of a section.
 fn offset_of<B: Bytes>(
     source: &B,
     section: SectionSpan,
@@ -112,7 +112,7 @@ fn offset_of<B: Bytes>(
     Ok(section.offset + entry.offset)
 }
 
-// The entries of the leaf directory that an entry names, with any ids.
+/// The entries of the leaf directory that an entry names, with any ids.
 #[tactic(auto, unfolding(crate::specs::Reading::directory_of_entry))]
 pub(crate) fn directory_of<B: Bytes>(
     alloc: Global,
@@ -133,7 +133,7 @@ pub(crate) fn directory_of<B: Bytes>(
     directory_from(alloc, source, offset, u64::from(entry.length))
 }
 
-// The content of a tile entry.
+/// The content of a tile entry.
 #[tactic(auto, unfolding(crate::specs::Reading::content_of_tile))]
 pub(crate) fn content_of<B: Bytes>(
     alloc: Global,

@@ -1,4 +1,5 @@
 -- The header of an archive whose sections are stored without gaps.
+use Rattle.pm_header.specs.declared.header.TheConstants.{HEADER_BYTES}
 use Rattle.std.specs.Prelude.{◌≡◌, ℕ, ◌+◌, ◌-◌, pos, negsuc, List, ◌++◌, length, map, Some, slice_get, Contains}
 use Rattle.std.specs.List.{AllByRecursion, concat}
 use Rattle.hilbert_id.specs.Curve.{IsTileId}
@@ -56,11 +57,11 @@ lengths_of root metadata leaves contents = record { root = length root; metadata
 -- the bytes are the header and these sections, one after the other
 abbrev pub AreJoined : List ℕ → Header → List ℕ → List ℕ → List ℕ → List ℕ → Type 0
 AreJoined bytes h root metadata leaves contents =
-    (front : List ℕ) × IsHeader front h × (length front ≡ 127) × (bytes ≡ front ++ (root ++ (metadata ++ (leaves ++ contents))))
+    (front : List ℕ) × IsHeader front h × (length front ≡ HEADER_BYTES) × (bytes ≡ front ++ (root ++ (metadata ++ (leaves ++ contents))))
 
 -- the bytes are the header and the sections before the contents, one after the other
 abbrev pub IsFront : List ℕ → Header → List ℕ → List ℕ → List ℕ → Type 0
-IsFront bytes h root metadata leaves = (head : List ℕ) × IsHeader head h × (length head ≡ 127) × (bytes ≡ head ++ (root ++ (metadata ++ leaves)))
+IsFront bytes h root metadata leaves = (head : List ℕ) × IsHeader head h × (length head ≡ HEADER_BYTES) × (bytes ≡ head ++ (root ++ (metadata ++ leaves)))
 
 -- what a header counts: the tiles, their longest runs, and their different contents
 abbrev pub counts_of : List Tile → List TileRun → List (List ℕ) → Counts

@@ -1,5 +1,6 @@
 //! Builds an archive from tiles.
 
+ghost use Rattle.pm_header.specs.declared.header.TheConstants.{HEADER_BYTES};
 ghost use Rattle.std.specs.Prelude.{ℕ, ◌≡◌, ◌≢◌, ◌+◌, ◌*◌, ◌<◌, ◌≤◌, ◌^◌, ◌↔◌, List, [], ◌∷◌, ◌++◌, length, Err, OnOk, OnErr, IfOk, IsTrue, map, Contains};
 ghost use Rattle.std.specs.List.{AllByRecursion, concat};
 ghost use Rattle.pm_build.specs.Building.{CanAdd, AreTooMany, AreFew};
@@ -120,8 +121,8 @@ impl ArchiveBuilder {
         ensures header { IfOk result (λ a. AreLaidOut (archive_bytes a) self metadata.now) }
         ensures size { IfOk result (λ a. (runs : List TileRun) × (contents : List (List ℕ)) × AreLongestRuns self runs × (length runs ≤ MAX_ENTRIES)
             × AreDifferent contents × AllByRecursion (λ c. Contains (map (λ r. r.content) runs) c) contents
-            × (length (archive_bytes a) ≤ 127 + length metadata.now + 64 * length runs + length (concat contents))) }
-        ensures least { IfOk result (λ a. 127 + length metadata.now + length (concat (contents_of self)) ≤ length (archive_bytes a)) }
+            × (length (archive_bytes a) ≤ HEADER_BYTES + length metadata.now + 64 * length runs + length (concat contents))) }
+        ensures least { IfOk result (λ a. HEADER_BYTES + length metadata.now + length (concat (contents_of self)) ≤ length (archive_bytes a)) }
         ensures contents { IfOk result (λ a. a.contents.items ≡ concat (contents_of self)) }
     {
         let front = front_of_runs(

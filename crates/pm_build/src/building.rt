@@ -1,5 +1,6 @@
 //! Writes what is stored before the contents of an archive.
 
+ghost use Rattle.pm_header.specs.declared.header.TheConstants.{HEADER_BYTES};
 ghost use Rattle.std.specs.Prelude.{◌≡◌, ℕ, ◌+◌, ◌*◌, ◌^◌, ◌<◌, ◌≤◌, ◌++◌, [], List, length, IfOk, map};
 ghost use Rattle.std.specs.List.{concat};
 ghost use Rattle.pm_build.specs.Tiles.{AreTiles};
@@ -22,14 +23,14 @@ use pm_directory::DirectoryEntry;
 use pm_header::{HEADER_BYTES, Header};
 use std::alloc::{AllocError, Global};
 
-// The header and the sections before the contents, one after the other.
+/// The header and the sections before the contents, one after the other.
 fn joined(
     alloc: Global,
     header: &Header,
     directories: &Directories,
     metadata: &[u8],
 ) -> Result<Vec<u8>, AllocError>
-    requires { 127 + length directories.now.root.items + length metadata.now + length directories.now.leaves.items < 2 ^ 64 }
+    requires { HEADER_BYTES + length directories.now.root.items + length metadata.now + length directories.now.leaves.items < 2 ^ 64 }
     ensures { IfOk result (λ front. IsFront front.items header.now directories.now.root.items metadata.now directories.now.leaves.items) }
 {
     let sections = directories.root.len() + metadata.len() + directories.leaves.len();
@@ -41,7 +42,7 @@ fn joined(
     Ok(front)
 }
 
-// The zooms of the first and of the last tile.
+/// The zooms of the first and of the last tile.
 fn zooms_of(runs: &[Run], contents: &Contents) -> (u8, u8)
     requires some { 0 < length runs.now }
     requires tiles { AreTiles (tiles_in (run_views contents.now runs.now)) }
@@ -53,7 +54,7 @@ fn zooms_of(runs: &[Run], contents: &Contents) -> (u8, u8)
     (first, last)
 }
 
-// The header of the archive of these runs.
+/// The header of the archive of these runs.
 fn header_for_runs(
     runs: &[Run],
     addressed: u64,
@@ -65,7 +66,7 @@ fn header_for_runs(
     requires tiles { AreTiles (tiles_in (run_views contents.now runs.now)) }
     requires longest { AreLongestRuns (tiles_in (run_views contents.now runs.now)) (run_views contents.now runs.now) }
     requires addressed { addressed ≡ length (tiles_in (run_views contents.now runs.now)) }
-    requires fits { 127 + length directories.now.root.items + length metadata.now + length directories.now.leaves.items < 2 ^ 64 }
+    requires fits { HEADER_BYTES + length directories.now.root.items + length metadata.now + length directories.now.leaves.items < 2 ^ 64 }
     ensures { (min_zoom max_zoom : ℕ) × AreZooms (tiles_in (run_views contents.now runs.now)) min_zoom max_zoom
         × (result ≡ header_for (lengths_of directories.now.root.items metadata.now directories.now.leaves.items (concat contents.now))
         record {
@@ -89,7 +90,7 @@ fn header_for_runs(
     header_of(lengths, counts, min_zoom, max_zoom)
 }
 
-// What is stored before the contents, by the entries of the runs.
+/// What is stored before the contents, by the entries of the runs.
 fn front_of(
     alloc: Global,
     runs: &[Run],
@@ -108,8 +109,8 @@ fn front_of(
     requires metadata { IsMetadata metadata.now }
     ensures archive { IfOk result (λ front. IsArchiveOf (front.items ++ concat contents.now) (tile_content (tiles_in (run_views contents.now runs.now)))) }
     ensures header { IfOk result (λ front. AreLaidOut (front.items ++ concat contents.now) (tiles_in (run_views contents.now runs.now)) metadata.now) }
-    ensures size { IfOk result (λ front. length front.items ≤ 127 + length metadata.now + 64 * length entries.now) }
-    ensures least { IfOk result (λ front. 127 + length metadata.now ≤ length front.items) }
+    ensures size { IfOk result (λ front. length front.items ≤ HEADER_BYTES + length metadata.now + 64 * length entries.now) }
+    ensures least { IfOk result (λ front. HEADER_BYTES + length metadata.now ≤ length front.items) }
 {
     let directories = write_directories(alloc, entries)?;
     let header = header_for_runs(runs, addressed, contents, &directories, metadata);
@@ -134,8 +135,8 @@ pub(crate) fn front_of_runs(
     requires metadata { IsMetadata metadata.now }
     ensures archive { IfOk result (λ front. IsArchiveOf (front.items ++ concat contents.now) (tile_content (tiles_in (run_views contents.now runs.now)))) }
     ensures header { IfOk result (λ front. AreLaidOut (front.items ++ concat contents.now) (tiles_in (run_views contents.now runs.now)) metadata.now) }
-    ensures size { IfOk result (λ front. length front.items ≤ 127 + length metadata.now + 64 * length runs.now) }
-    ensures least { IfOk result (λ front. 127 + length metadata.now ≤ length front.items) }
+    ensures size { IfOk result (λ front. length front.items ≤ HEADER_BYTES + length metadata.now + 64 * length runs.now) }
+    ensures least { IfOk result (λ front. HEADER_BYTES + length metadata.now ≤ length front.items) }
 {
     let entries = entries_of(alloc, runs, contents)?;
     front_of(alloc, runs, addressed, contents, &entries, metadata)

@@ -10,11 +10,11 @@ use crate::limit::MAX_ENTRIES;
 use pm_directory::{DirectoryEntry, write_directory};
 use std::alloc::{AllocError, Global};
 
-// The most tile entries of a root directory, and of a leaf directory.
+/// The most tile entries of a root directory, and of a leaf directory.
 const DIRECTORY_ENTRIES: usize = 512;
 
 /// The bytes of the directories of an archive.
-#[derive(Debug, Drop)]
+#[derive(Drop)]
 pub(crate) struct Directories {
     /// The root directory.
     pub(crate) root: Vec<u8>,
@@ -23,13 +23,13 @@ pub(crate) struct Directories {
 }
 
 /// Leaf directories, and the entries that name them.
-#[derive(Debug, Drop)]
+#[derive(Drop)]
 struct Leaves {
     names: Vec<DirectoryEntry>,
     bytes: Vec<u8>,
 }
 
-// Adds a leaf directory of these entries.
+/// Adds a leaf directory of these entries.
 fn push_leaf(
     alloc: Global,
     leaves: &mut Leaves,
@@ -56,7 +56,7 @@ fn push_leaf(
     Ok(())
 }
 
-// Leaf directories of these entries: 512 in each, the rest in the last.
+/// Leaf directories of these entries: 512 in each, the rest in the last.
 fn write_leaves(alloc: Global, entries: &[DirectoryEntry]) -> Result<Leaves, AllocError>
     requires ascending { IsAscending entries.now }
     requires each { AllByRecursion IsEntry entries.now }

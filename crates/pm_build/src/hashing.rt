@@ -5,10 +5,10 @@ ghost use Rattle.pm_build.specs.Hashing.{mixed, words_hash, with_bytes, content_
 
 use byteorder::{ByteOrder, LittleEndian};
 
-// An odd number whose multiples spread over 64 bits.
+/// An odd number whose multiples spread over 64 bits.
 const FACTOR: u64 = 0x9e37_79b9_7f4a_7c15;
 
-// The hash with one number more.
+/// The hash with one number more.
 #[tactic(auto, unfolding(crate::specs::Hashing::mixed))]
 fn mixed(hash: u64, number: u64) -> u64
     ensures { result ≡ mixed hash number }
@@ -16,7 +16,7 @@ fn mixed(hash: u64, number: u64) -> u64
     hash.wrapping_mul(FACTOR).wrapping_add(number)
 }
 
-// The hash of the length and of the first `words` words of eight bytes.
+/// The hash of the length and of the first `words` words of eight bytes.
 #[tactic(auto, using(crate::proofs::Words::words_none, crate::proofs::Words::words_next))]
 fn hash_of_words(bytes: &[u8], words: usize) -> u64
     requires { 8 * words ≤ length bytes.now }
@@ -29,7 +29,7 @@ fn hash_of_words(bytes: &[u8], words: usize) -> u64
     hash
 }
 
-// The hash with these bytes more.
+/// The hash with these bytes more.
 fn with_bytes(hash: u64, bytes: &[u8]) -> u64
     ensures { result ≡ with_bytes hash bytes.now }
 {

@@ -1,5 +1,6 @@
 //! The header of an archive whose sections are stored without gaps.
 
+ghost use Rattle.pm_header.specs.declared.header.TheConstants.{HEADER_BYTES};
 ghost use Rattle.std.specs.Prelude.{◌≡◌, ◌+◌, ◌<◌, ◌^◌};
 ghost use Rattle.pm_build.specs.Laid.{IsZoomOf, header_for};
 
@@ -7,7 +8,7 @@ use hilbert_id::{TILE_IDS, tile_of};
 use pm_header::{CLUSTERED, HEADER_BYTES, Header, NOT_COMPRESSED, SectionSpan, VECTOR_TILES};
 
 /// The lengths of the sections in bytes.
-#[derive(Clone, Copy, Debug, PartialEq, Eq)]
+#[derive(Clone, Copy, PartialEq, Eq)]
 pub(crate) struct Lengths {
     pub(crate) root: u64,
     pub(crate) metadata: u64,
@@ -16,17 +17,17 @@ pub(crate) struct Lengths {
 }
 
 /// The numbers of tiles, of tile entries and of different contents.
-#[derive(Clone, Copy, Debug, PartialEq, Eq)]
+#[derive(Clone, Copy, PartialEq, Eq)]
 pub(crate) struct Counts {
     pub(crate) addressed: u64,
     pub(crate) entries: u64,
     pub(crate) contents: u64,
 }
 
-// The eastern edge of the map, in 1/10,000,000 of a degree.
+/// The eastern edge of the map, in 1/10,000,000 of a degree.
 const EAST: i32 = 1_800_000_000;
 
-// The northern edge of the map, in 1/10,000,000 of a degree.
+/// The northern edge of the map, in 1/10,000,000 of a degree.
 const NORTH: i32 = 850_511_287;
 
 /// The zoom of a tile id.
@@ -43,7 +44,7 @@ pub(crate) fn zoom_of(id: u64) -> u8
 /// The header of sections of these lengths, in the order root directory, metadata, leaf directories, contents.
 #[tactic(auto, unfolding(crate::specs::Laid::header_for))]
 pub(crate) fn header_of(lengths: Lengths, counts: Counts, min_zoom: u8, max_zoom: u8) -> Header
-    requires { 127 + lengths.root + lengths.metadata + lengths.leaves < 2 ^ 64 }
+    requires { HEADER_BYTES + lengths.root + lengths.metadata + lengths.leaves < 2 ^ 64 }
     ensures { result ≡ header_for lengths counts min_zoom max_zoom }
 {
     let metadata = HEADER_BYTES as u64 + lengths.root;

@@ -7,7 +7,7 @@ ghost use Rattle.pm_directory.specs.declared.entry.DirectoryEntry.{DirectoryEntr
 
 use crate::entry::DirectoryEntry;
 
-// The number of entries whose id is at most this one.
+/// The number of entries whose id is at most this one.
 fn count_up_to(entries: &[DirectoryEntry], id: u64) -> usize
     requires { IsAscending entries.now }
     ensures within { result ≤ length entries.now }
@@ -16,7 +16,7 @@ fn count_up_to(entries: &[DirectoryEntry], id: u64) -> usize
     entries.partition_point(|entry| entry.id <= id)
 }
 
-// Whether the entry names a leaf directory, or its run has the id.
+/// Whether the entry names a leaf directory, or its run has the id.
 fn leads_to(entry: DirectoryEntry, id: u64) -> bool
     requires { entry.id ≤ id }
     ensures { IsTrue result ↔ LeadsTo id entry }

@@ -8,7 +8,7 @@ use crate::fault::DirectoryFault;
 use pb_wire::{FaultKind, get_varint};
 use std::alloc::Global;
 
-// The first number, and the bytes after it.
+/// The first number, and the bytes after it.
 #[tactic(auto, unfolding(crate::specs::Reading::number_at, crate::specs::Reading::number_of))]
 pub(crate) fn number(bytes: &[u8]) -> Result<(u64, &[u8]), DirectoryFault>
     ensures exact { Reads (λ x. (x.0, x.1.now)) result (number_at bytes.now) }
@@ -23,7 +23,7 @@ pub(crate) fn number(bytes: &[u8]) -> Result<(u64, &[u8]), DirectoryFault>
     }
 }
 
-// The first `count` numbers, and the bytes after them.
+/// The first `count` numbers, and the bytes after them.
 pub(crate) fn numbers(
     alloc: Global,
     count: usize,

@@ -13,7 +13,7 @@ use crate::numbers::{number, numbers};
 use hilbert_id::TILE_IDS;
 use std::alloc::Global;
 
-// The id that is greater by `delta` than that of the previous entry.
+/// The id that is greater by `delta` than that of the previous entry.
 fn id_behind(before: Option<DirectoryEntry>, delta: u64) -> Result<u64, DirectoryFault>
     ensures { result ≡ id_at before delta }
 {
@@ -24,7 +24,7 @@ fn id_behind(before: Option<DirectoryEntry>, delta: u64) -> Result<u64, Director
     }
 }
 
-// The run of an entry of this id, from its number.
+/// The run of an entry of this id, from its number.
 fn run_of(id: u64, run: u64) -> Result<u32, DirectoryFault>
     ensures { result ≡ run_at id run }
 {
@@ -34,7 +34,7 @@ fn run_of(id: u64, run: u64) -> Result<u32, DirectoryFault>
     Ok(run as u32)
 }
 
-// The length of an entry, from its number.
+/// The length of an entry, from its number.
 fn length_of(length: u64) -> Result<u32, DirectoryFault>
     ensures { result ≡ length_at length }
 {
@@ -44,7 +44,7 @@ fn length_of(length: u64) -> Result<u32, DirectoryFault>
     u32::try_from(length).map_err(|_| DirectoryFault::Range)
 }
 
-// The offset of an entry, from its number: 0 means the end of the previous entry's bytes, any other number the number less 1.
+/// The offset of an entry, from its number: 0 means the end of the previous entry's bytes, any other number the number less 1.
 fn offset_behind(before: Option<DirectoryEntry>, number: u64) -> Result<u64, DirectoryFault>
     ensures { result ≡ offset_of before number }
 {
@@ -60,7 +60,7 @@ fn offset_behind(before: Option<DirectoryEntry>, number: u64) -> Result<u64, Dir
     }
 }
 
-// The entry after another one, from a number of each column.
+/// The entry after another one, from a number of each column.
 #[tactic(auto, unfolding(crate::specs::Reading::entry_at))]
 fn entry_behind(
     before: Option<DirectoryEntry>,
@@ -83,7 +83,7 @@ fn entry_behind(
     })
 }
 
-// The entries of four columns.
+/// The entries of four columns.
 fn entries_of(
     alloc: Global,
     deltas: &[u64],
@@ -107,7 +107,7 @@ fn entries_of(
     Ok(entries)
 }
 
-// The number of entries, and the bytes after it. Each number of their columns has a byte or more.
+/// The number of entries, and the bytes after it. Each number of their columns has a byte or more.
 #[tactic(auto, unfolding(crate::specs::Reading::columns_at))]
 fn count_of(bytes: &[u8]) -> Result<(usize, &[u8]), DirectoryFault>
     ensures count { IfOk result (λ x. (number_at bytes.now ≡ Ok (x.0, x.1.now)) × (4 * x.0 ≤ length x.1.now)) }
@@ -121,7 +121,7 @@ fn count_of(bytes: &[u8]) -> Result<(usize, &[u8]), DirectoryFault>
     Ok((count as usize, rest))
 }
 
-// Checks that there are no bytes after the last number.
+/// Checks that there are no bytes after the last number.
 fn check_end(rest: &[u8]) -> Result<(), DirectoryFault>
     ensures end { OnOk result (length rest.now ≡ 0) }
     ensures fault { IfErr result (λ fault. (fault ≡ DirectoryFault.Rest) × (0 < length rest.now)) }
@@ -132,7 +132,7 @@ fn check_end(rest: &[u8]) -> Result<(), DirectoryFault>
     Ok(())
 }
 
-// The number of entries, and the numbers of their four columns, one column after the other.
+/// The number of entries, and the numbers of their four columns, one column after the other.
 #[tactic(auto, unfolding(crate::specs::Reading::columns_at))]
 fn columns(alloc: Global, bytes: &[u8]) -> Result<(usize, Vec<u64>), DirectoryFault>
     ensures four { IfOk result (λ x. length x.1.items ≡ 4 * x.0) }
@@ -146,7 +146,7 @@ fn columns(alloc: Global, bytes: &[u8]) -> Result<(usize, Vec<u64>), DirectoryFa
     Ok((count, numbers))
 }
 
-// The entries of a directory, or its first fault.
+/// The entries of a directory, or its first fault.
 #[tactic(auto, unfolding(crate::specs::Reading::directory_at))]
 fn entries_in(alloc: Global, bytes: &[u8]) -> Result<Vec<DirectoryEntry>, DirectoryFault>
     ensures exact { Gives DirectoryFault.Memory (λ entries. entries.items) result (directory_at bytes.now) }

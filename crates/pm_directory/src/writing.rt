@@ -9,7 +9,7 @@ use crate::entry::DirectoryEntry;
 use pb_wire::put_varint;
 use std::alloc::{AllocError, Global};
 
-// Appends the column of ids, each as the difference from the previous one.
+/// Appends the column of ids, each as the difference from the previous one.
 fn put_deltas(out: &mut Vec<u8>, entries: &[DirectoryEntry]) -> Result<(), AllocError>
     requires { IsAscending entries.now }
     ensures { OnOk result (out.new.items ≡ out.old.items ++ varints (id_deltas 0 entries.now)) }
@@ -22,7 +22,7 @@ fn put_deltas(out: &mut Vec<u8>, entries: &[DirectoryEntry]) -> Result<(), Alloc
     Ok(())
 }
 
-// Appends the column of runs.
+/// Appends the column of runs.
 fn put_runs(out: &mut Vec<u8>, entries: &[DirectoryEntry]) -> Result<(), AllocError>
     ensures { OnOk result (out.new.items ≡ out.old.items ++ varints (runs_of entries.now)) }
 {
@@ -32,7 +32,7 @@ fn put_runs(out: &mut Vec<u8>, entries: &[DirectoryEntry]) -> Result<(), AllocEr
     Ok(())
 }
 
-// Appends the column of lengths.
+/// Appends the column of lengths.
 fn put_lengths(out: &mut Vec<u8>, entries: &[DirectoryEntry]) -> Result<(), AllocError>
     ensures { OnOk result (out.new.items ≡ out.old.items ++ varints (lengths_of entries.now)) }
 {
@@ -42,7 +42,7 @@ fn put_lengths(out: &mut Vec<u8>, entries: &[DirectoryEntry]) -> Result<(), Allo
     Ok(())
 }
 
-// The number of an offset, after a previous entry whose bytes end at `end`.
+/// The number of an offset, after a previous entry whose bytes end at `end`.
 fn number_of_offset(end: Option<u64>, offset: u64) -> u64
     requires { offset + 1 < 2 ^ 64 }
     ensures { result ≡ offset_number end offset }
@@ -53,6 +53,7 @@ fn number_of_offset(end: Option<u64>, offset: u64) -> u64
     }
 }
 
+/// Appends the offsets, each as 0 where the entry before it ends there, and otherwise as the offset and one more (PMTiles 3, 4.2).
 fn put_offsets(out: &mut Vec<u8>, entries: &[DirectoryEntry]) -> Result<(), AllocError>
     requires { AllByRecursion HasEnd entries.now }
     ensures { OnOk result (out.new.items ≡ out.old.items ++ varints (offset_numbers None entries.now)) }

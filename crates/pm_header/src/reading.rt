@@ -7,7 +7,7 @@ use crate::header::{HEADER_BYTES, Header};
 use crate::section_span::SectionSpan;
 use byteorder::{ByteOrder, LittleEndian};
 
-// The 8-byte number at an offset, least significant byte first.
+/// The 8-byte number at an offset, least significant byte first.
 fn number(bytes: &[u8], at: usize) -> u64
     requires { at + 8 ≤ length bytes.now }
     ensures { result ≡ number_at at bytes.now }
@@ -15,7 +15,7 @@ fn number(bytes: &[u8], at: usize) -> u64
     LittleEndian::read_u64(&bytes[at..at + 8])
 }
 
-// The signed 4-byte number at an offset, least significant byte first.
+/// The signed 4-byte number at an offset, least significant byte first.
 fn position(bytes: &[u8], at: usize) -> i32
     requires { at + 4 ≤ length bytes.now }
     ensures { result ≡ position_at at bytes.now }
@@ -23,7 +23,7 @@ fn position(bytes: &[u8], at: usize) -> i32
     LittleEndian::read_i32(&bytes[at..at + 4])
 }
 
-// The offset and the length of a section, two numbers from an offset on.
+/// The offset and the length of a section, two numbers from an offset on.
 fn part(bytes: &[u8], at: usize) -> SectionSpan
     requires { at + 16 ≤ length bytes.now }
     ensures { result ≡ part_at at bytes.now }
@@ -34,7 +34,7 @@ fn part(bytes: &[u8], at: usize) -> SectionSpan
     }
 }
 
-// The header in the first 127 bytes.
+/// The header in the first 127 bytes.
 pub(crate) fn fields(bytes: &[u8]) -> Header
     requires { HEADER_BYTES ≤ length bytes.now }
     ensures { result ≡ header_at bytes.now }

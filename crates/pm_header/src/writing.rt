@@ -13,7 +13,7 @@ pub(crate) const MAGIC: [u8; 7] = *b"PMTiles";
 /// The version of the format, the byte after them.
 pub(crate) const VERSION: u8 = 3;
 
-// Writes the bytes of a field at an offset.
+/// Writes the bytes of a field at an offset.
 fn put<const N: usize>(bytes: &mut [u8], at: usize, field: [u8; N])
     requires { at + N ≤ length bytes.old }
     ensures { take (at + N) bytes.new ≡ take at bytes.old ++ field.entry }
@@ -21,7 +21,7 @@ fn put<const N: usize>(bytes: &mut [u8], at: usize, field: [u8; N])
     bytes[at..at + N].copy_from_slice(&field);
 }
 
-// Writes an 8-byte number at an offset, least significant byte first.
+/// Writes an 8-byte number at an offset, least significant byte first.
 fn put_number(bytes: &mut [u8], at: usize, number: u64)
     requires { at + 8 ≤ length bytes.old }
     ensures { take (at + 8) bytes.new ≡ take at bytes.old ++ little_8 number }
@@ -29,7 +29,7 @@ fn put_number(bytes: &mut [u8], at: usize, number: u64)
     LittleEndian::write_u64(&mut bytes[at..at + 8], number);
 }
 
-// Writes a signed 4-byte number at an offset, least significant byte first.
+/// Writes a signed 4-byte number at an offset, least significant byte first.
 fn put_position(bytes: &mut [u8], at: usize, position: i32)
     requires { at + 4 ≤ length bytes.old }
     ensures { take (at + 4) bytes.new ≡ take at bytes.old ++ to_le_bytes w32 (cast_unsigned w32 position) }
@@ -37,7 +37,7 @@ fn put_position(bytes: &mut [u8], at: usize, position: i32)
     LittleEndian::write_i32(&mut bytes[at..at + 4], position);
 }
 
-// Writes the offset and the length of a section at an offset.
+/// Writes the offset and the length of a section at an offset.
 fn put_part(bytes: &mut [u8], at: usize, part: SectionSpan)
     requires { at + 16 ≤ length bytes.old }
     ensures { take (at + 16) bytes.new ≡ take at bytes.old ++ little_8 part.offset ++ little_8 part.length }
@@ -46,7 +46,7 @@ fn put_part(bytes: &mut [u8], at: usize, part: SectionSpan)
     put_number(bytes, at + 8, part.length);
 }
 
-// The bytes of a header.
+/// The bytes of a header.
 pub(crate) fn header_bytes(header: Header) -> [u8; HEADER_BYTES]
     ensures { IsHeader result header }
 {

@@ -7,7 +7,7 @@ ghost use Rattle.serde_json.specs.Errors.{IsMemory};
 use serde_json::{Error, Value};
 use std::alloc::{AllocError, Global};
 
-// The meaning of an error: the bytes aren't a JSON text, or memory ran out.
+/// The meaning of an error: the bytes aren't a JSON text, or memory ran out.
 fn refused(error: &Error) -> Result<bool, AllocError>
     ensures memory { OnErr result (IsMemory error.now) }
     ensures other { IfOk result (λ is. (is ≡ false) × ¬ IsMemory error.now) }

@@ -15,7 +15,7 @@ use pm_directory::DirectoryEntry;
 use std::alloc::{AllocError, Global};
 use std::collections::BTreeSet;
 
-// The meaning of a fault: the bytes aren't a tile, or memory ran out.
+/// The meaning of a fault: the bytes aren't a tile, or memory ran out.
 fn refused(fault: TileFault) -> Result<bool, AllocError>
     ensures memory { OnErr result (fault ≡ TileFault.Memory) }
     ensures other { IfOk result (λ is. (is ≡ false) × (fault ≢ TileFault.Memory)) }
@@ -26,7 +26,7 @@ fn refused(fault: TileFault) -> Result<bool, AllocError>
     }
 }
 
-// Whether the bytes are a vector tile.
+/// Whether the bytes are a vector tile.
 pub(crate) fn is_tile(alloc: Global, content: &[u8]) -> Result<bool, AllocError>
     ensures { IfOk result (λ is. IsTrue is ↔ IsTile content.now) }
 {
@@ -36,7 +36,7 @@ pub(crate) fn is_tile(alloc: Global, content: &[u8]) -> Result<bool, AllocError>
     }
 }
 
-// Returns the fault unless the condition holds.
+/// Returns the fault unless the condition holds.
 pub(crate) fn check_holds(is: bool, otherwise: ArchiveFault) -> Result<(), ArchiveFault>
     ensures holds { OnOk result (IsTrue is) }
     ensures fault { IfErr result (λ fault. (fault ≡ otherwise) × ¬ IsTrue is) }
@@ -44,7 +44,7 @@ pub(crate) fn check_holds(is: bool, otherwise: ArchiveFault) -> Result<(), Archi
     if is { Ok(()) } else { Err(otherwise) }
 }
 
-// Decodes the tile of an entry.
+/// Decodes the tile of an entry.
 #[tactic(auto, unfolding(pm_archive::specs::Reading::content_of_tile))]
 fn check_tile<B: Bytes + Drop>(
     alloc: Global,
@@ -67,7 +67,7 @@ fn check_tile<B: Bytes + Drop>(
     }
 }
 
-// Decodes the tile of an entry, unless its bytes were decoded before, and remembers where they are.
+/// Decodes the tile of an entry, unless its bytes were decoded before, and remembers where they are.
 fn check_once<B: Bytes + Drop>(
     alloc: Global,
     archive: &mut Archive<B>,
@@ -96,7 +96,7 @@ fn check_once<B: Bytes + Drop>(
     }
 }
 
-// Decodes the tile of each entry, the same bytes once.
+/// Decodes the tile of each entry, the same bytes once.
 pub(crate) fn check_tiles<B: Bytes + Drop>(
     alloc: Global,
     archive: &mut Archive<B>,

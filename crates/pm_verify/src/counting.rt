@@ -16,7 +16,7 @@ use pm_header::Header;
 use std::alloc::{AllocError, Global};
 use std::collections::BTreeSet;
 
-// The number of ids that the entries have a content for, or the greatest 64-bit number if it is greater.
+/// The number of ids that the entries have a content for, or the greatest 64-bit number if it is greater.
 fn addressed(tiles: &[DirectoryEntry]) -> u64
     ensures { result ≡ min (addressed_by tiles.now) (2 ^ 64 - 1) }
 {
@@ -27,7 +27,7 @@ fn addressed(tiles: &[DirectoryEntry]) -> u64
     sum
 }
 
-// The offsets and lengths of the contents of the entries.
+/// The offsets and lengths of the contents of the entries.
 fn spans(alloc: Global, tiles: &[DirectoryEntry]) -> Result<BTreeSet<(u64, u32)>, AllocError>
     ensures { IfOk result (λ spans. IsFromIterResult span_cmp (map span_of tiles.now) spans) }
 {
@@ -37,7 +37,7 @@ fn spans(alloc: Global, tiles: &[DirectoryEntry]) -> Result<BTreeSet<(u64, u32)>
         .collect(alloc)
 }
 
-// The number of different contents of the entries, by offset and length.
+/// The number of different contents of the entries, by offset and length.
 fn contents(alloc: Global, tiles: &[DirectoryEntry]) -> Result<u64, AllocError>
     ensures { IfOk result (λ n. n ≡ contents_of tiles.now) }
 {
@@ -45,7 +45,7 @@ fn contents(alloc: Global, tiles: &[DirectoryEntry]) -> Result<u64, AllocError>
     Ok(spans.len() as u64)
 }
 
-// The counts of the entries.
+/// The counts of the entries.
 pub(crate) fn report_of(alloc: Global, tiles: &[DirectoryEntry]) -> Result<Report, AllocError>
     ensures { addressed_by tiles.now < 2 ^ 64 → IfOk result (λ report. report ≡ report_of tiles.now) }
 {
@@ -57,14 +57,14 @@ pub(crate) fn report_of(alloc: Global, tiles: &[DirectoryEntry]) -> Result<Repor
     })
 }
 
-// Whether a count of a header is this number, or says that it isn't known.
+/// Whether a count of a header is this number, or says that it isn't known.
 fn says(said: u64, number: u64) -> bool
     ensures { IsTrue result ↔ Says said number }
 {
     said == 0 || said == number
 }
 
-// Checks the counts of a header against those of the entries. The first that differs is the fault.
+/// Checks the counts of a header against those of the entries. The first that differs is the fault.
 pub(crate) fn check_counts(header: &Header, report: Report) -> Result<(), ArchiveFault>
     ensures agree { (tiles : List DirectoryEntry) → report ≡ report_of tiles → OnOk result (HasCounts header.now tiles) }
     ensures other { (tiles : List DirectoryEntry) → report ≡ report_of tiles → IfErr result (IsCountFault header.now tiles) }

@@ -22,7 +22,7 @@ use pm_header::{Header, NOT_COMPRESSED, VECTOR_TILES};
 use pm_metadata::is_metadata;
 use std::alloc::Global;
 
-// Checks that the metadata is a JSON object.
+/// Checks that the metadata is a JSON object.
 fn check_metadata<B: Bytes + Drop>(
     alloc: Global,
     archive: &mut Archive<B>,
@@ -43,7 +43,7 @@ fn check_metadata<B: Bytes + Drop>(
     }
 }
 
-// The counts of the entries, if those of the header agree with them.
+/// The counts of the entries, if those of the header agree with them.
 fn report_on(
     alloc: Global,
     header: &Header,
@@ -62,7 +62,7 @@ fn report_on(
     Ok(report)
 }
 
-// Decodes the tile of each entry, if the tiles are uncompressed vector tiles.
+/// Decodes the tile of each entry, if the tiles are uncompressed vector tiles.
 fn check_vector_tiles<B: Bytes + Drop>(
     alloc: Global,
     archive: &mut Archive<B>,
@@ -84,7 +84,7 @@ fn check_vector_tiles<B: Bytes + Drop>(
     check_tiles(alloc, archive, tiles)
 }
 
-// The counts of the archive, or its first fault.
+/// The counts of the archive, or its first fault.
 fn verdict<B: Bytes + Drop>(alloc: Global, archive: &mut Archive<B>) -> Result<Report, ArchiveFault>
     ensures header { archive.new.header ≡ archive.old.header }
     ensures root { archive.new.root ≡ archive.old.root }

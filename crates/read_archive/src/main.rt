@@ -38,6 +38,7 @@ fn print_header<B: Bytes + Drop>(rt: &HostRuntime, archive: &mut Archive<B>) -> 
     Ok(())
 }
 
+/// Prints the entries of the archive, one a line.
 fn print_entries<B: Bytes + Drop>(
     rt: &HostRuntime,
     archive: &mut Archive<B>,

@@ -24,6 +24,7 @@ fn print_feature(rt: &HostRuntime, feature: &TileFeature<'_>) -> anyhow::Result<
     Ok(())
 }
 
+/// Prints a layer: its name, its extent and its features.
 fn print_layer(rt: &HostRuntime, layer: &Layer<'_>) -> anyhow::Result<()> {
     println!(rt;
         "{}: extent {}, {} features",

@@ -64,7 +64,7 @@ pub stays_set : (Raised : ℕ → Type 0) (xs : List ℕ) (at n : ℕ) → Raise
 stays_set Raised xs at n is other out = get_or-set_other xs at other n 0 (λ (same : other ≡ at). out (subst Raised (sym same) is))
 
 -- of cells that share a number one is among the first SIDE
-pub wrapped : (first last n : ℕ) → first ≤ n → n ≤ last → (k : ℕ) × (first ≤ k) × (k < min last (first + 31) + 1) × (k % SIDE ≡ n % SIDE)
+pub wrapped : (first last n : ℕ) → first ≤ n → n ≤ last → (k : ℕ) × (first ≤ k) × (k < min last (first + (SIDE - 1)) + 1) × (k % SIDE ≡ n % SIDE)
 wrapped first last n low high = (first + (n - first) % 32, omega arith, omega (arith, low, high), omega (arith, low))
 
 same_column : (cells : List ℕ) (level row j k : ℕ) → j % SIDE ≡ k % SIDE → cell_at cells level j row ≡ cell_at cells level k row
@@ -76,7 +76,7 @@ same_row cells level column j k same = ap (λ m. get_or cells (LEVEL_CELLS * lev
 module _ (number : ℕ) (level : ℕ) (range : Cells) where
   -- the rows of cells up to the one raised last
   pub raised_rows : (at : ℕ) (xs ys : List ℕ) → RisesTo number xs ys
-      → ((k : ℕ) → range.left ≤ k → k < min range.right (range.left + 31) + 1 → number ≤ cell_at ys level k at)
+      → ((k : ℕ) → range.left ≤ k → k < min range.right (range.left + (SIDE - 1)) + 1 → number ≤ cell_at ys level k at)
       → ((column row : ℕ) → HasCell range column row → row < at → number ≤ cell_at xs level column row)
       → (column row : ℕ) → HasCell range column row → row < at + 1 → number ≤ cell_at ys level column row
   raised_rows at xs ys r here before column row has lt =
@@ -88,7 +88,7 @@ module _ (number : ℕ) (level : ℕ) (range : Cells) where
       (cases_lt row at)
 
   -- all rows, once the first SIDE are
-  pub raised_all : (at : ℕ) (ys : List ℕ) → min range.bottom (range.top + 31) + 1 ≤ at
+  pub raised_all : (at : ℕ) (ys : List ℕ) → min range.bottom (range.top + (SIDE - 1)) + 1 ≤ at
       → ((column row : ℕ) → HasCell range column row → row < at → number ≤ cell_at ys level column row)
       → (column row : ℕ) → HasCell range column row → number ≤ cell_at ys level column row
   raised_all at ys end before column row has =

@@ -1,6 +1,6 @@
 //! The newest edit of each cell of the world.
 
-ghost use Rattle.std.specs.Prelude.{◌≡◌, ◌↔◌, ℕ, ◌+◌, ◌<◌, ◌≤◌, ◌^◌, ◌∷◌, [], List, count_by, length, min, nat_lt, IsTrue};
+ghost use Rattle.std.specs.Prelude.{◌≡◌, ◌↔◌, ℕ, ◌+◌, ◌-◌, ◌<◌, ◌≤◌, ◌^◌, ◌∷◌, [], List, count_by, length, min, nat_lt, IsTrue};
 ghost use Rattle.tile_cache.specs.Cells.{cell_at, cell_of, cells_of, place_in, IsNear, IsNarrow, HasCell, RisesTo, StaysBut, IsInRow, IsOfCells, IsOfBox};
 ghost use Rattle.tile_cache.specs.Cells.{IsZeroOrOneOf};
 ghost use Rattle.tile_cache.specs.Cells.{IsGreatestIn, IsNewestIn, stale_cells};
@@ -50,7 +50,7 @@ impl Model for TouchGrid {
 }
 
 /// A rectangle of cells of a level, ends included.
-#[derive(Clone, Copy, Debug)]
+#[derive(Clone, Copy)]
 pub(crate) struct Cells {
     left: usize,
     right: usize,
@@ -103,7 +103,7 @@ fn place_in(level: usize, column: usize, row: usize) -> usize
 /// The end of the cells from one to another, at most `SIDE` of them: those after share their numbers.
 fn end_of(first: usize, last: usize) -> usize
     requires { first < 2 ^ 32 }
-    ensures { result ≡ min last (first + 31) + 1 }
+    ensures { result ≡ min last (first + (SIDE - 1)) + 1 }
 {
     last.min(first + (SIDE - 1)) + 1
 }

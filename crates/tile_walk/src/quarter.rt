@@ -9,7 +9,7 @@ use std::alloc::{AllocError, Global};
 use tile_cutter::TileRange;
 
 /// A quarter of a square, by its place along the curve.
-#[derive(Clone, Copy, Debug)]
+#[derive(Clone, Copy)]
 pub(crate) enum Quarter {
     /// The upper left one, with columns and rows exchanged.
     First,

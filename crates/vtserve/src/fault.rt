@@ -89,7 +89,7 @@ impl CommandFault {
 }
 
 /// What a fault is about.
-#[derive(Clone, Copy, Debug, PartialEq, Eq)]
+#[derive(Clone, Copy, PartialEq, Eq)]
 pub(crate) enum About<'a> {
     /// The disk in memory.
     Nothing,

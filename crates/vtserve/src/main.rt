@@ -46,7 +46,7 @@ fn refused(rt: &impl Eprint, name: impl Display + Drop) -> anyhow::Result<ExitCo
 }
 
 /// How much is told of a fault.
-#[derive(Clone, Copy, Debug, PartialEq, Eq)]
+#[derive(Clone, Copy, PartialEq, Eq)]
 pub(crate) enum Told {
     /// Its name.
     Name,

@@ -6,7 +6,7 @@ use std::io::ErrorKind;
 use std::os::unix::fs::MetadataExt;
 
 /// What became of an open file: what is written to it now is lost for whoever opens its path again.
-#[derive(Clone, Copy, Debug, PartialEq, Eq)]
+#[derive(Clone, Copy, PartialEq, Eq)]
 pub(crate) enum Loss {
     /// No file has its path any more.
     Removed,
@@ -27,7 +27,7 @@ impl fmt::Display for Loss {
 }
 
 /// Which file it is: its device, and its number there.
-#[derive(Clone, Copy, Debug, PartialEq, Eq)]
+#[derive(Clone, Copy, PartialEq, Eq)]
 pub(crate) struct Identity {
     device: u64,
     number: u64,

@@ -11,7 +11,7 @@ use std::net::{OpenListener, SocketAddr};
 use std::time::Duration;
 
 /// What is known of a disk file.
-#[derive(Clone, Copy, Debug, PartialEq, Eq)]
+#[derive(Clone, Copy, PartialEq, Eq)]
 pub(crate) enum Watch {
     /// Nothing: the command itself tells of a failure.
     Off,
