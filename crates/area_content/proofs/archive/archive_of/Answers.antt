@@ -1,4 +1,5 @@
-use Rattle.std.proofs.Common.{◌≡◌, ◌≢◌, true, ℕ, List, [], ◌++◌, sym, ap, ◌∙◌}
+use Rattle.std.proofs.lemmas.Grind.{common_steps}
+use Rattle.std.proofs.Common.{◌≡◌, ◌≢◌, true, ℕ, List, [], ◌++◌, sym, ap, ◌∙◌, arith}
 use Rattle.std.proofs.lemmas.Bool.{false≢true}
 use Rattle.std.proofs.lemmas.Result.{IfOk-weaker}
 use Rattle.pm_metadata.specs.Archive.{IsArchiveOf}
@@ -20,3 +21,6 @@ returns-clause-archive c m is_map are =
     false≢true (sym c.if-is_empty.false ∙ yes) in
     IfOk-weaker c.finish.result (λ a. IsArchiveOf (archive_bytes a) (tile_content c.args.builder)) (λ a. IsArchiveOfMap m (archive_bytes a))
     (λ a archive. some_are_archive m c.args.builder (archive_bytes a) some is_map are archive) c.finish.ensures.archive
+
+pub returns-then-is_empty-clause-bounded : goal.returns-then-is_empty-clause-bounded
+returns-then-is_empty-clause-bounded c = grind (arith, common_steps)

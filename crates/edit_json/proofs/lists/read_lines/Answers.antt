@@ -1,7 +1,8 @@
+use Rattle.std.proofs.lemmas.Grind.{common_steps}
 use Rattle.feature_model.specs.declared.fault.EditFault.TheVariants.{Memory}
 use Rattle.std.proofs.Common.{◌≢◌, rules, sym, ◌∙◌, map, arith}
 use Rattle.std.proofs.lemmas.Result.{err_from_is_err_and}
-use Rattle.edit_json.specs.Lists.{points_at}
+use Rattle.edit_json.specs.Lists.{points_at, list_of, each}
 use Rattle.edit_json.proofs.ListLemmas.{list_of-refused, list_of-counted, rest_gives-end, rest_gives-fault}
 use Rattle.edit_json.proofs.lists.read_lines.Goals as goal
 
@@ -23,3 +24,7 @@ returns-in_err-read_line c =
     ∙ rest_gives-fault (points_at c.args.least) (map (λ l. l.items) c.loop-value.lines.items) c.args.list.now c.loop-value.value-index c.value-item.result
     c.in_err-read_line.field-0.0 _ c.loop-value-test.true c.value-item.is (c.in_err-read_line.ensures other) c.loop-value.invariant in
     search (rules, stops)
+
+pub loop-value-preserved : goal.loop-value-preserved
+unfolding list_of each
+loop-value-preserved c = grind (arith, common_steps)

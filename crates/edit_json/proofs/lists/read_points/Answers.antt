@@ -1,6 +1,7 @@
+use Rattle.std.proofs.lemmas.Grind.{common_steps}
 use Rattle.std.proofs.Common.{sym, ◌∙◌, arith}
 use Rattle.std.proofs.lemmas.Result.{err_from_is_err_and}
-use Rattle.edit_json.specs.Lists.{point_in}
+use Rattle.edit_json.specs.Lists.{point_in, list_of, each}
 use Rattle.edit_json.proofs.ListLemmas.{list_of-refused, list_of-counted, rest_gives-end}
 use Rattle.edit_json.proofs.lists.read_points.Goals as goal
 
@@ -13,3 +14,11 @@ pub returns : goal.returns
 returns c =
     list_of-counted point_in c.args.least c.args.list.now c.in_ok-check_count.ensures.ok
     ∙ sym c.loop-value.invariant ∙ rest_gives-end point_in c.loop-value.points.items c.args.list.now c.loop-value.value-index (omega arith)
+
+pub returns-in_err-point_in : goal.returns-in_err-point_in
+unfolding list_of each
+returns-in_err-point_in c = grind (arith, common_steps)
+
+pub loop-value-preserved : goal.loop-value-preserved
+unfolding list_of each
+loop-value-preserved c = grind (arith, common_steps)

@@ -1,8 +1,9 @@
+use Rattle.std.proofs.lemmas.Grind.{common_steps}
 use Rattle.feature_model.specs.declared.fault.EditFault.TheVariants.{Memory}
 use Rattle.std.proofs.Common.{◌≢◌, rules, sym, ◌∙◌, map, arith}
 use Rattle.feature_model.specs.declared.limits.TheConstants.{MIN_RING}
 use Rattle.std.proofs.lemmas.Result.{err_from_is_err_and}
-use Rattle.edit_json.specs.Lists.{lines_at}
+use Rattle.edit_json.specs.Lists.{lines_at, list_of, each}
 use Rattle.edit_json.proofs.ListLemmas.{list_of-refused, list_of-counted, rest_gives-end, rest_gives-fault}
 use Rattle.edit_json.proofs.lists.read_polygons.Goals as goal
 
@@ -26,3 +27,7 @@ returns-in_err-read_polygon c =
     c.value-item.result
     c.in_err-read_polygon.field-0.0 _ c.loop-value-test.true c.value-item.is (c.in_err-read_polygon.ensures other) c.loop-value.invariant in
     search (rules, stops)
+
+pub loop-value-preserved : goal.loop-value-preserved
+unfolding list_of each
+loop-value-preserved c = grind (arith, common_steps)

@@ -1,3 +1,4 @@
+use Rattle.std.proofs.lemmas.Grind.{common_steps}
 use Rattle.std.proofs.Common.{refl, sym, subst, map, arith}
 use Rattle.std.proofs.lemmas.List.{length-map}
 use Rattle.feature_model.specs.Data.{change_data}
@@ -16,3 +17,6 @@ returns-clause-ok c =
       },
       λ _. refl,
     )
+
+pub returns-then-not-are_distinct-clause-first : goal.returns-then-not-are_distinct-clause-first
+returns-then-not-are_distinct-clause-first c = grind (arith, common_steps)

@@ -1,3 +1,5 @@
+use Rattle.std.proofs.Common.{arith}
+use Rattle.std.proofs.lemmas.Grind.{common_steps}
 use Rattle.feature_model.specs.Data.{change_data}
 use Rattle.feature_model.specs.Limits.{IsAllowedChange}
 use Rattle.feature_model.proofs.Mapped.{read_from_map}
@@ -6,3 +8,9 @@ use Rattle.feature_store.proofs.prepared.prepare_each.Goals as goal
 pub prepare_one-requires : goal.prepare_one-requires
 prepare_one-requires c = read_from_map IsAllowedChange change_data c.args.changes.now c.loop-change.change-index c.change-item.result
     c.requires c.loop-change-test.true c.change-item.is
+
+pub loop-change-preserved : goal.loop-change-preserved
+loop-change-preserved c = grind (arith, common_steps)
+
+pub returns : goal.returns
+returns c = grind (arith, common_steps)

@@ -1,3 +1,4 @@
+use Rattle.std.proofs.lemmas.Grind.{common_steps}
 use Rattle.std.proofs.Common.{◌≡◌, ◌∷◌, [], length, map, arith}
 use Rattle.std.proofs.lemmas.List.{map-append, length-map, length-append}
 use Rattle.feature_store.specs.Prepared.{prepared_data}
@@ -36,3 +37,6 @@ returns-clause-only c = λ cs is.
     let full : length (map prepared_data c.loop.changes.items) ≡ c.args.count =
     omega (arith, length-map c.loop.changes.items prepared_data, c.loop.invariant.each, c.loop.invariant.most, c.loop-test.false) in
     (all_read c.args.count (map prepared_data c.loop.changes.items) c.loop.rest.now c.args.text.now c.loop.invariant.read cs full is).1
+
+pub returns-clause-found : goal.returns-clause-found
+returns-clause-found c = grind (arith, common_steps)

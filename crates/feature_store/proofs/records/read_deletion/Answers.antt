@@ -1,4 +1,5 @@
-use Rattle.std.proofs.Common.{inr, refl}
+use Rattle.std.proofs.lemmas.Grind.{common_steps}
+use Rattle.std.proofs.Common.{inr, refl, arith}
 use Rattle.feature_model.specs.Data.{delete}
 use Rattle.edit_text.proofs.Faults.{cut_is_not_memory, bad_is_not_memory}
 use Rattle.feature_store.proofs.RecordTexts.{put_apart}
@@ -13,3 +14,12 @@ returns-in-Err-Cut-clause-fault c = inr (refl, λ id begins. cut_is_not_memory (
 
 pub returns-in-Err-Bad-clause-fault : goal.returns-in-Err-Bad-clause-fault
 returns-in-Err-Bad-clause-fault c = inr (refl, λ id begins. bad_is_not_memory (rw c.in-Err-Bad.field-0-is at (c.in-Err-Bad.ensures.only (delete id) begins)))
+
+pub slice_bounds-result-count : goal.slice_bounds-result-count
+slice_bounds-result-count c = grind (arith, common_steps)
+
+pub slice_bounds-result-start : goal.slice_bounds-result-start
+slice_bounds-result-start c = grind (arith, common_steps)
+
+pub returns-in-Ok-Delete-default-clause-text : goal.returns-in-Ok-Delete-default-clause-text
+returns-in-Ok-Delete-default-clause-text c = grind (arith, common_steps)

@@ -1,4 +1,5 @@
-use Rattle.std.proofs.Common.{◌≡◌, ◌+◌, ◌∷◌, ◌++◌, map, drop, ap, ◌∙◌}
+use Rattle.std.proofs.lemmas.Grind.{common_steps}
+use Rattle.std.proofs.Common.{◌≡◌, ◌+◌, ◌∷◌, ◌++◌, map, drop, ap, ◌∙◌, arith}
 use Rattle.geometry_commands.specs.Shapes.{line_spelled, last_of}
 use Rattle.geometry_commands.proofs.Written.{views_split, lines_on, can_on, whole_on, lines_done}
 use Rattle.geometry_commands.proofs.encode.encode_all.Goals as goal
@@ -21,3 +22,9 @@ loop-line-preserved c =
 pub returns-clause-spelled : goal.returns-clause-spelled
 returns-clause-spelled c =
     lines_done c.args.closed c.loop-line.at c.args.lines.now c.loop-line.line-index c.loop-line.out.items _ c.loop-line-test.false c.loop-line.invariant.spelled
+
+pub put_line-requires : goal.put_line-requires
+put_line-requires c = grind (arith, common_steps)
+
+pub returns-clause-whole : goal.returns-clause-whole
+returns-clause-whole c = grind (arith, common_steps)

@@ -1,3 +1,4 @@
+use Rattle.std.proofs.lemmas.Grind.{common_steps}
 use Rattle.std.proofs.Common.{◌≡◌, ◌∷◌, [], ◌-◌, length, take, drop, get_or, refl, sym, ◌∙◌, arith}
 use Rattle.std.proofs.lemmas.List.{append-nil}
 use Rattle.geometry_commands.specs.Commands.{command, origin}
@@ -28,3 +29,18 @@ returns-else-closed-clause-line c =
     (rw c.in_ok-reserve.ensures.items at c.in_ok-push.ensures.items) c.in_ok-put_step.ensures.step
     c.in_ok-push-2.ensures.items c.in_ok-last.ensures.steps in
     sym (append-nil others) ∙ rw close at all
+
+pub put_steps-requires : goal.put_steps-requires
+put_steps-requires c = grind (arith, common_steps)
+
+pub returns-in_ok-push-3-clause-last : goal.returns-in_ok-push-3-clause-last
+returns-in_ok-push-3-clause-last c = grind (arith, common_steps)
+
+pub returns-in_ok-push-3-clause-whole : goal.returns-in_ok-push-3-clause-whole
+returns-in_ok-push-3-clause-whole c = grind (arith, common_steps)
+
+pub returns-else-closed-clause-last : goal.returns-else-closed-clause-last
+returns-else-closed-clause-last c = grind (arith, common_steps)
+
+pub returns-else-closed-clause-whole : goal.returns-else-closed-clause-whole
+returns-else-closed-clause-whole c = grind (arith, common_steps)

@@ -1,3 +1,4 @@
+use Rattle.std.proofs.lemmas.Grind.{common_steps}
 use Rattle.std.proofs.Common.{◌<◌, ℕ, List, Err, refl, sym, subst, arith, length, length-append, take}
 use Rattle.std.specs.Io.KnownBytes.{Appends}
 use Rattle.http_serve.specs.declared.frames.Next.TheVariants.{Whole, Refused, More}
@@ -136,3 +137,6 @@ requests-preserved g c =
           (Frame_push g.H.Handler.replies _ _ _ c.args.requests _ input _ c.requests.requests frame found.0 told.0 _ _
           c.requests.invariant.carries found.1 told.1 c.saturating_add-requests.result c.if-frame.false told.2 c.saturating_add-requests.ensures);
     }
+
+pub requests-smaller : goal.requests-smaller
+requests-smaller g c = grind (arith, common_steps)

@@ -1,3 +1,4 @@
+use Rattle.std.proofs.lemmas.Grind.{common_steps}
 use Rattle.std.proofs.Common.{refl, arith, ap, length}
 use Rattle.http_serve.specs.Requests.{refused}
 use Rattle.http_serve.specs.Reply.{refusal_bytes}
@@ -25,3 +26,6 @@ returns-in-Err-clause-fault g c = λ head bare.
       told = refl;
       written = sent.2;
     }
+
+pub returns-then-is_empty-clause-ends : goal.returns-then-is_empty-clause-ends
+returns-then-is_empty-clause-ends g c = grind (arith, common_steps)

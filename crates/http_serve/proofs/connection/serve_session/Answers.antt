@@ -1,3 +1,4 @@
+use Rattle.std.proofs.lemmas.Grind.{common_steps}
 use Rattle.std.proofs.Common.{◌≡◌, Err, rules, arith, sym, subst, List, ℕ, ◌+◌, ◌*◌}
 use Rattle.http_serve.specs.Input.{buffer_size}
 use Rattle.http_serve.specs.Search.{IsKnown}
@@ -120,3 +121,6 @@ returns-in_err-served-clause-left g c =
 pub returns-then-count-eq0-clause-left : goal.returns-then-count-eq0-clause-left
 returns-then-count-eq0-clause-left g c =
     if_err c.finish.result _ _ (λ fault whole. not_rest fault _ whole) c.finish.ensures.whole
+
+pub returns-in-Ended-clause-reads : goal.returns-in-Ended-clause-reads
+returns-in-Ended-clause-reads g c = grind (arith, common_steps)

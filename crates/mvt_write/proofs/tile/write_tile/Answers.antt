@@ -1,4 +1,5 @@
-use Rattle.std.proofs.Common.{◌≡◌, ◌+◌, ◌<◌, ◌^◌, length, arith, List, ℕ, take, take_all, subst, sym, ap}
+use Rattle.std.proofs.lemmas.Grind.{common_steps}
+use Rattle.std.proofs.Common.{◌≡◌, ◌+◌, ◌<◌, ◌^◌, length, arith, List, ℕ, take, take_all, subst, sym, ap, rules}
 use Rattle.std.specs.Prelude.{All}
 use Rattle.mvt_layer.specs.declared.tile.Layer.{Layer}
 use Rattle.mvt_layer.specs.Tile.{layer_view, layer_views}
@@ -40,3 +41,11 @@ returns-clause-reads c =
     let fits : All FitsLayer (layer_views layers) = subst (λ (ls : List Layer). All FitsLayer (layer_views ls)) all c.loop-layer.invariant.fits in
     let below : length (written (layer_views layers)) < 2 ^ 64 = omega (arith, ap length (sym is), out.ok.0, out.ok.1, out.small) in
     subst (λ (bytes : List ℕ). ReadsAs bytes (layer_views layers)) (sym is) (written_reads (layer_views layers) c.requires fits below)
+
+pub loop-layer-init : goal.loop-layer-init
+unfolding written
+loop-layer-init c = search rules
+
+pub returns-clause-written : goal.returns-clause-written
+unfolding written
+returns-clause-written c = grind (arith, common_steps)

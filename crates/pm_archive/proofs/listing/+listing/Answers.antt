@@ -1,4 +1,5 @@
-use Rattle.std.proofs.Common.{◌≡◌, ◌∙◌}
+use Rattle.std.proofs.lemmas.Grind.{common_steps}
+use Rattle.std.proofs.Common.{◌≡◌, ◌∙◌, arith}
 use Rattle.std.proofs.lemmas.Result.{err_from_is_err_and}
 use Rattle.pm_archive.specs.Reading.{lists_at, tile_at}
 use Rattle.pm_archive.proofs.KeepsLaws.{keeps_on}
@@ -57,3 +58,6 @@ push_each-returns-in_err-push_listed-clause-read g t c =
 
 pub push_listed-returns-clause-read : goal.push_listed-returns-clause-read
 push_listed-returns-clause-read g t c e = g.met.B.Bytes.failed_on _ _ _ c.in_ok-entries.ensures.source.same_behind (c.push_each.ensures.read e)
+
+pub push_each-returns-clause-listed : goal.push_each-returns-clause-listed
+push_each-returns-clause-listed g t c = grind (arith, common_steps)

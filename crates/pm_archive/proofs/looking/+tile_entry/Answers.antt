@@ -1,3 +1,7 @@
+use Rattle.std.proofs.Common.{arith}
+use Rattle.std.proofs.Common.{rules}
+use Rattle.std.proofs.lemmas.Grind.{common_steps}
+use Rattle.pm_archive.specs.Looked.{reached_at}
 use Rattle.std.proofs.lemmas.Result.{err_from_is_err_and}
 use Rattle.pm_archive.proofs.LookedSteps.{reached_on, reached_fault}
 use Rattle.pm_archive.proofs.looking.+tile_entry.Goals as goal
@@ -19,3 +23,19 @@ returns-in_err-below-clause-first g t c =
 
 pub returns-clause-read : goal.returns-clause-read
 returns-clause-read g t c e = g.met.B.Bytes.failed_on _ _ _ c.in_ok-below.ensures.source.same_behind (c.tile_entry.ensures.read e)
+
+pub returns-in-None-clause-first : goal.returns-in-None-clause-first
+unfolding reached_at
+returns-in-None-clause-first g t c = search rules
+
+pub returns-then-leaf-gt0-clause-first : goal.returns-then-leaf-gt0-clause-first
+unfolding reached_at
+returns-then-leaf-gt0-clause-first g t c = search rules
+
+pub returns-then-more-eq0-clause-first : goal.returns-then-more-eq0-clause-first
+unfolding reached_at
+returns-then-more-eq0-clause-first g t c = search rules
+
+pub returns-clause-source : goal.returns-clause-source
+unfolding reached_at
+returns-clause-source g t c = grind (arith, common_steps)

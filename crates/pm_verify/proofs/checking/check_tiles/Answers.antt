@@ -1,4 +1,5 @@
-use Rattle.std.proofs.Common.{get_or, ◌∙◌}
+use Rattle.std.proofs.lemmas.Grind.{common_steps}
+use Rattle.std.proofs.Common.{get_or, ◌∙◌, arith}
 use Rattle.std.proofs.lemmas.Result.{err_from_is_err_and}
 use Rattle.pm_archive.specs.Entries.{LiesIn}
 use Rattle.pm_archive.proofs.KeepsLaws.{keeps_on}
@@ -33,3 +34,9 @@ pub returns-in_err-check_once-clause-read : goal.returns-in_err-check_once-claus
 returns-in_err-check_once-clause-read g c =
     let p = err_from_is_err_and c.from_residual.result c.from_residual.ensures.1 in
     rw (p.1, p.2) (λ e. g.met.B.Bytes.failed_on _ _ _ c.loop-entry.invariant.keeps.same_behind (c.in_err-check_once.ensures.read e))
+
+pub returns-in_err-check_once-clause-fault : goal.returns-in_err-check_once-clause-fault
+returns-in_err-check_once-clause-fault g c = grind (arith, common_steps)
+
+pub returns-clause-each : goal.returns-clause-each
+returns-clause-each g c = grind (arith, common_steps)

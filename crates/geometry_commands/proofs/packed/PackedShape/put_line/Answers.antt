@@ -1,3 +1,4 @@
+use Rattle.std.proofs.lemmas.Grind.{common_steps}
 use Rattle.std.proofs.Common.{◌≡◌, ◌∷◌, [], ◌++◌, ◌-◌, length, take, drop, get_or, refl, sym, ap, ◌∙◌, arith}
 use Rattle.std.specs.List.{flat_map}
 use Rattle.std.proofs.lemmas.List.{append-nil}
@@ -34,3 +35,12 @@ returns-else-closed-clause-bytes c =
     c.in_ok-put_command.ensures c.in_ok-put_point.ensures.bytes c.in_ok-put_command-2.ensures
     (c.in_ok-put_points.ensures.bytes ∙ ap (λ p. drawn ++ flat_map varint (steps p others)) c.in_ok-put_point.ensures.at) in
     sym (append-nil c.put_points.new.self.bytes.items) ∙ rw close at all
+
+pub put_points-requires : goal.put_points-requires
+put_points-requires c = grind (arith, common_steps)
+
+pub returns-in_ok-put_command-3-clause-at : goal.returns-in_ok-put_command-3-clause-at
+returns-in_ok-put_command-3-clause-at c = grind (arith, common_steps)
+
+pub returns-else-closed-clause-at : goal.returns-else-closed-clause-at
+returns-else-closed-clause-at c = grind (arith, common_steps)

@@ -1,3 +1,4 @@
+use Rattle.std.proofs.lemmas.Grind.{common_steps}
 use Rattle.std.proofs.Common.{◌≡◌, ◌∷◌, ◌++◌, [], rules, length, map, ◌∙◌, sym, arith}
 use Rattle.std.specs.BTreeMap.{get}
 use Rattle.std.proofs.lemmas.List.{map-append, length-append}
@@ -36,3 +37,6 @@ returns-then-index-next-clause-entries g c =
     let absent = absent_from g.T.FieldData.spelled items entry _ c.in_ok-index.index c.len-next.result c.requires.other c.in_ok-index.ensures.number
     c.if-index-next.true last in
     rw pushed (map-append g.T.FieldData.spelled items (entry ∷ []) ∙ sym (with_new (map g.T.FieldData.spelled items) (g.T.FieldData.spelled entry) absent))
+
+pub returns-then-index-next-clause-index : goal.returns-then-index-next-clause-index
+returns-then-index-next-clause-index g c = grind (arith, common_steps)

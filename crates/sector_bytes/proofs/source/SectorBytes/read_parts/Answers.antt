@@ -1,3 +1,4 @@
+use Rattle.std.proofs.lemmas.Grind.{common_steps}
 use Rattle.std.proofs.Common.{◌≡◌, ◌<◌, ◌≤◌, ◌+◌, ◌-◌, ◌*◌, ◌/◌, ◌%◌, ◌∙◌, ap, sym, arith, ℕ, length, take, drop, slice_range, length-take, length-drop}
 use Rattle.generations.specs.Areas.{sectors_of}
 use Rattle.sector_disk.specs.Disk.{History, seen}
@@ -49,3 +50,6 @@ loop-done-preserved g c =
 
 pub returns-in_err-read_part-clause-untouched : goal.returns-in_err-read_part-clause-untouched
 returns-in_err-read_part-clause-untouched g c = untouched_on c.loop-done.invariant.untouched c.in_err-read_part.ensures.untouched
+
+pub returns-clause-read : goal.returns-clause-read
+returns-clause-read g c = grind (arith, common_steps)

@@ -1,0 +1,21 @@
+use Rattle.std.proofs.Common.{arith}
+use Rattle.std.proofs.Common.{rules}
+use Rattle.std.proofs.lemmas.Grind.{common_steps}
+use Rattle.pm_archive.specs.Looked.{leading_at}
+use Rattle.pm_archive.proofs.leaves.leading_below.Goals as goal
+
+pub returns-in-Some-clause-first : goal.returns-in-Some-clause-first
+unfolding leading_at
+returns-in-Some-clause-first g c = search rules
+
+pub returns-in_err-leaf-clause-first : goal.returns-in_err-leaf-clause-first
+unfolding leading_at
+returns-in_err-leaf-clause-first g c = search rules
+
+pub returns-clause-first : goal.returns-clause-first
+unfolding leading_at
+returns-clause-first g c = search rules
+
+pub returns-clause-still_inside : goal.returns-clause-still_inside
+unfolding leading_at
+returns-clause-still_inside g c = grind (arith, common_steps)
