@@ -1,4 +1,5 @@
 //! The writer of a stretch.
+ghost use Rattle.std.specs.Prelude.{◌≤◌, length};
 
 use crate::outputs::Output;
 use crate::paced::PacedWriter;
@@ -6,8 +7,11 @@ use crate::paces::Pace;
 use std::io::{self, Write};
 use std::net::OpenStream;
 
-/// A writer that collects replies in memory, up to a limit. What is beyond it is sent at once, after what was collected, and the peer is
-/// waited for.
+/// How many bytes are worth a write of their own: of fewer, a copy costs less.
+const LEAST_SENT: usize = 4_096;
+
+/// A writer that collects replies in memory, up to a limit. Of many bytes it collects only what the peer doesn't take now. What is beyond the
+/// limit is sent at once, after what was collected, and the peer is waited for.
 #[derive(Drop)]
 pub(crate) struct ReplyWriter<S> {
     output: Output,
@@ -45,12 +49,46 @@ impl<S: Write + OpenStream> ReplyWriter<S> {
         self.paced.prepare();
         self.output.send_all(&mut self.paced)
     }
+
+    /// Makes one write of what was collected, if there is anything.
+    fn send_some(&mut self) {
+        if self.output.waiting().is_empty() {
+            return;
+        }
+        if let Ok(count) = self.output.send(&mut self.paced.stream) {
+            self.paced.pace = self.paced.pace.sent(count);
+        }
+        if self.output.waiting().is_empty() {
+            self.output.clear();
+        }
+    }
+
+    /// Makes one write of bytes, if they are many and nothing waits before them, and returns how many the peer took. A call that fails is
+    /// as one that takes none: the next one tells.
+    fn send_now(&mut self, buf: &[u8]) -> usize
+        ensures { result ≤ length buf.now }
+    {
+        if buf.len() < LEAST_SENT {
+            return 0;
+        }
+        self.send_some();
+        if !self.output.waiting().is_empty() {
+            return 0;
+        }
+        let count = self.paced.stream.write(buf).unwrap_or(0);
+        self.paced.pace = self.paced.pace.sent(count);
+        count
+    }
 }
 
 impl<S: Write + OpenStream> Write for ReplyWriter<S> {
     fn write(&mut self, buf: &[u8]) -> io::Result<usize> {
         if self.at_once {
             return self.paced.write(buf);
+        }
+        let count = self.send_now(buf);
+        if count > 0 {
+            return Ok(count);
         }
         if self.output.add(buf, self.limit) {
             return Ok(buf.len());
