@@ -6,8 +6,8 @@ the C library and with one that is preloaded.
                                                           (Debian: libtcmalloc-minimal4; time)
 
 Processor time of whole processes of `pipe`, by turns, five rounds: the median with the least and the greatest. The ratio is the time
-without the library divided by that with it, so above 1 the library is faster. Memory is the peak of an opening, less that of a disk
-without features, for each feature.
+with the library divided by that without it: the peer's divided by vtserve's, so below 1 the library is faster, and of memory below 1 it
+takes less. Memory is the peak of an opening, less that of a disk without features, for each feature.
 """
 import json
 import os
@@ -55,7 +55,7 @@ def measured(folder, disk, requests, library):
 
 
 def line(name, plain, other, unit):
-    ratios = [first / second for first, second in zip(plain, other)]
+    ratios = [peer / ours for ours, peer in zip(plain, other)]
     spread = [f"{statistics.median(of):.0f} {unit} ({min(of):.0f} to {max(of):.0f})" for of in (plain, other)]
     print(f"{name}: {spread[0]}; preloaded {spread[1]}; ratio {statistics.median(ratios):.2f} ({min(ratios):.2f} to {max(ratios):.2f})", flush=True)
 

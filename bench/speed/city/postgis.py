@@ -1,11 +1,13 @@
-"""Measures a tile of a city beside PostGIS: vtserve cuts it again after an edit inside it, PostGIS makes it by ST_AsMVT.
+"""Measures a tile of a city beside PostGIS, and a durable batch of 64 points.
 
     python3 bench/speed/city/postgis.py PROGRAM
 
 PROGRAM is the built `vtserve`. As root, with PostgreSQL and PostGIS (Debian: postgresql, postgresql-15-postgis-3), whose server
 runs as the user `postgres`, with a GiST index and the table clustered by it. Both have the same 6,479 features, and both tiles
-have as many features in each layer. vtserve is asked over TCP by serve/client.cpp (g++), PostGIS over a Unix socket by pgbench,
-prepared. Server and client have a processor each.
+have as many features in each layer. vtserve cuts its tile again after an edit inside it, PostGIS makes it by ST_AsMVT. A batch puts 64
+points at other places: by one request to vtserve, by one INSERT of 64 rows with ON CONFLICT into a table with a primary key and a
+GiST index; both are on the medium as they are answered. vtserve is asked over TCP, for tiles by serve/client.cpp (g++), for batches
+by Python's http.client; PostGIS over a Unix socket by pgbench, prepared. Server and client have a processor each.
 """
 import glob
 import http.client
@@ -17,6 +19,7 @@ import statistics
 import subprocess
 import sys
 import tempfile
+import time
 import urllib.request
 
 HERE = os.path.dirname(os.path.abspath(__file__))
@@ -25,7 +28,7 @@ sys.path[:0] = [os.path.join(HERE, ".."), os.path.join(HERE, "..", "..", "..", "
 import city_features  # noqa: E402
 import edits  # noqa: E402
 
-ROUNDS, MANY, FEATURES, ZOOM = 5, 400, 6479, 12
+ROUNDS, MANY, FEATURES, ZOOM, BATCH = 5, 400, 6479, 12, 64
 COLUMN, ROW = 2000, 1300
 HALF = 20037508.342789244
 LAYER = """(SELECT ST_AsMVT(t, '{layer}', 4096, 'geom') FROM (SELECT ST_AsMVTGeom(geom, ST_TileEnvelope({zoom}, {column}, {row}), 4096, 64) AS geom,
@@ -97,6 +100,14 @@ class PostGis:
             "COPY city FROM STDIN;\n" + "\n".join(rows) + "\n\\.\nCREATE INDEX city_geom ON city USING gist (geom);\n"
             "CLUSTER city USING city_geom;\nANALYZE city;\n")
 
+    def batch(self):
+        """The statement of a batch, each time with points at other places."""
+        self.sql("CREATE TABLE points (id bigint PRIMARY KEY, name text, people int, geom geometry(Point, 3857));\n"
+            "CREATE INDEX points_geom ON points USING gist (geom);\n")
+        rows = [f"({at}, 'town number {at}', {at * 17}, ST_SetSRID(ST_MakePoint(:turn + {at * 7919 % 1000003}, 3 * :turn), 3857))" for at in range(BATCH)]
+        return ("\\set turn random(1, 1000000)\nINSERT INTO points VALUES " + ", ".join(rows)
+            + " ON CONFLICT (id) DO UPDATE SET name = EXCLUDED.name, people = EXCLUDED.people, geom = EXCLUDED.geom;\n")
+
     def time(self, query):
         """The median of the microseconds of a query, asked one time after the other."""
         path = f"{self.folder}/query.sql"
@@ -135,6 +146,22 @@ class Vtserve:
         self.client, self.listed, self.again = os.path.join(folder, "client"), os.path.join(folder, "list"), features[0]
         subprocess.run(["g++", "-O2", "-std=c++17", "-o", self.client, os.path.join(HERE, "..", "serve", "client.cpp")], check=True)
 
+    def batch_time(self, first):
+        """The median of the microseconds of a batch that puts points, each time at other places, from this turn on."""
+        link, times = http.client.HTTPConnection("127.0.0.1", self.port), []
+        for turn in range(first, first + MANY):
+            changes = [edits.put(BATCH * 1000 + at, point(at, turn)) for at in range(BATCH)]
+            body = edits.FRAME % b",".join(map(edits.json_of, changes))
+            began = time.perf_counter()
+            link.request("POST", "/edits", body)
+            reply = link.getresponse()
+            reply.read()
+            times.append(time.perf_counter() - began)
+            if reply.status != 200:
+                sys.exit(f"POST /edits: {reply.status}")
+        link.close()
+        return 1e6 * statistics.median(times)
+
     def bytes_of(self, path):
         with urllib.request.urlopen(f"http://127.0.0.1:{self.port}{path}") as reply:
             return reply.read()
@@ -146,6 +173,12 @@ class Vtserve:
             file.write(f"PUT /features/{number} {json.dumps(body)}\nGET {path}\n" * MANY)
         words = ["taskset", "-c", "2", self.client, "list", "1", "50", str(self.port), self.listed, str(self.port), ""]
         return int(subprocess.run(words, check=True, stdout=subprocess.PIPE, text=True).stdout.split()[0]) / 1000
+
+
+def point(at, turn):
+    """A point of a batch."""
+    place = [at * 7919 * 64 % 2**32, turn * 104729 * 64 % 2**32]
+    return {"layer": "towns", "minzoom": 3, "maxzoom": 3, "geometry": {"points": [place]}, "tags": {"name": f"town number {at}", "people": at * 17}}
 
 
 def told(values):
@@ -171,6 +204,11 @@ def main(program):
         print(f"a tile of a city at zoom {ZOOM}, {sum(mine.values())} features, cut again after an edit in it: {told([pair[0] for pair in pairs])}; "
             f"PostGIS {told([pair[1] for pair in pairs])}; ratio {statistics.median(ratios):.1f} ({min(ratios):.1f} to "
             f"{max(ratios):.1f})")
+        statement = peer.batch()
+        pairs = [(server.batch_time(MANY * at), peer.time(statement)) for at in range(ROUNDS)]
+        ratios = [second / first for first, second in pairs]
+        print(f"a batch of {BATCH} points: {told([pair[0] for pair in pairs])}; PostGIS {told([pair[1] for pair in pairs])}; "
+            f"ratio {statistics.median(ratios):.1f} ({min(ratios):.1f} to {max(ratios):.1f})")
     finally:
         peer.end()
         server.child.kill()
