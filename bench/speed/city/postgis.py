@@ -7,7 +7,7 @@ runs as the user `postgres`, with a GiST index and the table clustered by it. Bo
 have as many features in each layer. vtserve cuts its tile again after an edit inside it, PostGIS makes it by ST_AsMVT. A batch puts 64
 points at other places: by one request to vtserve, by one INSERT of 64 rows with ON CONFLICT into a table with a primary key and a
 GiST index; both are on the medium as they are answered. vtserve is asked over TCP, for tiles by serve/client.cpp (g++), for batches
-by Python's http.client; PostGIS over a Unix socket by pgbench, prepared. Server and client have a processor each.
+by the connection of batches/run.py; PostGIS over a Unix socket by pgbench, prepared. Server and client have a processor each.
 """
 import glob
 import http.client
@@ -19,14 +19,14 @@ import statistics
 import subprocess
 import sys
 import tempfile
-import time
 import urllib.request
 
 HERE = os.path.dirname(os.path.abspath(__file__))
-sys.path[:0] = [os.path.join(HERE, ".."), os.path.join(HERE, "..", "..", "..", "examples")]
+sys.path[:0] = [os.path.join(HERE, ".."), os.path.join(HERE, "..", "batches"), os.path.join(HERE, "..", "..", "..", "examples")]
 
 import city_features  # noqa: E402
 import edits  # noqa: E402
+import run as batches  # noqa: E402
 
 ROUNDS, MANY, FEATURES, ZOOM, BATCH = 5, 400, 6479, 12, 64
 COLUMN, ROW = 2000, 1300
@@ -127,7 +127,7 @@ class PostGis:
 class Vtserve:
     def __init__(self, program, folder, features):
         disk = os.path.join(folder, "disk")
-        subprocess.run([program, "format", disk, "--sectors", "65536"], check=True, stdout=subprocess.DEVNULL)
+        subprocess.run([program, "format", disk, "--sectors", "262144"], check=True, stdout=subprocess.DEVNULL)
         with socket.socket() as probe:
             probe.bind(("127.0.0.1", 0))
             port = probe.getsockname()[1]
@@ -148,18 +148,12 @@ class Vtserve:
 
     def batch_time(self, first):
         """The median of the microseconds of a batch that puts points, each time at other places, from this turn on."""
-        link, times = http.client.HTTPConnection("127.0.0.1", self.port), []
+        peer, times = batches.Peer(self.port), []
         for turn in range(first, first + MANY):
             changes = [edits.put(BATCH * 1000 + at, point(at, turn)) for at in range(BATCH)]
             body = edits.FRAME % b",".join(map(edits.json_of, changes))
-            began = time.perf_counter()
-            link.request("POST", "/edits", body)
-            reply = link.getresponse()
-            reply.read()
-            times.append(time.perf_counter() - began)
-            if reply.status != 200:
-                sys.exit(f"POST /edits: {reply.status}")
-        link.close()
+            times.append(peer.ask(batches.request(b"POST", b"/edits", body)))
+        peer.socket.close()
         return 1e6 * statistics.median(times)
 
     def bytes_of(self, path):
