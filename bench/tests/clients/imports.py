@@ -463,7 +463,7 @@ def interrupted(cases, folder):
 def disk_full(cases, folder):
     """A disk of 32 MiB on a file system of 1 MiB, which has no room for its journal, and of 9 MiB, which has none for the areas: `format`
     fails in the first; in the second what is acknowledged is kept, the failure is seen, and edits go on after it."""
-    small = os.path.join(folder, "small")
+    small = os.path.join(folder, "small_system")
     os.mkdir(small)
     if os.geteuid() != 0 or subprocess.run(["mount", "-t", "tmpfs", "-o", "size=1m", "tmpfs", small], capture_output=True).returncode != 0:
         cases.say("no tmpfs can be mounted (not root?): no full file system is tried")
