@@ -47,6 +47,47 @@ def stops(calls):
     return [f"{word} {call}" for word in ("fail_from", "fail_not_made", "fail_made") for call in range(1, calls + 2)]
 
 
+def filled(at, byte):
+    return f"write {at} = {byte:02x}*512"
+
+
+def sectors_of(count):
+    return [f"sector {at}" for at in range(count)]
+
+
+def memories():
+    yield from heading("A disk in memory begins with zeros.")
+    yield from ["disk 4", *sectors_of(4)]
+    yield from heading("It is as large as numbers go. Of sectors far apart a crash leaves those that are chosen: only the first three numbers count.")
+    far = [0, 2**32, LAST - 1]
+    yield f"disk {LAST}"
+    for at in far:
+        yield from [filled(at, 4), f"sector {at}"]
+    yield from [filled(LAST, 4), f"sector {LAST}", "stop", "crash 1 0 1 1 1 1 1 1 1", *(f"sector {at}" for at in far)]
+    yield from heading(
+        "Sector 1 is synced with 1s, then sector 3 is filled with 5s, and sector 1 with 2s and with 3s. A crash by each of these choices, and then a",
+        "second one, which loses nothing.",
+    )
+    unsynced = ["disk 4", filled(1, 1), "sync", filled(3, 5), filled(1, 2), filled(1, 3)]
+    chosen = [[], [0], [1], [2], [3], [0, 0], [1, 0], [2, 0], [2**32 - 1, 0], [0, 1], [1, 1], [2, 1], [0, 2], [1, 2**32 - 1], [2, 1, 1, 1]]
+    for choice in chosen:
+        yield from [*unsynced, "stop", f"crash {words_of(choice)}".rstrip(), *sectors_of(4), "stop", "crash 1 1", *sectors_of(4)]
+    yield from heading("The same once it is synced, and then with one more write.")
+    for choice in ([0, 0], [1, 1], [2, 2]):
+        yield from [*unsynced, "sync", "stop", f"crash {words_of(choice)}", *sectors_of(4)]
+    for choice in ([0], [1]):
+        yield from [*unsynced, "sync", filled(0, 7), "stop", f"crash {words_of(choice)}", *sectors_of(4)]
+
+
+def failing_calls():
+    yield from heading(
+        "Sector 2 is filled with 7s, synced, filled with 8s and read, while each call of the four fails, none, or all from one on: what is told, what the",
+        "disk has then, and what a crash leaves of it that loses what wasn't synced.",
+    )
+    for stop in [f"{word} {call}" for word in ("fail_from", "fail_not_made", "fail_made") for call in range(7)]:
+        yield from ["disk 3", stop, filled(2, 7), "sync", filled(2, 8), "sector 2", "fail_none", "sector 2", "stop", "crash", "sector 2"]
+
+
 def layouts():
     yield from heading("Layouts: the two documented examples, the smallest and the largest disk, and sizes out of range.")
     yield from (f"layout {sectors}" for sectors in (64, 256, 65, 67, 16777216, 0, 63, 16777217, LAST))
@@ -388,9 +429,9 @@ def pairs():
 
 def lines():
     yield from ["# Disks, their generations and their journals. Written by bench/model/journal_script.py, with the answers."]
-    for block in (layouts, formats, format_crashes, possible_roots, bad_roots, bad_formats, reads_that_fail, upgrades, upgrade_crashes, installs):
+    for block in (memories, failing_calls, layouts, formats, format_crashes, possible_roots, bad_roots, bad_formats, reads_that_fail):
         yield from block()
-    for block in (part_sectors, heads, append_crashes, full_rings, releases, recoveries, versions, pairs):
+    for block in (upgrades, upgrade_crashes, installs, part_sectors, heads, append_crashes, full_rings, releases, recoveries, versions, pairs):
         yield from block()
 
 

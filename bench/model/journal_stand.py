@@ -71,10 +71,11 @@ class Trial:
     def do_sector(self, at):
         if at >= self.disk.count:
             return "no sector"
+        before = self.disk.calls
         try:
             return spelled(self.disk.read(at).rstrip(b"\0"))
         except Failed:
-            return "DiskFault"
+            return f"DiskFault in {self.disk.calls - before}"
 
     def do_sectors(self):
         held = [at for at in range(self.disk.count) if any(self.disk.disk.read(at))]

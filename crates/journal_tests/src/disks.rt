@@ -1,9 +1,8 @@
-//! Disks that crash and fail, by worked examples.
+//! Disks in files, and disks whose calls fail, by worked examples.
 mod calls;
 mod fakes;
 mod faulty;
 mod made;
-mod memory;
 mod paths;
 mod runs;
 mod steps;

@@ -1,4 +1,4 @@
-//! Tests of disks: in memory, in files, and with calls that fail.
+//! Tests of disks in files, and of disks whose calls fail.
 #![tactic(auto)]
 
 #[cfg(test)]

@@ -1,5 +1,5 @@
-//! A disk of which some calls fail, at each call of a short script.
-use super::memory::other_left;
+//! A disk of which some calls fail, over another one that counts its own: what each call of a short script asks of it. What is told, and what the
+//! disk then has, are lines of `journal_runs`.
 use super::same;
 use super::steps::Step::{Begins, Fills, FillsNot, ReadsNot, Syncs, SyncsNot};
 use super::steps::{Step, other_step};
@@ -23,68 +23,30 @@ fn script((wrote, synced, again, byte): Reported) -> [Step; 4] {
     ]
 }
 
-/// Which calls fail; what is reported to the script; what the inner disk then holds, what a crash leaves of it by the choice of the old
-/// content, and how many of the four calls are passed on, or made all the same: each is one call of the inner disk.
-type Row = (FailingCalls, Reported, u8, u8, u64);
+/// Which calls fail; what is reported to the script; and how many of the four calls are passed on, or made all the same: each is one call of
+/// the inner disk.
+type Row = (FailingCalls, Reported, u64);
 
 const ROWS: [Row; 18] = [
-    (AllFrom(0), (false, false, false, None), 0, 0, 0),
-    (AllFrom(1), (false, false, false, None), 0, 0, 0),
-    (AllFrom(2), (true, false, false, None), 7, 0, 1),
-    (AllFrom(3), (true, true, false, None), 7, 7, 2),
-    (AllFrom(4), (true, true, true, None), 8, 7, 3),
-    (AllFrom(5), (true, true, true, Some(8)), 8, 7, 4),
-    (AllFrom(6), (true, true, true, Some(8)), 8, 7, 4),
-    (OneNotMade(0), (true, true, true, Some(8)), 8, 7, 4),
-    (OneMade(0), (true, true, true, Some(8)), 8, 7, 4),
-    (OneNotMade(1), (false, true, true, Some(8)), 8, 0, 3),
-    (OneMade(1), (false, true, true, Some(8)), 8, 7, 4),
-    (OneNotMade(2), (true, false, true, Some(8)), 8, 0, 3),
-    (OneMade(2), (true, false, true, Some(8)), 8, 7, 4),
-    (OneNotMade(3), (true, true, false, Some(7)), 7, 7, 3),
-    (OneMade(3), (true, true, false, Some(8)), 8, 7, 4),
-    (OneNotMade(4), (true, true, true, None), 8, 7, 3),
-    (OneMade(4), (true, true, true, None), 8, 7, 4),
-    (OneNotMade(5), (true, true, true, Some(8)), 8, 7, 4),
+    (AllFrom(0), (false, false, false, None), 0),
+    (AllFrom(1), (false, false, false, None), 0),
+    (AllFrom(2), (true, false, false, None), 1),
+    (AllFrom(3), (true, true, false, None), 2),
+    (AllFrom(4), (true, true, true, None), 3),
+    (AllFrom(5), (true, true, true, Some(8)), 4),
+    (AllFrom(6), (true, true, true, Some(8)), 4),
+    (OneNotMade(0), (true, true, true, Some(8)), 4),
+    (OneMade(0), (true, true, true, Some(8)), 4),
+    (OneNotMade(1), (false, true, true, Some(8)), 3),
+    (OneMade(1), (false, true, true, Some(8)), 4),
+    (OneNotMade(2), (true, false, true, Some(8)), 3),
+    (OneMade(2), (true, false, true, Some(8)), 4),
+    (OneNotMade(3), (true, true, false, Some(7)), 3),
+    (OneMade(3), (true, true, false, Some(8)), 4),
+    (OneNotMade(4), (true, true, true, None), 3),
+    (OneMade(4), (true, true, true, None), 4),
+    (OneNotMade(5), (true, true, true, Some(8)), 4),
 ];
-
-/// Whether sector 2 begins with these bytes, now and after a crash.
-fn is_held(disk: &mut MemoryDisk, holds: u8, left: u8) -> Result<bool, AllocError> {
-    let other = other_step(disk, &[Begins(2, holds)]);
-    let other_left = other_left(disk, &[], &[Begins(2, left)])?;
-    Ok(other.is_none() && other_left.is_none())
-}
-
-/// Whether the script has these outcomes, with four calls, and leaves these bytes.
-fn is_seen(
-    alloc: Global,
-    failing: FailingCalls,
-    steps: &[Step],
-    holds: u8,
-    left: u8,
-) -> Result<bool, AllocError> {
-    let mut disk = FaultyDisk::new(MemoryDisk::new(alloc, 3)?, failing);
-    let is_reported = other_step(&mut disk, steps).is_none() && disk.calls() == 4;
-    let mut inner = disk.into_disk();
-    let is_held = is_held(&mut inner, holds, left);
-    drop(inner);
-    Ok(is_reported && is_held?)
-}
-
-/// The failing calls of the first row with another outcome.
-fn other_row(alloc: Global) -> Result<Option<FailingCalls>, AllocError> {
-    for (failing, reported, holds, left, _) in &ROWS {
-        if !is_seen(alloc, *failing, &script(*reported), *holds, *left)? {
-            return Ok(Some(*failing));
-        }
-    }
-    Ok(None)
-}
-
-#[test]
-fn fails_at_its_calls(rt: HostRuntime) {
-    same(&rt, &other_row(rt.alloc()), &Ok(None));
-}
 
 /// How many calls the script makes of the inner disk, where calls of both disks fail, if the script has these outcomes.
 fn passed_on(
@@ -104,7 +66,7 @@ fn passed_on(
 
 /// The failing calls of the first row with another number.
 fn other_number(alloc: Global) -> Result<Option<FailingCalls>, AllocError> {
-    for (failing, reported, _, _, passed) in &ROWS {
+    for (failing, reported, passed) in &ROWS {
         if passed_on(alloc, *failing, AllFrom(9), *reported)? != Some(*passed) {
             return Ok(Some(*failing));
         }
