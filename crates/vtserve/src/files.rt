@@ -1,5 +1,6 @@
 //! The commands over a disk in a file.
 
+use crate::boxed::BoxedDisk;
 use crate::fault::{Cause, CommandFault};
 use crate::looks::Looks;
 use crate::noted::Noted;
@@ -8,7 +9,7 @@ use crate::place::{Identity, OpenPath, identity_of};
 use crate::regular::open_regular;
 use crate::serving::{Peers, serve};
 use crate::watching::{Watch, Watched};
-use generations::LAST_VERSION;
+use generations::{LAST_VERSION, StoreFault};
 use map_server::{formatted_file, opened_service};
 use sector_disk::{FileDisk, Start, SystemFile, Zeros};
 use std::cell::Cell;
@@ -191,7 +192,10 @@ pub(crate) fn serve_file<S: Start>(
         file,
         cause: &cause,
     };
-    match opened_service(rt.alloc(), FileDisk::new(file, bytes, start), access) {
+    let Ok(disk) = BoxedDisk::new(rt.alloc(), FileDisk::new(file, bytes, start)) else {
+        return Err(CommandFault::Store(StoreFault::Memory));
+    };
+    match opened_service(rt.alloc(), disk, access) {
         Ok(map) => serve(rt, map, peers, &Looks::new(Some(place), &watch)),
         Err((_, fault)) => Err(CommandFault::of_disk(fault, &cause)),
     }

@@ -2,6 +2,7 @@
 #![tactic(auto)]
 
 mod archives;
+mod boxed;
 mod commands;
 mod copying;
 mod descriptors;
