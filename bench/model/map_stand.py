@@ -74,41 +74,7 @@ def covers(rest):
     return f"{x0} to {x1}, {y0} to {y1}"
 
 
-# ---- limits
-
-
-def checked(feature, number=7):
-    features.check(number, feature)
-    return "ok"
-
-
-def sizes(rest):
-    number, layer, minzoom, maxzoom, points, tags, key, length = numbers_in(rest)
-    named = [("t" if length else "") + "e" * (length - 1)] * tags
-    keyed = [(chr(33 + index) if key else "") + "e" * (key - 1) for index in range(tags)]
-    feature = {
-        "layer": ("l" if layer else "") + "e" * (layer - 1), "minzoom": minzoom, "maxzoom": maxzoom,
-        "geometry": {"points": [[0, 0]] * points}, "tags": [*zip(keyed, named)]}
-    return checked(feature, number)
-
-
-def lines(rest):
-    count, points, *_ = numbers_in(rest)
-    return checked(POINT | {"geometry": {"lines": [[[0, 0]] * points] * count}})
-
-
-def polygons(rest):
-    count, rings, points, *_ = numbers_in(rest)
-    return checked(POINT | {"geometry": {"polygons": [[[[0, 0]] * points] * rings] * count}})
-
-
-def keys(rest):
-    return checked(POINT | {"tags": [(key, True) for key in rest.split()]})
-
-
-def negative(rest):
-    # A number of 0 or more has another spelling.
-    return checked(POINT) if int(rest) < 0 else "E7 Value"
+# ---- texts of edits
 
 
 def deleted(rest):
@@ -117,12 +83,6 @@ def deleted(rest):
         raise features.Fault("E2 Number")
     made = Change(number, None)
     return f"{text_of(made).hex()} {edit_text([made]).hex()}"
-
-
-def batch(rest):
-    made = [Change(int(word[:-1]), POINT if word.endswith("+") else None) for word in rest.split()]
-    features.check_batch(made)
-    return edit_text(made).hex()
 
 
 def changes(rest):
@@ -158,8 +118,7 @@ def record(rest):
 
 
 ALONE = {
-    "json": json, "text": text, "reach": reach, "covers": covers, "sizes": sizes, "lines": lines, "polygons": polygons,
-    "keys": keys, "negative": negative, "deleted": deleted, "batch": batch, "changes": changes, "checked": checked_changes,
+    "json": json, "text": text, "reach": reach, "covers": covers, "deleted": deleted, "changes": changes, "checked": checked_changes,
     "record": record}
 
 

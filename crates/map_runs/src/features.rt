@@ -3,8 +3,8 @@ ghost use Rattle.std.specs.Prelude.{IfOk};
 ghost use Rattle.feature_model.specs.Limits.{FeatureFits, IsAllowed};
 ghost use Rattle.feature_text.specs.Views.{feature_view};
 
-use crate::limits::batch_text;
 use crate::lines::Line;
+use crate::texts::batch_text;
 use edit_json::{batch_from_json, checked_from_json, feature_from_json, feature_to_json};
 use edit_text::encode_change;
 use feature_model::{Change, EditFault, Feature, MAX_ZOOM, Seen, check};

@@ -9,17 +9,9 @@ pub(crate) struct Line<'a> {
     pub(crate) numbers: [u64; 8],
 }
 
-/// The most repetitions that a line may ask for.
-const MAX_TIMES: usize = 100_000;
-
 /// A number as a byte, the greatest where it is greater.
 pub(crate) fn byte(number: u64) -> u8 {
     u8::try_from(number).unwrap_or(u8::MAX)
-}
-
-/// A count that a line asks for.
-pub(crate) fn times(number: u64) -> usize {
-    usize::try_from(number).unwrap_or(MAX_TIMES).min(MAX_TIMES)
 }
 
 fn numbers_in(text: &str) -> [u64; 8] {

@@ -6,7 +6,7 @@
 //! of the world. In place of an answer stands the word of a fault. An answer of over 10,000 bytes is told by its first ones, its length
 //! and a digest. What is wanted of each line is in `bench/model/map_stand.py`.
 //!
-//! A feature alone, and limits:
+//! A feature alone, and edits:
 //!
 //! | Line | Answer |
 //! |---|---|
@@ -14,11 +14,7 @@
 //! | `text ID FEATURE` | the text of the change that gives the number this feature |
 //! | `reach FEATURE` | how many tiles it covers, and the fault where these are too many |
 //! | `covers ZOOM FEATURE` | the columns and the rows of a zoom that it covers |
-//! | `sizes ID LAYER MINZOOM MAXZOOM POINTS TAGS KEY TEXT` | the limits of a feature by its lengths, names and texts in bytes |
-//! | `lines COUNT POINTS`, `polygons COUNT RINGS POINTS` | the limits of a feature of so many of these |
-//! | `keys KEY ..`, `negative N` | the limits of a feature with these keys in this order, or with this number as a negative one |
 //! | `deleted ID` | the texts of the change and of the edit that take a feature away |
-//! | `batch 7+ 9- ..` | the text of an edit that gives numbers a point at the world's corner (+) and takes features away (-) |
 //! | `changes CHANGES` | the text of an edit of changes as JSON |
 //! | `checked CHANGES` | the same of changes with what their author saw, and that of each number |
 //! | `record VERSION TEXT` | the text of a record's edit, written again by this version, and as an edit's |
@@ -68,15 +64,15 @@ mod areas;
 mod boxes;
 mod caches;
 mod features;
-mod limits;
 mod lines;
 mod maps;
 mod numbers;
 mod random;
 mod stands;
+mod texts;
 
 use stands::Stand;
-use std::io::{self, BufRead, BufReader};
+use std::io;
 
 /// Answers a line.
 fn answer_line(rt: &HostRuntime, stand: &mut Stand, line: &str) -> io::Result<()> {
@@ -86,7 +82,7 @@ fn answer_line(rt: &HostRuntime, stand: &mut Stand, line: &str) -> io::Result<()
 
 /// Answers each line. The stand is lent, so that no way out of the loop has it to drop.
 fn answer_lines(rt: &HostRuntime, stand: &mut Stand) -> io::Result<()> {
-    for line in BufReader::new(rt.alloc(), rt.reader())?.lines(rt.alloc()) {
+    for line in rt.lines(rt.alloc()) {
         answer_line(rt, stand, line?.as_str())?;
     }
     Ok(())
@@ -94,5 +90,7 @@ fn answer_lines(rt: &HostRuntime, stand: &mut Stand) -> io::Result<()> {
 
 fn main(rt: HostRuntime) -> io::Result<()> {
     let mut stand = Stand::new(rt.alloc())?;
-    answer_lines(&rt, &mut stand)
+    let answered = answer_lines(&rt, &mut stand);
+    drop(stand);
+    answered
 }

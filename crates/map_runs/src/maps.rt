@@ -11,12 +11,13 @@ use crate::random::make_random;
 use cached_map::CachedMap;
 use edit_text::{decode, encode_change};
 use feature_model::{Change, Edit, Feature, check};
-use feature_store::Store;
+use feature_store::{Store, Tiles};
 use hilbert_id::TileAt;
 use map_metadata::{metadata, metadata_text};
 use mvt_layer::{Layer, read_tile};
 use script_bytes::{digest, number_in, parted, short};
 use std::alloc::{AllocError, Global};
+use std::mem;
 
 /// The most features of a map.
 const MOST: usize = 100_000;
@@ -155,16 +156,41 @@ fn layers(alloc: Global, store: &Store, at: TileAt) -> Result<String, AllocError
     }
 }
 
+/// Adds the next tile, with its id. Whether there is one.
+fn push_tile(
+    alloc: Global,
+    all: &mut Vec<(u64, String)>,
+    tiles: &mut Tiles<'_>,
+) -> Result<bool, AllocError> {
+    match tiles.next()? {
+        Some((id, bytes)) => {
+            all.push((id, hex::encode(alloc, bytes.as_slice())?))?;
+            Ok(true)
+        }
+        None => Ok(false),
+    }
+}
+
+fn push_tiles(
+    alloc: Global,
+    all: &mut Vec<(u64, String)>,
+    tiles: &mut Tiles<'_>,
+) -> Result<(), AllocError> {
+    for _ in 0..u64::MAX {
+        if !push_tile(alloc, all, tiles)? {
+            break;
+        }
+    }
+    Ok(())
+}
+
 /// All tiles, each with its id.
 fn tiles(alloc: Global, store: &Store) -> Result<String, AllocError> {
     let mut all = Vec::new(alloc);
     let mut tiles = store.tiles()?;
-    for _ in 0..u64::MAX {
-        let Some(tile) = tiles.next()? else {
-            break;
-        };
-        all.push((tile.0, hex::encode(alloc, tile.1.as_slice())?))?;
-    }
+    let pushed = push_tiles(alloc, &mut all, &mut tiles);
+    drop(tiles);
+    pushed?;
     format!(in alloc; "{all:?}")
 }
 
@@ -191,7 +217,8 @@ fn restore(alloc: Global, map: &mut CachedMap, text: &str) -> Result<String, All
     match Store::from_snapshot(alloc, &bytes) {
         Ok(store) => {
             let count = store.len();
-            *map = CachedMap::new(alloc, store, map.last())?;
+            let restored = CachedMap::new(alloc, store, map.last())?;
+            drop(mem::replace(map, restored));
             format!(in alloc; "{count} features")
         }
         Err(fault) => fault.to_string(alloc),

@@ -2,11 +2,12 @@
 use crate::boxes::Boxes;
 use crate::caches::Caches;
 use crate::lines::{Line, line_in};
-use crate::{areas, features, limits, maps, numbers};
+use crate::{areas, features, maps, numbers, texts};
 use cached_map::CachedMap;
 use number_map::NumberMap;
 use script_bytes::clipped;
 use std::alloc::{AllocError, Global};
+use std::mem;
 
 /// A map, and parts of maps.
 #[derive(Drop)]
@@ -30,10 +31,10 @@ impl Stand {
     /// Begins anew with the map, or with what is as dear.
     fn begin(&mut self, alloc: Global, line: Line<'_>) -> Result<(), AllocError> {
         match line.word {
-            "map" => self.map = maps::empty_map(alloc, line.numbers[0])?,
-            "numbers" => self.numbers = NumberMap::new(alloc),
-            "boxes" => self.boxes = Boxes::new(alloc),
-            _ => self.caches = Caches::new(alloc)?,
+            "map" => drop(mem::replace(&mut self.map, maps::empty_map(alloc, line.numbers[0])?)),
+            "numbers" => drop(mem::replace(&mut self.numbers, NumberMap::new(alloc))),
+            "boxes" => drop(mem::replace(&mut self.boxes, Boxes::new(alloc))),
+            _ => drop(mem::replace(&mut self.caches, Caches::new(alloc)?)),
         }
         Ok(())
     }
@@ -51,7 +52,7 @@ impl Stand {
         if let Some(told) = features::answer(alloc, line) {
             return told;
         }
-        if let Some(told) = limits::answer(alloc, line) {
+        if let Some(told) = texts::answer(alloc, line) {
             return told;
         }
         if let Some(told) = maps::answer(alloc, &mut self.map, line) {
