@@ -1,7 +1,5 @@
 //! A disk on the heap.
-ghost use Rattle.std.specs.Prelude.{◌≡◌, ◌<◌, OnOk};
-ghost use Rattle.sector_disk.specs.Asked.{MayWrite, OnlyReads};
-ghost use Rattle.sector_disk.specs.Disk.{seen, Writes, Syncs, CountsFault};
+ghost use Rattle.std.specs.Prelude.{◌≡◌, IfOk};
 
 use sector_disk::{DiskFault, SECTOR_BYTES, Sectors};
 use std::alloc::{AllocError, Global};
@@ -14,7 +12,9 @@ pub(crate) struct BoxedDisk<D> {
 
 impl<D: Sectors + Drop> BoxedDisk<D> {
     /// Moves a disk to the heap. If there is no memory for it, the disk is dropped.
-    pub(crate) fn new(alloc: Global, disk: D) -> Result<BoxedDisk<D>, AllocError> {
+    pub(crate) fn new(alloc: Global, disk: D) -> Result<BoxedDisk<D>, AllocError>
+        ensures { IfOk result (λ boxed. boxed.disk.value ≡ disk) }
+    {
         Ok(BoxedDisk {
             disk: Box::new(alloc, disk)?,
         })
