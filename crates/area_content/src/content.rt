@@ -11,7 +11,7 @@ use sector_disk::SECTOR_BYTES;
 use std::marker::Model;
 
 /// The snapshot and the archive of a map, each starting at a sector.
-#[derive(Debug, Drop)]
+#[derive(Drop)]
 pub struct AreaContent {
     snapshot: Vec<u8>,
     archive: BuiltArchive,

@@ -24,7 +24,7 @@ use std::marker::Model;
 pub type Tile = (u64, Vec<u8>);
 
 /// The tiles that show something of a map, in ascending order of their ids, each made when it is asked for.
-#[derive(Debug, Drop)]
+#[derive(Drop)]
 pub struct Tiles<'a> {
     map: FeatureBoxes<'a>,
     /// The tiles that aren't made yet.

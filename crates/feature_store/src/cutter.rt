@@ -4,7 +4,7 @@ use geometry_commands::{PackedShape, Pt};
 use std::alloc::Global;
 
 /// What cutting a feature overwrites, used again for the next feature.
-#[derive(Debug, Drop)]
+#[derive(Drop)]
 pub(crate) struct Cutter {
     /// What a tile shows of the feature, as packed integers.
     pub(crate) shape: PackedShape,

@@ -19,7 +19,7 @@ use tile_cutter::tiles_met;
 use tile_walk::{Numbered, Walk};
 
 /// The features of a map, and the bounding box and the zooms of each, by ascending number.
-#[derive(Debug, Drop)]
+#[derive(Drop)]
 pub(crate) struct FeatureBoxes<'a> {
     features: &'a NumberMap<StoredFeature>,
     boxes: Vec<IndexEntry>,

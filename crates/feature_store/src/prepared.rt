@@ -11,7 +11,7 @@ use feature_text::StoredFeature;
 use std::alloc::{AllocError, Global};
 
 /// A change, with the text of the feature that it sets.
-#[derive(Debug, Drop)]
+#[derive(Drop)]
 pub enum Prepared {
     Put(StoredFeature),
     Delete { id: u64 },

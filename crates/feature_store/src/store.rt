@@ -36,7 +36,7 @@ use std::marker::Model;
 /// have it. The texts of all of them are fewer than `TEXTS_END` bytes together.
 ///
 /// An index has the bounding box and the zooms of each feature, so that a tile looks at those near it alone.
-#[derive(Debug, Drop)]
+#[derive(Drop)]
 pub struct Store {
     features: NumberMap<StoredFeature>,
     index: BoxIndex,

@@ -12,7 +12,7 @@ use tile_walk::Walk;
 type Covered = (u64, Vec<u64>);
 
 /// The tiles that are left of the zooms of a map, each with the features that cover it.
-#[derive(Debug, Drop)]
+#[derive(Drop)]
 pub(crate) struct TilesLeft {
     /// The zoom that is walked next.
     pub(crate) zoom: u8,

@@ -16,7 +16,7 @@ use std::alloc::{AllocError, Global};
 use std::marker::Model;
 
 /// A number and its feature, kept as the text that gives the number this feature.
-#[derive(Debug, Drop)]
+#[derive(Drop)]
 pub struct StoredFeature {
     text: Vec<u8>,
 }

@@ -35,7 +35,7 @@ fn put_way(out: &mut Vec<u8>, from: Pt, to: Pt) -> Result<(), AllocError>
 /// The packed integers of one shape (Mapbox Vector Tile 2.1, 4.3), in memory that is used again for the next.
 ///
 /// Points are a call of `begin_points` and one of `put_point` for each; lines and rings are a call of `put_line` for each.
-#[derive(Debug, Drop)]
+#[derive(Drop)]
 pub struct PackedShape {
     /// Each integer in its shortest encoding.
     pub bytes: Vec<u8>,

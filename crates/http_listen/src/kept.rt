@@ -34,7 +34,7 @@ const NOTHING: Result<Served, ServeFault> = Ok(Served {
 });
 
 /// What is known of a connection, beside its bytes.
-#[derive(Clone, Copy, Debug)]
+#[derive(Clone, Copy)]
 pub(crate) struct Turn {
     /// Its number, from 1, in the order of acceptance.
     pub(crate) number: u64,

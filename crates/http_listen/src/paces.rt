@@ -13,7 +13,7 @@ const BYTES_A_SECOND: u64 = 16_384;
 const SECOND: u64 = 1_000_000_000;
 
 /// What a connection does.
-#[derive(Clone, Copy, Debug, PartialEq, Eq)]
+#[derive(Clone, Copy)]
 pub(crate) enum Stage {
     /// It waits for a request, of which nothing has come.
     Idle,
@@ -25,7 +25,7 @@ pub(crate) enum Stage {
 
 /// How much time a peer has left in the present stage. It has `WAIT_SECONDS` in each. A reply earns it more as it is sent, but never
 /// more than that at once: a peer that has read fast may not stop for longer.
-#[derive(Clone, Copy, Debug, PartialEq, Eq)]
+#[derive(Clone, Copy)]
 pub(crate) struct Pace {
     stage: Stage,
     /// The time that is left, in nanoseconds.

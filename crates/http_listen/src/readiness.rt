@@ -4,7 +4,7 @@ ghost use Rattle.std.specs.Prelude.{◌≡◌, ◌||◌, true, false};
 use crate::waits::Change;
 
 /// What a stream may be ready for: a call that finds it otherwise returns `WouldBlock`.
-#[derive(Clone, Copy, Debug, PartialEq, Eq)]
+#[derive(Clone, Copy)]
 pub(crate) struct Readiness {
     /// Whether a read may return something.
     pub(crate) reads: bool,

@@ -6,7 +6,7 @@ use crate::outputs::Output;
 use http_serve::{Downloads, End, PART_SIZE, ServeFault, Served, Ticket};
 
 /// The rest of a content, which isn't sent yet.
-#[derive(Clone, Copy, Debug, PartialEq, Eq)]
+#[derive(Clone, Copy)]
 pub(crate) struct Unsent {
     ticket: Ticket,
     /// How many bytes of the content were read.

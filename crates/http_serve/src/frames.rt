@@ -31,7 +31,7 @@ pub(crate) struct Frame {
 }
 
 /// What is known if no request is complete.
-#[derive(Clone, Copy, Debug)]
+#[derive(Clone, Copy)]
 pub(crate) struct Missing {
     /// Why there is no request, if nothing follows.
     pub(crate) rejection: Rejection,

@@ -3,7 +3,7 @@ ghost use Rattle.std.specs.Prelude.{◌≡◌, ◌↔◌, IsTrue};
 ghost use Rattle.http_serve.specs.Lines.{after_byte, after_bytes};
 
 /// The progress of bytes towards an empty line after a line. Carriage returns between two line feeds are ignored.
-#[derive(Clone, Copy, Debug)]
+#[derive(Clone, Copy)]
 pub(crate) enum Lines {
     /// All bytes are line ends.
     Blank,

@@ -5,7 +5,7 @@ use httparse::{is_header_name_token, is_header_value_token, is_method_token, is_
 const VERSION: &[u8] = b"HTTP/1.";
 
 /// Where a prefix of a head ends (RFC 9112, 2.2 to 5).
-#[derive(Clone, Copy, Debug)]
+#[derive(Clone, Copy)]
 pub(crate) enum Position {
     /// Before the method, after empty lines at most.
     Front,

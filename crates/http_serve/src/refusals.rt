@@ -8,7 +8,7 @@ use crate::{Content, Reply};
 use status_phrase::Status;
 
 /// Why bytes begin with no request: the first reason that applies.
-#[derive(Clone, Copy, Debug, PartialEq, Eq)]
+#[derive(Clone, Copy, PartialEq, Eq)]
 pub(crate) enum Refusal {
     /// There is no head.
     Head,
@@ -27,7 +27,7 @@ pub(crate) enum Refusal {
 }
 
 /// A refusal, and whether its reply is only a head, because a head with the method HEAD was read.
-#[derive(Clone, Copy, Debug)]
+#[derive(Clone, Copy)]
 pub(crate) struct Rejection {
     pub(crate) refusal: Refusal,
     pub(crate) bare: bool,

@@ -11,7 +11,7 @@ use crate::positions::Position;
 use crate::refusals::NO_HEAD;
 
 /// What is known about the waiting bytes, so that they aren't scanned again for each piece.
-#[derive(Clone, Copy, Debug)]
+#[derive(Clone, Copy)]
 pub(crate) enum Search {
     /// Progress of the first `scanned` bytes to the empty line that ends a head, and where in the head they end.
     Head {

@@ -20,7 +20,7 @@ pub(crate) const CAPACITY: usize = 128;
 pub type Entry<T> = (u64, T);
 
 /// A few entries, ascending by number.
-#[derive(Debug, Drop)]
+#[derive(Drop)]
 pub struct Block<T> {
     entries: Vec<Entry<T>>,
 }

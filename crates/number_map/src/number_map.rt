@@ -13,7 +13,7 @@ use std::alloc::{AllocError, Global};
 use std::marker::Model;
 
 /// Values by number, ascending.
-#[derive(Debug, Drop)]
+#[derive(Drop)]
 pub struct NumberMap<T> {
     /// The first number of each block: a search over blocks reads these and no block.
     firsts: Vec<u64>,

@@ -24,7 +24,7 @@ use std::marker::Model;
 
 /// Builds an archive from tiles that are added in ascending order of their ids. It keeps each different content once, from the moment
 /// that a tile with it is added, and a record for each run of tiles and for each content.
-#[derive(Debug, Drop)]
+#[derive(Drop)]
 pub struct ArchiveBuilder {
     runs: Vec<Run>,
     /// The different contents of the tiles, in the order of first use.

@@ -1,7 +1,7 @@
 //! An archive that was built.
 
 /// The bytes of an archive, in two parts: `front`, then `contents`.
-#[derive(Debug, Drop)]
+#[derive(Drop)]
 pub struct BuiltArchive {
     /// The header, the root directory, the metadata and the leaf directories.
     pub front: Vec<u8>,

@@ -11,7 +11,7 @@ use std::collections::BTreeMap;
 use std::marker::Model;
 
 /// Where a content is stored.
-#[derive(Clone, Copy, Debug)]
+#[derive(Clone, Copy)]
 pub(crate) struct Stored {
     /// The offset of its first byte.
     pub(crate) offset: usize,
@@ -23,7 +23,7 @@ pub(crate) struct Stored {
 
 /// Different contents, each stored once, in the order in which they were added. A content's place is its index among them. An equal
 /// content is found by its hash, and compared byte for byte.
-#[derive(Debug, Drop)]
+#[derive(Drop)]
 pub(crate) struct Contents {
     /// The contents, one after the other.
     bytes: Vec<u8>,

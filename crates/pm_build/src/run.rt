@@ -1,7 +1,7 @@
 //! A run of tiles.
 
 /// Tiles of consecutive ids with equal contents.
-#[derive(Debug, Drop)]
+#[derive(Drop)]
 pub(crate) struct Run {
     /// The id of the first tile.
     pub(crate) first: u64,

@@ -40,7 +40,7 @@ pub enum Origin {
 }
 
 /// The bytes of a tile, shared with whoever asked for it, and the number of the edit as of which they are right.
-#[derive(Debug, Drop)]
+#[derive(Drop)]
 pub struct CachedTile {
     pub origin: Origin,
     pub number: u64,

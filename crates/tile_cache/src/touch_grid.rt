@@ -33,7 +33,7 @@ const CELL_BITS: [u32; LEVELS] = [27, 22, 17];
 /// The newest edit of each of 32 by 32 cells of the world, and of finer cells.
 ///
 /// A contract says of it which lists of marked edits it remembers.
-#[derive(Debug, Drop)]
+#[derive(Drop)]
 pub struct TouchGrid {
     cells: [u64; CELLS],
 }

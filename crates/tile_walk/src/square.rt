@@ -7,7 +7,7 @@ use crate::numbered::Numbered;
 
 /// A square of a zoom that the curve goes through without leaving it, with the boxes that meet it, in the square's own columns and rows:
 /// those in which its part of the curve is the curve of a lower zoom.
-#[derive(Debug, Drop)]
+#[derive(Drop)]
 pub(crate) struct Square {
     /// The zoom of which its part of the curve is the curve.
     pub(crate) zoom: u8,

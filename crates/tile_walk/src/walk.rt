@@ -16,7 +16,7 @@ use tile_cutter::TileRange;
 ///
 /// It keeps the squares that are left, of which each is cut into four when it is next: for each box at most three a level, and not an
 /// entry for each of its tiles.
-#[derive(Debug, Drop)]
+#[derive(Drop)]
 pub struct Walk {
     /// The squares that are left, the next one last.
     squares: Vec<Square>,
