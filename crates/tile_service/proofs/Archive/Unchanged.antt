@@ -1,5 +1,6 @@
 -- The archive that a service shows, where a read gives of its sectors what it gave.
-use Rattle.std.proofs.Common.{◌≡◌, ⊎_elim, ℕ, ◌<◌, ◌≤◌, ◌+◌, ◌-◌, suc, Bool, List, length, take, Option, Result, Ok, Err, refl, sym, ap, ◌∙◌, subst, arith}
+use Rattle.std.proofs.Common.{◌≡◌, ⊎_elim, ℕ, ◌<◌, ◌≤◌, ◌+◌, ◌-◌, suc, Bool, true, List, length, take, Option, Result, Ok, Err}
+use Rattle.std.proofs.Common.{refl, sym, ap, ◌∙◌, subst, arith}
 use Rattle.std.specs.Prelude.{IfOk, OnErr}
 use Rattle.std.proofs.lemmas.Bool.{cases_lt}
 use Rattle.std.proofs.lemmas.Nat.{mod_below}
@@ -114,6 +115,22 @@ module _ {D : Type 0} (honest : D → Type 0) (history : D → History) where
             (seen (history inside.disk)) (seen (history disk))
             (subst (λ (g : ℕ). IsBeside inside.size g (seen (history inside.disk)) (seen (history disk))) next_is (beside is_honest)) shown;
       })
+
+  -- so does the write of a root, done or failed,
+  pub root_keeps : (inside : ServiceView D) (disk : D) (root : ℕ) → sectors_of inside.snapshot_len + sectors_of inside.archive_len ≤ area_sectors inside.size
+      → root < 3 → (honest disk → (at : ℕ) → (at ≡ root → ⊥) → seen (history disk) at ≡ seen (history inside.disk) at)
+      → KeepsArchive honest history inside (record inside { disk = disk; broken = true })
+  root_keeps inside disk root fits low others = record {
+    generation = refl;
+    snapshot_len = refl;
+    archive_len = refl;
+    shows = λ archive shown is_honest. root_shown inside.size inside.generation inside.snapshot_len inside.archive_len fits archive
+        (seen (history inside.disk)) (seen (history disk)) root low (others is_honest) shown;
+  }
+
+  -- a service whose publication is another shows the same,
+  pub shows_the_same : (old : ServiceView D) (publication : Option PublicationView) → KeepsArchive honest history old (record old { publication = publication })
+  shows_the_same old publication = record { generation = refl; snapshot_len = refl; archive_len = refl; shows = λ archive shown is_honest. shown }
 
   -- and so does an append to the journal, done or failed
   pub append_keeps : (old new : ServiceView D) → new.size ≡ old.size → new.generation ≡ old.generation → new.snapshot_len ≡ old.snapshot_len

@@ -6,6 +6,7 @@ use Rattle.std.specs.List.{All}
 use Rattle.std.proofs.lemmas.Bool.{false≢true}
 use Rattle.std.proofs.lemmas.List.{length-map}
 use Rattle.std.proofs.lemmas.List.Elements.{All-map, All-weaker}
+use Rattle.sector_disk.specs.Asked.{OnlyReads}
 use Rattle.sector_disk.specs.Disk.{History, Image, seen, MayLeave}
 use Rattle.sector_disk.specs.Disk.History.{synced}
 use Rattle.sector_disk.specs.declared.disk.TheConstants.{SECTOR_BYTES}
@@ -46,6 +47,12 @@ use Rattle.tile_service.proofs.Disk.SectorBytes.{one_stands, each_stands}
 use Rattle.tile_service.proofs.Disk.OneState.{one_run, all_recorded, version_known, version_most}
 use Rattle.tile_service.proofs.Disk.Replayed.{made_short}
 use Rattle.tile_service.proofs.Disk.Roots.{lives}
+
+-- A disk that was synced, and then only read, has the history of the sync.
+pub synced_and_read : {D : Type 0} {sectors : D → ℕ} {honest : D → Type 0} {history : D → History} {old middle new : D}
+    → (honest middle → history middle ≡ synced (history old)) → OnlyReads sectors honest history middle new
+    → honest new → history new ≡ synced (history old)
+synced_and_read syncs only is_honest = only.same_history is_honest ∙ syncs (only.was_honest is_honest)
 
 -- ---- the bytes of texts
 

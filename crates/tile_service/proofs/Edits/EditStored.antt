@@ -8,23 +8,25 @@ use Rattle.sector_disk.proofs.History.{started}
 use Rattle.sector_disk.proofs.Moments.{since_now, is_later}
 use Rattle.edit_journal.specs.Records.{RecordData}
 use Rattle.edit_journal.specs.Ring.{Ring, RecordStart, HoldsOnly, places_of}
-use Rattle.edit_journal.specs.Appends.{ring_of, start_of, IsAt, AsBefore, ReadsAsBefore, HoldsOneMore}
+use Rattle.edit_journal.specs.Appends.{ring_of, start_of, IsAt, IsAppendFault, AsBefore, ReadsAsBefore, HoldsOneMore}
 use Rattle.edit_journal.specs.declared.fault.JournalFault.{JournalFault}
 use Rattle.edit_journal.specs.declared.fault.JournalFault.TheVariants as journals
 use Rattle.edit_journal.specs.declared.journal.Journal.{Journal}
-use Rattle.cached_map.specs.Cached.{WasMap, AreReadRight}
+use Rattle.cached_map.specs.Cached.{CachedView, WasMap, AreReadRight}
 use Rattle.edit_text.specs.Recorded.{RecordedEdit, IsRecorded}
 use Rattle.feature_store.specs.Store.{FeatureMap, snapshot}
 use Rattle.published_tiles.specs.Published.{PublishedView, ArePublished}
 use Rattle.published_tiles.specs.declared.place.ArchivePlace.{ArchivePlace}
 use Rattle.tile_service.specs.After.{made}
+use Rattle.tile_service.specs.Inside.{service_view}
 use Rattle.tile_service.specs.Machine.{Call, edit}
 use Rattle.tile_service.specs.Runs.{TakesEdit}
-use Rattle.tile_service.specs.Service.{PublicationView, ServiceView, count_at, Publishes, IsUp, MayStand, EventLeaves, told_as, archive_of}
+use Rattle.tile_service.specs.Service.{PublicationView, ServiceView, CountsDevice, count_at, Publishes, IsUp, MayStand, EventLeaves, told_as, archive_of}
 use Rattle.tile_service.specs.Stored.{Stored, Holds, Keeps, CanRecord, record_for, with_edit, map_of, stored_records, journal_ring, journal_start}
 use Rattle.tile_service.specs.Tiles.{archive_place}
 use Rattle.tile_service.specs.declared.fault.ServiceFault.{ServiceFault}
 use Rattle.tile_service.specs.declared.fault.ServiceFault.TheVariants.{Device}
+use Rattle.tile_service.specs.declared.service.Service.TheInside.{Inside}
 use Rattle.tile_service.proofs.Edits.JournalAppend.{append_leaves, append_made, records_with}
 use Rattle.tile_service.proofs.Tiles.EarlierMaps.{were_one}
 use Rattle.tile_service.proofs.Publications.Installed.{map_stays, records_stay, published_stays}
@@ -70,6 +72,25 @@ refuses_edit sectors honest history failures old new call e fault same other =
       refused = λ stored is_honest up not. up;
       steps = λ is_honest. tt;
     })
+
+-- The fault of an append says whether a call of the disk has failed.
+pub append_counts : (journal : Journal) (parts old new : ℕ) (fault : JournalFault) (told : ServiceFault) → told ≡ told_as fault
+    → IsAppendFault journal parts old new fault → CountsDevice told old new
+append_counts journal parts old new journals.NumbersSpent told is why = inr ((λ device. cc), why.1)
+append_counts journal parts old new (journals.Full need free) told is why = inr ((λ device. cc), why.4)
+append_counts journal parts old new journals.Device told is why = inl (is, why.2)
+append_counts journal parts old new journals.Damaged told is why = absurd why
+append_counts journal parts old new journals.Memory told is why = absurd why
+
+-- After an append that is refused for another fault than the disk's, the service is as it was.
+pub refused_unchanged : {D : Type 0} (inside : Inside D) (disk : D) (journal : Journal) (map : CachedView) (new : ServiceView D) (fault : JournalFault)
+    (told : ServiceFault) → told ≡ told_as fault → (fault ≡ journals.Device) ⊎ (disk ≡ inside.disk) → journal ≡ inside.journal
+    → map ≡ record inside.map { spare = map.spare }
+    → (fault ≢ journals.Device → new ≡ service_view (record inside { disk = disk; journal = journal; map = map }))
+    → told ≢ Device → new ≡ service_view inside
+refused_unchanged inside disk journal map new fault told is (inl device) kept same left other = absurd (other (is ∙ ap told_as device))
+refused_unchanged inside disk journal map new fault told is (inr unwritten) kept same left other =
+    left (λ device. other (is ∙ ap told_as device)) ∙ (λ i. service_view (record inside { disk = unwritten i; journal = kept i; map = same i }))
 
 module _ {D : Type 0} (sectors : D → ℕ) (history : D → History) (stored : Stored) (service : ServiceView D)
     (ring : ring_of service.journal ≡ journal_ring service.size) (up : IsUp (sectors service.disk) (history service.disk) stored service) where

@@ -1,6 +1,6 @@
 -- The limits of edits, and the lengths of their texts and of those of a map.
 use Rattle.std.proofs.Common.{◌≡◌, inl, inr, ℕ, ◌<◌, ◌≤◌, ◌+◌, ◌-◌, ◌*◌, ◌^◌, List, [], ◌∷◌, length, take, drop}
-use Rattle.std.proofs.Common.{sym, refl, ◌∙◌, ap, subst, arith, lit≤, Some}
+use Rattle.std.proofs.Common.{sym, refl, ◌∙◌, ap, subst, arith, lit≤, false, Some}
 use Rattle.std.proofs.Common.{append-nil, length-append}
 use Rattle.std.specs.Prelude.{Option, None, IsSome, IfSome}
 use Rattle.std.specs.List.{All}
@@ -23,8 +23,11 @@ use Rattle.feature_model.proofs.Changes.{distinct_none, distinct_push}
 use Rattle.feature_store.specs.Store.{FeatureMap, changed, edited, snapshot}
 use Rattle.feature_store.specs.declared.limit.TheConstants.{TEXTS_END}
 use Rattle.feature_store.proofs.Laws.{snapshot_after_put, snapshot_after_delete}
-use Rattle.tile_service.specs.Limits.{KeepsLimits, KeepsBatchLimits}
-use Rattle.tile_service.specs.Machine.{ServiceState, single, batched, recorded_in, recorded_change, HasTarget, CanMake}
+use Rattle.feature_model.specs.declared.fault.EditFault.{EditFault}
+use Rattle.tile_service.specs.Limits.{KeepsLimits, KeepsBatchLimits, BreaksBatchLimit}
+use Rattle.tile_service.specs.Machine.{ServiceState, single, batched, recorded_in, recorded_change, HasTarget, CanMake, Refuses, EditFault as MachineFault}
+use Rattle.tile_service.specs.declared.fault.ServiceFault.{ServiceFault}
+use Rattle.tile_service.specs.declared.fault.ServiceFault.TheVariants.{Limit}
 
 -- ---- numbers
 
@@ -80,6 +83,12 @@ pub batch_can : (s : ServiceState) (cs : EditData) → IsVersion s.version → (
     → All (HasTarget s.features) cs → s.last < 2 ^ 64 - 1 → CanMake s batched (recorded_in s.version cs)
 batch_can s cs is later keeps targets number =
     record { version_is = refl; accepts = is_later s.version is later; wanted = (keeps, targets); number = number }
+
+-- a batch that breaks a limit is refused for that
+pub breaks_refused : (s : ServiceState) (cs : EditData) (fault : ServiceFault) (limit : EditFault) → fault ≡ Limit limit → s.broken ≡ false
+    → FIRST_VERSION < s.version → BreaksBatchLimit cs limit → Refuses (MachineFault s fault batched (recorded_in s.version cs)) s fault s
+breaks_refused s cs fault limit is unbroken later breaks =
+    subst (λ (f : ServiceFault). Refuses (MachineFault s f batched (recorded_in s.version cs)) s f s) (sym is) (unbroken, (later, breaks), refl)
 
 -- ---- lengths
 

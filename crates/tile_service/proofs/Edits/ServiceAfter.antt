@@ -1,6 +1,6 @@
--- The invariants of a service are preserved when its journal gets one more record.
+-- The invariants of a service are preserved when its journal gets one more record, and when it gets none.
 use Rattle.std.specs.Prelude.{Option, None, Some, IfSome}
-use Rattle.std.proofs.Common.{◌≡◌, ℕ, ◌≤◌, ◌+◌, ◌-◌, ◌*◌, length, ◌∙◌, subst, arith}
+use Rattle.std.proofs.Common.{◌≡◌, ℕ, ◌≤◌, ◌+◌, ◌-◌, ◌*◌, length, ◌∙◌, sym, subst, arith}
 use Rattle.sector_disk.specs.declared.disk.TheConstants.{SECTOR_BYTES}
 use Rattle.generations.specs.Areas.{area_sectors}
 use Rattle.generations.specs.declared.root.Root.{Root}
@@ -50,3 +50,21 @@ module _ (size version : ℕ) (root : Root) (old new : Journal) (ring : ring_of 
     last_is = numbered;
     going = going_on publication was.going;
   }
+
+-- After an edit that is refused the invariants hold as before, with more memory for features.
+pub refused_service : {sectors now size version : ℕ} {root : Root} {old : Journal} {publication : Option PublicationView} (new : Journal)
+    (map later : CachedView) → now ≡ sectors → new ≡ old → later ≡ record map { spare = later.spare } → IsService sectors size version root old map publication
+    → IsService now size version root new later publication
+refused_service {sectors} {now} {size} {version} {root} {old} {publication} new map later count kept same is =
+    subst (λ (n : ℕ). IsService n size version root new later publication) (sym count)
+    (subst (λ (j : Journal). IsService sectors size version root j later publication) (sym kept)
+    (subst (λ (m : CachedView). IsService sectors size version root old m publication) (sym same) (record {
+      within = is.within;
+      version_is = is.version_is;
+      ring = is.ring;
+      area = is.area;
+      texts = is.texts;
+      counted = is.counted;
+      last_is = is.last_is;
+      going = is.going;
+    })))

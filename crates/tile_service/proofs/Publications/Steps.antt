@@ -1,11 +1,14 @@
 -- The beginning of a publication, its steps and its end.
-use Rattle.std.proofs.Common.{◌≡◌, ◌⊎◌, inl, inr, ⊎_elim, ◌<◌, ◌≤◌, ◌+◌, ◌-◌, ◌^◌, ◌%◌, ℕ, zero, suc, false, true, List, length, take, drop}
+use Rattle.std.proofs.Common.{◌≡◌, ◌≢◌, ◌⊎◌, inl, inr, ⊎_elim, ◌<◌, ◌≤◌, ◌+◌, ◌-◌, ◌^◌, ◌%◌, ℕ, zero, suc, false, true, List, length, take, drop}
 use Rattle.std.proofs.Common.{Result, Ok, Err, OnOk, Some, refl, sym, ◌∙◌, ap, subst, arith}
+use Rattle.std.proofs.lemmas.Bool.{false≢true}
 use Rattle.std.proofs.lemmas.List.{length-map, take_all}
 use Rattle.std.proofs.lemmas.Str.{IsUtf8-string_bytes}
-use Rattle.std.specs.Prelude.{Option, None, IfSome, IfOk, IfErr, OnErr, option_map, string_bytes}
+use Rattle.std.specs.Prelude.{Option, None, IsSome, IfSome, IfOk, IfErr, OnErr, option_map, string_bytes}
+use Rattle.std.specs.Option.{is_some}
 use Rattle.std.specs.declared.string.String.{String}
 use Rattle.std.specs.declared.alloc.Global.{Global}
+use Rattle.sector_disk.specs.Asked.{TellsFailure}
 use Rattle.sector_disk.specs.Disk.{History, seen}
 use Rattle.sector_disk.specs.Disk.History.{wrote, synced}
 use Rattle.sector_disk.specs.Moments.{LeavesOnly}
@@ -16,10 +19,11 @@ use Rattle.generations.specs.Sectors.{root_sector}
 use Rattle.generations.specs.declared.root.Root.{Root}
 use Rattle.edit_journal.specs.Appends.{ring_of}
 use Rattle.edit_journal.specs.Ring.{Ring, places_of}
+use Rattle.edit_journal.specs.declared.journal.Journal.{Journal}
 use Rattle.area_content.specs.Content.{sectors_taken}
 use Rattle.area_content.specs.Faults.{IsBuiltFor}
 use Rattle.area_content.specs.Tiles.{IsArchiveOfMap}
-use Rattle.cached_map.specs.Cached.{AreReadRight}
+use Rattle.cached_map.specs.Cached.{CachedView, AreReadRight}
 use Rattle.edit_text.specs.Recorded.{RecordedEdit}
 use Rattle.feature_store.specs.Store.{FeatureMap, IsMap, snapshot}
 use Rattle.map_metadata.specs.Metadata.{IsMetadata}
@@ -30,19 +34,86 @@ use Rattle.serde_json.specs.Data.{Data}
 use Rattle.serde_json.specs.Read.{read}
 use Rattle.serde_json.specs.Written.{compact_text}
 use Rattle.tile_cache.specs.Kept.{CacheView}
-use Rattle.tile_service.specs.Machine.{step, Begins, IsPublishable, AnswersStep, HasPublication, after_install}
-use Rattle.tile_service.specs.Publishing.{map_at, published, CanPublish, HasFirst, HasArea, IsUnderWay}
+use Rattle.tile_service.specs.Machine.{ServiceState, step, Begins, CanBegin, IsPublishable, BeginFault, Refuses, AnswersStep, HasPublication, after_install}
+use Rattle.tile_service.specs.Publishing.{HasNoContent, map_at, published, CanPublish, HasFirst, HasArea, IsUnderWay}
+use Rattle.tile_service.specs.Service.{IsGoing, IsService, TellsDevice}
 use Rattle.tile_service.specs.Service.{PublicationView, ServiceView, Known, Publishes, IsUp, EventLeaves, count_at, left_of, archive_of}
 use Rattle.tile_service.specs.Service.{going_of, state_of, known_after, known_installed, installed, stored_after, with_publication}
 use Rattle.tile_service.specs.Stored.{Stored, Holds, Keeps, root_of, journal_ring, record_for, stored_records}
 use Rattle.tile_service.specs.Tiles.{WereMaps}
 use Rattle.tile_service.specs.declared.fault.ServiceFault.{ServiceFault}
-use Rattle.tile_service.specs.declared.fault.ServiceFault.TheVariants.{Device}
+use Rattle.tile_service.specs.declared.fault.ServiceFault.TheVariants.{Memory, TooManyTiles, AreaFull, Device}
 use Rattle.tile_service.specs.declared.publishing.TheConstants.{STEP_SECTORS}
 use Rattle.tile_service.proofs.Archive.Read.{up_moved}
 use Rattle.tile_service.proofs.Tiles.EarlierMaps.{were_published}
 use Rattle.tile_service.proofs.Publications.Installed.{all_taken, install_leaves, installed_keeps, up_published}
 use Rattle.tile_service.proofs.Publications.DuringEdits.{begins, all_written}
+
+-- ---- what is invariant
+
+-- A service on another disk with as many sectors has the invariants as before,
+pub service_on_disk : {sectors now size version : ℕ} {root : Root} {journal : Journal} {map : CachedView} {publication : Option PublicationView}
+    → now ≡ sectors → IsService sectors size version root journal map publication → IsService now size version root journal map publication
+service_on_disk {size = size} {version} {root} {journal} {map} {publication} same is =
+    subst (λ (n : ℕ). IsService n size version root journal map publication) (sym same) is
+
+-- and one with another publication under way if that is going,
+pub service_with : {sectors size version : ℕ} {root : Root} {journal : Journal} {map : CachedView} {publication : Option PublicationView}
+    (later : Option PublicationView) → IfSome later (IsGoing size root journal map.features)
+    → IsService sectors size version root journal map publication → IsService sectors size version root journal map later
+service_with later going is = record {
+  within = is.within;
+  version_is = is.version_is;
+  ring = is.ring;
+  area = is.area;
+  texts = is.texts;
+  counted = is.counted;
+  last_is = is.last_is;
+  going = going;
+}
+
+-- or without one.
+pub service_idle : {sectors size version : ℕ} {root : Root} {journal : Journal} {map : CachedView} {publication : Option PublicationView}
+    (later : Option PublicationView) → later ≡ None
+    → IsService sectors size version root journal map publication → IsService sectors size version root journal map later
+service_idle {size = size} {root = root} {journal} {map} later none is =
+    service_with later (subst (λ (o : Option PublicationView). IfSome o (IsGoing size root journal map.features)) (sym none) tt) is
+
+-- A publication is going on under a root of this service's generation.
+abbrev pub GoesUnder : {D : Type 0} → ServiceView D → PublicationView → Type 0
+GoesUnder service p = (root : Root) × (root.generation ≡ service.generation) × IsGoing service.size root service.journal service.features p
+
+-- It is so of what is seen of both, if it is so of what they are.
+pub going_seen : {D : Type 0} (service seen : ServiceView D) (p part : PublicationView) → seen ≡ service → part ≡ p → GoesUnder service p
+    → GoesUnder seen part
+going_seen {D} service seen p part same is going =
+    subst (λ (s : ServiceView D). GoesUnder s part) (sym same) (subst (GoesUnder service) (sym is) going)
+
+-- With this much written it is going on too, under any root of that generation.
+pub going_further : {size : ℕ} {root : Root} {journal : Journal} {features : FeatureMap} (now : Root) (p : PublicationView) (written : ℕ)
+    → root.generation ≡ now.generation → written ≤ sectors_taken p.content → IsGoing size root journal features p
+    → IsGoing size now journal features (record p { written = written })
+going_further now p written same within is = record {
+  behind = is.behind;
+  area = is.area;
+  written = within;
+  generation = omega (arith, is.generation, same);
+  texts = is.texts;
+}
+
+-- ---- what a step answers
+
+-- A step that fails only for the disk says by its fault whether a call of the disk has failed,
+pub tells_device : {T : Type 0} (result : Result T ServiceFault) (old new : ℕ) → IfErr result (λ fault. fault ≡ Device) → TellsFailure result old new
+    → TellsDevice result old new
+tells_device (Ok told) old new is failed = failed
+tells_device (Err fault) old new is failed = inl (is, failed)
+
+-- and answers no other fault.
+pub no_other_fault : {T : Type 0} (result : Result T ServiceFault) (Then : Type 0) → IfErr result (λ fault. fault ≡ Device)
+    → IfErr result (λ fault. fault ≢ Device → Then)
+no_other_fault (Ok told) Then is = tt
+no_other_fault (Err fault) Then is = λ other. absurd (other is)
 
 -- ---- the content
 
@@ -136,6 +207,24 @@ begins_told known service p told unbroken none generation is_archive text area r
 
     left_is : left_of p ≡ told
     left_is = omega (arith, written, told_is)
+
+-- A beginning that finds no content is refused by the machine.
+pub begin_refused : (s : ServiceState) (fault : ServiceFault) → s.broken ≡ false → CanBegin s → HasNoContent s.features (area_sectors s.size) fault
+    → Refuses (BeginFault s fault) s fault s
+begin_refused s Memory unbroken may has = (unbroken, may, refl)
+begin_refused s TooManyTiles unbroken may has = (unbroken, (may, has), refl)
+begin_refused s (AreaFull need free) unbroken may has = (unbroken, (may, has), refl)
+begin_refused s fault unbroken may has = absurd has
+
+-- Where a test finds nothing there is none,
+pub none_there : {A : Type 0} (o : Option A) → is_some o ≡ false → o ≡ None
+none_there None none = refl
+none_there (Some a) none = absurd (false≢true (sym none))
+
+-- and where it finds something that is there still after a function.
+pub still_there : {A B : Type 0} (f : A → B) (o : Option A) → is_some o ≡ true → IsSome (option_map f o)
+still_there f None is = absurd (false≢true is)
+still_there f (Some a) is = refl
 
 -- ---- its installation
 
@@ -322,6 +411,12 @@ module _ {D : Type 0} (known : Known) (service : ServiceView D) (p : Publication
       left_is : left_of (record p { written = to }) ≡ suc told
       left_is = omega (arith, more, told_is, to_is)
 
+  -- of one that the disk fails, which breaks the service and ends the publication,
+  pub step_fails : (disk : D) → service.publication ≡ None
+      → AnswersStep (state_of known was) (Err Device) (state_of known (record service { disk = disk; broken = true }))
+  step_fails disk none =
+      (unbroken, under_way, λ i. record (state_of known service) { publication = option_map (going_of known.publishing) (none i); broken = true })
+
   -- and of the last one.
   pub last_step_told : (to : ℕ) (r : Result ℕ ServiceFault) (disk : D) (after : ServiceView D) → service.publication ≡ None
       → IfOk r (λ told. told ≡ 0) → IfErr r (λ fault. fault ≡ Device) → left_of p ≤ STEP_SECTORS + 1
@@ -333,11 +428,5 @@ module _ {D : Type 0} (known : Known) (service : ServiceView D) (p : Publication
       subst (λ (t : ℕ). AnswersStep (state_of known was) (Ok t) (state_of (known_after known was (step (Ok t))) after)) (sym is)
       (under_way, inr (last, refl, installs))
   last_step_told to (Err fault) disk after none is device last broken installs =
-      subst (λ (f : ServiceFault). AnswersStep (state_of known was) (Err f) (state_of known after)) (sym device) (
-        unbroken,
-        under_way,
-        ap (state_of known) broken ∙ (λ i. record (state_of known service) {
-          publication = option_map (going_of known.publishing) (none i);
-          broken = true;
-        }),
-      )
+      subst (λ (f : ServiceFault). AnswersStep (state_of known was) (Err f) (state_of known after)) (sym device)
+      (subst (λ (s : ServiceView D). AnswersStep (state_of known was) (Err Device) (state_of known s)) (sym broken) (step_fails disk none))

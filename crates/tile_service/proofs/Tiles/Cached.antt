@@ -1,12 +1,16 @@
 -- The tiles that a service caches, and the service that continues with others.
-use Rattle.std.proofs.Common.{◌≡◌, ℕ, ◌+◌, List, None, Some, refl, sym, ap, ◌∙◌, subst, arith}
+use Rattle.std.proofs.Common.{◌≡◌, ℕ, ◌+◌, List, Option, None, Some, refl, sym, ap, ◌∙◌, subst, arith}
 use Rattle.sector_disk.specs.Disk.{History}
 use Rattle.cached_map.specs.Cached.{CachedView, WasMap, AreReadRight}
 use Rattle.feature_store.specs.Content.{IsTileContent}
 use Rattle.feature_store.specs.Layers.{layers}
 use Rattle.feature_store.specs.Store.{FeatureMap}
-use Rattle.tile_service.specs.Service.{ServiceView, IsUp}
+use Rattle.edit_journal.specs.declared.journal.Journal.{Journal}
+use Rattle.generations.specs.declared.root.Root.{Root}
+use Rattle.tile_service.specs.Inside.{service_view}
+use Rattle.tile_service.specs.Service.{PublicationView, ServiceView, IsService, IsUp}
 use Rattle.tile_service.specs.Stored.{Stored}
+use Rattle.tile_service.specs.declared.service.Service.TheInside.{Inside}
 use Rattle.tile_service.proofs.Archive.Read.{up_read}
 
 -- the service has this map
@@ -26,7 +30,7 @@ right_of_service service map has right =
     (subst (AreReadRight map.features map.touched map.last) has.kept right)))
 
 -- and the other way round
-right_of_map : {D : Type 0} (service : ServiceView D) (map : CachedView) → HasMap service map
+pub right_of_map : {D : Type 0} (service : ServiceView D) (map : CachedView) → HasMap service map
     → AreReadRight service.features service.touched service.journal.last service.kept → AreReadRight map.features map.touched map.last map.kept
 right_of_map service map has right =
     subst (λ (m : FeatureMap). AreReadRight m map.touched map.last map.kept) (sym has.features)
@@ -81,3 +85,39 @@ up_keeps_read sectors h stored old new up map later number has same new_is numbe
 -- nothing is no bytes
 pub nothing_given : (bytes : List ℕ) → None ≡ Some bytes → ⊥
 nothing_given bytes is = cc
+
+-- With other tiles cached the invariants of a service hold as before.
+pub service_cached : {sectors size version : ℕ} {root : Root} {journal : Journal} {publication : Option PublicationView} (map later : CachedView)
+    → later ≡ record map { kept = later.kept } → IsService sectors size version root journal map publication
+    → IsService sectors size version root journal later publication
+service_cached {sectors} {size} {version} {root} {journal} {publication} map later same is =
+    subst (λ (m : CachedView). IsService sectors size version root journal m publication) (sym same) (record {
+      within = is.within;
+      version_is = is.version_is;
+      ring = is.ring;
+      area = is.area;
+      texts = is.texts;
+      counted = is.counted;
+      last_is = is.last_is;
+      going = is.going;
+    })
+
+module _ {D : Type 0} where
+  -- A read for a tile changes nothing but the disk, the look-up and what is cached.
+  abbrev pub IsSameButRead : (old new : ServiceView D) → Type 0
+  IsSameButRead old new = new ≡ record old { disk = new.disk; published = new.published; kept = new.kept }
+
+  -- so does another one after it
+  pub read_on : (old middle new : ServiceView D) → IsSameButRead old middle → IsSameButRead middle new → IsSameButRead old new
+  read_on old middle new first then =
+      then ∙ ap (λ (s : ServiceView D). record s { disk = new.disk; published = new.published; kept = new.kept }) first
+
+  -- with other tiles cached a service is seen as the same
+  pub seen_cached : (inside : Inside D) (later : CachedView) → later ≡ record inside.map { kept = later.kept }
+      → IsSameButRead (service_view inside) (service_view (record inside { map = later }))
+  seen_cached inside later same = ap (λ (m : CachedView). service_view (record inside { map = m })) same
+
+  -- where the cache isn't changed either, it is the same
+  pub read_uncached : (old new : ServiceView D) → new ≡ record old { disk = new.disk; published = new.published } → IsSameButRead old new
+  read_uncached old new same =
+      same ∙ (λ i. record old { disk = new.disk; published = new.published; kept = ap (λ (s : ServiceView D). s.kept) (sym same) i })

@@ -1,4 +1,4 @@
-use Rattle.std.proofs.Common.{◌≡◌, ℕ, List, ap, ◌∙◌, ◌+◌, ◌*◌, ◌<◌, subst, sym, length, arith}
+use Rattle.std.proofs.Common.{◌≡◌, ℕ, List, ap, ◌∙◌, ◌+◌, ◌*◌, ◌<◌, subst, sym, length, arith, inl, inr, refl}
 use Rattle.std.proofs.lemmas.List.{length-map}
 use Rattle.edit_journal.specs.Ring.{Ring, RecordStart}
 use Rattle.edit_journal.specs.Appends.{start_of}
@@ -86,3 +86,33 @@ returns-in-Ok-replay-clause-reads g c =
     let last : map.last ≡ c.in-Ok.found.0.last =
     omega (arith, c.in-Ok.ensures.last, c.in-Ok-replay.ensures.last, c.in-Ok-new.ensures.last) in
     subst (λ (n : ℕ). AreReadRight map.features map.touched n map.kept) last (c.in-Ok-replay.ensures.reads c.in-Ok-new.ensures.reads)
+
+pub recover-requires-clause-start : goal.recover-requires-clause-start
+recover-requires-clause-start g c = omega (arith, c.requires.can.journal, c.args.layout.journal_is)
+
+pub returns-in-Err-clause-disk : goal.returns-in-Err-clause-disk
+returns-in-Err-clause-disk g c = c.recover.ensures.disk
+
+pub returns-in-Err-new-clause-disk : goal.returns-in-Err-new-clause-disk
+returns-in-Err-new-clause-disk g c = c.recover.ensures.disk
+
+pub returns-in-Err-new-clause-failed : goal.returns-in-Err-new-clause-failed
+returns-in-Err-new-clause-failed g c = c.in-Ok.ensures.failed
+
+pub returns-in-Err-new-clause-fault : goal.returns-in-Err-new-clause-fault
+returns-in-Err-new-clause-fault g c = λ honest has. inr (inl refl)
+
+pub returns-in-Ok-replay-clause-disk : goal.returns-in-Ok-replay-clause-disk
+returns-in-Ok-replay-clause-disk g c = c.recover.ensures.disk
+
+pub returns-in-Ok-replay-clause-failed : goal.returns-in-Ok-replay-clause-failed
+returns-in-Ok-replay-clause-failed g c = c.in-Ok.ensures.failed
+
+pub returns-in-Ok-replay-clause-counted : goal.returns-in-Ok-replay-clause-counted
+returns-in-Ok-replay-clause-counted g c = c.in-Ok.ensures.counted
+
+pub returns-in-Ok-replay-clause-last : goal.returns-in-Ok-replay-clause-last
+returns-in-Ok-replay-clause-last g c = omega (arith, c.in-Ok.ensures.last, c.in-Ok-replay.ensures.last, c.in-Ok-new.ensures.last)
+
+pub returns-in-Err-replay-clause-disk : goal.returns-in-Err-replay-clause-disk
+returns-in-Err-replay-clause-disk g c = c.recover.ensures.disk

@@ -1,10 +1,13 @@
-use Rattle.std.proofs.Common.{true, Ok, Err, ◌+◌, ◌-◌, ◌≤◌, refl, sym, ◌∙◌, ap, subst, arith}
+use Rattle.std.proofs.Common.{true, Ok, Err, ◌+◌, ◌-◌, ◌≤◌, refl, sym, ◌∙◌, ap, subst, arith, ℕ, ◌≡◌, Some}
 use Rattle.area_content.specs.Content.{sectors_taken}
 use Rattle.tile_service.specs.Inside.{publication_view, service_view}
 use Rattle.tile_service.specs.Service.{ServiceView, PublicationView, IsUp, with_publication}
 use Rattle.tile_service.specs.declared.fault.ServiceFault.TheVariants.{Device}
 use Rattle.tile_service.proofs.Archive.Unchanged.{beside_keeps, install_keeps, beside_area}
 use Rattle.tile_service.proofs.Publications.Steps.{up_further, step_leaves, last_step_leaves, up_after_step, up_after_last, step_told, last_step_told}
+use Rattle.tile_service.proofs.Publications.Steps.{step_fails, service_on_disk, service_with, going_seen, going_further}
+use Rattle.sector_disk.specs.Asked.{TellsFailure}
+use Rattle.sector_disk.proofs.AskedLaws.{writes_on}
 use Rattle.tile_service.proofs.service.Service.advance.Goals as goal
 
 pub returns-in-Err-clause-any_moment : goal.returns-in-Err-clause-any_moment
@@ -108,3 +111,113 @@ returns-then-left-le-STEP_SECTORS-clause-area g c = rw (← c.self.view_is) (λ 
     c.install_now.ensures.area c.self.inside.root.generation honest at inside
     ∙ beside_area c.self.inside.layout.sectors c.self.inside.root.generation _ _
     (c.self.inside.root.generation + 1) (omega arith) (c.write_sectors.ensures.beside (c.install_now.ensures.disk.was_honest honest)) at inside)
+
+pub overflow_sub-left : goal.overflow_sub-left
+overflow_sub-left g c = omega (
+  arith,
+  c.sectors.ensures,
+  subst (λ (p : PublicationView). p.written ≤ sectors_taken p.content) (sym c.publication.view_is) c.requires.going.2.written,
+)
+
+pub write_sectors-requires-clause-order : goal.write_sectors-requires-clause-order
+write_sectors-requires-clause-order g c = omega arith
+
+pub write_sectors-requires-clause-within : goal.write_sectors-requires-clause-within
+write_sectors-requires-clause-within g c =
+    let going = going_seen _ (service_view c.self.inside) _ (publication_view c.publication.inside) c.self.view_is c.publication.view_is c.requires.going in
+    omega (arith, c.sectors.ensures, c.min-more.ensures, going.2.written)
+
+pub write_sectors-requires-clause-area : goal.write_sectors-requires-clause-area
+write_sectors-requires-clause-area g c =
+    let going = going_seen _ (service_view c.self.inside) _ (publication_view c.publication.inside) c.self.view_is c.publication.view_is c.requires.going in
+    omega (arith, going.2.area, c.self.inside.layout.area_is)
+
+pub write_sectors-requires-clause-on_disk : goal.write_sectors-requires-clause-on_disk
+write_sectors-requires-clause-on_disk g c = c.self.invariant.within
+
+pub invariant_of-self : goal.invariant_of-self
+invariant_of-self g c = service_on_disk c.write_sectors.ensures.disk.same_count c.self.invariant
+
+pub returns-in-Err-clause-machine : goal.returns-in-Err-clause-machine
+returns-in-Err-clause-machine g c = rw (← c.self.view_is, ← c.publication.view_is) (λ known. step_fails known (service_view c.self.inside)
+    (publication_view c.publication.inside) (ap (λ s. s.broken) c.self.view_is ∙ c.requires.unbroken) c.write_sectors.new.disk
+    (ap (λ s. s.publication) c.self.view_is ∙ c.requires.none))
+
+pub returns-in-Err-clause-fault : goal.returns-in-Err-clause-fault
+returns-in-Err-clause-fault g c = refl
+
+pub returns-in-Err-clause-size : goal.returns-in-Err-clause-size
+returns-in-Err-clause-size g c = ap (λ s. s.size) c.self.view_is
+
+pub returns-in-Err-clause-disk : goal.returns-in-Err-clause-disk
+returns-in-Err-clause-disk g c = rw (← c.self.view_is) c.write_sectors.ensures.disk
+
+pub returns-in-Err-clause-failed : goal.returns-in-Err-clause-failed
+returns-in-Err-clause-failed g c = rw (← c.self.view_is) c.in-Err.ensures.failed
+
+pub returns-in-Err-clause-steps : goal.returns-in-Err-clause-steps
+returns-in-Err-clause-steps g c = rw (← c.self.view_is) (λ honest. omega (arith, c.write_sectors.ensures.steps honest, c.min-more.ensures))
+
+pub invariant_of-self-then-left-le-STEP_SECTORS : goal.invariant_of-self-then-left-le-STEP_SECTORS
+invariant_of-self-then-left-le-STEP_SECTORS g c = service_on_disk c.write_sectors.ensures.disk.same_count c.self.invariant
+
+pub install_now-requires-clause-none : goal.install_now-requires-clause-none
+install_now-requires-clause-none g c = ap (λ s. s.publication) c.self.view_is ∙ c.requires.none
+
+pub install_now-requires-clause-unbroken : goal.install_now-requires-clause-unbroken
+install_now-requires-clause-unbroken g c = ap (λ s. s.broken) c.self.view_is ∙ c.requires.unbroken
+
+pub install_now-requires-clause-going : goal.install_now-requires-clause-going
+install_now-requires-clause-going g c =
+    let going = going_seen _ (service_view c.self.inside) _ (publication_view c.publication.inside) c.self.view_is c.publication.view_is c.requires.going in (
+      going.0,
+      going.1,
+      going_further going.0 (publication_view c.publication.inside) (c.publication.inside.written + c.min-more.result) refl
+          (omega (arith, c.sectors.ensures, c.min-more.ensures, going.2.written)) going.2,
+    )
+
+pub install_now-requires-clause-written : goal.install_now-requires-clause-written
+install_now-requires-clause-written g c =
+    let going = going_seen _ (service_view c.self.inside) _ (publication_view c.publication.inside) c.self.view_is c.publication.view_is c.requires.going in
+    omega (arith, c.sectors.ensures, c.min-more.ensures, c.if-left-le-STEP_SECTORS.true, going.2.written)
+
+pub returns-then-left-le-STEP_SECTORS-clause-fault : goal.returns-then-left-le-STEP_SECTORS-clause-fault
+returns-then-left-le-STEP_SECTORS-clause-fault g c = c.install_now.ensures.fault
+
+pub returns-then-left-le-STEP_SECTORS-clause-size : goal.returns-then-left-le-STEP_SECTORS-clause-size
+returns-then-left-le-STEP_SECTORS-clause-size g c = c.install_now.ensures.size ∙ ap (λ s. s.size) c.self.view_is
+
+pub returns-then-left-le-STEP_SECTORS-clause-disk : goal.returns-then-left-le-STEP_SECTORS-clause-disk
+returns-then-left-le-STEP_SECTORS-clause-disk g c = rw (← c.self.view_is) (writes_on c.write_sectors.ensures.disk c.install_now.ensures.disk)
+
+pub returns-then-left-le-STEP_SECTORS-clause-failed : goal.returns-then-left-le-STEP_SECTORS-clause-failed
+returns-then-left-le-STEP_SECTORS-clause-failed g c = rw (← c.self.view_is)
+    (subst (λ (count : ℕ). TellsFailure c.install_now.result count (g.D.Sectors.faults c.install_now.new.self.disk)) c.in-Ok.ensures.failed
+    c.install_now.ensures.failed)
+
+pub returns-then-left-le-STEP_SECTORS-clause-steps : goal.returns-then-left-le-STEP_SECTORS-clause-steps
+returns-then-left-le-STEP_SECTORS-clause-steps g c = rw (← c.self.view_is) (λ honest.
+    let going = going_seen _ (service_view c.self.inside) _ (publication_view c.publication.inside) c.self.view_is c.publication.view_is c.requires.going in
+    let all : c.publication.inside.written + c.min-more.result ≡ sectors_taken c.publication.inside.content =
+    omega (arith, c.sectors.ensures, c.min-more.ensures, c.if-left-le-STEP_SECTORS.true, going.2.written) in
+    omega (arith, c.install_now.ensures.steps honest, c.write_sectors.ensures.last all (c.install_now.ensures.disk.was_honest honest), c.min-more.ensures))
+
+pub invariant_of-self-2 : goal.invariant_of-self-2
+invariant_of-self-2 g c =
+    let going = going_seen _ (service_view c.self.inside) _ (publication_view c.publication.inside) c.self.view_is c.publication.view_is c.requires.going in
+    service_with (Some (record (publication_view c.publication.inside) { written = c.publication.inside.written + c.min-more.result }))
+    (going_further c.self.inside.root (publication_view c.publication.inside) (c.publication.inside.written + c.min-more.result) going.1
+    (omega (arith, c.sectors.ensures, c.min-more.ensures, going.2.written)) going.2)
+    (service_on_disk c.write_sectors.ensures.disk.same_count c.self.invariant)
+
+pub returns-clause-size : goal.returns-clause-size
+returns-clause-size g c = ap (λ s. s.size) c.self.view_is
+
+pub returns-clause-disk : goal.returns-clause-disk
+returns-clause-disk g c = rw (← c.self.view_is) c.write_sectors.ensures.disk
+
+pub returns-clause-failed : goal.returns-clause-failed
+returns-clause-failed g c = rw (← c.self.view_is) c.in-Ok.ensures.failed
+
+pub returns-clause-steps : goal.returns-clause-steps
+returns-clause-steps g c = rw (← c.self.view_is) (λ honest. omega (arith, c.write_sectors.ensures.steps honest, c.min-more.ensures))

@@ -4,12 +4,14 @@ use Rattle.std.proofs.lemmas.Bool.{false≢true}
 use Rattle.feature_model.specs.Data.{change_data}
 use Rattle.feature_model.specs.declared.feature.Change.{Change}
 use Rattle.feature_store.specs.Store.{FeatureMap}
-use Rattle.tile_service.specs.Limits.{KeepsBatchLimits}
+use Rattle.tile_service.specs.Limits.{KeepsBatchLimits, BreaksBatchLimit}
 use Rattle.tile_service.specs.Machine.{batched, recorded_in, HasTarget}
 use Rattle.tile_service.specs.declared.fault.ServiceFault.TheVariants.{Broken, NeedsUpgrade, NotFound, NumbersSpent}
 use Rattle.tile_service.proofs.Edits.BatchLimits.{lacks_from}
 use Rattle.tile_service.proofs.Edits.EditStored.{refuses_edit}
-use Rattle.tile_service.proofs.Edits.Limits.{is_later}
+use Rattle.tile_service.proofs.Edits.Limits.{is_later, many_fit, breaks_refused}
+use Rattle.tile_service.specs.Inside.{service_view}
+use Rattle.tile_service.specs.Service.{state_of}
 use Rattle.tile_service.proofs.service.Service.batch.Goals as goal
 
 pub returns-then-self-clause-takes : goal.returns-then-self-clause-takes
@@ -57,3 +59,25 @@ returns-then-self-2-clause-takes g c = rw (← c.self.view_is)
 
 pub returns-clause-takes : goal.returns-clause-takes
 returns-clause-takes g c = c.write_edit.ensures.takes batched
+
+pub returns-then-self-clause-machine : goal.returns-then-self-clause-machine
+returns-then-self-clause-machine g c = rw (← c.self.view_is) (λ known. (c.if-self.true, refl))
+
+pub returns-then-self-eq-FIRST_VERSION-clause-machine : goal.returns-then-self-eq-FIRST_VERSION-clause-machine
+returns-then-self-eq-FIRST_VERSION-clause-machine g c = rw (← c.self.view_is) (λ known. (c.if-self.false, (refl, c.if-self-eq-FIRST_VERSION.true), refl))
+
+pub returns-in-Err-clause-machine : goal.returns-in-Err-clause-machine
+returns-in-Err-clause-machine g c = rw (← c.self.view_is) (λ known. breaks_refused (state_of known (service_view c.self.inside))
+    (map change_data c.args.changes.items) c.in-Err.fault c.in-Err.ensures.fault.0 c.in-Err.ensures.fault.1 c.if-self.false
+    (is_later c.self.inside.version c.self.invariant.version_is c.if-self-eq-FIRST_VERSION.false)
+    (subst (λ (cs : List Change). BreaksBatchLimit (map change_data cs) c.in-Err.ensures.fault.0) c.deref.ensures.value c.in-Err.ensures.fault.2))
+
+pub write_edit-requires-clause-unbroken : goal.write_edit-requires-clause-unbroken
+write_edit-requires-clause-unbroken g c = rw (← c.self.view_is) c.if-self.false
+
+pub write_edit-requires-clause-allowed : goal.write_edit-requires-clause-allowed
+write_edit-requires-clause-allowed g c = (subst (λ (cs : List Change). KeepsBatchLimits (map change_data cs)) c.deref.ensures.value c.in-Ok.ensures.ok).allowed
+
+pub write_edit-requires-clause-fits : goal.write_edit-requires-clause-fits
+write_edit-requires-clause-fits g c = rw (← c.self.view_is)
+    (many_fit c.self.inside.version (map change_data c.args.changes.items) c.self.invariant.version_is c.if-self-eq-FIRST_VERSION.false)

@@ -1,5 +1,8 @@
-use Rattle.sector_disk.proofs.History.{any_sync}
+use Rattle.sector_disk.proofs.History.{any_sync, started}
 use Rattle.tile_service.proofs.Disk.Synced.{sync_leaves_stored, up_synced}
+use Rattle.std.proofs.Common.{inl, inr, None, refl}
+use Rattle.tile_service.proofs.Archive.Unchanged.{shows_the_same}
+use Rattle.tile_service.proofs.Publications.Steps.{service_on_disk, service_idle}
 use Rattle.tile_service.proofs.service.Service.check.Goals as goal
 
 pub returns-in-Ok-clause-any_moment : goal.returns-in-Ok-clause-any_moment
@@ -13,3 +16,65 @@ returns-in-Ok-clause-after g c = rw (← c.self.view_is) (λ stored honest up.
 pub returns-in-Err-clause-any_moment : goal.returns-in-Err-clause-any_moment
 returns-in-Err-clause-any_moment g c = rw (← c.self.view_is) (λ stored honest up.
     sync_leaves_stored _ _ (any_sync c.sync.result _ _ (c.sync.ensures.syncs honest)) _ stored _ up)
+
+-- a broken service is left as it is
+
+pub returns-then-self-clause-machine : goal.returns-then-self-clause-machine
+returns-then-self-clause-machine g c = rw (← c.self.view_is) (λ known. (c.if-self.true, refl))
+
+pub returns-then-self-clause-same : goal.returns-then-self-clause-same
+returns-then-self-clause-same g c = refl
+
+pub returns-then-self-clause-refused : goal.returns-then-self-clause-refused
+returns-then-self-clause-refused g c = λ other. refl
+
+pub returns-then-self-clause-disk : goal.returns-then-self-clause-disk
+returns-then-self-clause-disk g c = record { same_count = refl; was_honest = λ is_honest. is_honest }
+
+pub returns-then-self-clause-failed : goal.returns-then-self-clause-failed
+returns-then-self-clause-failed g c = inr ((λ is. cc), refl)
+
+pub returns-then-self-clause-synced : goal.returns-then-self-clause-synced
+returns-then-self-clause-synced g c = λ honest. inl refl
+
+pub returns-then-self-clause-archive : goal.returns-then-self-clause-archive
+returns-then-self-clause-archive g c = shows_the_same g.D.Sectors.honest g.D.Sectors.history c.args.self.now c.args.self.now.publication
+
+pub returns-then-self-clause-any_moment : goal.returns-then-self-clause-any_moment
+returns-then-self-clause-any_moment g c = λ stored honest up. started (g.D.Sectors.history c.args.self.now.disk) _ up.keeps
+
+pub invariant_of-self : goal.invariant_of-self
+invariant_of-self g c = service_on_disk c.sync.ensures.disk.same_count c.self.invariant
+
+pub invariant_of-self-in-Err : goal.invariant_of-self-in-Err
+invariant_of-self-in-Err g c = service_idle None refl (service_on_disk c.sync.ensures.disk.same_count c.self.invariant)
+
+pub returns-in-Ok-clause-machine : goal.returns-in-Ok-clause-machine
+returns-in-Ok-clause-machine g c = rw (← c.self.view_is) (λ known. (c.if-self.false, refl))
+
+pub returns-in-Ok-clause-same : goal.returns-in-Ok-clause-same
+returns-in-Ok-clause-same g c = rw (← c.self.view_is) refl
+
+pub returns-in-Ok-clause-disk : goal.returns-in-Ok-clause-disk
+returns-in-Ok-clause-disk g c = rw (← c.self.view_is) c.sync.ensures.disk
+
+pub returns-in-Ok-clause-failed : goal.returns-in-Ok-clause-failed
+returns-in-Ok-clause-failed g c = rw (← c.self.view_is) c.in-Ok.ensures.faults
+
+pub returns-in-Ok-clause-synced : goal.returns-in-Ok-clause-synced
+returns-in-Ok-clause-synced g c = rw (← c.self.view_is) c.in-Ok.ensures.syncs
+
+pub returns-in-Err-clause-machine : goal.returns-in-Err-clause-machine
+returns-in-Err-clause-machine g c = rw (← c.self.view_is) (λ known. (c.if-self.false, tt, refl))
+
+pub returns-in-Err-clause-same : goal.returns-in-Err-clause-same
+returns-in-Err-clause-same g c = rw (← c.self.view_is) refl
+
+pub returns-in-Err-clause-refused : goal.returns-in-Err-clause-refused
+returns-in-Err-clause-refused g c = λ other. absurd (other refl)
+
+pub returns-in-Err-clause-disk : goal.returns-in-Err-clause-disk
+returns-in-Err-clause-disk g c = rw (← c.self.view_is) c.sync.ensures.disk
+
+pub returns-in-Err-clause-synced : goal.returns-in-Err-clause-synced
+returns-in-Err-clause-synced g c = rw (← c.self.view_is) c.in-Err.ensures.syncs

@@ -1,17 +1,19 @@
-use Rattle.std.proofs.Common.{◌≡◌, Ok, ℕ, List, [], ◌∷◌, refl, sym, ap, subst, arith, rules, length}
-use Rattle.edit_journal.specs.Appends.{ring_of}
+use Rattle.std.proofs.Common.{◌≡◌, ◌≢◌, Ok, ℕ, List, [], ◌∷◌, refl, sym, ap, subst, arith, length}
+use Rattle.edit_journal.specs.Appends.{ring_of, TakesSteps}
 use Rattle.edit_journal.specs.Records.{IsRecordLength, parts_of, record_of}
 use Rattle.edit_text.specs.Recorded.{text_in}
 use Rattle.feature_model.specs.Data.{delete}
 use Rattle.feature_model.specs.Limits.{NumberFits}
 use Rattle.feature_store.specs.Store.{snapshot}
+use Rattle.sector_disk.specs.Asked.{MayWrite}
+use Rattle.tile_service.specs.Inside.{service_view}
 use Rattle.tile_service.specs.Machine.{single, recorded_change}
-use Rattle.tile_service.specs.Service.{IsUp}
+use Rattle.tile_service.specs.Service.{CountsDevice, IsUp}
 use Rattle.tile_service.specs.Stored.{stored_records}
-use Rattle.tile_service.specs.declared.fault.ServiceFault.TheVariants.{Broken, NotFound}
+use Rattle.tile_service.specs.declared.fault.ServiceFault.TheVariants.{Broken, NotFound, Device}
 use Rattle.tile_service.proofs.Tiles.EarlierMaps.{since_on, now_on, right_on}
-use Rattle.tile_service.proofs.Edits.EditStored.{up_is_at, refuses_edit, append_any_moment, refused_any_moment, up_with_edit}
-use Rattle.tile_service.proofs.Edits.ServiceAfter.{service_on}
+use Rattle.tile_service.proofs.Edits.EditStored.{up_is_at, refuses_edit, append_counts, refused_unchanged, append_any_moment, refused_any_moment, up_with_edit}
+use Rattle.tile_service.proofs.Edits.ServiceAfter.{service_on, refused_service}
 use Rattle.tile_service.proofs.Archive.Unchanged.{append_keeps, append_area}
 use Rattle.tile_service.proofs.Edits.Limits.{delete_recorded, text_length, short_after_edit}
 use Rattle.tile_service.proofs.service.Service.delete.Goals as goal
@@ -29,14 +31,14 @@ returns-then-not-has-clause-takes g c = rw (← c.self.view_is)
 pub append-requires-clause-text : goal.append-requires-clause-text
 append-requires-clause-text g c =
     let version = c.self.inside.version in
-    let fits : NumberFits c.args.id = search rules in
+    let fits : NumberFits c.args.id = c.has.ensures.number c.if-not-has.false in
     subst (λ (t : List ℕ). IsRecordLength version (length t)) (sym (c.deletion_text-text.ensures c.args.id c.delete_edit_text-text.ensures))
     (text_length version (delete c.args.id ∷ []) c.self.invariant.version_is (delete_recorded version c.args.id c.self.invariant.version_is fits).edit.allowed)
 
 pub invariant_of-self : goal.invariant_of-self
 invariant_of-self g c =
     let version = c.self.inside.version in
-    let fits : NumberFits c.args.id = search rules in
+    let fits : NumberFits c.args.id = c.has.ensures.number c.if-not-has.false in
     let text : c.deletion_text-text.result.now ≡ text_in version (delete c.args.id ∷ []) =
     c.deletion_text-text.ensures c.args.id c.delete_edit_text-text.ensures in
     service_on c.self.inside.layout.sectors version c.self.inside.root c.self.inside.journal c.append.new.self c.append.ensures.same.0 c.append.ensures.same.1
@@ -69,7 +71,7 @@ returns-in-Ok-clause-takes g c = rw (← c.self.view_is) (record {
       c.self.inside.journal.place c.self.inside.journal.used (c.append.ensures.reads honest);
   any_moment = (λ stored honest up.
       let version = c.self.inside.version in
-      let fits : NumberFits c.args.id = search rules in
+      let fits : NumberFits c.args.id = c.has.ensures.number c.if-not-has.false in
       let at = up_is_at g.D.Sectors.sectors g.D.Sectors.history stored _ c.self.invariant.ring up in
       append_any_moment g.D.Sectors.sectors g.D.Sectors.history stored _ c.self.invariant.ring up (recorded_change version (delete c.args.id))
       (delete_recorded version c.args.id c.self.invariant.version_is fits) refl
@@ -77,7 +79,7 @@ returns-in-Ok-clause-takes g c = rw (← c.self.view_is) (record {
       single (Ok c.in-Ok.number) tt (c.append.ensures.any_moment (stored_records stored) honest at));
   acknowledged = (λ stored honest up.
       let version = c.self.inside.version in
-      let fits : NumberFits c.args.id = search rules in
+      let fits : NumberFits c.args.id = c.has.ensures.number c.if-not-has.false in
       let at = up_is_at g.D.Sectors.sectors g.D.Sectors.history stored _ c.self.invariant.ring up in
       let last : c.remove.new.self.last ≡ c.append.new.self.last = omega (arith, c.remove.ensures.last, c.in-Ok.ensures.number, c.in-Ok.ensures.last) in
       up_with_edit g.D.Sectors.sectors g.D.Sectors.history stored _ c.self.invariant.ring up (recorded_change version (delete c.args.id))
@@ -90,17 +92,26 @@ returns-in-Ok-clause-takes g c = rw (← c.self.view_is) (record {
       (right_on c.self.inside.map c.self.inside.map c.remove.new.self c.self.inside.journal.last c.append.new.self.last c.self.invariant.last_is refl last
       c.remove.ensures.reads) refl refl refl refl refl refl refl (c.append.ensures.reads honest));
   refused = λ stored honest up. tt;
-  steps = search rules;
+  steps = λ honest. subst (λ (t : List ℕ). TakesSteps (parts_of (length t)) (g.D.Sectors.history c.self.inside.disk) (g.D.Sectors.history c.append.new.disk))
+      (c.deletion_text-text.ensures c.args.id c.delete_edit_text-text.ensures) (c.in-Ok.ensures.steps honest);
 })
+
+-- a fault that isn't the disk's leaves all as it was
+unchanged : (g : _) (c : goal.After-fail g) → c.fail.result ≢ Device → c.fail.new.self ≡ service_view c.self.inside
+unchanged g c = refused_unchanged c.self.inside c.append.new.disk c.append.new.self c.self.inside.map c.fail.new.self c.in-Err.fault c.fail.result
+    c.fail.ensures.told c.in-Err.ensures.refused c.in-Err.ensures.kept refl c.fail.ensures.other
 
 pub returns-in-Err-clause-takes : goal.returns-in-Err-clause-takes
 returns-in-Err-clause-takes g c = rw (← c.self.view_is) (record {
   size = ap (λ s. s.size) c.fail.ensures.same;
   publication = tt;
-  asked = search rules;
-  failed = search rules;
-  unwritten = search rules;
-  unchanged = search rules;
+  asked = subst (λ d. MayWrite g.D.Sectors.sectors g.D.Sectors.honest c.self.inside.disk d) (sym (ap (λ s. s.disk) c.fail.ensures.same))
+      c.append.ensures.disk;
+  failed = subst (λ d. CountsDevice c.fail.result (g.D.Sectors.faults c.self.inside.disk) (g.D.Sectors.faults d))
+      (sym (ap (λ s. s.disk) c.fail.ensures.same))
+      (append_counts c.self.inside.journal _ _ _ c.in-Err.fault c.fail.result c.fail.ensures.told c.in-Err.ensures.fault);
+  unwritten = λ other. ap (λ s. s.disk) (unchanged g c other);
+  unchanged = unchanged g c;
   touches = ap (λ s. s.touched) c.fail.ensures.same;
   cached = ap (λ s. s.kept) c.fail.ensures.same;
   keeps_archive = append_keeps g.D.Sectors.honest g.D.Sectors.history _ _ (ap (λ s. s.size) c.fail.ensures.same)
@@ -112,7 +123,7 @@ returns-in-Err-clause-takes g c = rw (← c.self.view_is) (record {
       (ring_of c.self.inside.journal) c.self.invariant.ring c.self.inside.journal.place c.self.inside.journal.used (c.append.ensures.reads honest));
   any_moment = rw (ap (λ s. s.disk) c.fail.ensures.same) (λ stored honest up.
       let version = c.self.inside.version in
-      let fits : NumberFits c.args.id = search rules in
+      let fits : NumberFits c.args.id = c.has.ensures.number c.if-not-has.false in
       let at = up_is_at g.D.Sectors.sectors g.D.Sectors.history stored _ c.self.invariant.ring up in
       refused_any_moment g.D.Sectors.sectors g.D.Sectors.history stored _ c.self.invariant.ring up (recorded_change version (delete c.args.id))
       (delete_recorded version c.args.id c.self.invariant.version_is fits) refl
@@ -120,6 +131,16 @@ returns-in-Err-clause-takes g c = rw (← c.self.view_is) (record {
       single c.in-Err.fault c.fail.result c.fail.ensures.told c.in-Err.ensures.refused (c.append.ensures.any_moment (stored_records stored) honest at));
   acknowledged = λ stored honest up. tt;
   refused = λ stored honest up other.
-      subst (λ s. IsUp (g.D.Sectors.sectors s.disk) (g.D.Sectors.history s.disk) stored s) (sym (search rules)) up;
+      subst (λ s. IsUp (g.D.Sectors.sectors s.disk) (g.D.Sectors.history s.disk) stored s) (sym (unchanged g c other)) up;
   steps = λ honest. tt;
 })
+
+pub returns-then-self-clause-machine : goal.returns-then-self-clause-machine
+returns-then-self-clause-machine g c = rw (← c.self.view_is) (λ known. (c.if-self.true, refl))
+
+pub delete_edit_text-text-requires : goal.delete_edit_text-text-requires
+delete_edit_text-text-requires g c = c.has.ensures.number c.if-not-has.false
+
+pub invariant_of-self-in-Err : goal.invariant_of-self-in-Err
+invariant_of-self-in-Err g c = refused_service c.append.new.self c.self.inside.map c.self.inside.map c.append.ensures.disk.same_count c.in-Err.ensures.kept refl
+    c.self.invariant

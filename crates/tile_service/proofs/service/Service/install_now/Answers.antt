@@ -2,10 +2,10 @@ use Rattle.std.proofs.Common.{◌+◌, ◌%◌, length, refl, sym, ◌∙◌, ap
 use Rattle.edit_journal.specs.Releases.{IsBehind}
 use Rattle.edit_journal.specs.declared.journal.Journal.{Journal}
 use Rattle.generations.specs.declared.root.Root.{Root}
-use Rattle.tile_service.specs.Inside.{service_view}
+use Rattle.tile_service.specs.Inside.{service_view, publication_view}
 use Rattle.tile_service.specs.Service.{ServiceView, PublicationView}
-use Rattle.tile_service.proofs.Archive.Unchanged.{root_area}
-use Rattle.tile_service.proofs.Publications.Steps.{next_root_is, installing_leaves, up_installed}
+use Rattle.tile_service.proofs.Archive.Unchanged.{root_area, root_keeps}
+use Rattle.tile_service.proofs.Publications.Steps.{next_root_is, installing_leaves, up_installed, service_on_disk, going_seen}
 use Rattle.tile_service.proofs.service.Service.install_now.Goals as goal
 
 pub returns-in-Ok-clause-any_moment : goal.returns-in-Ok-clause-any_moment
@@ -69,3 +69,51 @@ returns-in-Ok-clause-area g c = rw (← c.self.view_is) (λ generation honest. r
 pub returns-clause-area : goal.returns-clause-area
 returns-clause-area g c = rw (← c.self.view_is) (λ generation honest. root_area c.self.inside.layout.sectors generation _ _
     (1 + (c.self.inside.root.generation + 1) % 2) (omega arith) (c.install.ensures.others honest))
+
+pub install-requires : goal.install-requires
+install-requires g c = record { on_disk = omega (arith, c.self.invariant.within, c.self.inside.layout.size.0) }
+
+pub release-requires : goal.release-requires
+release-requires g c =
+    let going = going_seen _ (service_view c.self.inside) _ (publication_view c.publication.inside) c.self.view_is c.publication.view_is c.requires.going in
+    (c.publication.inside.places, going.2.behind)
+
+pub returns-in-Ok-clause-told : goal.returns-in-Ok-clause-told
+returns-in-Ok-clause-told g c = refl
+
+pub returns-in-Ok-clause-size : goal.returns-in-Ok-clause-size
+returns-in-Ok-clause-size g c = ap (λ s. s.size) c.self.view_is
+
+pub returns-in-Ok-clause-disk : goal.returns-in-Ok-clause-disk
+returns-in-Ok-clause-disk g c = rw (← c.self.view_is) c.install.ensures.disk
+
+pub returns-in-Ok-clause-failed : goal.returns-in-Ok-clause-failed
+returns-in-Ok-clause-failed g c = rw (← c.self.view_is) c.in-Ok.ensures.failed
+
+pub returns-in-Ok-clause-steps : goal.returns-in-Ok-clause-steps
+returns-in-Ok-clause-steps g c = rw (← c.self.view_is) c.install.ensures.steps
+
+pub invariant_of-self-in-Err : goal.invariant_of-self-in-Err
+invariant_of-self-in-Err g c = service_on_disk c.install.ensures.disk.same_count c.self.invariant
+
+pub returns-clause-fault : goal.returns-clause-fault
+returns-clause-fault g c = refl
+
+pub returns-clause-broken : goal.returns-clause-broken
+returns-clause-broken g c = rw (← c.self.view_is) refl
+
+pub returns-clause-size : goal.returns-clause-size
+returns-clause-size g c = ap (λ s. s.size) c.self.view_is
+
+pub returns-clause-disk : goal.returns-clause-disk
+returns-clause-disk g c = rw (← c.self.view_is) c.install.ensures.disk
+
+pub returns-clause-failed : goal.returns-clause-failed
+returns-clause-failed g c = rw (← c.self.view_is) c.in-Err.ensures.failed
+
+pub returns-clause-archive : goal.returns-clause-archive
+returns-clause-archive g c = rw (← c.self.view_is) (root_keeps g.D.Sectors.honest g.D.Sectors.history (service_view c.self.inside) c.install.new.disk
+    (1 + (c.self.inside.root.generation + 1) % 2) c.self.invariant.area (omega arith) c.install.ensures.others)
+
+pub returns-clause-steps : goal.returns-clause-steps
+returns-clause-steps g c = rw (← c.self.view_is) c.install.ensures.steps

@@ -1,15 +1,17 @@
-use Rattle.std.proofs.Common.{◌≡◌, inr, ℕ, [], ◌∷◌, ◌++◌, Result, Ok, Err, refl, ◌∙◌, ap, subst, arith}
+use Rattle.std.proofs.Common.{◌≡◌, inr, ℕ, [], ◌∷◌, ◌++◌, Result, Ok, Err, refl, ◌∙◌, ap, subst, arith, sym}
 use Rattle.sector_disk.specs.Disk.{seen}
 use Rattle.tile_service.specs.Machine.{begin, step}
 use Rattle.std.proofs.lemmas.List.Elements.{All-nil}
 use Rattle.tile_service.specs.Runs.{begin_and_steps, IsUnfinished, Takes}
 use Rattle.tile_service.specs.declared.fault.ServiceFault.{ServiceFault}
-use Rattle.tile_service.specs.Service.{state_of, known_after, KeepsArea}
+use Rattle.tile_service.specs.Service.{state_of, known_after, KeepsArea, CountsDevice}
 use Rattle.tile_service.proofs.Runs.Callers.{begin_step, step_step, run_begins, run_on, one_step_more, takes_run}
 use Rattle.tile_service.proofs.Runs.OneEvent.{no_known}
 use Rattle.tile_service.proofs.Archive.Unchanged.{keeps_on, area_on}
 use Rattle.tile_service.proofs.Publications.WholePublication.{Stands, begun_stands, on_stands, falls, only_device, device_gives_up, begin_counts}
 use Rattle.tile_service.proofs.Publications.WholePublication.{none_seen, begin_given_up, begin_no_step, left_not_done, refused_not_done, one_more_unfinished}
+use Rattle.sector_disk.specs.Asked.{MayWrite}
+use Rattle.sector_disk.proofs.AskedLaws.{writes_on}
 use Rattle.tile_service.proofs.service.Service.publish.Goals as goal
 
 pub loop-rest-init : goal.loop-rest-init
@@ -195,3 +197,33 @@ returns-clause-idle g c =
     let done : c.loop-rest.rest ≡ 0 = omega (arith, c.loop-rest-test.false) in
     none_seen inv.stands.0.publishing c.loop-rest.self.publication
     (subst (λ (n : ℕ). Stands (state_of inv.stands.0 c.loop-rest.self) n) done inv.stands.1)
+
+pub returns-in-Err-clause-size : goal.returns-in-Err-clause-size
+returns-in-Err-clause-size g c = ap (λ s. s.size) c.in-Err.ensures.same
+
+pub returns-in-Err-clause-disk : goal.returns-in-Err-clause-disk
+returns-in-Err-clause-disk g c = subst (λ s. MayWrite g.D.Sectors.sectors g.D.Sectors.honest c.args.self.now.disk s.disk) (sym c.in-Err.ensures.refused)
+    (record { same_count = refl; was_honest = λ is_honest. is_honest })
+
+pub returns-in-Err-clause-refused : goal.returns-in-Err-clause-refused
+returns-in-Err-clause-refused g c = λ other. c.in-Err.ensures.refused
+
+pub returns-in-Err-publish_step-clause-size : goal.returns-in-Err-publish_step-clause-size
+returns-in-Err-publish_step-clause-size g c = c.in-Err-publish_step.ensures.size ∙ c.loop-rest.invariant.size
+
+pub returns-in-Err-publish_step-clause-disk : goal.returns-in-Err-publish_step-clause-disk
+returns-in-Err-publish_step-clause-disk g c = writes_on c.loop-rest.invariant.run.1.asked c.publish_step.ensures.disk
+
+pub returns-in-Err-publish_step-clause-failed : goal.returns-in-Err-publish_step-clause-failed
+returns-in-Err-publish_step-clause-failed g c =
+    subst (λ (count : ℕ). CountsDevice c.in-Err-publish_step.fault count (g.D.Sectors.faults c.publish_step.new.self.disk))
+    c.loop-rest.invariant.faults c.in-Err-publish_step.ensures.failed
+
+pub returns-clause-size : goal.returns-clause-size
+returns-clause-size g c = c.loop-rest.invariant.size
+
+pub returns-clause-disk : goal.returns-clause-disk
+returns-clause-disk g c = c.loop-rest.invariant.run.1.asked
+
+pub returns-clause-failed : goal.returns-clause-failed
+returns-clause-failed g c = c.loop-rest.invariant.faults

@@ -8,13 +8,44 @@ use Rattle.std.specs.Vec.{vec_len}
 use Rattle.std.specs.Vec.Iter.{into_iter_items}
 use Rattle.sector_bytes.proofs.Counts.{same_count, failed_risen, risen_on, then_risen}
 use Rattle.sector_disk.specs.Disk.{HasFailed}
-use Rattle.tile_service.specs.Events.{Tells, AreTold}
+use Rattle.tile_service.specs.Events.{Tells, AreTold, AsksTile}
 use Rattle.tile_service.specs.declared.event.Answer.TheVariants.{Refused}
 use Rattle.tile_service.specs.declared.fault.ServiceFault.TheVariants.{Device}
 use Rattle.tile_service.proofs.Runs.Callers.{run_begins, run_on, takes_run, was_before, broken_on}
 use Rattle.tile_service.proofs.Runs.OneEvent.{true_or_false}
 use Rattle.tile_service.proofs.Runs.EventAnswers.{told_no_read, told_on, asks_before, asks_last}
 use Rattle.tile_service.proofs.service.Service.run.Goals as goal
+
+-- no memory for the answers
+
+pub returns-in-Err-clause-memory : goal.returns-in-Err-clause-memory
+returns-in-Err-clause-memory g c = (refl, refl)
+
+pub returns-in-Err-clause-size : goal.returns-in-Err-clause-size
+returns-in-Err-clause-size g c = refl
+
+pub returns-in-Err-clause-version : goal.returns-in-Err-clause-version
+returns-in-Err-clause-version g c = refl
+
+pub returns-in-Err-clause-disk : goal.returns-in-Err-clause-disk
+returns-in-Err-clause-disk g c = record { same_count = refl; was_honest = λ is_honest. is_honest }
+
+pub returns-in-Err-clause-untouched : goal.returns-in-Err-clause-untouched
+returns-in-Err-clause-untouched g c = λ broken. refl
+
+pub returns-in-Err-clause-never_falls : goal.returns-in-Err-clause-never_falls
+returns-in-Err-clause-never_falls g c = same_count _ _ refl
+
+pub returns-in-Err-clause-broke : goal.returns-in-Err-clause-broke
+returns-in-Err-clause-broke g c = λ unbroken broken. absurd (false≢true (sym unbroken ∙ broken))
+
+pub returns-in-Err-clause-faults : goal.returns-in-Err-clause-faults
+returns-in-Err-clause-faults g c = λ none unbroken. refl
+
+pub returns-in-Err-clause-failed : goal.returns-in-Err-clause-failed
+returns-in-Err-clause-failed g c = λ none unbroken broken. absurd (false≢true (sym unbroken ∙ broken))
+
+-- the loop
 
 pub loop-event-init : goal.loop-event-init
 loop-event-init g c = let none = c.in-Ok.ensures.items in record {
@@ -93,12 +124,45 @@ nothing_left : {A : Type 0} (xs : List A) → length xs ≡ 0 → xs ≡ []
 nothing_left [] none = refl
 nothing_left (x ∷ xs) none = absurd (omega (arith, none))
 
+-- at the end all events were yielded
+all_yielded : (g : _) (c : goal.After-drop-event-iterator g) → c.loop-event.yielded ≡ c.args.events.items
+all_yielded g c =
+    let empty = nothing_left (into_iter_items c.loop-event.event-iterator) (sym c.loop-event.invariant.left ∙ c.in-None.ensures.steps.0) in
+    sym (append-nil c.loop-event.yielded) ∙ ap (λ l. c.loop-event.yielded ++ l) (sym empty) ∙ c.loop-event.invariant.items
+
+-- all were answered
+
 pub returns-clause-run : goal.returns-clause-run
 returns-clause-run g c =
-    let inv = c.loop-event.invariant in
-    let empty = nothing_left (into_iter_items c.loop-event.event-iterator) (sym inv.left ∙ c.in-None.ensures.steps.0) in
-    let all = sym (append-nil c.loop-event.yielded) ∙ ap (λ l. c.loop-event.yielded ++ l) (sym empty) ∙ inv.items in (
-      inv.so.0,
-      subst (λ l. AreTold c.args.self.now.version l c.loop-event.answers.items inv.so.0) all inv.so.1,
-      takes_run g.D.Sectors.sectors g.D.Sectors.honest g.D.Sectors.history c.args.self.now inv.so.0 c.loop-event.self inv.so.2,
+    let so = c.loop-event.invariant.so in (
+      so.0,
+      subst (λ l. AreTold c.args.self.now.version l c.loop-event.answers.items so.0) (all_yielded g c) so.1,
+      takes_run g.D.Sectors.sectors g.D.Sectors.honest g.D.Sectors.history c.args.self.now so.0 c.loop-event.self so.2,
     )
+
+pub returns-clause-size : goal.returns-clause-size
+returns-clause-size g c = c.loop-event.invariant.so.2.size
+
+pub returns-clause-version : goal.returns-clause-version
+returns-clause-version g c = c.loop-event.invariant.so.2.version
+
+pub returns-clause-disk : goal.returns-clause-disk
+returns-clause-disk g c = c.loop-event.invariant.so.2.asked
+
+pub returns-clause-untouched : goal.returns-clause-untouched
+returns-clause-untouched g c = λ broken. (c.loop-event.invariant.untouched broken).1
+
+pub returns-clause-never_falls : goal.returns-clause-never_falls
+returns-clause-never_falls g c = c.loop-event.invariant.never_falls
+
+pub returns-clause-device : goal.returns-clause-device
+returns-clause-device g c = c.loop-event.invariant.device
+
+pub returns-clause-broke : goal.returns-clause-broke
+returns-clause-broke g c = c.loop-event.invariant.broke
+
+pub returns-clause-faults : goal.returns-clause-faults
+returns-clause-faults g c = λ none. c.loop-event.invariant.faults (λ asks. none (subst AsksTile (all_yielded g c) asks))
+
+pub returns-clause-failed : goal.returns-clause-failed
+returns-clause-failed g c = λ none. c.loop-event.invariant.failed (λ asks. none (subst AsksTile (all_yielded g c) asks))

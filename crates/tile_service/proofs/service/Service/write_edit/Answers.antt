@@ -1,36 +1,30 @@
-use Rattle.std.proofs.Common.{◌≡◌, ◌≢◌, Ok, ◌∙◌, ℕ, List, [], refl, sym, ap, subst, arith, rules, length}
+use Rattle.std.proofs.Common.{◌≡◌, ◌≢◌, Ok, ◌∙◌, ℕ, List, [], refl, sym, ap, subst, arith, length}
 use Rattle.cached_map.specs.Cached.{CachedView, marks_after}
-use Rattle.edit_journal.specs.Appends.{ring_of}
+use Rattle.edit_journal.specs.Appends.{ring_of, TakesSteps}
 use Rattle.edit_journal.specs.Records.{IsRecordLength, parts_of, record_of}
 use Rattle.edit_journal.specs.Ring.{Ring}
-use Rattle.edit_text.specs.Recorded.{IsRecorded, text_in}
+use Rattle.edit_text.specs.Recorded.{IsRecorded, text_in, FitsVersion}
 use Rattle.feature_model.specs.Data.{ChangeData, edit_data}
 use Rattle.feature_store.specs.Store.{edited, snapshot}
 use Rattle.tile_cache.specs.Touched.{StaysElsewhere}
 use Rattle.tile_service.specs.Machine.{recorded_in}
-use Rattle.sector_disk.specs.Disk.{History}
-use Rattle.tile_service.specs.Service.{ServiceView, IsUp}
-use Rattle.tile_service.specs.Stored.{Stored, stored_records}
-use Rattle.tile_service.specs.declared.fault.ServiceFault.{ServiceFault}
+use Rattle.sector_disk.specs.Asked.{MayWrite}
+use Rattle.tile_service.specs.Inside.{service_view}
+use Rattle.tile_service.specs.Service.{CountsDevice, IsUp, state_of}
+use Rattle.tile_service.specs.Stored.{stored_records}
 use Rattle.tile_service.specs.declared.fault.ServiceFault.TheVariants.{Device, Memory}
 use Rattle.tile_service.proofs.Tiles.EarlierMaps.{since_on, now_on, right_on}
-use Rattle.tile_service.proofs.Edits.EditStored.{up_is_at, refuses_edit, append_any_moment, refused_any_moment, up_with_edit}
-use Rattle.tile_service.proofs.Edits.ServiceAfter.{service_on}
+use Rattle.tile_service.proofs.Edits.EditStored.{up_is_at, refuses_edit, append_counts, refused_unchanged, append_any_moment, refused_any_moment, up_with_edit}
+use Rattle.tile_service.proofs.Edits.ServiceAfter.{service_on, refused_service}
 use Rattle.tile_service.proofs.Archive.Unchanged.{append_keeps, append_area}
 use Rattle.tile_service.proofs.Edits.Limits.{text_length, short_after_edit, short_enough}
 use Rattle.tile_service.proofs.service.Service.write_edit.Goals as goal
 
--- a service that a fault leaves unchanged continues from what is stored
-as_it_was : {D : Type 0} (sectors : D → ℕ) (history : D → History) (fault : ServiceFault) (old new : ServiceView D) → (fault ≢ Device → new ≡ old)
-    → (stored : Stored) → IsUp (sectors old.disk) (history old.disk) stored old → fault ≢ Device
-    → IsUp (sectors new.disk) (history new.disk) stored new
-as_it_was sectors history fault old new same stored up other =
-    subst (λ s. IsUp (sectors s.disk) (history s.disk) stored s) (sym (same other)) up
-
 pub returns-in-Err-clause-takes : goal.returns-in-Err-clause-takes
 returns-in-Err-clause-takes g c = rw (← c.self.view_is)
     (λ call. refuses_edit g.D.Sectors.sectors g.D.Sectors.honest g.D.Sectors.history g.D.Sectors.faults _ _ call
-    (recorded_in c.self.inside.version (edit_data c.args.requested)) Memory (search rules) (λ is. cc))
+    (recorded_in c.self.inside.version (edit_data c.args.requested)) Memory
+    (ap (λ m. service_view (record c.self.inside { map = m })) c.prepare.ensures.same) (λ is. cc))
 
 pub append-requires-clause-text : goal.append-requires-clause-text
 append-requires-clause-text g c = subst (λ (t : List ℕ). IsRecordLength c.self.inside.version (length t))
@@ -107,17 +101,26 @@ returns-in-Ok-append-clause-takes g c = rw (← c.self.view_is) (λ call. record
       (right_on c.self.inside.map c.prepare.new.cached c.make_edit.new.self c.self.inside.journal.last c.append.new.self.last c.self.invariant.last_is
       c.prepare.ensures.same last c.make_edit.ensures.reads) refl refl refl refl refl refl refl (c.append.ensures.reads honest));
   refused = λ stored honest up. tt;
-  steps = search rules;
+  steps = λ honest. subst (λ (t : List ℕ). TakesSteps (parts_of (length t)) (g.D.Sectors.history c.self.inside.disk) (g.D.Sectors.history c.append.new.disk))
+      (c.deref.ensures.value ∙ c.in-Ok.ensures.text) (c.in-Ok-append.ensures.steps honest);
 })
+
+-- a fault that isn't the disk's leaves all as it was
+unchanged : (g : _) (c : goal.After-drop-requested-2 g) → c.fail.result ≢ Device → c.fail.new.self ≡ service_view c.self.inside
+unchanged g c = refused_unchanged c.self.inside c.append.new.disk c.append.new.self c.prepare.new.cached c.fail.new.self c.in-Err-append.fault c.fail.result
+    c.fail.ensures.told c.in-Err-append.ensures.refused c.in-Err-append.ensures.kept c.prepare.ensures.same c.fail.ensures.other
 
 pub returns-clause-takes : goal.returns-clause-takes
 returns-clause-takes g c = rw (← c.self.view_is) (λ call. record {
   size = ap (λ s. s.size) c.fail.ensures.same;
   publication = tt;
-  asked = search rules;
-  failed = search rules;
-  unwritten = search rules;
-  unchanged = search rules;
+  asked = subst (λ d. MayWrite g.D.Sectors.sectors g.D.Sectors.honest c.self.inside.disk d) (sym (ap (λ s. s.disk) c.fail.ensures.same))
+      c.append.ensures.disk;
+  failed = subst (λ d. CountsDevice c.fail.result (g.D.Sectors.faults c.self.inside.disk) (g.D.Sectors.faults d))
+      (sym (ap (λ s. s.disk) c.fail.ensures.same))
+      (append_counts c.self.inside.journal _ _ _ c.in-Err-append.fault c.fail.result c.fail.ensures.told c.in-Err-append.ensures.fault);
+  unwritten = λ other. ap (λ s. s.disk) (unchanged g c other);
+  unchanged = unchanged g c;
   touches = ap (λ s. s.touched) c.fail.ensures.same ∙ ap (λ m. m.touched) c.prepare.ensures.same;
   cached = ap (λ s. s.kept) c.fail.ensures.same ∙ ap (λ m. m.kept) c.prepare.ensures.same;
   keeps_archive = append_keeps g.D.Sectors.honest g.D.Sectors.history _ _ (ap (λ s. s.size) c.fail.ensures.same)
@@ -138,6 +141,27 @@ returns-clause-takes g c = rw (← c.self.view_is) (λ call. record {
       call c.in-Err-append.fault c.fail.result c.fail.ensures.told c.in-Err-append.ensures.refused
       (c.append.ensures.any_moment (stored_records stored) honest at));
   acknowledged = λ stored honest up. tt;
-  refused = λ stored honest up. as_it_was g.D.Sectors.sectors g.D.Sectors.history c.fail.result _ _ (search rules) stored up;
+  refused = λ stored honest up. (λ other.
+      subst (λ s. IsUp (g.D.Sectors.sectors s.disk) (g.D.Sectors.history s.disk) stored s) (sym (unchanged g c other)) up);
   steps = λ honest. tt;
 })
+
+pub prepare-requires-clause-allowed : goal.prepare-requires-clause-allowed
+prepare-requires-clause-allowed g c = c.requires.allowed
+
+pub prepare-requires-clause-fits : goal.prepare-requires-clause-fits
+prepare-requires-clause-fits g c = subst (λ s. FitsVersion s.version (edit_data c.args.requested)) (sym c.self.view_is) c.requires.fits
+
+pub invariant_of-self : goal.invariant_of-self
+invariant_of-self g c = refused_service c.self.inside.journal c.self.inside.map c.prepare.new.cached refl refl c.prepare.ensures.same c.self.invariant
+
+pub invariant_of-self-in-Err-append : goal.invariant_of-self-in-Err-append
+invariant_of-self-in-Err-append g c = refused_service c.append.new.self c.self.inside.map c.prepare.new.cached c.append.ensures.disk.same_count
+    c.in-Err-append.ensures.kept c.prepare.ensures.same c.self.invariant
+
+pub returns-in-Err-clause-machine : goal.returns-in-Err-clause-machine
+returns-in-Err-clause-machine g c = rw (← c.self.view_is) (λ known call can allocates. (
+  ap (λ s. s.broken) c.self.view_is ∙ c.requires.unbroken,
+  (allocates, can),
+  ap (λ m. state_of known (service_view (record c.self.inside { map = m }))) c.prepare.ensures.same,
+))
