@@ -1,4 +1,5 @@
 pub mod CarryLemmas
+pub mod ExitLemmas
 pub mod FieldLemmas
 pub mod HandlerLemmas
 pub mod HeadLemmas

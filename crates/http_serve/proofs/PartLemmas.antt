@@ -1,7 +1,8 @@
 -- Contents part by part.
 use Rattle.std.proofs.Common.{◌≡◌, ℕ, ◌+◌, ◌-◌, ◌<◌, ◌≤◌, List, [], ◌++◌, Bool, true, false, Option, take, drop, length, refl, sym, ap, ◌∙◌, subst, arith}
 use Rattle.std.proofs.Common.{append_assoc, length-append, length-drop, Global}
-use Rattle.std.specs.Prelude.{cond, ◌||◌, Vec, Result, Ok, Err}
+use Rattle.std.specs.Prelude.{cond, not, min, ◌||◌, Vec, Result, Ok, Err, IfErr}
+use Rattle.std.proofs.lemmas.Bool.{false≢true}
 use Rattle.std.proofs.Math.Seq.{take-add}
 use Rattle.std.proofs.lemmas.List.{append-nil, drop-drop, drop-take, drop_at, take-take, take_all, take_at, take-append-drop, length-take, length-take-le}
 use Rattle.std.specs.Io.KnownBytes.{Appends}
@@ -28,6 +29,13 @@ next_part xs offset at count behind =
     let size : so_far + count ≡ at + count - offset = omega arith in
     ap (λ (t : List ℕ). take so_far (drop offset xs) ++ take count t) here
     ∙ sym (take-add so_far count (drop offset xs)) ∙ ap (λ (n : ℕ). take n (drop offset xs)) size
+
+-- A part has as many bytes as the buffer, or as are left: it is within both, and has some if the buffer has.
+pub part_count : (size at count : ℕ) (buffer : List ℕ) → at < size → count ≡ min (size - at) (length buffer)
+    → (count ≤ length buffer) × (at + count ≤ size) × (length (take count buffer) ≡ count) × (0 < length buffer → 0 < count)
+part_count size at count buffer below is =
+    let fits : count ≤ length buffer = omega (arith, is) in
+    (fits, omega (arith, is, below), length-take-le count buffer fits, λ some. omega (arith, is, below, some))
 
 -- one more part is written
 pub part_sent : (xs : List ℕ) (offset at count : ℕ) (u v w : Option (List ℕ)) → offset ≤ at → Appends u v (take (at - offset) (drop offset xs))
@@ -107,7 +115,7 @@ module _ {S : Type 0} (replies sends : S → RequestView → ReplyView → S →
       → replies first request reply old → length reply.content ≡ size → (later : ReplyView) × IsLater offset reply later × sends first request later new
       × replies first request later new × Appends held holds (take (at - offset) (drop offset later.content))
 
-  sent_none : (offset size : ℕ) (old : S) (held : Option (List ℕ)) → IsSentTo offset offset size old old held held
+  pub sent_none : (offset size : ℕ) (old : S) (held : Option (List ℕ)) → IsSentTo offset offset size old old held held
   sent_none offset size old held first request reply sent replied is =
       let none : 0 ≡ offset - offset = omega arith in
       (reply, later_same offset reply, sent, replied, subst (λ (n : ℕ). Appends held held (take n (drop offset reply.content))) none (Appends_none held))
@@ -147,7 +155,7 @@ module _ {S : Type 0} (replies sends : S → RequestView → ReplyView → S →
         (last.0, later_then offset at reply next.0 last.0 before next.1 last.1, last.2, cut)
 
   -- all of it is written
-  sent_whole : (offset at size : ℕ) (old new : S) (held holds : Option (List ℕ)) → size ≤ at → IsSentTo offset at size old new held holds
+  pub sent_whole : (offset at size : ℕ) (old new : S) (held holds : Option (List ℕ)) → size ≤ at → IsSentTo offset at size old new held holds
       → (first : S) (request : RequestView) (reply : ReplyView) → sends first request reply old → replies first request reply old
       → length reply.content ≡ size → (later : ReplyView) × IsLater offset reply later × replies first request later new
       × Appends held holds (drop offset later.content)
@@ -197,8 +205,40 @@ front_rest close bare parts reply fits =
     (sent_both none (front_content reply.content) (rest_content parts reply.content) (content_bytes parts reply.content) (joined parts reply.content fits))
     ∙ ap (λ (head : HeadView). reply_head close head ++ cond none [] (content_bytes parts reply.content)) (same_head parts reply fits)
 
+-- Of a reply whose content isn't sent nothing follows the front.
+pub none_unsent : (none : Bool) (rest : List ℕ) (held : Option (List ℕ)) → not none ≡ false → Appends held held (cond none [] rest)
+none_unsent true rest held is = Appends_none held
+none_unsent false rest held is = absurd (false≢true (sym is))
+
+-- A content that isn't read in parts has no rest.
+no_parts : (parts : List ℕ) (content : Content) → ((first : Vec ℕ Global) (size : ℕ) → ¬ (content ≡ Parts first size)) → rest_content parts content ≡ []
+no_parts parts Empty whole = refl
+no_parts parts (Fixed text) whole = refl
+no_parts parts (Whole bytes) whole = refl
+no_parts parts (Shared bytes) whole = refl
+no_parts parts (Parts first size) whole = absurd (whole first size refl)
+
+-- Whether or not the content of a reply is sent, no bytes are written for an empty rest.
+none_written : (none : Bool) (rest : List ℕ) (held : Option (List ℕ)) → rest ≡ [] → Appends held held (cond none [] rest)
+none_written true rest held is = Appends_none held
+none_written false rest held is = subst (λ (t : List ℕ). Appends held held t) (sym is) (Appends_none held)
+
+-- For a reply whose content isn't read in parts nothing is written behind the front.
+pub whole_unsent : (bare : Bool) (parts : List ℕ) (reply : Reply) (held : Option (List ℕ))
+    → ((first : Vec ℕ Global) (size : ℕ) → ¬ (reply.content ≡ Parts first size)) → Appends held held (rest_bytes bare parts reply)
+whole_unsent bare parts reply held whole =
+    none_written (bare || has_no_content (code_of reply.status)) (rest_content parts reply.content) held (no_parts parts reply.content whole)
+
+-- A reply whose content is sent has the bytes behind its first ones as rest.
+pub parts_rest : (bare : Bool) (parts : List ℕ) (reply : Reply) (first : Vec ℕ Global) (size from : ℕ)
+    → (bare || has_no_content (code_of reply.status)) ≡ false → reply.content ≡ Parts first size → from ≡ length first.items
+    → rest_bytes bare parts reply ≡ drop from parts
+parts_rest bare parts reply first size from sent is from_is =
+    ap (λ (none : Bool). cond none [] (rest_content parts reply.content)) sent
+    ∙ ap (rest_content parts) is ∙ ap (λ (n : ℕ). drop n parts) (sym from_is)
+
 -- a reply whose content is read in parts says what it says with what was read of it
-later_reply : (reply : Reply) (view later : ReplyView) (first : Vec ℕ Global) (size : ℕ) → reply.content ≡ Parts first size
+pub later_reply : (reply : Reply) (view later : ReplyView) (first : Vec ℕ Global) (size : ℕ) → reply.content ≡ Parts first size
     → IsReply reply view → IsLater (length first.items) view later → IsReply reply later
 later_reply reply view later first size parts is next =
     let fits = subst (λ (c : Content). FitsParts view.content c) parts is.1 in (
@@ -254,13 +294,24 @@ if_rest (Err cuts.Write) P Q f is = tt
 if_rest (Err cuts.Content) P Q f is = tt
 if_rest (Err (cuts.Rest from size)) P Q f is = f from size is
 
+-- No rest was left of a reply whose fault isn't Rest.
+pub no_rest : (r : Result (Unit {0}) SendFault) (P : ℕ → ℕ → Type 0) → IfErr r IsNoRest → IfRest r P
+no_rest (Ok done) P is = tt
+no_rest (Err cuts.Write) P is = tt
+no_rest (Err cuts.Content) P is = tt
+no_rest (Err (cuts.Rest from size)) P is = absurd is
+
+-- A fault that can't be says anything.
+pub no_fault : (r : Result (Unit {0}) SendFault) (P : SendFault → Type 0) (A : Type 0) → (¬ A) → IfErr r (λ _. A) → IfErr r P
+no_fault (Ok done) P A never is = tt
+no_fault (Err fault) P A never is = absurd (never is)
+
 module _ (bare : Bool) (reply : Reply) (view : ReplyView) (from size : ℕ) (left : IsLeft bare reply from size) (is : IsReply reply view) where
   left_size : size ≡ length view.content
   left_size = sym (subst (λ (c : Content). FitsParts view.content c) left.parts is.1).0
 
   left_rest : rest_bytes bare view.content reply ≡ drop from view.content
-  left_rest = ap (λ (none : Bool). cond none [] (rest_content view.content reply.content)) left.sent
-      ∙ ap (rest_content view.content) left.parts ∙ ap (λ (n : ℕ). drop n view.content) (sym left.from_is)
+  left_rest = parts_rest bare view.content reply left.first size from left.sent left.parts left.from_is
 
   -- it has some bytes, of which none are written
   pub left_unsent : (held : Option (List ℕ)) → (n : ℕ) × (n < length (rest_bytes bare view.content reply))

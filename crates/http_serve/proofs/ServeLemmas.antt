@@ -41,6 +41,14 @@ finished_other end closed last told plain e = cc
 finished_other end (asked request) last told plain e = cc
 finished_other end (refused head refusal) last told plain e = cc
 
+-- The end after a last request isn't the limit on reads.
+pub asked_other : Asked ≢ Turns
+asked_other e = cc
+
+-- The end after a refusal isn't the limit on reads.
+pub refused_other : Refused ≢ Turns
+refused_other e = cc
+
 -- a fact for the value of a result, from another
 pub if_ok : {A E : Type 0} (r : Result A E) (P Q : A → Type 0) → ((a : A) → P a → Q a) → IfOk r P → IfOk r Q
 if_ok (Ok a) P Q f x = f a x
@@ -473,6 +481,12 @@ most_more (Some input) (Some left) None a b n more so came size few = absurd cam
 most_more (Some input) (Some left) (Some last) a b n more so came size few =
     omega (arith, ap length came, length-append more last)
 
+-- One more read within the limit on reads loses no more bytes than the reads of the limit do.
+pub most_last : (input left last : Option (List ℕ)) (turn turns n : ℕ) (more : List ℕ) → LosesAtMost (turn * buffer_size) input left
+    → Consumes left last more → n ≡ length more → n ≤ buffer_size → turn < turns → LosesAtMost (turns * buffer_size) input last
+most_last input left last turn turns n more so came size few below =
+    most_more input left last (turn * buffer_size) (turns * buffer_size) n more so came size (omega (arith, few, below))
+
 -- no read failed in what the input's end is answered with
 pub finished_reads : (turns : ℕ) (input left : Option (List ℕ)) (waiting : List ℕ) (head : Option RequestHead) (reason : Refusal)
     (held : Option (List ℕ)) (before : ℕ) (result : Result Served ServeFault) (holds : Option (List ℕ))
@@ -484,6 +498,17 @@ finished_reads turns input left waiting head reason held before (Err (Read n)) h
 finished_reads turns input left waiting head reason held before (Err (Write n)) holds so x = so
 finished_reads turns input left waiting head reason held before (Err (Content n)) holds so x = so
 finished_reads turns input left waiting head reason held before (Err (Rest n close from size)) holds so x = so
+
+-- A reply that is cut is no failed read: all reads of the limit may have returned bytes.
+pub broken_reads : {S : Type 0} (replies fails : S → RequestView → ReplyView → S → Type 0) (old : S) (waiting : List ℕ) (held : Option (List ℕ))
+    (before : ℕ) (fault : ServeFault) (new : S) (holds : Option (List ℕ)) (turns : ℕ) (input left : Option (List ℕ))
+    → LosesAtMost (turns * buffer_size) input left → IsBroken replies fails old waiting held before fault new holds
+    → KeepsTurns turns (Err fault) input left
+broken_reads replies fails old waiting held before Memory new holds turns input left so is = absurd is
+broken_reads replies fails old waiting held before (Read n) new holds turns input left so is = absurd is
+broken_reads replies fails old waiting held before (Write n) new holds turns input left so is = so
+broken_reads replies fails old waiting held before (Content n) new holds turns input left so is = so
+broken_reads replies fails old waiting held before (Rest n close from size) new holds turns input left so is = so
 
 -- what the input's end is answered with isn't read in parts
 pub unfinished_content : (size : ℕ) (waiting : List ℕ) (head : Option RequestHead) (reason : Refusal) (held : Option (List ℕ)) (before : ℕ)

@@ -3,7 +3,7 @@ use Rattle.http_serve.specs.Requests.{RequestView, path_of, request_view_at}
 use Rattle.http_serve.specs.Parts.{GivesOrFails, IsStopped}
 use Rattle.http_serve.specs.Reply.{reply_bytes, is_head}
 use Rattle.http_serve.specs.Sent.{Sends}
-use Rattle.http_serve.proofs.PartLemmas.{in_parts, if_rest}
+use Rattle.http_serve.proofs.PartLemmas.{in_parts, if_rest, readable}
 use Rattle.http_serve.proofs.connection.answer_one.Goals as goal
 
 pub returns-clause-reply : goal.returns-clause-reply
@@ -66,3 +66,54 @@ returns-clause-stopped g c =
           (c.is_head.ensures ∙ ap is_head c.of-method.ensures) stopped.2,
     ))
     c.send_reply.ensures.stopped
+
+pub of-method-requires-clause-ordered : goal.of-method-requires-clause-ordered
+of-method-requires-clause-ordered g c = c.requires.method.0
+
+pub of-method-requires-clause-in_range : goal.of-method-requires-clause-in_range
+of-method-requires-clause-in_range g c = c.requires.method.1
+
+pub of-requires-clause-ordered : goal.of-requires-clause-ordered
+of-requires-clause-ordered g c = c.requires.target.0
+
+pub of-requires-clause-in_range : goal.of-requires-clause-in_range
+of-requires-clause-in_range g c = c.requires.target.1
+
+pub part_of-requires : goal.part_of-requires
+part_of-requires g c = c.requires.range
+
+pub of-requires-2-clause-ordered : goal.of-requires-2-clause-ordered
+of-requires-2-clause-ordered g c = c.requires.body.0
+
+pub of-requires-2-clause-in_range : goal.of-requires-2-clause-in_range
+of-requires-2-clause-in_range g c = c.requires.body.1
+
+pub send_reply-requires-clause-words : goal.send_reply-requires-clause-words
+send_reply-requires-clause-words g c = c.answer-reply.ensures.writable
+
+pub send_reply-requires-clause-readable : goal.send_reply-requires-clause-readable
+send_reply-requires-clause-readable g c =
+    let told = c.answer-reply.ensures.replied in
+    readable (g.H.Handler.size c.answer-reply.new.self) c.answer-reply.result.content told.0.content told.1.1
+    (in_parts c.answer-reply.result.content _ _ (λ both. both.1) told.3)
+
+pub send_reply-requires-clause-room : goal.send_reply-requires-clause-room
+send_reply-requires-clause-room g c = c.requires.room
+
+pub send_reply-requires-clause-space : goal.send_reply-requires-clause-space
+send_reply-requires-clause-space g c = c.requires.space
+
+pub returns-clause-room : goal.returns-clause-room
+returns-clause-room g c = c.send_reply.ensures.room
+
+pub returns-clause-space : goal.returns-clause-space
+returns-clause-space g c = c.send_reply.ensures.space
+
+pub returns-clause-cut : goal.returns-clause-cut
+returns-clause-cut g c = c.send_reply.ensures.cut
+
+pub returns-clause-whole : goal.returns-clause-whole
+returns-clause-whole g c = c.send_reply.ensures.whole
+
+pub returns-clause-unread : goal.returns-clause-unread
+returns-clause-unread g c = c.send_reply.ensures.unread

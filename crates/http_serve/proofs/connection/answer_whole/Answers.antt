@@ -1,21 +1,27 @@
-use Rattle.std.proofs.lemmas.Grind.{common_steps}
-use Rattle.std.proofs.Common.{◌<◌, ℕ, List, Err, refl, sym, subst, arith, length, length-append, take}
+use Rattle.std.proofs.Common.{◌≡◌, ◌<◌, ℕ, List, Err, refl, sym, ap, ◌∙◌, subst, arith, length, length-append, length-drop, take}
 use Rattle.std.specs.Io.KnownBytes.{Appends}
 use Rattle.http_serve.specs.declared.frames.Next.TheVariants.{Whole, Refused, More}
 use Rattle.http_serve.specs.declared.connection.ServeFault.{ServeFault}
-use Rattle.http_serve.specs.Frame.{IsNext}
+use Rattle.http_serve.specs.declared.frames.Frame.{Frame}
+use Rattle.http_serve.specs.Frame.{IsFrameOf, IsNext}
 use Rattle.http_serve.specs.Parts.{GivesOrFails, IsStopped, IfRest}
+use Rattle.http_serve.specs.Search.{IsKnown}
 use Rattle.http_serve.specs.Steps.{IsBroken, IsLeftAt}
 use Rattle.http_serve.specs.Told.{HasContent, IsNotMemory, IsNotRest, IsNotContent}
-use Rattle.http_serve.specs.Requests.{asked, refused}
+use Rattle.http_serve.specs.Requests.{Request, asked, refused}
 use Rattle.http_serve.specs.Requests.{request_view_at}
 use Rattle.http_serve.specs.Reply.{ReplyView, refusal_bytes, reply_at}
 use Rattle.http_serve.specs.Served.{Anything, Carries}
 use Rattle.http_serve.proofs.HeadLemmas.{missing_now}
-use Rattle.http_serve.proofs.CarryLemmas.{Ends_push, Breaks_refused, Frame_push, Frame_ends}
+use Rattle.http_serve.proofs.CarryLemmas.{Carries_start, Ends_push, Breaks_refused, Frame_push, Frame_ends}
 use Rattle.http_serve.proofs.PartLemmas.{cut_content, cut_no_memory, cut_whole, cut_unread}
-use Rattle.http_serve.proofs.ServeLemmas.{cut_breaks, cut_left}
+use Rattle.http_serve.proofs.ServeLemmas.{asked_other, refused_other, cut_breaks, cut_left}
 use Rattle.http_serve.proofs.connection.answer_whole.Goals as goal
+
+-- A frame that was found in bytes is one of the same bytes where they are looked at again.
+found_again : (seen here bytes : List ℕ) (frame : Frame) → seen ≡ bytes → here ≡ bytes → IsNext seen (Whole frame)
+    → (request : Request) × IsFrameOf here frame request
+found_again seen here bytes frame first second found = subst (λ (t : List ℕ). IsNext t (Whole frame)) (first ∙ sym second) found
 
 pub returns-in-More-clause-ok : goal.returns-in-More-clause-ok
 returns-in-More-clause-ok g c =
@@ -38,7 +44,7 @@ returns-in-Ok-clause-ok g c =
           (λ more _. (omega (arith, found.some, length-append input more), found.refused more)) (refl, refl)
           (c.in-Ok.ensures.sent found.head found.bare) c.saturating_add.ensures,
       refl,
-      λ e. cc,
+      refused_other,
     )
 
 pub returns-in-Err-clause-err : goal.returns-in-Err-clause-err
@@ -116,7 +122,7 @@ returns-then-frame-clause-ok g c =
       Frame_ends g.H.Handler.replies _ _ _ c.args.requests _ input _ c.requests.requests frame found.0 told.0 _ _
           c.requests.invariant.carries found.1 told.1 c.saturating_add-requests.result c.if-frame.true told.2 c.saturating_add-requests.ensures,
       refl,
-      λ e. cc,
+      asked_other,
     )
 
 pub requests-preserved : goal.requests-preserved
@@ -138,5 +144,76 @@ requests-preserved g c =
           c.requests.invariant.carries found.1 told.1 c.saturating_add-requests.result c.if-frame.false told.2 c.saturating_add-requests.ensures);
     }
 
+pub requests-init : goal.requests-init
+requests-init g c = record {
+  known = c.requires.known;
+  carries = Carries_start g.H.Handler.replies c.args.handler.now c.args.session.now.input.waiting (g.W.Write.contents c.args.writer.now)
+      c.args.requests (omega (arith, c.ranges.requests.fits));
+}
+
+pub find_next-requires : goal.find_next-requires
+find_next-requires g c = subst (λ (t : List ℕ). IsKnown t c.requests.session.search) (sym c.waiting.ensures) c.requests.invariant.known
+
+pub invariant_of-session : goal.invariant_of-session
+invariant_of-session g c = record { room = c.requests.session.room; space = c.requests.session.space }
+
+pub returns-in-More-clause-known : goal.returns-in-More-clause-known
+returns-in-More-clause-known g c =
+    subst (λ (t : List ℕ). IsKnown t c.find_next.new.search) c.waiting.ensures c.in-More.ensures.known
+
+pub refuse-requires : goal.refuse-requires
+refuse-requires g c = record { room = c.requests.session.room }
+
+pub invariant_of-session-in-Refused : goal.invariant_of-session-in-Refused
+invariant_of-session-in-Refused g c = record { room = c.refuse.ensures.room; space = c.requests.session.space }
+
+pub returns-in-Ok-clause-known : goal.returns-in-Ok-clause-known
+returns-in-Ok-clause-known g c =
+    subst (λ (t : List ℕ). IsKnown t c.find_next.new.search) c.waiting.ensures c.in-Refused.ensures.known
+
+pub answer_one-requires-clause-method : goal.answer_one-requires-clause-method
+answer_one-requires-clause-method g c =
+    (found_again _ _ _ c.in-Whole.frame c.waiting.ensures c.waiting-waiting.ensures c.in-Whole.ensures.next).1.method_within
+
+pub answer_one-requires-clause-target : goal.answer_one-requires-clause-target
+answer_one-requires-clause-target g c =
+    (found_again _ _ _ c.in-Whole.frame c.waiting.ensures c.waiting-waiting.ensures c.in-Whole.ensures.next).1.target_within
+
+pub answer_one-requires-clause-body : goal.answer_one-requires-clause-body
+answer_one-requires-clause-body g c =
+    (found_again _ _ _ c.in-Whole.frame c.waiting.ensures c.waiting-waiting.ensures c.in-Whole.ensures.next).1.body_within
+
+pub answer_one-requires-clause-range : goal.answer_one-requires-clause-range
+answer_one-requires-clause-range g c =
+    (found_again _ _ _ c.in-Whole.frame c.waiting.ensures c.waiting-waiting.ensures c.in-Whole.ensures.next).1.range_within
+
+pub answer_one-requires-clause-room : goal.answer_one-requires-clause-room
+answer_one-requires-clause-room g c = c.requests.session.room
+
+pub answer_one-requires-clause-space : goal.answer_one-requires-clause-space
+answer_one-requires-clause-space g c = c.requests.session.space
+
+pub invariant_of-session-then-frame : goal.invariant_of-session-then-frame
+invariant_of-session-then-frame g c = record { room = c.answer_one.ensures.room; space = c.answer_one.ensures.space }
+
+pub returns-then-frame-clause-known : goal.returns-then-frame-clause-known
+returns-then-frame-clause-known g c =
+    subst (λ (t : List ℕ). IsKnown t c.find_next.new.search) c.waiting.ensures c.in-Whole.ensures.known
+
+pub drop_front-requires : goal.drop_front-requires
+drop_front-requires g c =
+    let frame = c.in-Whole.frame in
+    let input = c.requests.session.input.waiting in
+    let found = subst (λ (t : List ℕ). IsNext t (Whole frame)) c.waiting.ensures c.in-Whole.ensures.next in
+    found.1.body_within.1
+
+pub invariant_of-session-in-requests : goal.invariant_of-session-in-requests
+invariant_of-session-in-requests g c = record { room = c.answer_one.ensures.room; space = c.answer_one.ensures.space }
+
 pub requests-smaller : goal.requests-smaller
-requests-smaller g c = grind (arith, common_steps)
+requests-smaller g c =
+    let frame = c.in-Whole.frame in
+    let input = c.requests.session.input.waiting in
+    let found = subst (λ (t : List ℕ). IsNext t (Whole frame)) c.waiting.ensures c.in-Whole.ensures.next in
+    let within = found.1.body_within.1 in
+    omega (arith, ap length c.drop_front.ensures, length-drop frame.body.end input, found.1.some, within)

@@ -1,10 +1,15 @@
-use Rattle.std.proofs.lemmas.Grind.{common_steps}
-use Rattle.std.proofs.Common.{◌≡◌, Err, rules, arith, sym, subst, List, ℕ, ◌+◌, ◌*◌}
+use Rattle.std.proofs.Common.{◌≡◌, refl, arith, sym, subst, List, [], ℕ, ◌+◌, ◌-◌, ◌*◌}
+use Rattle.std.specs.Prelude.{Result}
 use Rattle.http_serve.specs.Input.{buffer_size}
 use Rattle.http_serve.specs.Search.{IsKnown}
+use Rattle.http_serve.specs.Told.{LosesAtMost, KeepsTurns}
+use Rattle.http_serve.specs.declared.connection.Served.{Served}
+use Rattle.http_serve.specs.declared.connection.ServeFault.{ServeFault}
 use Rattle.http_serve.proofs.LineLemmas.{IsKnown-append}
 use Rattle.http_serve.proofs.ServeLemmas.{SoFar_start, SoFar_stops, SoFar_failed_read, SoFar_goes, SoFar_told, SoFar_broken, SoFar_done, SoFar_failed, if_ok}
-use Rattle.http_serve.proofs.ServeLemmas.{if_err, adds_none, adds_one, adds_all, most_start, most_more, other_turns}
+use Rattle.http_serve.proofs.ExitLemmas.{exit_no_value, exit_is, exit_fault}
+use Rattle.http_serve.proofs.ServeLemmas.{broken_reads}
+use Rattle.http_serve.proofs.ServeLemmas.{if_err, adds_none, adds_one, adds_all, most_start, most_more, most_last, other_turns}
 use Rattle.http_serve.proofs.ServeLemmas.{finished_turns, finished_reads, unfinished_content, SoFar_left, not_rest}
 use Rattle.http_serve.proofs.connection.serve_session.Goals as goal
 
@@ -28,7 +33,7 @@ pub returns-in_err-served-clause-fault : goal.returns-in_err-served-clause-fault
 returns-in_err-served-clause-fault g c =
     let came = c.in-Ok.ensures.ok in
     let fault = c.in_err-served.field-0.0 in
-    let same : c.from_residual.result ≡ Err fault = search rules in
+    let same = exit_is c.from_residual.result fault c.from_residual.ensures.1 in
     rw same (SoFar_broken g.H.Handler.replies _ _ _ _ _ _ c.loop-turn.requests _ _ c.loop-turn.invariant.so_far came.0 _ came.1 _ _ _ came.2
     g.H.Handler.fails fault c.in_err-served.ensures.err)
 
@@ -98,11 +103,9 @@ answer_whole-requires g c =
 pub returns-then-count-eq0-clause-reads : goal.returns-then-count-eq0-clause-reads
 returns-then-count-eq0-clause-reads g c =
     let came = c.in-Ok.ensures.ok in
-    let few = c.in-Ok.ensures.few in
-    let below = c.loop-turn-test.true in
     finished_reads c.args.turns _ _ _ _ _ _ _ c.finish.result _
-    (most_more (g.R.Read.remaining c.args.reader.now) _ _ (c.loop-turn._turn * buffer_size) (c.args.turns * buffer_size)
-    c.in-Ok.count came.0 c.loop-turn.invariant.most came.1 came.3 (omega arith))
+    (most_last (g.R.Read.remaining c.args.reader.now) _ _ c.loop-turn._turn c.args.turns c.in-Ok.count came.0 c.loop-turn.invariant.most
+    came.1 came.3 c.in-Ok.ensures.few c.loop-turn-test.true)
     (c.finish.ensures.fault c.loop-turn.invariant.so_far.head c.loop-turn.invariant.so_far.bare)
 
 pub returns-then-count-eq0-clause-content : goal.returns-then-count-eq0-clause-content
@@ -114,7 +117,7 @@ pub returns-in_err-served-clause-left : goal.returns-in_err-served-clause-left
 returns-in_err-served-clause-left g c =
     let came = c.in-Ok.ensures.ok in
     let fault = c.in_err-served.field-0.0 in
-    let same : c.from_residual.result ≡ Err fault = search rules in
+    let same = exit_is c.from_residual.result fault c.from_residual.ensures.1 in
     rw same (SoFar_left g.H.Handler.replies _ _ _ _ _ _ c.loop-turn.requests _ _ c.loop-turn.invariant.so_far came.0 _ came.1 _ _ _ came.2
     g.H.Handler.sends fault c.in_err-served.ensures.left)
 
@@ -123,4 +126,68 @@ returns-then-count-eq0-clause-left g c =
     if_err c.finish.result _ _ (λ fault whole. not_rest fault _ whole) c.finish.ensures.whole
 
 pub returns-in-Ended-clause-reads : goal.returns-in-Ended-clause-reads
-returns-in-Ended-clause-reads g c = grind (arith, common_steps)
+returns-in-Ended-clause-reads g c =
+    let came = c.in-Ok.ensures.ok in
+    most_last (g.R.Read.remaining c.args.reader.now) _ _ c.loop-turn._turn c.args.turns c.in-Ok.count came.0 c.loop-turn.invariant.most
+    came.1 came.3 c.in-Ok.ensures.few c.loop-turn-test.true
+
+pub read_from-requires : goal.read_from-requires
+read_from-requires g c = c.loop-turn.invariant.so_far.few
+
+pub invariant_of-session : goal.invariant_of-session
+invariant_of-session g c = record { room = c.loop-turn.session.room; space = c.loop-turn.session.space }
+
+pub returns-in_default-clause-reads : goal.returns-in_default-clause-reads
+returns-in_default-clause-reads g c =
+    let below = c.loop-turn-test.true in
+    most_more (g.R.Read.remaining c.args.reader.now) _ _ (c.loop-turn._turn * buffer_size) ((c.args.turns - 1) * buffer_size)
+    0 [] c.loop-turn.invariant.most c.in_default.ensures.err.0 refl (omega (arith, below))
+
+pub returns-then-count-eq0-clause-no_memory : goal.returns-then-count-eq0-clause-no_memory
+returns-then-count-eq0-clause-no_memory g c = c.finish.ensures.no_memory
+
+pub returns-then-count-eq0-clause-whole : goal.returns-then-count-eq0-clause-whole
+returns-then-count-eq0-clause-whole g c = λ sent. c.finish.ensures.whole
+
+pub returns-then-count-eq0-clause-unread : goal.returns-then-count-eq0-clause-unread
+returns-then-count-eq0-clause-unread g c = λ left. c.finish.ensures.unread
+
+pub returns-in_err-served-clause-served : goal.returns-in_err-served-clause-served
+returns-in_err-served-clause-served g c = exit_no_value c.from_residual.result _ _ c.from_residual.ensures.1
+
+pub returns-in_err-served-clause-content : goal.returns-in_err-served-clause-content
+returns-in_err-served-clause-content g c =
+    exit_fault c.from_residual.result _ c.in_err-served.field-0.0 c.from_residual.ensures.1 c.in_err-served.ensures.content
+
+pub returns-in_err-served-clause-no_memory : goal.returns-in_err-served-clause-no_memory
+returns-in_err-served-clause-no_memory g c =
+    exit_fault c.from_residual.result _ c.in_err-served.field-0.0 c.from_residual.ensures.1 c.in_err-served.ensures.no_memory
+
+pub returns-in_err-served-clause-turns : goal.returns-in_err-served-clause-turns
+returns-in_err-served-clause-turns g c = exit_no_value c.from_residual.result _ _ c.from_residual.ensures.1
+
+pub returns-in_err-served-clause-reads : goal.returns-in_err-served-clause-reads
+returns-in_err-served-clause-reads g c =
+    let came = c.in-Ok.ensures.ok in
+    let fault = c.in_err-served.field-0.0 in
+    let lost = most_last (g.R.Read.remaining c.args.reader.now) _ _ c.loop-turn._turn c.args.turns c.in-Ok.count came.0 c.loop-turn.invariant.most
+    came.1 came.3 c.in-Ok.ensures.few c.loop-turn-test.true in
+    subst (λ (r : Result Served ServeFault). KeepsTurns c.args.turns r (g.R.Read.remaining c.args.reader.now) (g.R.Read.remaining c.read_from.new.reader))
+    (sym (exit_is c.from_residual.result fault c.from_residual.ensures.1))
+    (broken_reads g.H.Handler.replies g.H.Handler.fails _ _ _ _ fault _ _ c.args.turns _ _ lost c.in_err-served.ensures.err)
+
+pub returns-in_err-served-clause-whole : goal.returns-in_err-served-clause-whole
+returns-in_err-served-clause-whole g c = λ sent.
+    exit_fault c.from_residual.result _ c.in_err-served.field-0.0 c.from_residual.ensures.1 (c.in_err-served.ensures.whole sent)
+
+pub returns-in_err-served-clause-unread : goal.returns-in_err-served-clause-unread
+returns-in_err-served-clause-unread g c = λ left.
+    exit_fault c.from_residual.result _ c.in_err-served.field-0.0 c.from_residual.ensures.1 (c.in_err-served.ensures.unread left)
+
+pub returns-clause-reads : goal.returns-clause-reads
+returns-clause-reads g c =
+    let within = c.loop-turn.invariant.within in
+    let over = c.loop-turn-test.false in
+    let same : c.loop-turn._turn ≡ c.args.turns = omega (arith, within, over) in
+    subst (λ (n : ℕ). LosesAtMost (n * buffer_size) (g.R.Read.remaining c.args.reader.now) (g.R.Read.remaining c.loop-turn.reader))
+    same c.loop-turn.invariant.most

@@ -1,8 +1,9 @@
-use Rattle.std.proofs.Common.{◌≡◌, ◌<◌, ◌≤◌, Err, ℕ, rules, ◌∙◌, sym, subst, arith, length, take, drop, length-append, length-drop}
+use Rattle.std.proofs.Common.{◌<◌, ◌≤◌, Err, ℕ, ◌∙◌, refl, sym, subst, arith, length, take, drop, length-append, length-drop}
 use Rattle.std.proofs.lemmas.List.{length-take-le}
 use Rattle.std.specs.Io.KnownBytes.{Appends}
 use Rattle.http_serve.specs.Parts.{GivesOrFails}
-use Rattle.http_serve.proofs.PartLemmas.{sent_on, sent_cut}
+use Rattle.http_serve.proofs.ExitLemmas.{exit_is, exit_fault}
+use Rattle.http_serve.proofs.PartLemmas.{part_count, sent_none, sent_on, sent_cut, sent_whole}
 use Rattle.http_serve.proofs.contents.send_each_part.Goals as goal
 
 pub loop-at-preserved : goal.loop-at-preserved
@@ -45,9 +46,9 @@ returns-in_err-send_part-clause-sent g c =
     let least = c.min-count.ensures in
     let below = c.loop-at-test.true in
     let size = length-take-le count c.loop-at.buffer (omega (arith, c.loop-at.invariant.length)) in
-    let same : c.from_residual.result ≡ Err c.in_err-send_part.field-0.0 = search rules in
     let fault = c.in_err-send_part.field-0.0 in
-    rw same (sent_cut g.H.Handler.replies g.H.Handler.sends c.args.offset at c.args.size count _ _ c.send_part.new.handler _ _ _
+    rw (exit_is c.from_residual.result fault c.from_residual.ensures.1)
+    (sent_cut g.H.Handler.replies g.H.Handler.sends c.args.offset at c.args.size count _ _ c.send_part.new.handler _ _ _
     c.loop-at.invariant.behind c.loop-at.invariant.sent
     (λ first request later. GivesOrFails (Err fault) (g.H.Handler.replies first request later c.send_part.new.handler)
     (g.H.Handler.fails first request later c.send_part.new.handler)) (omega arith)
@@ -56,3 +57,69 @@ returns-in_err-send_part-clause-sent g c =
     let cut = subst (λ (n : ℕ). (k : ℕ) × (k < length (take n (drop at part.0.content)))
     × Appends (g.W.Write.contents c.loop-at.writer) (g.W.Write.contents c.send_part.new.writer) (take k (take n (drop at part.0.content)))) size part.4 in
     (part.0, part.1, part.2, cut.0, cut.1, cut.2)))
+
+pub loop-at-init : goal.loop-at-init
+loop-at-init g c = record {
+  behind = omega arith;
+  within = c.requires.within;
+  length = refl;
+  size = c.requires.size;
+  sent = sent_none g.H.Handler.replies g.H.Handler.sends c.args.offset c.args.size c.args.handler.now (g.W.Write.contents c.args.writer.now);
+}
+
+pub overflow_sub-size : goal.overflow_sub-size
+overflow_sub-size g c = c.loop-at.invariant.within
+
+pub slice_bounds-send_part-end : goal.slice_bounds-send_part-end
+slice_bounds-send_part-end g c =
+    (part_count c.args.size c.loop-at.at c.min-count.result c.loop-at.buffer c.loop-at-test.true c.min-count.ensures).0
+
+pub slice_bounds-send_part-end-in-loop-at : goal.slice_bounds-send_part-end-in-loop-at
+slice_bounds-send_part-end-in-loop-at g c =
+    sym (part_count c.args.size c.loop-at.at c.min-count.result c.loop-at.buffer c.loop-at-test.true c.min-count.ensures).2
+
+pub send_part-requires-clause-within : goal.send_part-requires-clause-within
+send_part-requires-clause-within g c =
+    let part = part_count c.args.size c.loop-at.at c.min-count.result c.loop-at.buffer c.loop-at-test.true c.min-count.ensures in
+    omega (arith, part.1, part.2, c.loop-at.invariant.size)
+
+pub send_part-requires-clause-some : goal.send_part-requires-clause-some
+send_part-requires-clause-some g c =
+    let part = part_count c.args.size c.loop-at.at c.min-count.result c.loop-at.buffer c.loop-at-test.true c.min-count.ensures in
+    let some = c.requires.some (omega (arith, c.loop-at.invariant.behind, c.loop-at-test.true)) in
+    omega (arith, part.2, part.3 (omega (arith, some, c.loop-at.invariant.length)))
+
+pub send_part-requires-clause-few : goal.send_part-requires-clause-few
+send_part-requires-clause-few g c =
+    let part = part_count c.args.size c.loop-at.at c.min-count.result c.loop-at.buffer c.loop-at-test.true c.min-count.ensures in
+    omega (arith, part.0, part.2, c.requires.few, c.loop-at.invariant.length)
+
+pub returns-in_err-send_part-clause-cut : goal.returns-in_err-send_part-clause-cut
+returns-in_err-send_part-clause-cut g c =
+    exit_fault c.from_residual.result _ c.in_err-send_part.field-0.0 c.from_residual.ensures.1 c.in_err-send_part.ensures.cut
+
+pub returns-in_err-send_part-clause-whole : goal.returns-in_err-send_part-clause-whole
+returns-in_err-send_part-clause-whole g c =
+    exit_fault c.from_residual.result _ c.in_err-send_part.field-0.0 c.from_residual.ensures.1 c.in_err-send_part.ensures.whole
+
+pub returns-in_err-send_part-clause-some : goal.returns-in_err-send_part-clause-some
+returns-in_err-send_part-clause-some g c =
+    exit_fault c.from_residual.result _ c.in_err-send_part.field-0.0 c.from_residual.ensures.1
+    (omega (arith, c.loop-at.invariant.behind, c.loop-at-test.true))
+
+pub overflow_add-at : goal.overflow_add-at
+overflow_add-at g c =
+    let part = part_count c.args.size c.loop-at.at c.min-count.result c.loop-at.buffer c.loop-at-test.true c.min-count.ensures in
+    let fits = c.ranges.size.fits in
+    omega (arith, part.1, fits)
+
+pub loop-at-smaller : goal.loop-at-smaller
+loop-at-smaller g c =
+    let part = part_count c.args.size c.loop-at.at c.min-count.result c.loop-at.buffer c.loop-at-test.true c.min-count.ensures in
+    let some = c.requires.some (omega (arith, c.loop-at.invariant.behind, c.loop-at-test.true)) in
+    omega (arith, part.1, part.3 (omega (arith, some, c.loop-at.invariant.length)))
+
+pub returns-clause-sent : goal.returns-clause-sent
+returns-clause-sent g c =
+    sent_whole g.H.Handler.replies g.H.Handler.sends c.args.offset c.loop-at.at c.args.size c.args.handler.now c.loop-at.handler _ _
+    c.loop-at-test.false c.loop-at.invariant.sent

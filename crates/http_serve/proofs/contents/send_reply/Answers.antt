@@ -47,3 +47,36 @@ returns-in-Ok-clause-stopped g c = if_rest c.send_rest.result _ _
           (left_stopped bare reply view from size left.0 is close _ _ c.in-Ok.ensures.sent),
     ))
     c.send_rest.ensures.left
+
+pub send_front-requires-clause-words : goal.send_front-requires-clause-words
+send_front-requires-clause-words g c = c.requires.words
+
+pub send_front-requires-clause-room : goal.send_front-requires-clause-room
+send_front-requires-clause-room g c = c.requires.room
+
+pub send_rest-requires-clause-readable : goal.send_rest-requires-clause-readable
+send_rest-requires-clause-readable g c = c.requires.readable
+
+pub send_rest-requires-clause-space : goal.send_rest-requires-clause-space
+send_rest-requires-clause-space g c = c.requires.space
+
+pub returns-in-Ok-clause-room : goal.returns-in-Ok-clause-room
+returns-in-Ok-clause-room g c = c.in-Ok.ensures.room
+
+pub returns-in-Ok-clause-space : goal.returns-in-Ok-clause-space
+returns-in-Ok-clause-space g c = c.send_rest.ensures.space
+
+pub returns-in-Ok-clause-cut : goal.returns-in-Ok-clause-cut
+returns-in-Ok-clause-cut g c = c.send_rest.ensures.cut
+
+pub returns-in-Ok-clause-whole : goal.returns-in-Ok-clause-whole
+returns-in-Ok-clause-whole g c = c.send_rest.ensures.whole
+
+pub returns-in-Ok-clause-unread : goal.returns-in-Ok-clause-unread
+returns-in-Ok-clause-unread g c = c.send_rest.ensures.unread
+
+pub returns-in-Err-clause-room : goal.returns-in-Err-clause-room
+returns-in-Err-clause-room g c = c.in-Err.ensures.room
+
+pub returns-in-Err-clause-space : goal.returns-in-Err-clause-space
+returns-in-Err-clause-space g c = c.requires.space
