@@ -1,4 +1,5 @@
 mod Bodies
+mod Exits
 mod Frames
 mod Fronts
 mod Heads

@@ -1,3 +1,4 @@
+mod Exits
 mod Formats
 mod Layouts
 mod LimitNumbers
