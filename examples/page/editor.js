@@ -13,7 +13,7 @@ const hint = text => element("p", { className: "hint" }, text);
 
 export class Editor {
     // The draft, or null: the `feature` (null: it is to be deleted) and its `form`; its `id` (null: a new one), what it `was` (null: nothing),
-    // its `pieces` if it is cut, earlier geometries (`undo`), whether it `isDrawn` just now, and `theirs` in a conflict.
+    // its `pieces` if it is cut, earlier geometries (`undo`), whether it `isDrawn` or `isSent` just now, and `theirs` in a conflict.
     draft = null;
 
     /** `saved(edit)` is called after each edit. */
@@ -83,7 +83,7 @@ export class Editor {
     /** Saves a feature, or deletes it (null), as a checked edit. */
     async send(feature) {
         const draft = this.draft, { was, pieces } = draft;
-        draft.feature = feature;
+        Object.assign(draft, { feature, isSent: true });
         try {
             const put = draft.id ?? await this.nextId();
             const edit = pieces ? await changeAll(this.server, pieces, feature)
@@ -92,6 +92,7 @@ export class Editor {
             tell(`feature ${put} saved, edit ${edit}`);
             await this.saved(edit);
         } catch (fault) {
+            draft.isSent = false;
             if (!(fault instanceof Changed)) {
                 throw fault;
             }
@@ -154,10 +155,11 @@ export class Editor {
         }
     }
 
-    /** Whether somebody else has changed what is edited. */
+    /** Whether somebody else has changed what is edited. While it is sent, a change may be the page's own, and the reply tells of others. */
     async isOvertaken() {
-        const { id, was, pieces, theirs } = this.draft ?? {};
-        return Boolean(was) && !pieces && theirs === undefined && canonical(await this.server.feature(id)) !== canonical(was);
+        const { draft } = this, { id, was, pieces, theirs } = draft ?? {};
+        const isChanged = Boolean(was) && !pieces && theirs === undefined && canonical(await this.server.feature(id)) !== canonical(was);
+        return isChanged && draft === this.draft && !draft.isSent;
     }
 
     /** The geometry whose points the mouse moves, or undefined. */

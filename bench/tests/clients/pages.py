@@ -151,6 +151,7 @@ class People:
         self.new_feature()
         self.deletion()
         self.lost_reply()
+        self.late_look()
         self.large_feature()
         self.view_only(nginx)
         self.elsewhere(nginx)
@@ -272,6 +273,23 @@ class People:
         self.show("an edit whose reply was lost is sent again", told, f"feature 453 saved, edit {before + 1}")
         self.show("and made once", (after - before, self.get(453)["tags"]), (1, {"name": "Old School"}))
 
+    def late_look(self):
+        """The page looks for edits of others while its own has no reply yet, and learns what the feature is now after that."""
+        self.edit(self.one, 453)
+        self.write(self.one, "name", "Older School")
+        self.one.value("""(() => { const asked = window.fetch; let hasLooked; const looked = new Promise(done => hasLooked = done);
+            const passed = seconds => new Promise(done => setTimeout(done, 1000 * seconds)); let isMade = false;
+            window.fetch = async (url, words) => {
+                const reply = await asked(url, words);
+                if (words?.method === "POST") { isMade = true; await Promise.race([looked, passed(12)]); }
+                else if (isMade && String(url).endsWith("features/453")) { hasLooked(); await passed(1); }
+                return reply; }; })()""")
+        before = json.loads(curl(f"{self.server.url}/admin/status")[2])["edits"]
+        self.one.press("Save")
+        self.saved(self.one)
+        time.sleep(2)
+        self.show("the page's own edit isn't taken for somebody else's", self.one.text("#told"), f"feature 453 saved, edit {before + 1}")
+
     def large_feature(self):
         self.one.value("location.hash = '#15/54.5/7.5'")
         self.drawn(self.one)
@@ -333,7 +351,7 @@ class People:
             self.drawn(made)
             self.show("a machine that may not edit reads why", made.text("#told"), "view only: this machine may not edit the map")
             made.click(*self.place(made, 453))
-            self.show("and sees tags, without buttons", made.text("#panel").split("\n"), ["place 453", "name\tOld School"])
+            self.show("and sees tags, without buttons", made.text("#panel").split("\n"), ["place 453", "name\tOlder School"])
 
     def elsewhere(self, nginx):
         """An editor whose address isn't among those that nginx keeps tiles of each edit for, as one with a password from elsewhere."""
