@@ -1,5 +1,4 @@
 //! What a publication of a map writes into an area.
-use crate::lines::Line;
 use area_content::{AreaContent, content_of};
 use feature_store::Store;
 use map_metadata::metadata_text;
@@ -23,7 +22,7 @@ fn told(alloc: Global, content: &AreaContent) -> Result<String, AllocError> {
 }
 
 /// The content for an area of so many sectors.
-fn area(alloc: Global, store: &Store, free: u64) -> Result<String, AllocError> {
+pub(crate) fn area(alloc: Global, store: &Store, free: u64) -> Result<String, AllocError> {
     let metadata = metadata_text(alloc, store)?;
     if free >= AREA_END || !is_metadata(alloc, metadata.as_bytes())? {
         return String::from_str(alloc, "no area");
@@ -31,17 +30,5 @@ fn area(alloc: Global, store: &Store, free: u64) -> Result<String, AllocError> {
     match content_of(alloc, store, metadata.as_bytes(), free) {
         Ok(content) => told(alloc, &content),
         Err(fault) => fault.to_string(alloc),
-    }
-}
-
-/// What a line about an area comes to.
-pub(crate) fn answer(
-    alloc: Global,
-    store: &Store,
-    line: Line<'_>,
-) -> Option<Result<String, AllocError>> {
-    match line.word {
-        "area" => Some(area(alloc, store, line.numbers[0])),
-        _ => None,
     }
 }

@@ -1,5 +1,5 @@
 //! Lines over an index of boxes.
-use crate::lines::{Line, byte};
+use crate::lines::{Line, blocks_text, byte};
 use box_index::{BoxIndex, IndexEntry, Span};
 use feature_model::WorldBox;
 use script_bytes::short;
@@ -120,12 +120,8 @@ impl Boxes {
     }
 
     /// Whether there are at most so many blocks.
-    fn blocks(&self, alloc: Global, most: usize) -> Result<String, AllocError> {
-        let count = block_count(alloc, &self.index)?;
-        if count <= most {
-            return format!(in alloc; "at most {most} blocks");
-        }
-        format!(in alloc; "{count} blocks")
+    fn blocks(&self, alloc: Global, most: u64) -> Result<String, AllocError> {
+        blocks_text(alloc, block_count(alloc, &self.index)?, most)
     }
 
     /// What a line over an index comes to.
@@ -145,7 +141,7 @@ impl Boxes {
                 let taken = self.gather(first, second, third, fourth);
                 Some(format!(in alloc; "{taken} taken"))
             }
-            "boxblocks" => Some(self.blocks(alloc, first as usize)),
+            "boxblocks" => Some(self.blocks(alloc, first)),
             _ => None,
         }
     }

@@ -4,7 +4,7 @@ ghost use Rattle.feature_model.specs.Limits.{FeatureFits, IsAllowed};
 ghost use Rattle.feature_text.specs.Views.{feature_view};
 
 use crate::lines::Line;
-use crate::texts::batch_text;
+use crate::texts::{batch_text, deleted, made_text, record};
 use edit_json::{batch_from_json, checked_from_json, feature_from_json, feature_to_json};
 use edit_text::encode_change;
 use feature_model::{Change, EditFault, Feature, MAX_ZOOM, Seen, check};
@@ -46,7 +46,9 @@ fn value_in(alloc: Global, text: &str) -> Result<Value, Refusal> {
 /// The feature of a JSON text.
 pub(crate) fn feature_in(alloc: Global, text: &str) -> Result<Feature, Refusal> {
     let value = value_in(alloc, text)?;
-    match feature_from_json(alloc, &value) {
+    let feature = feature_from_json(alloc, &value);
+    drop(value);
+    match feature {
         Ok(feature) => Ok(feature),
         Err(fault) => Err(Refusal::Edit(fault)),
     }
@@ -64,7 +66,10 @@ fn stored(alloc: Global, id: u64, feature: &Feature) -> Result<StoredFeature, Ed
 pub(crate) fn kept(alloc: Global, feature: FeatureText<'_>) -> Result<String, AllocError>
     requires { FeatureFits (feature_view feature) }
 {
-    feature_to_json(alloc, feature)?.to_string(alloc)
+    let value = feature_to_json(alloc, feature)?;
+    let text = value.to_string(alloc);
+    drop(value);
+    text
 }
 
 /// A feature as JSON, by way of its text, or the limit that it breaks.
@@ -137,16 +142,10 @@ fn put_text(alloc: Global, id: u64, feature: Feature) -> Result<String, AllocErr
     if let Err(fault) = check(id, &feature) {
         return fault.to_string(alloc);
     }
-    let text = encode_change(alloc, &Change::Put { id, feature })?;
-    hex::encode(alloc, text.as_slice())
-}
-
-fn text(alloc: Global, rest: &str) -> Result<String, AllocError> {
-    let (id, json) = parted(rest);
-    match feature_in(alloc, json) {
-        Ok(feature) => put_text(alloc, number_in(id), feature),
-        Err(refusal) => refusal.to_string(alloc),
-    }
+    let change = Change::Put { id, feature };
+    let text = encode_change(alloc, &change);
+    drop(change);
+    made_text(alloc, text)
 }
 
 /// How many tiles a feature covers, and whether these are too many.
@@ -158,13 +157,6 @@ fn reach_of(alloc: Global, feature: &Feature) -> Result<String, AllocError> {
     match check_reach(feature) {
         Ok(()) => format!(in alloc; "{count}"),
         Err(fault) => format!(in alloc; "{count}: {fault}"),
-    }
-}
-
-fn reach(alloc: Global, text: &str) -> Result<String, AllocError> {
-    match feature_in(alloc, text) {
-        Ok(feature) => reach_of(alloc, &feature),
-        Err(refusal) => refusal.to_string(alloc),
     }
 }
 
@@ -184,23 +176,34 @@ fn covered(alloc: Global, zoom: u64, feature: &Feature) -> Result<String, AllocE
     )
 }
 
-fn cover(alloc: Global, rest: &str) -> Result<String, AllocError> {
-    let (zoom, json) = parted(rest);
-    match feature_in(alloc, json) {
-        Ok(feature) => covered(alloc, number_in(zoom), &feature),
-        Err(refusal) => refusal.to_string(alloc),
+/// What a line about a feature comes to, which stands behind a number in all but `reach`.
+fn feature_answer(alloc: Global, line: Line<'_>) -> Result<String, AllocError> {
+    let (number, behind) = parted(line.rest);
+    let json = if line.word == "reach" {
+        line.rest
+    } else {
+        behind
+    };
+    let feature = match feature_in(alloc, json) {
+        Ok(feature) => feature,
+        Err(refusal) => return refusal.to_string(alloc),
+    };
+    match line.word {
+        "text" => put_text(alloc, number_in(number), feature),
+        "reach" => reach_of(alloc, &feature),
+        _ => covered(alloc, number_in(number), &feature),
     }
 }
 
-/// What a line about a feature comes to.
+/// What a line about a feature, or about the texts of edits, comes to.
 pub(crate) fn answer(alloc: Global, line: Line<'_>) -> Option<Result<String, AllocError>> {
     match line.word {
         "json" => Some(json(alloc, line.rest)),
         "changes" => Some(changes(alloc, line.rest)),
         "checked" => Some(checked(alloc, line.rest)),
-        "text" => Some(text(alloc, line.rest)),
-        "reach" => Some(reach(alloc, line.rest)),
-        "covers" => Some(cover(alloc, line.rest)),
+        "text" | "reach" | "covers" => Some(feature_answer(alloc, line)),
+        "deleted" => Some(deleted(alloc, line.numbers[0])),
+        "record" => Some(record(alloc, line.rest)),
         _ => None,
     }
 }

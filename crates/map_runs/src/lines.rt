@@ -1,5 +1,6 @@
 //! What a line says.
 use script_bytes::{number_in, parted};
+use std::alloc::{AllocError, Global};
 
 /// A line: its first word, what stands behind it, and the numbers in that, 0 where there are fewer.
 #[derive(Clone, Copy)]
@@ -30,4 +31,12 @@ pub(crate) fn line_in(text: &str) -> Line<'_> {
         rest,
         numbers: numbers_in(rest),
     }
+}
+
+/// Whether there are at most so many blocks.
+pub(crate) fn blocks_text(alloc: Global, count: usize, most: u64) -> Result<String, AllocError> {
+    if count as u64 <= most {
+        return format!(in alloc; "at most {most} blocks");
+    }
+    format!(in alloc; "{count} blocks")
 }

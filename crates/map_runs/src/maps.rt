@@ -5,6 +5,7 @@ ghost use Rattle.feature_model.specs.Spelled.{spelled_changes};
 ghost use Rattle.feature_model.specs.Types.{IsChange};
 ghost use Rattle.feature_model.specs.declared.limits.TheConstants.{MAX_EDIT_BYTES};
 
+use crate::areas::area;
 use crate::features::{feature_in, kept};
 use crate::lines::{Line, byte};
 use crate::random::make_random;
@@ -294,6 +295,7 @@ fn held_answer(alloc: Global, store: &Store, line: Line<'_>) -> Option<Result<St
         "tiles" => Some(tiles(alloc, store)),
         "snapshot" => Some(snapshot(alloc, store)),
         "metadata" => Some(described(alloc, store)),
+        "area" => Some(area(alloc, store, line.numbers[0])),
         _ => None,
     }
 }

@@ -1,5 +1,5 @@
 //! Lines over a map from numbers to numbers.
-use crate::lines::Line;
+use crate::lines::{Line, blocks_text};
 use number_map::NumberMap;
 use std::alloc::{AllocError, Global};
 
@@ -54,13 +54,9 @@ fn entries(alloc: Global, map: &NumberMap<u64>) -> Result<String, AllocError> {
     format!(in alloc; "{count} entries, {len} by count, empty {is_empty}, {found}, digest {digest}")
 }
 
-/// Whether there are at most so many blocks.
-fn blocks(alloc: Global, map: &NumberMap<u64>, most: u64) -> Result<String, AllocError> {
-    let count = map.blocks().len() as u64;
-    if count <= most {
-        return format!(in alloc; "at most {most} blocks");
-    }
-    format!(in alloc; "{count} blocks")
+/// The value that a number has or had, if any.
+fn value_text(alloc: Global, value: Option<u64>) -> Result<String, AllocError> {
+    format!(in alloc; "{value:?}")
 }
 
 fn set(
@@ -70,43 +66,41 @@ fn set(
     value: u64,
 ) -> Result<String, AllocError> {
     map.room()?;
-    let before = map.insert(number, value);
-    format!(in alloc; "{before:?}")
+    value_text(alloc, map.insert(number, value))
 }
 
-fn unset(alloc: Global, map: &mut NumberMap<u64>, number: u64) -> Result<String, AllocError> {
-    let before = map.remove(number);
-    format!(in alloc; "{before:?}")
+/// The first entry with this number or a greater one.
+fn first_from(alloc: Global, map: &NumberMap<u64>, number: u64) -> Result<String, AllocError> {
+    format!(in alloc; "{:?}", map.first_from(number))
 }
 
-/// Gives so many numbers values from 0 up: each number is so much above the one before, from 0 up.
-fn fill_up(map: &mut NumberMap<u64>, count: u64, step: u64) -> Result<(), AllocError> {
-    for index in 0..count {
+/// Gives so many numbers values from 0 up, in this order or from the last one down: each number is so much above the one before, from
+/// 0 up.
+fn fill(alloc: Global, map: &mut NumberMap<u64>, line: Line<'_>) -> Result<String, AllocError> {
+    let [count, step, ..] = line.numbers;
+    let is_up = line.word == "fillup";
+    for place in 0..count {
+        let behind = count.wrapping_sub(place).wrapping_sub(1);
+        let index = if is_up { place } else { behind };
         map.room()?;
         let _before = map.insert(index.wrapping_mul(step), index);
     }
-    Ok(())
-}
-
-/// The same numbers and values, from the last one down.
-fn fill_down(map: &mut NumberMap<u64>, count: u64, step: u64) -> Result<(), AllocError> {
-    for behind in 0..count {
-        let index = count.wrapping_sub(behind).wrapping_sub(1);
-        map.room()?;
-        let _before = map.insert(index.wrapping_mul(step), index);
-    }
-    Ok(())
+    String::from_str(alloc, "filled")
 }
 
 /// Takes out so many of such numbers but one in so many: how many were there.
-fn thin(map: &mut NumberMap<u64>, count: u64, step: u64, one_in: u64) -> u64 {
+fn thin(
+    alloc: Global,
+    map: &mut NumberMap<u64>,
+    [count, step, one_in, ..]: [u64; 8],
+) -> Result<String, AllocError> {
     let mut taken = 0u64;
     for index in 0..count {
         if index.checked_rem(one_in) != Some(1) && map.remove(index.wrapping_mul(step)).is_some() {
             taken = taken.wrapping_add(1);
         }
     }
-    taken
+    format!(in alloc; "{taken} taken")
 }
 
 /// Room that is made beforehand serves a number that is taken out, given a value, looked up and taken out again.
@@ -119,29 +113,23 @@ fn serve(alloc: Global, map: &mut NumberMap<u64>, number: u64) -> Result<String,
     format!(in alloc; "{was_there} {before:?} {found:?} {removed:?}")
 }
 
-fn done(alloc: Global, filled: Result<(), AllocError>) -> Result<String, AllocError> {
-    filled?;
-    String::from_str(alloc, "filled")
-}
-
 /// What a line over a map from numbers comes to.
 pub(crate) fn answer(
     alloc: Global,
     map: &mut NumberMap<u64>,
     line: Line<'_>,
 ) -> Option<Result<String, AllocError>> {
-    let [first, second, third, ..] = line.numbers;
+    let [first, second, ..] = line.numbers;
     match line.word {
         "set" => Some(set(alloc, map, first, second)),
-        "unset" => Some(unset(alloc, map, first)),
-        "get" => Some(format!(in alloc; "{:?}", map.get(first))),
-        "from" => Some(format!(in alloc; "{:?}", map.first_from(first))),
-        "fillup" => Some(done(alloc, fill_up(map, first, second))),
-        "filldown" => Some(done(alloc, fill_down(map, first, second))),
-        "thin" => Some(format!(in alloc; "{} taken", thin(map, first, second, third))),
+        "unset" => Some(value_text(alloc, map.remove(first))),
+        "get" => Some(value_text(alloc, map.get(first).copied())),
+        "from" => Some(first_from(alloc, map, first)),
+        "fillup" | "filldown" => Some(fill(alloc, map, line)),
+        "thin" => Some(thin(alloc, map, line.numbers)),
         "serve" => Some(serve(alloc, map, first)),
         "entries" => Some(entries(alloc, map)),
-        "blocks" => Some(blocks(alloc, map, first)),
+        "blocks" => Some(blocks_text(alloc, map.blocks().len(), first)),
         _ => None,
     }
 }

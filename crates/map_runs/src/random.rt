@@ -57,11 +57,11 @@ fn any_geometry(alloc: Global, chance: &mut Chance, apart: u64) -> Result<Geomet
     }
     let second = beside(chance, first, apart);
     let third = beside(chance, first, apart);
-    let points = vec![in alloc; first, second, third]?;
+    let lines = vec![in alloc; vec![in alloc; first, second, third]?]?;
     if kind > 0 {
-        return Ok(Geometry::Lines(vec![in alloc; points]?));
+        return Ok(Geometry::Lines(lines));
     }
-    Ok(Geometry::Polygons(vec![in alloc; vec![in alloc; points]?]?))
+    Ok(Geometry::Polygons(vec![in alloc; lines]?))
 }
 
 /// Adds a tag, whose value is one of twelve.

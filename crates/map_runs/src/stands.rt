@@ -2,7 +2,7 @@
 use crate::boxes::Boxes;
 use crate::caches::Caches;
 use crate::lines::{Line, line_in};
-use crate::{areas, features, maps, numbers, texts};
+use crate::{features, maps, numbers};
 use cached_map::CachedMap;
 use number_map::NumberMap;
 use script_bytes::clipped;
@@ -20,31 +20,25 @@ pub(crate) struct Stand {
 
 impl Stand {
     pub(crate) fn new(alloc: Global) -> Result<Stand, AllocError> {
+        let caches = Caches::new(alloc)?;
+        let map = maps::empty_map(alloc, 0)?;
         Ok(Stand {
-            map: maps::empty_map(alloc, 0)?,
+            map,
             numbers: NumberMap::new(alloc),
             boxes: Boxes::new(alloc),
-            caches: Caches::new(alloc)?,
+            caches,
         })
     }
 
-    /// Begins anew with the map, or with what is as dear.
-    fn begin(&mut self, alloc: Global, line: Line<'_>) -> Result<(), AllocError> {
+    /// Of a line that begins anew with the map, or with what is as dear, or of one that is unknown.
+    fn other_answer(&mut self, alloc: Global, line: Line<'_>) -> Result<String, AllocError> {
         match line.word {
             "map" => drop(mem::replace(&mut self.map, maps::empty_map(alloc, line.numbers[0])?)),
             "numbers" => drop(mem::replace(&mut self.numbers, NumberMap::new(alloc))),
             "boxes" => drop(mem::replace(&mut self.boxes, Boxes::new(alloc))),
-            _ => drop(mem::replace(&mut self.caches, Caches::new(alloc)?)),
+            "caches" => drop(mem::replace(&mut self.caches, Caches::new(alloc)?)),
+            word => return format!(in alloc; "? {word}"),
         }
-        Ok(())
-    }
-
-    /// Of a line that begins anew, or of one that is unknown.
-    fn other_answer(&mut self, alloc: Global, line: Line<'_>) -> Result<String, AllocError> {
-        if !matches!(line.word, "map" | "numbers" | "boxes" | "caches") {
-            return format!(in alloc; "? {}", line.word);
-        }
-        self.begin(alloc, line)?;
         String::from_str(alloc, "new")
     }
 
@@ -52,13 +46,7 @@ impl Stand {
         if let Some(told) = features::answer(alloc, line) {
             return told;
         }
-        if let Some(told) = texts::answer(alloc, line) {
-            return told;
-        }
         if let Some(told) = maps::answer(alloc, &mut self.map, line) {
-            return told;
-        }
-        if let Some(told) = areas::answer(alloc, self.map.store(), line) {
             return told;
         }
         if let Some(told) = numbers::answer(alloc, &mut self.numbers, line) {

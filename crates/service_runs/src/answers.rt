@@ -18,20 +18,26 @@ pub(crate) fn briefly(alloc: Global, text: String) -> Result<String, AllocError>
 }
 
 /// The text of a value.
+pub(crate) fn value_text(alloc: Global, value: impl Debug + Drop) -> Result<String, AllocError> {
+    format!(in alloc; "{value:?}")
+}
+
+/// The text of a value, as an answer.
 pub(crate) fn debug_text(
     alloc: Global,
     value: impl Debug + Drop,
 ) -> Result<Option<String>, AllocError> {
-    Ok(Some(format!(in alloc; "{value:?}")?))
+    Ok(Some(value_text(alloc, value)?))
 }
 
 /// The text of an outcome, with the number of calls that it took.
-pub(crate) fn calls_text(
+pub(crate) fn with_calls(
     alloc: Global,
-    outcome: impl Debug + Drop,
+    outcome: Result<String, AllocError>,
     calls: u64,
 ) -> Result<Option<String>, AllocError> {
-    Ok(Some(format!(in alloc; "{outcome:?} in {calls}")?))
+    let outcome = outcome?;
+    Ok(Some(format!(in alloc; "{outcome} in {calls}")?))
 }
 
 /// A fixed answer.

@@ -6,7 +6,7 @@ use crate::sessions::{Served, Trial};
 use pm_archive::Archive;
 use script_bytes::spelled_briefly;
 use std::alloc::{AllocError, Global};
-use tile_service::{Answer, Event, ServiceFault};
+use tile_service::{Answer, ServiceFault};
 
 /// The most bytes of an archive that are read.
 const MAX_READ: u64 = 1_048_576;
@@ -26,38 +26,14 @@ fn run_text(
     }
 }
 
-fn run(
-    alloc: Global,
-    service: &mut Served,
-    events: Vec<Event>,
-) -> Result<Option<String>, AllocError> {
-    run_text(alloc, service.run(events))
-}
-
 /// The answers to a run of events. `None` if it can't be parsed.
 fn run_line(alloc: Global, service: &mut Served, line: &str) -> Result<Option<String>, AllocError> {
     let mut events = Vec::new(alloc);
     match add_events(alloc, &mut events, line) {
-        Ok(true) => run(alloc, service, events),
+        Ok(true) => run_text(alloc, service.run(events)),
         Ok(false) => Ok(None),
         Err(fault) => Err(fault),
     }
-}
-
-/// The answers to a run of events. `None` if it can't be parsed or no service is open.
-pub(crate) fn run_answered(
-    alloc: Global,
-    trial: &mut Trial,
-    line: &str,
-) -> Result<Option<String>, AllocError> {
-    match trial.open_service() {
-        Some(service) => run_line(alloc, service, line),
-        None => Ok(None),
-    }
-}
-
-fn publish(alloc: Global, service: &mut Served) -> Result<Option<String>, AllocError> {
-    debug_text(alloc, service.publish())
 }
 
 /// What is printed of the bytes of an archive.
@@ -133,33 +109,25 @@ fn metadata(alloc: Global, service: &Served) -> Result<Option<String>, AllocErro
     }
 }
 
-/// The answer to a call of a service. `None` if its numbers don't fit.
-fn call_answered(
+/// The answer to a call, which has its numbers or is a whole line. `None` if they don't fit or no service is open.
+pub(crate) fn answered(
     alloc: Global,
-    service: &mut Served,
+    trial: &mut Trial,
     verb: CallVerb,
     numbers: &[u64],
+    line: &str,
 ) -> Result<Option<String>, AllocError> {
+    let Some(service) = trial.open_service() else {
+        return Ok(None);
+    };
     match (verb, numbers) {
-        (CallVerb::Publish, []) => publish(alloc, service),
+        (CallVerb::Run, _) => run_line(alloc, service, line),
+        (CallVerb::Publish, []) => debug_text(alloc, service.publish()),
         (CallVerb::Archive, []) => whole(alloc, service, Shown::Bytes),
         (CallVerb::Archive, [at, count]) => part(alloc, service, *at, *count, Shown::Bytes),
         (CallVerb::Verify, []) => whole(alloc, service, Shown::Verdict),
         (CallVerb::Metadata, []) => metadata(alloc, service),
         (CallVerb::Version, []) => debug_text(alloc, service.version()),
         _ => Ok(None),
-    }
-}
-
-/// The answer to a call. `None` if its numbers don't fit or no service is open.
-pub(crate) fn answered(
-    alloc: Global,
-    trial: &mut Trial,
-    verb: CallVerb,
-    numbers: &[u64],
-) -> Result<Option<String>, AllocError> {
-    match trial.open_service() {
-        Some(service) => call_answered(alloc, service, verb, numbers),
-        None => Ok(None),
     }
 }

@@ -1,9 +1,9 @@
 //! Commands on the sectors of a closed disk.
-use crate::answers::{debug_text, fixed_text};
+use crate::answers::{debug_text, fixed_text, value_text, with_calls};
 use crate::exports::exported;
 use crate::lines::{DiskVerb, Line};
 use crate::sessions::{ServedDisk, Trial};
-use generations::{FIRST_VERSION, LAST_VERSION, StoreFault, format_version};
+use generations::{FIRST_VERSION, LAST_VERSION, format_version};
 use script_bytes::{push_number, sector_of, spelled, used_part};
 use sector_disk::{MemoryDisk, Sectors};
 use std::alloc::{AllocError, Global};
@@ -71,17 +71,12 @@ enum Work {
     Export(Option<u64>),
 }
 
-/// The text of a disk's outcome.
-fn store_text(alloc: Global, outcome: Result<(), StoreFault>) -> Result<String, AllocError> {
-    format!(in alloc; "{outcome:?}")
-}
-
 /// Does the work on a disk, and prints the outcome.
 fn worked(alloc: Global, disk: &mut ServedDisk, work: Work) -> Result<String, AllocError> {
     match work {
-        Work::Format => store_text(alloc, Service::format(disk)),
-        Work::FormatFirst => store_text(alloc, format_version(disk, FIRST_VERSION)),
-        Work::Upgrade => store_text(alloc, Service::upgrade(disk)),
+        Work::Format => value_text(alloc, Service::format(disk)),
+        Work::FormatFirst => value_text(alloc, format_version(disk, FIRST_VERSION)),
+        Work::Upgrade => value_text(alloc, Service::upgrade(disk)),
         Work::Export(room) => exported(alloc, disk, room),
     }
 }
@@ -95,18 +90,8 @@ fn work_answered(
     let mut disk = trial.take_disk(alloc)?;
     let outcome = worked(alloc, &mut disk, work);
     let calls = disk.calls();
-    trial.put_back(disk);
+    trial.replace(disk.into_disk());
     with_calls(alloc, outcome, calls)
-}
-
-/// An outcome with the number of calls.
-fn with_calls(
-    alloc: Global,
-    outcome: Result<String, AllocError>,
-    calls: u64,
-) -> Result<Option<String>, AllocError> {
-    let outcome = outcome?;
-    Ok(Some(format!(in alloc; "{outcome} in {calls}")?))
 }
 
 /// Exports the archive of a closed disk. `None` if the disk is open.
@@ -115,7 +100,7 @@ fn export(
     trial: &mut Trial,
     room: Option<u64>,
 ) -> Result<Option<String>, AllocError> {
-    if trial.is_open() {
+    if trial.closed_disk().is_none() {
         return Ok(None);
     }
     work_answered(alloc, trial, Work::Export(room))

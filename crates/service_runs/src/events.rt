@@ -1,7 +1,8 @@
 //! Events as words of a line.
-use crate::features::feature_in;
+use crate::features::{feature_in, pair_in, zoom_in};
 use feature_model::Change;
 use hilbert_id::TileAt;
+use script_bytes::parted;
 use std::alloc::{AllocError, Global};
 use tile_service::Event;
 
@@ -21,7 +22,7 @@ fn put_change_in(alloc: Global, text: &str) -> Result<Option<Change>, AllocError
 
 /// Parses a change. `None` if the text is none.
 fn change_in(alloc: Global, text: &str) -> Result<Option<Change>, AllocError> {
-    let (word, rest) = text.split_once(' ').unwrap_or((text, ""));
+    let (word, rest) = parted(text);
     match word {
         "put" => put_change_in(alloc, rest),
         "delete" => Ok(rest.parse::<u64>().ok().map(|id| Change::Delete { id })),
@@ -43,18 +44,11 @@ fn add_changes(alloc: Global, changes: &mut Vec<Change>, text: &str) -> Result<b
     Ok(true)
 }
 
-/// The event of one change.
-fn single(change: Change) -> Event {
-    match change {
-        Change::Put { id, feature } => Event::Put { id, feature },
-        Change::Delete { id } => Event::Delete { id },
-    }
-}
-
 /// Parses the event of one change. `None` if the text is none.
 fn single_in(alloc: Global, text: &str) -> Result<Option<Event>, AllocError> {
     match change_in(alloc, text)? {
-        Some(change) => Ok(Some(single(change))),
+        Some(Change::Put { id, feature }) => Ok(Some(Event::Put { id, feature })),
+        Some(Change::Delete { id }) => Ok(Some(Event::Delete { id })),
         None => Ok(None),
     }
 }
@@ -71,13 +65,9 @@ fn batch_in(alloc: Global, text: &str) -> Result<Option<Event>, AllocError> {
 
 /// Parses the coordinates of a tile. `None` if there is no such tile.
 fn tile_in(text: &str) -> Option<Event> {
-    let (z, rest) = text.split_once(' ')?;
-    let (x, y) = rest.split_once(' ')?;
-    let at = TileAt::new(
-        z.parse::<u8>().ok()?,
-        x.parse::<u32>().ok()?,
-        y.parse::<u32>().ok()?,
-    )?;
+    let (zoom, rest) = zoom_in(text)?;
+    let (x, y) = pair_in(rest, ' ')?;
+    let at = TileAt::new(zoom, x, y)?;
     Some(Event::Tile { at })
 }
 
@@ -88,7 +78,7 @@ fn look_in(text: &str) -> Option<Event> {
 
 /// Parses an event. `None` if the text is none.
 fn event_in(alloc: Global, text: &str) -> Result<Option<Event>, AllocError> {
-    let (word, rest) = text.split_once(' ').unwrap_or((text, ""));
+    let (word, rest) = parted(text);
     match word {
         "put" | "delete" => single_in(alloc, text),
         "batch" => batch_in(alloc, rest),

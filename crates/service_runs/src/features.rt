@@ -4,43 +4,45 @@
 //! `n` a number and `b` a truth value. `/` separates lines, and the rings of a polygon; `|` separates polygons.
 use feature_model::{EditValue, Feature, Geometry, Tag, World};
 use std::alloc::{AllocError, Global};
+use std::mem;
 
-/// The rings of polygons, and tags. Points and lines are collected as the rings of one polygon.
+/// What the words of a feature have added so far.
 #[derive(Drop)]
 struct Parts {
+    /// The points of the last line or ring.
+    ring: Vec<World>,
+    /// The rings before it, of the last polygon.
+    rings: Vec<Vec<World>>,
+    /// The polygons before it.
     polygons: Vec<Vec<Vec<World>>>,
     tags: Vec<Tag>,
 }
 
-/// A polygon with one empty ring.
-fn empty_polygon(alloc: Global) -> Result<Vec<Vec<World>>, AllocError> {
-    Ok(vec![in alloc; Vec::new(alloc)]?)
-}
-
-/// Appends a point to the last ring.
-fn add_point(polygons: &mut Vec<Vec<Vec<World>>>, point: World) -> Result<(), AllocError> {
-    if let Some(rings) = polygons.last_mut() {
-        if let Some(ring) = rings.last_mut() {
-            ring.push(point)?;
-        }
-    }
+/// Ends the last ring, and begins another one.
+fn end_ring(alloc: Global, parts: &mut Parts) -> Result<(), AllocError> {
+    let ring = mem::replace(&mut parts.ring, Vec::new(alloc));
+    parts.rings.push(ring)?;
     Ok(())
 }
 
-/// Begins a ring in the last polygon.
-fn begin_ring(alloc: Global, polygons: &mut Vec<Vec<Vec<World>>>) -> Result<(), AllocError> {
-    if let Some(rings) = polygons.last_mut() {
-        rings.push(Vec::new(alloc))?;
-    }
+/// Ends the last polygon with its last ring, and begins another one.
+fn end_polygon(alloc: Global, parts: &mut Parts) -> Result<(), AllocError> {
+    end_ring(alloc, parts)?;
+    let rings = mem::replace(&mut parts.rings, Vec::new(alloc));
+    parts.polygons.push(rings)?;
     Ok(())
 }
 
-fn point_in(word: &str) -> Option<World> {
-    let (x, y) = word.split_once(',')?;
-    Some(World {
-        x: x.parse::<u32>().ok()?,
-        y: y.parse::<u32>().ok()?,
-    })
+/// Two numbers with this character between them.
+pub(crate) fn pair_in(text: &str, between: char) -> Option<(u32, u32)> {
+    let (x, y) = text.split_once(between)?;
+    Some((x.parse::<u32>().ok()?, y.parse::<u32>().ok()?))
+}
+
+/// A zoom, and what stands behind it.
+pub(crate) fn zoom_in(text: &str) -> Option<(u8, &str)> {
+    let (zoom, rest) = text.split_once(' ')?;
+    Some((zoom.parse::<u8>().ok()?, rest))
 }
 
 /// Letters, repeated by the count after `*`.
@@ -84,68 +86,74 @@ fn add_tag(alloc: Global, tags: &mut Vec<Tag>, key: &str, word: &str) -> Result<
     Ok(true)
 }
 
+/// Adds a separator or a point. Returns whether the word is one.
+fn add_shape(alloc: Global, parts: &mut Parts, word: &str) -> Result<bool, AllocError> {
+    if let Some((x, y)) = pair_in(word, ',') {
+        parts.ring.push(World { x, y })?;
+        return Ok(true);
+    }
+    match word {
+        "/" => end_ring(alloc, parts)?,
+        "|" => end_polygon(alloc, parts)?,
+        _ => return Ok(false),
+    }
+    Ok(true)
+}
+
 /// Adds a point, a separator or a tag. Returns whether the word is one.
 fn add_word(alloc: Global, parts: &mut Parts, word: &str) -> Result<bool, AllocError> {
-    if let Some((key, value)) = word.split_once('=') {
-        return add_tag(alloc, &mut parts.tags, key, value);
-    }
-    if word == "/" {
-        begin_ring(alloc, &mut parts.polygons)?;
-        return Ok(true);
-    }
-    if word == "|" {
-        parts.polygons.push(empty_polygon(alloc)?)?;
-        return Ok(true);
-    }
-    match point_in(word) {
-        Some(point) => {
-            add_point(&mut parts.polygons, point)?;
-            Ok(true)
-        }
-        None => Ok(false),
+    match word.split_once('=') {
+        Some((key, value)) => add_tag(alloc, &mut parts.tags, key, value),
+        None => add_shape(alloc, parts, word),
     }
 }
 
-/// The last one of lists, or an empty one.
-fn last_of<T: Drop>(alloc: Global, lists: Vec<Vec<T>>) -> Vec<T> {
-    let mut lists = lists;
-    let last = lists.pop();
-    drop(lists);
-    last.unwrap_or(Vec::new(alloc))
-}
-
-/// The geometry of this kind.
-fn geometry_of(alloc: Global, kind: &str, polygons: Vec<Vec<Vec<World>>>) -> Option<Geometry> {
-    match kind {
-        "polygons" => Some(Geometry::Polygons(polygons)),
-        "lines" => Some(Geometry::Lines(last_of(alloc, polygons))),
-        "points" => Some(Geometry::Points(last_of(alloc, last_of(alloc, polygons)))),
-        _ => None,
+/// Takes the geometry of this kind. Points and lines are those of the last polygon. `None` if there is no such kind.
+fn take_geometry(
+    alloc: Global,
+    parts: &mut Parts,
+    kind: &str,
+) -> Result<Option<Geometry>, AllocError> {
+    if kind == "points" {
+        let points = mem::replace(&mut parts.ring, Vec::new(alloc));
+        return Ok(Some(Geometry::Points(points)));
     }
+    if kind == "lines" {
+        end_ring(alloc, parts)?;
+        let lines = mem::replace(&mut parts.rings, Vec::new(alloc));
+        return Ok(Some(Geometry::Lines(lines)));
+    }
+    if kind == "polygons" {
+        end_polygon(alloc, parts)?;
+        let polygons = mem::replace(&mut parts.polygons, Vec::new(alloc));
+        return Ok(Some(Geometry::Polygons(polygons)));
+    }
+    Ok(None)
 }
 
-/// What a feature begins with.
+/// What a feature begins with, and the remaining words.
 #[derive(Clone, Copy)]
 struct Front<'a> {
     layer: &'a str,
     minzoom: u8,
     maxzoom: u8,
     kind: &'a str,
+    words: &'a str,
 }
 
-/// The front of a feature, and the remaining words.
-fn front_in(text: &str) -> Option<(Front<'_>, &str)> {
+/// The front of a feature.
+fn front_in(text: &str) -> Option<Front<'_>> {
     let (layer, rest) = text.split_once(' ')?;
-    let (minzoom, rest) = rest.split_once(' ')?;
-    let (maxzoom, rest) = rest.split_once(' ')?;
-    let (kind, rest) = rest.split_once(' ')?;
-    let front = Front {
+    let (minzoom, rest) = zoom_in(rest)?;
+    let (maxzoom, rest) = zoom_in(rest)?;
+    let (kind, words) = rest.split_once(' ')?;
+    Some(Front {
         layer,
-        minzoom: minzoom.parse::<u8>().ok()?,
-        maxzoom: maxzoom.parse::<u8>().ok()?,
+        minzoom,
+        maxzoom,
         kind,
-    };
-    Some((front, rest))
+        words,
+    })
 }
 
 /// Adds points, separators and tags. Returns false at a word that is none.
@@ -158,12 +166,12 @@ fn add_words(alloc: Global, parts: &mut Parts, words: &str) -> Result<bool, Allo
     Ok(true)
 }
 
-/// Makes a feature.
+/// Makes a feature of its geometry, and takes the tags.
 fn with_layer(
     alloc: Global,
     front: Front<'_>,
     geometry: Geometry,
-    tags: Vec<Tag>,
+    parts: &mut Parts,
 ) -> Result<Option<Feature>, AllocError> {
     match String::from_str(alloc, front.layer) {
         Ok(layer) => Ok(Some(Feature {
@@ -171,46 +179,39 @@ fn with_layer(
             minzoom: front.minzoom,
             maxzoom: front.maxzoom,
             geometry,
-            tags,
+            tags: mem::replace(&mut parts.tags, Vec::new(alloc)),
         })),
         Err(fault) => Err(fault),
     }
 }
 
-/// Makes a feature. `None` if its kind is unknown.
+/// Parses points and tags, and makes a feature. `None` if a word is neither, or the kind is unknown.
 fn feature_of(
     alloc: Global,
     front: Front<'_>,
-    parts: Parts,
+    parts: &mut Parts,
 ) -> Result<Option<Feature>, AllocError> {
-    let Parts { polygons, tags } = parts;
-    match geometry_of(alloc, front.kind, polygons) {
-        Some(geometry) => with_layer(alloc, front, geometry, tags),
-        None => Ok(None),
+    if !add_words(alloc, parts, front.words)? {
+        return Ok(None);
     }
-}
-
-/// Parses points and tags, and makes a feature. `None` if a word is neither.
-fn feature_with(
-    alloc: Global,
-    front: Front<'_>,
-    words: &str,
-) -> Result<Option<Feature>, AllocError> {
-    let mut parts = Parts {
-        polygons: vec![in alloc; empty_polygon(alloc)?]?,
-        tags: Vec::new(alloc),
-    };
-    match add_words(alloc, &mut parts, words) {
-        Ok(true) => feature_of(alloc, front, parts),
-        Ok(false) => Ok(None),
-        Err(fault) => Err(fault),
+    match take_geometry(alloc, parts, front.kind)? {
+        Some(geometry) => with_layer(alloc, front, geometry, parts),
+        None => Ok(None),
     }
 }
 
 /// Parses a feature. `None` if the text is none.
 pub(crate) fn feature_in(alloc: Global, text: &str) -> Result<Option<Feature>, AllocError> {
-    match front_in(text) {
-        Some((front, words)) => feature_with(alloc, front, words),
-        None => Ok(None),
-    }
+    let Some(front) = front_in(text) else {
+        return Ok(None);
+    };
+    let mut parts = Parts {
+        ring: Vec::new(alloc),
+        rings: Vec::new(alloc),
+        polygons: Vec::new(alloc),
+        tags: Vec::new(alloc),
+    };
+    let feature = feature_of(alloc, front, &mut parts);
+    drop(parts);
+    feature
 }

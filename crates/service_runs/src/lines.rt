@@ -35,6 +35,8 @@ pub(crate) enum CallVerb {
     Verify,
     Metadata,
     Version,
+    /// A run of events, which are the whole line.
+    Run,
 }
 
 #[derive(Clone, Copy)]
@@ -42,8 +44,6 @@ pub(crate) enum Verb {
     Disk(DiskVerb),
     Session(SessionVerb),
     Call(CallVerb),
-    /// A run of events, which are the whole line.
-    Events,
 }
 
 /// A command with its numbers and its bytes.
@@ -120,6 +120,6 @@ pub(crate) fn line_in(alloc: Global, text: &str) -> Result<Option<Line>, AllocEr
     let (word, rest) = parted(text);
     match verb_in(word) {
         Some(verb) => command(alloc, verb, rest),
-        None => command(alloc, Verb::Events, ""),
+        None => command(alloc, Verb::Call(CallVerb::Run), ""),
     }
 }

@@ -52,8 +52,7 @@ fn answered(
     match line.verb {
         Verb::Disk(verb) => disks::answered(alloc, trial, verb, line),
         Verb::Session(verb) => sessions::answered(alloc, trial, verb, line),
-        Verb::Call(verb) => calls::answered(alloc, trial, verb, &line.numbers),
-        Verb::Events => calls::run_answered(alloc, trial, text),
+        Verb::Call(verb) => calls::answered(alloc, trial, verb, &line.numbers, text),
     }
 }
 
@@ -69,18 +68,15 @@ fn answer_to(alloc: Global, trial: &mut Trial, text: &str) -> Result<Option<Stri
     }
 }
 
-fn answer_command(rt: &HostRuntime, trial: &mut Trial, text: &str) -> io::Result<()> {
-    match answer_to(rt.alloc(), trial, text)? {
-        Some(answer) => println!(rt; "{answer}"),
-        None => println!(rt; "? {text}"),
-    }
-}
-
+/// Answers a line of text.
 fn answer_line(rt: &HostRuntime, trial: &mut Trial, text: &str) -> io::Result<()> {
     if text.is_empty() || text.starts_with('#') {
         return println!(rt; "{text}");
     }
-    answer_command(rt, trial, text)
+    match answer_to(rt.alloc(), trial, text)? {
+        Some(answer) => println!(rt; "{answer}"),
+        None => println!(rt; "? {text}"),
+    }
 }
 
 /// Answers each line. The service is borrowed, so that no way out of the loop drops it.

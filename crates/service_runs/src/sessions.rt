@@ -1,5 +1,5 @@
 //! A disk, and its service while it is open.
-use crate::answers::{calls_text, debug_text, fixed_text};
+use crate::answers::{debug_text, fixed_text, value_text, with_calls};
 use crate::lines::{Line, SessionVerb};
 use script_bytes::choices_of;
 use sector_disk::{FailingCalls, FaultyDisk, MemoryDisk};
@@ -39,13 +39,9 @@ impl Trial {
         })
     }
 
-    pub(crate) fn is_open(&self) -> bool {
-        self.service.is_some()
-    }
-
     /// The disk, if no service is open.
     pub(crate) fn closed_disk(&mut self) -> Option<&mut MemoryDisk> {
-        if self.is_open() {
+        if self.service.is_some() {
             return None;
         }
         Some(&mut self.disk)
@@ -63,12 +59,12 @@ impl Trial {
         };
         let disk = service.into_disk();
         let calls = disk.calls();
-        self.put_back(disk);
+        self.replace(disk.into_disk());
         calls
     }
 
     /// Replaces the closed disk.
-    fn replace(&mut self, disk: MemoryDisk) {
+    pub(crate) fn replace(&mut self, disk: MemoryDisk) {
         drop(mem::replace(&mut self.disk, disk));
     }
 
@@ -85,45 +81,29 @@ impl Trial {
         let empty = MemoryDisk::new(alloc, 0)?;
         Ok(FaultyDisk::new(mem::replace(&mut self.disk, empty), failing))
     }
-
-    /// Puts a disk back.
-    pub(crate) fn put_back(&mut self, disk: ServedDisk) {
-        self.replace(disk.into_disk());
-    }
 }
 
-/// Opens a disk. At a fault the session stays closed, and the text is that of the fault with the number of calls.
-fn opened(
-    alloc: Global,
-    trial: &mut Trial,
-    disk: ServedDisk,
-) -> Result<Option<String>, AllocError> {
-    match Service::open(alloc, disk) {
+/// Opens the disk. At a fault the session stays closed, and the text is that of the fault with the number of calls.
+fn open(alloc: Global, trial: &mut Trial) -> Result<Option<String>, AllocError> {
+    match Service::open(alloc, trial.take_disk(alloc)?) {
         Ok(service) => {
             drop(mem::replace(&mut trial.service, Some(service)));
             fixed_text(alloc, "open")
         }
         Err((disk, fault)) => {
             let calls = disk.calls();
-            trial.put_back(disk);
-            calls_text(alloc, fault, calls)
+            trial.replace(disk.into_disk());
+            with_calls(alloc, value_text(alloc, fault), calls)
         }
-    }
-}
-
-fn open(alloc: Global, trial: &mut Trial) -> Result<Option<String>, AllocError> {
-    match trial.take_disk(alloc) {
-        Ok(disk) => opened(alloc, trial, disk),
-        Err(fault) => Err(fault),
     }
 }
 
 fn stop(alloc: Global, trial: &mut Trial) -> Result<Option<String>, AllocError> {
     let calls = trial.close();
     let empty = MemoryDisk::new(alloc, 0)?;
-    let stopped = mem::replace(&mut trial.disk, empty);
-    drop(mem::replace(&mut trial.stopped, stopped));
-    Ok(Some(format!(in alloc; "stopped in {calls}")?))
+    mem::swap(&mut trial.disk, &mut trial.stopped);
+    trial.replace(empty);
+    with_calls(alloc, String::from_str(alloc, "stopped"), calls)
 }
 
 fn resume(alloc: Global, trial: &mut Trial) -> Result<Option<String>, AllocError> {
