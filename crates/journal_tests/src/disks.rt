@@ -8,6 +8,7 @@ mod runs;
 mod steps;
 mod system;
 
+use sector_disk::FileFault;
 use std::fmt::Debug;
 use std::io::{self, ErrorKind};
 use std::process::Abort;
@@ -17,6 +18,15 @@ fn kind_of<T>(outcome: io::Result<T>) -> Result<T, ErrorKind> {
     match outcome {
         Ok(given) => Ok(given),
         Err(error) => Err(error.kind()),
+    }
+}
+
+/// The name of a fault's variant.
+fn variant_of(fault: &FileFault) -> &'static str {
+    match fault {
+        FileFault::Open(_) => "Open",
+        FileFault::Create(_) => "Create",
+        FileFault::Grow(_) => "Grow",
     }
 }
 

@@ -24,7 +24,9 @@ fn serve<R: Read, W: Write>(
     turns: u64,
 ) -> Result<Served, ServeFault> {
     let mut buffers = Buffers::new(alloc);
-    serve_with(&mut buffers, reader, writer, &mut Echo { alloc }, turns)
+    let served = serve_with(&mut buffers, reader, writer, &mut Echo { alloc }, turns);
+    drop(buffers);
+    served
 }
 
 /// Answers with the method and the path on a line, and the body.
@@ -33,13 +35,13 @@ struct Echo {
     alloc: Global,
 }
 
-fn echo_of(alloc: Global, request: &Request<'_>) -> Result<Vec<u8>, AllocError> {
-    let mut text = Vec::from_slice(alloc, request.method)?;
-    text.push(b' ')?;
+/// Puts the method and the path on a line, and the body behind it.
+fn push_echo(text: &mut Vec<u8>, request: &Request<'_>) -> Result<(), AllocError> {
+    text.extend_from_slice(request.method)?;
+    text.extend_from_slice(b" ")?;
     text.extend_from_slice(request.path)?;
-    text.push(b'\n')?;
-    text.extend_from_slice(request.body)?;
-    Ok(text)
+    text.extend_from_slice(b"\n")?;
+    text.extend_from_slice(request.body)
 }
 
 impl Handler for Echo {
@@ -63,20 +65,24 @@ impl Handler for Echo {
 fn echo_reply(alloc: Global, request: &Request<'_>) -> Reply
     ensures { IsWhole result }
 {
-    match request.range {
-        Some(b"bytes=42-") => part_of_all(),
-        Some(b"bytes=1234-") => outside_all(),
-        _ if request.path == b"/none".as_slice() => no_content(),
-        _ => whole_reply(echo_of(alloc, request)),
+    if request.range == Some(b"bytes=42-".as_slice()) {
+        part_of_all()
+    } else if request.range == Some(b"bytes=1234-".as_slice()) {
+        outside_all()
+    } else if request.path == b"/none".as_slice() {
+        no_content()
+    } else {
+        whole_reply(alloc, request)
     }
 }
 
-/// The text as a reply, if there is memory for it.
-fn whole_reply(text: Result<Vec<u8>, AllocError>) -> Reply
+/// The echo as a reply, if there is memory for it.
+fn whole_reply(alloc: Global, request: &Request<'_>) -> Reply
     ensures { IsWhole result }
 {
-    match text {
-        Ok(text) => Reply::plain(Status::Ok, Some("text/plain"), Content::Whole(text)),
+    let mut text = Vec::new(alloc);
+    match push_echo(&mut text, request) {
+        Ok(()) => Reply::plain(Status::Ok, Some("text/plain"), Content::Whole(text)),
         Err(_) => Reply::plain(Status::ServiceUnavailable, None, Content::Empty),
     }
 }

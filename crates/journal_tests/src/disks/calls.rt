@@ -1,11 +1,9 @@
 //! What a disk in a file asks of its file, over one that notes it.
-use super::fakes::{Call, Fake, FakeFile, Notes};
+use super::fakes::{Call, Fake, Notes};
 use super::same;
-use super::steps::Step::{
-    Begins, Count, Fills, IsFilled, Reads, ReadsNot, Syncs, SyncsNot, Writes,
-};
-use super::steps::{Step, other_step, sector_from};
-use sector_disk::{FileDisk, SystemFile, Unknown};
+use super::steps::Step::{Begins, Count, Fills, Reads, ReadsNot, Syncs, SyncsNot, Writes};
+use super::steps::{Step, other_step_in, sector_from};
+use sector_disk::{FileDisk, Unknown};
 use std::cell::Cell;
 use std::io::{self, ErrorKind};
 use std::mem::size_of;
@@ -47,44 +45,31 @@ impl Fake for NotedFile {
     }
 }
 
-/// The first step with another outcome over a disk in this file, and the first call of the file that differs.
-fn others(
-    fake: &NotedFile,
-    bytes: u64,
-    steps: &[Step],
-    calls: &[Call],
-) -> (Option<usize>, Option<usize>) {
-    let file = SystemFile::new(FakeFile { fake });
-    let mut disk = FileDisk::new(file, bytes, Unknown);
-    let step = other_step(&mut disk, steps);
-    drop(disk);
-    (step, fake.notes.other_call(calls))
-}
-
-/// The same over a new file.
+/// The first step with another outcome over a disk in a new file, whose bytes are `sector_from` 7, and the first call of the file that
+/// differs.
 fn others_of(
     failing_call: usize,
-    start: [u8; 512],
     bytes: u64,
     steps: &[Step],
-    calls: &[Call],
+    calls: &'static [Call],
 ) -> (Option<usize>, Option<usize>) {
     let fake = NotedFile {
-        notes: Notes::new(),
-        bytes: Cell::new(start),
+        notes: Notes::new(calls),
+        bytes: Cell::new(sector_from(7)),
         failing_call,
     };
-    others(&fake, bytes, steps, calls)
+    let step = other_step_in(&fake, bytes, steps);
+    (step, fake.notes.other_call())
 }
 
 /// Reads return what the file has, what was written to it last, and what is still buffered.
 const USED: [Step; 7] = [
     Reads(3, 7),
     Writes(2, 8),
-    Fills(0, 5),
+    Writes(0, 5),
     Syncs,
     Writes(2, 9),
-    IsFilled(1, 5),
+    Reads(1, 5),
     Reads(2, 9),
 ];
 
@@ -98,11 +83,7 @@ const ASKED: [Call; 5] = [
 
 #[test]
 fn asks_its_file(rt: HostRuntime) {
-    same(
-        &rt,
-        &others_of(0, sector_from(7), 2048, &USED, &ASKED),
-        &(None, None),
-    );
+    same(&rt, &others_of(0, 2048, &USED, &ASKED), &(None, None));
 }
 
 const READ: Call = ("read", 0, 0);
@@ -130,7 +111,7 @@ const FAILING: [(usize, [Step; 7], &[Call]); 3] = [
     (
         2,
         [
-            Begins(0, 0),
+            Begins(0, 7),
             Fills(0, 1),
             SyncsNot,
             Count(1),
@@ -143,7 +124,7 @@ const FAILING: [(usize, [Step; 7], &[Call]); 3] = [
     (
         3,
         [
-            Begins(0, 0),
+            Begins(0, 7),
             Fills(0, 1),
             SyncsNot,
             Count(1),
@@ -158,7 +139,7 @@ const FAILING: [(usize, [Step; 7], &[Call]); 3] = [
 /// The first failing call with another outcome, if there is one.
 fn other_failing_call() -> Option<usize> {
     for (failing_call, steps, calls) in &FAILING {
-        if others_of(*failing_call, [0; 512], 512, steps, calls) != (None, None) {
+        if others_of(*failing_call, 512, steps, calls) != (None, None) {
             return Some(*failing_call);
         }
     }

@@ -13,47 +13,42 @@ pub(crate) type Call = (&'static str, u64, u64);
 /// A call that no disk has a use for.
 pub(crate) const OTHER: Call = ("other", 0, 0);
 
-/// The calls that were made, up to the seventh, and how many there were.
+/// The calls that are wanted, and how many were made.
 #[derive(Drop)]
 pub(crate) struct Notes {
-    calls: Cell<[Call; 7]>,
+    wanted: &'static [Call],
     count: Cell<usize>,
+    /// How many were made as wanted, before the first that differs.
+    as_wanted: Cell<usize>,
 }
 
 impl Notes {
-    pub(crate) fn new() -> Notes {
+    pub(crate) fn new(wanted: &'static [Call]) -> Notes {
         Notes {
-            calls: Cell::new([OTHER; 7]),
+            wanted,
             count: Cell::new(0),
+            as_wanted: Cell::new(0),
         }
     }
 
     /// Notes a call. Its number, from 1 on.
     pub(crate) fn add(&self, call: Call) -> usize {
         let before = self.count.get();
-        let mut calls = self.calls.get();
-        if let Some(slot) = calls.get_mut(before) {
-            *slot = call;
-        }
-        self.calls.set(calls);
         let number = before.saturating_add(1);
         self.count.set(number);
+        if self.as_wanted.get() == before && self.wanted.get(before) == Some(&call) {
+            self.as_wanted.set(number);
+        }
         number
     }
 
     /// The index of the first call that differs, is missing or is one too many.
-    pub(crate) fn other_call(&self, wanted: &[Call]) -> Option<usize> {
-        let calls = self.calls.get();
-        let count = self.count.get();
-        for (index, call) in wanted.iter().enumerate() {
-            if index >= count || calls.get(index) != Some(call) {
-                return Some(index);
-            }
-        }
-        if count > wanted.len() {
-            Some(wanted.len())
-        } else {
+    pub(crate) fn other_call(&self) -> Option<usize> {
+        let first = self.as_wanted.get();
+        if first == self.count.get() && first == self.wanted.len() {
             None
+        } else {
+            Some(first)
         }
     }
 }

@@ -2,11 +2,14 @@
 ghost use Rattle.std.specs.Prelude.{IsErr};
 
 use super::fakes::{Call, Fake, FakeFile, Notes, OTHER};
-use super::same;
-use sector_disk::{FileDisk, FileFault, Sectors, Zeros};
+use super::{same, variant_of};
+use sector_disk::{FileDisk, Sectors, Zeros};
 use std::alloc::Allocator;
-use std::fs::{Metadata, OpenOptions};
-use std::io::{self, Empty, ErrorKind};
+use std::fs::{Metadata, OpenOptions, Permissions};
+use std::io::{self, Empty, ErrorKind, PipeReader, PipeWriter};
+use std::os::fd::BorrowedFd;
+use std::os::unix::net::SocketAddr;
+use std::path::PathBuf;
 use std::rt::Files;
 
 /// Where the file is made.
@@ -17,8 +20,8 @@ const PATH: &str = "folder/disk";
 #[derive(Drop)]
 struct NotedFiles {
     notes: Notes,
-    /// The call that fails.
-    failing_call: Option<Call>,
+    /// The call that fails, by its number from 1 on.
+    failing_call: usize,
 }
 
 impl NotedFiles {
@@ -28,6 +31,11 @@ impl NotedFiles {
     {
         self.notes.add(OTHER);
         Err(ErrorKind::Unsupported.into())
+    }
+
+    /// Makes this call, if it is as it has to be, and else another one.
+    fn call_if(&self, is_so: bool, call: Call) -> io::Result<()> {
+        self.call(if is_so { call } else { OTHER })
     }
 }
 
@@ -41,8 +49,7 @@ impl Fake for NotedFiles {
     }
 
     fn call(&self, call: Call) -> io::Result<()> {
-        self.notes.add(call);
-        if call == OTHER || self.failing_call == Some(call) {
+        if self.notes.add(call) == self.failing_call {
             return Err(ErrorKind::Unsupported.into());
         }
         Ok(())
@@ -62,12 +69,7 @@ impl<'a> Files for Handle<'a> {
 
     fn open_file(&self, how: &OpenOptions, path: &str) -> io::Result<FakeFile<'a, NotedFiles>> {
         let as_new = how.asks_create_new() && how.asks_read() && how.asks_write();
-        let call = if as_new && path == PATH {
-            ("make", 0, 0)
-        } else {
-            OTHER
-        };
-        self.files.call(call)?;
+        self.files.call_if(as_new && path == PATH, MAKE)?;
         Ok(FakeFile { fake: self.files })
     }
 
@@ -92,12 +94,7 @@ impl<'a> Files for Handle<'a> {
     }
 
     fn remove_file(&self, path: &str) -> io::Result<()> {
-        let call = if path == PATH {
-            ("remove", 0, 0)
-        } else {
-            OTHER
-        };
-        self.files.call(call)
+        self.files.call_if(path == PATH, REMOVE)
     }
 
     fn create_dir(&self, _path: &str) -> io::Result<()> {
@@ -111,6 +108,46 @@ impl<'a> Files for Handle<'a> {
     fn remove_dir_all<B: Allocator>(&self, _alloc: B, _path: &str) -> io::Result<()> {
         self.files.refuse()
     }
+
+    fn canonicalize<B: Allocator>(&self, _alloc: B, _path: &str) -> io::Result<PathBuf<B>> {
+        self.files.refuse()
+    }
+
+    fn read_link<B: Allocator>(&self, _alloc: B, _path: &str) -> io::Result<PathBuf<B>> {
+        self.files.refuse()
+    }
+
+    fn hard_link(&self, _original: &str, _link: &str) -> io::Result<()> {
+        self.files.refuse()
+    }
+
+    fn set_permissions(&self, _path: &str, _perm: Permissions) -> io::Result<()> {
+        self.files.refuse()
+    }
+
+    fn symlink(&self, _original: &str, _link: &str) -> io::Result<()> {
+        self.files.refuse()
+    }
+
+    fn pipe(&self) -> io::Result<(PipeReader, PipeWriter)> {
+        self.files.refuse()
+    }
+
+    fn chown(&self, _path: &str, _uid: Option<u32>, _gid: Option<u32>) -> io::Result<()> {
+        self.files.refuse()
+    }
+
+    fn lchown(&self, _path: &str, _uid: Option<u32>, _gid: Option<u32>) -> io::Result<()> {
+        self.files.refuse()
+    }
+
+    fn create_dir_with_mode(&self, _path: &str, _mode: u32) -> io::Result<()> {
+        self.files.refuse()
+    }
+
+    fn bind_unix(&self, _socket: BorrowedFd<'_>, _addr: &SocketAddr) -> io::Result<()> {
+        self.files.refuse()
+    }
 }
 
 /// The count of the disk that was made, or the fault's variant.
@@ -121,22 +158,8 @@ fn made(files: &NotedFiles, count: u64) -> Result<u64, &'static str> {
             drop(disk);
             Ok(count)
         }
-        Err(FileFault::Open(_)) => Err("Open"),
-        Err(FileFault::Create(_)) => Err("Create"),
-        Err(FileFault::Grow(_)) => Err("Grow"),
+        Err(fault) => Err(variant_of(&fault)),
     }
-}
-
-/// The same where a call fails, and which call is another one, if one is.
-fn made_where(
-    failing_call: Option<Call>,
-    calls: &[Call],
-) -> (Result<u64, &'static str>, Option<usize>) {
-    let files = NotedFiles {
-        notes: Notes::new(),
-        failing_call,
-    };
-    (made(&files, 3), files.notes.other_call(calls))
 }
 
 const MAKE: Call = ("make", 0, 0);
@@ -147,18 +170,29 @@ const SYNC: Call = ("sync_all", 0, 0);
 
 const REMOVE: Call = ("remove", 0, 0);
 
-/// The call that fails, what is made, and the calls.
-const ROWS: [(Option<Call>, Result<u64, &str>, &[Call]); 4] = [
-    (None, Ok(3), &[MAKE, SET_LEN, SYNC]),
-    (Some(MAKE), Err("Create"), &[MAKE]),
-    (Some(SET_LEN), Err("Grow"), &[MAKE, SET_LEN, REMOVE]),
-    (Some(SYNC), Err("Grow"), &[MAKE, SET_LEN, SYNC, REMOVE]),
+/// The number of the call that fails, what is made, and the calls.
+type Row = (usize, Result<u64, &'static str>, &'static [Call]);
+
+const ROWS: [Row; 4] = [
+    (0, Ok(3), &[MAKE, SET_LEN, SYNC]),
+    (1, Err("Create"), &[MAKE]),
+    (2, Err("Grow"), &[MAKE, SET_LEN, REMOVE]),
+    (3, Err("Grow"), &[MAKE, SET_LEN, SYNC, REMOVE]),
 ];
+
+/// Whether this is made by these calls, if one of them fails.
+fn is_so((failing_call, answer, calls): Row) -> bool {
+    let files = NotedFiles {
+        notes: Notes::new(calls),
+        failing_call,
+    };
+    made(&files, 3) == answer && files.notes.other_call().is_none()
+}
 
 /// Which row is the first of which something else is told, if one is.
 fn other_row() -> Option<usize> {
-    for (index, (failing, answer, calls)) in ROWS.iter().enumerate() {
-        if made_where(*failing, calls) != (*answer, None) {
+    for (index, row) in ROWS.iter().enumerate() {
+        if !is_so(*row) {
             return Some(index);
         }
     }

@@ -1,9 +1,8 @@
 //! How many sectors a disk in a file reads and writes by one call, over a file that notes it.
-use super::fakes::{Call, Fake, FakeFile, Notes};
+use super::fakes::{Call, Fake, Notes};
 use super::same;
 use super::steps::Step::{Begins, BeginsNumbered, Fills, FillsAll, FillsNot, Syncs, SyncsNot};
-use super::steps::{Step, other_step};
-use sector_disk::{FileDisk, SystemFile, Unknown};
+use super::steps::{Step, other_step_in};
 use std::io::{self, ErrorKind};
 
 /// A file that notes its calls: a read and a write with their offset and their length. Each sector that it gives is filled with its number.
@@ -43,33 +42,21 @@ impl Fake for NumberedFile {
     }
 }
 
-/// The first step with another outcome over a disk in this file, and the first call of the file that differs.
-fn others(
-    fake: &NumberedFile,
-    sectors: u64,
-    steps: &[Step],
-    calls: &[Call],
-) -> (Option<usize>, Option<usize>) {
-    let file = SystemFile::new(FakeFile { fake });
-    let mut disk = FileDisk::new(file, sectors.saturating_mul(512), Unknown);
-    let step = other_step(&mut disk, steps);
-    drop(disk);
-    (step, fake.notes.other_call(calls))
-}
-
-/// The same over a new file, whose reads and writes of more bytes than these fail.
+/// The first step with another outcome over a disk in a new file, whose reads and writes of more bytes than these fail, and the first call
+/// of the file that differs.
 fn others_of(
     [most_read, most_written]: [usize; 2],
     sectors: u64,
     steps: &[Step],
-    calls: &[Call],
+    calls: &'static [Call],
 ) -> (Option<usize>, Option<usize>) {
     let fake = NumberedFile {
-        notes: Notes::new(),
+        notes: Notes::new(calls),
         most_read,
         most_written,
     };
-    others(&fake, sectors, steps, calls)
+    let step = other_step_in(&fake, sectors.saturating_mul(512), steps);
+    (step, fake.notes.other_call())
 }
 
 /// No read and no write of a disk is longer.

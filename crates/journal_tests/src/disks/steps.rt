@@ -1,5 +1,6 @@
 //! Steps that tests run over a disk, each with its expected outcome.
-use sector_disk::Sectors;
+use super::fakes::{Fake, FakeFile};
+use sector_disk::{FileDisk, Sectors, SystemFile, Unknown};
 
 /// A step with its expected outcome.
 #[derive(Clone, Copy)]
@@ -20,8 +21,6 @@ pub(crate) enum Step {
     BeginsNumbered(u64, u64),
     /// The sector is read, and is `sector_from` this byte.
     Reads(u64, u8),
-    /// The sector is read, and each byte of it is this one.
-    IsFilled(u64, u8),
     /// Reading the sector fails.
     ReadsNot(u64),
     /// A sync succeeds.
@@ -95,7 +94,6 @@ fn is_so<D: Sectors>(disk: &mut D, step: Step) -> bool {
         Step::Begins(at, byte) => begins(disk, at, byte),
         Step::BeginsNumbered(from, to) => begins_numbered(disk, from, to),
         Step::Reads(at, start) => read(disk, at) == Some(sector_from(start)),
-        Step::IsFilled(at, byte) => read(disk, at) == Some([byte; 512]),
         Step::ReadsNot(at) => read(disk, at).is_none(),
         Step::Syncs => disk.sync().is_ok(),
         Step::SyncsNot => disk.sync().is_err(),
@@ -110,4 +108,13 @@ pub(crate) fn other_step<D: Sectors>(disk: &mut D, steps: &[Step]) -> Option<usi
         }
     }
     None
+}
+
+/// The same over a disk of so many bytes in a file that a test made up.
+pub(crate) fn other_step_in<F: Fake>(fake: &F, bytes: u64, steps: &[Step]) -> Option<usize> {
+    let file = SystemFile::new(FakeFile { fake });
+    let mut disk = FileDisk::new(file, bytes, Unknown);
+    let other = other_step(&mut disk, steps);
+    drop(disk);
+    other
 }

@@ -80,23 +80,27 @@ fn turned(alloc: Global, turns: u64) -> Result<(Served, u64, usize), ServeFault>
         rest: TWO.as_bytes(),
         failed: 0,
     };
-    let served = serve(alloc, &mut reader, &mut out, turns)?;
-    Ok((served, reader.rest.len() as u64, reader.failed))
+    let served = serve(alloc, &mut reader, &mut out, turns);
+    drop(out);
+    Ok((served?, reader.rest.len() as u64, reader.failed))
 }
 
 /// Behind how many reads it is first otherwise, if it is.
-fn other_turns(alloc: Global) -> Result<Option<u64>, ServeFault> {
-    let end = End::Turns;
-    for (turns, requests) in TURNS {
-        let left = (TWO.len() as u64).saturating_sub(turns);
-        if turned(alloc, turns)? != (Served { requests, end }, left, 0) {
-            return Ok(Some(turns));
+fn other_turns(alloc: Global) -> Option<u64> {
+    for (turns, requests) in &TURNS {
+        let served = Served {
+            requests: *requests,
+            end: End::Turns,
+        };
+        let left = (TWO.len() as u64).saturating_sub(*turns);
+        if turned(alloc, *turns) != Ok((served, left, 0)) {
+            return Some(*turns);
         }
     }
-    Ok(None)
+    None
 }
 
 #[test]
 fn stops_at_its_turns(rt: HostRuntime) {
-    same(&rt, &other_turns(rt.alloc()), &Ok(None));
+    same(&rt, &other_turns(rt.alloc()), &None);
 }

@@ -10,18 +10,17 @@ use std::time::CpuClock;
 /// A text, one that is repeated behind it, and one behind them: a head.
 type Form = (&'static str, &'static str, &'static str);
 
-/// The head of a form with at least so many bytes.
-fn head_of(alloc: Global, form: Form, size: usize) -> Result<Vec<u8>, AllocError> {
+/// Puts a head of a form behind the bytes, up to at least so many of them.
+fn push_head(bytes: &mut Vec<u8>, form: Form, size: usize) -> Result<(), AllocError> {
     let (front, middle, end) = form;
-    let mut head = Vec::from_slice(alloc, front.as_bytes())?;
+    bytes.extend_from_slice(front.as_bytes())?;
     for _ in 0..size {
-        if head.len() + end.len() >= size {
+        if bytes.len() + end.len() >= size {
             break;
         }
-        head.extend_from_slice(middle.as_bytes())?;
+        bytes.extend_from_slice(middle.as_bytes())?;
     }
-    head.extend_from_slice(end.as_bytes())?;
-    Ok(head)
+    bytes.extend_from_slice(end.as_bytes())
 }
 
 /// One long field.
@@ -53,18 +52,18 @@ impl Read for Watching<'_> {
 /// How many bytes come, in requests of 8,000 bytes each, and in pieces of which size.
 const COMING: [(usize, usize); 3] = [(8_000, 1), (320_000, 100), (320_000, 300)];
 
-/// This many bytes of requests.
-fn requests_of(alloc: Global, count: usize) -> Result<Vec<u8>, AllocError> {
-    let head = head_of(alloc, LONG, 8_000)?;
-    let mut bytes = Vec::new(alloc);
+/// Puts together this many bytes of requests.
+fn push_requests(bytes: &mut Vec<u8>, count: usize) -> Result<(), AllocError> {
+    let mut size = 0usize;
     for _ in 0..count / 8_000 {
-        bytes.extend_from_slice(&head)?;
+        size = size.saturating_add(8_000);
+        push_head(bytes, LONG, size)?;
     }
-    Ok(bytes)
+    Ok(())
 }
 
 /// How many of these bytes are moved, which come in pieces of this size. `None` if they aren't served.
-fn moved_of(alloc: Global, bytes: &[u8], size: usize) -> Option<usize> {
+fn moved_among(alloc: Global, bytes: &[u8], size: usize) -> Option<usize> {
     let mut reader = Watching {
         rest: bytes,
         size,
@@ -73,6 +72,7 @@ fn moved_of(alloc: Global, bytes: &[u8], size: usize) -> Option<usize> {
     };
     let mut out = Vec::new(alloc);
     let served = serve(alloc, &mut reader, &mut out, MAX_READS);
+    drop(out);
     if served.is_ok() {
         Some(reader.moved)
     } else {
@@ -80,22 +80,31 @@ fn moved_of(alloc: Global, bytes: &[u8], size: usize) -> Option<usize> {
     }
 }
 
+/// The same of so many bytes of requests. `None` if there is no memory for them either.
+fn moved_of(alloc: Global, count: usize, size: usize) -> Option<usize> {
+    let mut bytes = Vec::new(alloc);
+    let moved = match push_requests(&mut bytes, count) {
+        Ok(()) => moved_among(alloc, &bytes, size),
+        Err(_) => None,
+    };
+    drop(bytes);
+    moved
+}
+
 /// The size of the pieces, and how many bytes are moved, where these are first more than come, if they are, or where they aren't served.
-fn moved_too_often(alloc: Global) -> Result<Option<(usize, Option<usize>)>, AllocError> {
+fn moved_too_often(alloc: Global) -> Option<(usize, Option<usize>)> {
     for (count, size) in COMING {
-        let bytes = requests_of(alloc, count)?;
-        let moved = moved_of(alloc, &bytes, size);
-        drop(bytes);
+        let moved = moved_of(alloc, count, size);
         if moved.unwrap_or(usize::MAX) > count {
-            return Ok(Some((size, moved)));
+            return Some((size, moved));
         }
     }
-    Ok(None)
+    None
 }
 
 #[test]
 fn waiting_bytes_are_seldom_moved(rt: HostRuntime) {
-    same(&rt, &moved_too_often(rt.alloc()), &Ok(None));
+    same(&rt, &moved_too_often(rt.alloc()), &None);
 }
 
 /// Heads of one long field, of many short ones, and with a target that isn't ASCII.
@@ -127,8 +136,11 @@ fn time_of(rt: &HostRuntime, head: &[u8], count: u64) -> Option<u64> {
 
 /// The same with a head of so many bytes.
 fn time_of_form(rt: &HostRuntime, form: Form, size: usize, count: u64) -> Option<u64> {
-    let head = head_of(rt.alloc(), form, size).ok()?;
-    let time = time_of(rt, &head, count);
+    let mut head = Vec::new(rt.alloc());
+    let time = match push_head(&mut head, form, size) {
+        Ok(()) => time_of(rt, &head, count),
+        Err(_) => None,
+    };
     drop(head);
     time
 }

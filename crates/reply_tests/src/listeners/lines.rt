@@ -63,12 +63,7 @@ const ROWS: [Row; 8] = [
 ];
 
 /// Whether this is the line of a connection.
-fn is_line(
-    alloc: Global,
-    number: u64,
-    outcome: Result<Served, ServeFault>,
-    line: &'static str,
-) -> bool {
+fn is_line(alloc: Global, number: u64, outcome: Result<Served, ServeFault>, line: &str) -> bool {
     let mut log = Vec::new(alloc);
     let written = write_line(&mut log, number, outcome).is_ok();
     written && log.as_slice() == line.as_bytes()
@@ -76,9 +71,9 @@ fn is_line(
 
 /// The number of the first connection that has another line.
 fn other_line(alloc: Global) -> Option<u64> {
-    for (number, outcome, line) in ROWS {
-        if !is_line(alloc, number, outcome, line) {
-            return Some(number);
+    for (number, outcome, line) in &ROWS {
+        if !is_line(alloc, *number, *outcome, line) {
+            return Some(*number);
         }
     }
     None

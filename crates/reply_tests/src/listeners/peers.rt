@@ -4,7 +4,7 @@ ghost use Rattle.http_serve.specs.Reply.{IsWhole};
 use crate::wanted::same;
 use http_listen::{SystemListener, serve_on};
 use http_serve::{Content, ContentFault, Downloads, Handler, Reply, Request, Status, Ticket};
-use std::io::{self, Read, Write};
+use std::io::{Read, Write};
 use std::net::{Ipv4Addr, Shutdown, SocketAddr, TcpListener, TcpStream};
 
 const GET: &str = "GET / HTTP/1.1\r\nhost: a\r\n\r\n";
@@ -24,20 +24,12 @@ const SECOND_LAST: &str = "HTTP/1.1 200 OK\r\ncontent-length: 1\r\nconnection: c
 const NO_HOST: &str =
     "HTTP/1.1 400 Bad Request\r\ncontent-type: text/plain\r\ncontent-length: 5\r\nconnection: close\r\n\r\nHost\n";
 
-/// Who answers.
-#[derive(Clone, Copy)]
-enum Server {
-    /// Each answer is how many there were before.
-    Counter,
-    /// The same, and the first peer, which doesn't end its side before, asks again where the second request is answered.
-    Asker,
-}
-
 /// What peers send, one after the other, before any of them is served. What each gets, and the log.
 #[derive(Clone, Copy)]
 struct Row {
     name: &'static str,
-    server: Server,
+    /// Whether the first peer, which doesn't end its side before, asks again where the second request is answered.
+    asks_again: bool,
     peers: &'static [(&'static str, &'static str)],
     log: &'static str,
 }
@@ -45,7 +37,7 @@ struct Row {
 const ROWS: [Row; 3] = [
     Row {
         name: "a_peer_reads_its_replies",
-        server: Server::Counter,
+        asks_again: false,
         peers: &[(TWO_GETS, FIRST_AND_SECOND)],
         log: "connection 1: 2 requests, closed\n",
     },
@@ -53,7 +45,7 @@ const ROWS: [Row; 3] = [
     // before the second asks again.
     Row {
         name: "peers_one_after_the_other",
-        server: Server::Counter,
+        asks_again: false,
         peers: &[
             ("", ""),
             (TWO_GETS, FIRST_AND_THIRD),
@@ -69,7 +61,7 @@ const ROWS: [Row; 3] = [
     // A connection that is kept while another one is served is served again.
     Row {
         name: "a_kept_connection_is_served_again",
-        server: Server::Asker,
+        asks_again: true,
         peers: &[(GET, FIRST_AND_THIRD), (GET, SECOND)],
         log: "connection 2: 1 requests, closed\nconnection 1: 2 requests, closed\n",
     },
@@ -84,23 +76,23 @@ const NO_TICKET: Ticket = Ticket {
 };
 
 /// Answers with how many answers there were before. Has a peer ask once more and end where the second request is answered, if it is given one.
-#[derive(Drop)]
-struct Counter {
+#[derive(Clone, Copy)]
+struct Counter<'a> {
     answers: u64,
-    asker: Option<TcpStream>,
+    asker: Option<&'a TcpStream>,
 }
 
-/// A peer asks once more, and sends nothing behind that.
-fn ask_last(peer: &mut TcpStream) -> io::Result<()> {
-    peer.write_all(GET.as_bytes())?;
-    peer.shutdown(Shutdown::Write)
+/// Whether a peer sends this, and ends its side, if it is to.
+fn sends(peer: &TcpStream, text: &str, ends: bool) -> bool {
+    let mut writer = peer;
+    writer.write_all(text.as_bytes()).is_ok() && (!ends || peer.shutdown(Shutdown::Write).is_ok())
 }
 
-impl Counter {
-    /// The peer that it was given asks once more.
-    fn ask_again(&mut self) {
-        if let Some(peer) = &mut self.asker {
-            let _ = ask_last(peer);
+impl Counter<'_> {
+    /// The peer that it was given asks once more, and sends nothing behind that.
+    fn ask_again(&self) {
+        if let Some(peer) = self.asker {
+            sends(peer, GET, true);
         }
     }
 }
@@ -122,7 +114,7 @@ fn reply_of(before: u64) -> Reply
     Reply::plain(Status::Ok, None, content)
 }
 
-impl Handler for Counter {
+impl Handler for Counter<'_> {
     ghost replies = { λ _ _ _ _. Unit {0} };
 
     ghost sends = { λ _ _ _ _. ⊥ };
@@ -145,7 +137,7 @@ impl Handler for Counter {
     }
 }
 
-impl Downloads for Counter {
+impl Downloads for Counter<'_> {
     ghost reads = { λ _ _ _ _ _. Unit {0} };
 
     ghost ticket_of = { λ _. record { generation = 0; place = 0; total = 0; first = 0 } };
@@ -164,109 +156,117 @@ impl Downloads for Counter {
     }
 }
 
-/// Serves the peers of a row: whether that ends well.
-fn serve_counter(
+/// Whether the peers of a row are served to the end.
+fn serves(
     rt: &HostRuntime,
     row: &Row,
     listener: &mut SystemListener,
+    streams: &[TcpStream],
     log: &mut Vec<u8>,
 ) -> bool {
-    let alloc = rt.alloc();
-    let mut handler = Counter {
-        answers: 0,
-        asker: None,
+    let asker = if row.asks_again {
+        streams.first()
+    } else {
+        None
     };
+    let mut handler = Counter { answers: 0, asker };
     let count = row.peers.len() as u64;
-    serve_on(rt, alloc, listener, count, &mut handler, log).is_ok()
+    serve_on(rt, rt.alloc(), listener, count, &mut handler, log).is_ok()
 }
 
-/// Serves two peers, of which the first one asks again.
-fn serve_asker(
-    rt: &HostRuntime,
-    listener: &mut SystemListener,
-    streams: &mut Vec<TcpStream>,
-    log: &mut Vec<u8>,
-) -> bool {
-    let alloc = rt.alloc();
-    let (Some(second), Some(first)) = (streams.pop(), streams.pop()) else {
-        return false;
-    };
-    let mut handler = Counter {
-        answers: 0,
-        asker: Some(first),
-    };
-    let served = serve_on(rt, alloc, listener, 2, &mut handler, log).is_ok();
-    let Some(first) = handler.asker else {
-        return false;
-    };
-    streams.push(first).is_ok() && streams.push(second).is_ok() && served
-}
-
-/// Serves the peers that wait at a listener.
-fn serve_row(
+/// The same of the peers that wait at a listener.
+fn serves_at(
     rt: &HostRuntime,
     row: &Row,
     listener: TcpListener,
-    streams: &mut Vec<TcpStream>,
+    streams: &[TcpStream],
     log: &mut Vec<u8>,
-) -> io::Result<bool> {
-    let mut listener = SystemListener::new(rt, rt.alloc(), listener, 8)?;
-    Ok(match row.server {
-        Server::Asker => serve_asker(rt, &mut listener, streams, log),
-        Server::Counter => serve_counter(rt, row, &mut listener, log),
-    })
-}
-
-/// A peer that has sent this, and may have ended its side.
-fn peer(rt: &HostRuntime, listener: &TcpListener, sent: &str, ends: bool) -> io::Result<TcpStream> {
-    let mut stream = TcpStream::connect(rt, listener.local_addr()?)?;
-    stream.write_all(sent.as_bytes())?;
-    if ends {
-        stream.shutdown(Shutdown::Write)?;
+) -> bool {
+    match SystemListener::new(rt, rt.alloc(), listener, 8) {
+        Ok(mut listener) => {
+            let is_served = serves(rt, row, &mut listener, streams, log);
+            drop(listener);
+            is_served
+        }
+        Err(_) => false,
     }
-    Ok(stream)
 }
 
-/// Connects the peers of a row.
-fn connect(
+/// Whether one more peer connects and sends this. It may end its side.
+fn connects(
+    rt: &HostRuntime,
+    address: SocketAddr,
+    sent: &str,
+    ends: bool,
+    streams: &mut Vec<TcpStream>,
+) -> bool {
+    match TcpStream::connect(rt, address) {
+        Ok(stream) => {
+            let is_sent = sends(&stream, sent, ends);
+            streams.push(stream).is_ok() && is_sent
+        }
+        Err(_) => false,
+    }
+}
+
+/// Whether the peers of a row connect.
+fn connects_all(
+    rt: &HostRuntime,
+    row: &Row,
+    address: SocketAddr,
+    streams: &mut Vec<TcpStream>,
+) -> bool {
+    for (sent, _) in row.peers {
+        let ends = !row.asks_again || !streams.is_empty();
+        if !connects(rt, address, sent, ends, streams) {
+            return false;
+        }
+    }
+    true
+}
+
+/// Whether the peers of a row connect to a listener.
+fn connects_to(
     rt: &HostRuntime,
     row: &Row,
     listener: &TcpListener,
     streams: &mut Vec<TcpStream>,
-) -> io::Result<()> {
-    for (sent, _) in row.peers {
-        let ends = !matches!(row.server, Server::Asker) || !streams.is_empty();
-        if streams.push(peer(rt, listener, sent, ends)?).is_err() {
-            return Err(io::ErrorKind::OutOfMemory.into());
-        }
+) -> bool {
+    match listener.local_addr() {
+        Ok(address) => connects_all(rt, row, address, streams),
+        Err(_) => false,
     }
-    Ok(())
 }
 
-/// Connects the peers of a row, and serves them: whether that ends well.
-fn served(
+/// Whether the peers of a row connect, and are served to the end.
+fn are_served(
     rt: &HostRuntime,
     row: &Row,
     streams: &mut Vec<TcpStream>,
     log: &mut Vec<u8>,
-) -> io::Result<bool> {
-    let listener = TcpListener::bind(rt, SocketAddr::from((Ipv4Addr::LOCALHOST, 0)))?;
-    connect(rt, row, &listener, streams)?;
-    serve_row(rt, row, listener, streams, log)
+) -> bool {
+    match TcpListener::bind(rt, SocketAddr::from((Ipv4Addr::LOCALHOST, 0))) {
+        Ok(listener) => {
+            connects_to(rt, row, &listener, streams) && serves_at(rt, row, listener, streams, log)
+        }
+        Err(_) => false,
+    }
 }
 
 /// Whether a peer reads this up to the end.
-fn reads(rt: &HostRuntime, stream: &mut TcpStream, wanted: &str) -> bool {
+fn reads(rt: &HostRuntime, peer: &TcpStream, wanted: &str) -> bool {
     let mut read = Vec::new(rt.alloc());
-    let is_read = stream.read_to_end(&mut read).is_ok();
-    is_read && read.as_slice() == wanted.as_bytes()
+    let mut reader = peer;
+    let is_read = reader.read_to_end(&mut read).is_ok() && read.as_slice() == wanted.as_bytes();
+    drop(read);
+    is_read
 }
 
 /// The first peer of a row that gets something else.
-fn wrong_peer(rt: &HostRuntime, row: &Row, streams: &mut [TcpStream]) -> Option<usize> {
+fn wrong_peer(rt: &HostRuntime, row: &Row, streams: &[TcpStream]) -> Option<usize> {
     for (place, (_, wanted)) in row.peers.iter().enumerate() {
-        let is_right = match streams.get_mut(place) {
-            Some(stream) => reads(rt, stream, wanted),
+        let is_right = match streams.get(place) {
+            Some(peer) => reads(rt, peer, wanted),
             None => false,
         };
         if !is_right {
@@ -276,40 +276,35 @@ fn wrong_peer(rt: &HostRuntime, row: &Row, streams: &mut [TcpStream]) -> Option<
     None
 }
 
-/// The name of a row, the first of its peers that gets something else, and whether they were served, with the log that is wanted.
-type Seen = (&'static str, Option<usize>, bool);
+/// Whether the peers of a row were served, with the log that is wanted, and the first of them that gets something else.
+type Seen = (bool, Option<usize>);
 
-/// What the peers of a row come to, if that is something else.
-fn other_of(
-    rt: &HostRuntime,
-    row: &Row,
-    streams: &mut Vec<TcpStream>,
-    log: &mut Vec<u8>,
-) -> Option<Seen> {
-    let is_served = served(rt, row, streams, log).unwrap_or(false);
-    let is_logged = is_served && log.as_slice() == row.log.as_bytes();
-    let wrong = if is_served {
-        wrong_peer(rt, row, streams)
+/// What the peers of a row come to.
+fn seen_with(rt: &HostRuntime, row: &Row, streams: &mut Vec<TcpStream>, log: &mut Vec<u8>) -> Seen {
+    if are_served(rt, row, streams, log) {
+        let is_logged = log.as_slice() == row.log.as_bytes();
+        (is_logged, wrong_peer(rt, row, streams))
     } else {
-        None
-    };
-    if is_logged && wrong.is_none() {
-        None
-    } else {
-        Some((row.name, wrong, is_logged))
+        (false, None)
     }
 }
 
-/// The first row that comes to something else.
-fn other_row(rt: &HostRuntime) -> Option<Seen> {
+/// The same with streams and a log of its own.
+fn seen_of(rt: &HostRuntime, row: &Row) -> Seen {
+    let mut streams = Vec::new(rt.alloc());
+    let mut log = Vec::new(rt.alloc());
+    let seen = seen_with(rt, row, &mut streams, &mut log);
+    drop(streams);
+    drop(log);
+    seen
+}
+
+/// The name of the first row that comes to something else, and to what.
+fn other_row(rt: &HostRuntime) -> Option<(&'static str, Seen)> {
     for row in &ROWS {
-        let mut streams = Vec::new(rt.alloc());
-        let mut log = Vec::new(rt.alloc());
-        let other = other_of(rt, row, &mut streams, &mut log);
-        drop(streams);
-        drop(log);
-        if other.is_some() {
-            return other;
+        let seen = seen_of(rt, row);
+        if seen != (true, None) {
+            return Some((row.name, seen));
         }
     }
     None
