@@ -49,8 +49,13 @@ impl Read for Watching<'_> {
     }
 }
 
-/// How many bytes come, in requests of 8,000 bytes each, and in pieces of which size.
-const COMING: [(usize, usize); 3] = [(8_000, 1), (320_000, 100), (320_000, 300)];
+/// How many bytes come, in requests of 8,000 bytes each, in pieces of which size, and whether some of them are moved: where no piece ends
+/// with a request before the buffer is used up.
+const COMING: [(usize, usize, bool); 3] = [
+    (8_000, 1, false),
+    (320_000, 100, false),
+    (320_000, 301, true),
+];
 
 /// Puts together this many bytes of requests.
 fn push_requests(bytes: &mut Vec<u8>, count: usize) -> Result<(), AllocError> {
@@ -91,11 +96,13 @@ fn moved_of(alloc: Global, count: usize, size: usize) -> Option<usize> {
     moved
 }
 
-/// The size of the pieces, and how many bytes are moved, where these are first more than come, if they are, or where they aren't served.
-fn moved_too_often(alloc: Global) -> Option<(usize, Option<usize>)> {
-    for (count, size) in COMING {
+/// The size of the pieces, and how many bytes are moved, where these are first more than come, or none though some are to be, or where the
+/// bytes aren't served.
+fn moved_otherwise(alloc: Global) -> Option<(usize, Option<usize>)> {
+    for (count, size, are_some) in COMING {
         let moved = moved_of(alloc, count, size);
-        if moved.unwrap_or(usize::MAX) > count {
+        let told = moved.unwrap_or(usize::MAX);
+        if told > count || (told > 0) != are_some {
             return Some((size, moved));
         }
     }
@@ -104,7 +111,7 @@ fn moved_too_often(alloc: Global) -> Option<(usize, Option<usize>)> {
 
 #[test]
 fn waiting_bytes_are_seldom_moved(rt: HostRuntime) {
-    same(&rt, &moved_too_often(rt.alloc()), &None);
+    same(&rt, &moved_otherwise(rt.alloc()), &None);
 }
 
 /// Heads of one long field, of many short ones, and with a target that isn't ASCII.
