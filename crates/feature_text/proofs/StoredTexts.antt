@@ -1,5 +1,5 @@
 -- The text of a number's feature is that of the number and the feature that it shows.
-use Rattle.std.proofs.Common.{◌≡◌, ℕ, ◌^◌, ◌<◌, List, [], ◌++◌, length, get_or, take, drop, refl, sym, ap, subst, ◌∙◌, append-nil, arith}
+use Rattle.std.proofs.Common.{◌≡◌, ℕ, ◌^◌, ◌<◌, List, [], ◌++◌, length, get_or, take, drop, refl, sym, ap, subst, ◌∙◌, ◌≤◌, append-nil, length-append, arith}
 use Rattle.std.proofs.Math.Seq.{take-append_seam}
 use Rattle.std.proofs.lemmas.Nat.{from_le_bytes-to_le_bytes_8}
 use Rattle.feature_model.specs.Data.{FeatureData, ChangeData, put, delete}
@@ -50,6 +50,10 @@ begins_as id f text begins = ((eight_bytes id ++ spelled_feature f) ++ begins.1.
 -- a change is at the start, whose text has this length
 abbrev HasLength : List ℕ → ℕ → Type 0
 HasLength text len = (c : ChangeData) × BeginsWithChange c text × (len ≡ length (spelled_change c))
+
+-- the bytes have at least this length
+pub length_within : (text : List ℕ) (len : ℕ) → HasLength text len → len ≤ length text
+length_within text len found = omega (arith, found.2, ap length found.1.1.1 ∙ length-append (spelled_change found.0) found.1.1.0)
 
 -- where bytes begin as a change does that sets a feature, they begin with one that does
 pub put_found : (text : List ℕ) (len : ℕ) → HasLength text len → BeginsAsPut text

@@ -1,7 +1,7 @@
 -- Blocks one after another.
 use Rattle.std.proofs.Common.{◌≡◌, ℕ, suc, ◌+◌, ◌<◌, List, [], ◌∷◌, ◌++◌, length, get_or, set, take, drop, sym, ap, ◌∙◌, add-one, append_assoc, arith}
 use Rattle.std.specs.List.{insert}
-use Rattle.std.proofs.lemmas.List.{take-append-drop, drop_at, take-append-le, take-take, length-take-le, get_or-take, get_or_append_left, set_split}
+use Rattle.std.proofs.lemmas.List.{take-append-drop, drop_at, take-append-le, take-take, length-take-le, get_or-take, get_or_append_left, get_or_default, set_split}
 use Rattle.std.proofs.lemmas.List.{take_more_set, drop-set-lt, drop_more}
 use Rattle.std.proofs.lemmas.List.Concat.{flat_map-append}
 use Rattle.number_map.specs.Blocks.{joined}
@@ -55,6 +55,12 @@ module _ {T : Type 0} where
   kept_at bs i d lt =
       get_or_append_left (take (i + 1) bs) (drop (i + 1 + 1) bs) d i (omega (arith, length-take-le (i + 1) bs (omega arith)))
       ∙ get_or-take (i + 1) bs i d (omega arith)
+
+  -- a block has as many entries as before the one after it was taken out
+  pub length_kept : (bs rest : List (List (ℕ × T))) (i : ℕ) (b was : List (ℕ × T)) → i + 1 < length bs
+      → rest ≡ take (i + 1) bs ++ drop (i + 1 + 1) bs → b ≡ get_or rest i b → was ≡ get_or bs i was → length b ≡ length was
+  length_kept bs rest i b was lt rest_is b_is was_is =
+      ap length (b_is ∙ ap (λ xs. get_or xs i b) rest_is ∙ kept_at bs i b lt ∙ get_or_default bs i b was (omega arith) ∙ sym was_is)
 
   pub joined_one : (bs rest : List (List (ℕ × T))) (i : ℕ) (b c new : List (ℕ × T)) → i + 1 < length bs → i < length rest
       → rest ≡ take (i + 1) bs ++ drop (i + 1 + 1) bs → b ≡ get_or rest i b → c ≡ get_or bs (i + 1) c → new ≡ b ++ c

@@ -1,7 +1,16 @@
 -- Sources that are unchanged, and faults that are passed on.
-use Rattle.std.proofs.Common.{◌≡◌, ℕ, List, Result, Err, ap, ◌∙◌}
+use Rattle.std.proofs.Common.{◌≡◌, ℕ, List, Result, Err, refl, ap, ◌∙◌}
 use Rattle.byte_source.specs.Source.{Keeps}
 use Rattle.pm_archive.specs.declared.fault.ArchiveFault.{ArchiveFault}
+
+-- a source from which nothing is read is unchanged
+pub keeps_itself : {S : Type 0} {count : S → ℕ} {holds : S → List ℕ → Type 0} {unchanged : S → S → Type 0}
+    → ((a : S) → unchanged a a) → {a : S} → Keeps count holds unchanged a a
+keeps_itself itself {a} = record {
+  same_count = refl;
+  no_others = λ bytes held. held;
+  same_behind = itself a;
+}
 
 -- a source that is unchanged twice is unchanged
 pub keeps_on : {S : Type 0} {count : S → ℕ} {holds : S → List ℕ → Type 0} {unchanged : S → S → Type 0}

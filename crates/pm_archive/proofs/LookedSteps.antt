@@ -1,5 +1,5 @@
 -- Looking step by step.
-use Rattle.std.proofs.Common.{◌≡◌, ℕ, zero, suc, ◌-◌, ◌≤◌, false, ltb, List, Some, Result, Ok, Err, Option, refl, sym, ap, subst, ◌∙◌, arith}
+use Rattle.std.proofs.Common.{◌≡◌, ℕ, zero, suc, ◌-◌, ◌≤◌, false, ltb, List, Some, Result, Ok, Err, OnOk, Option, refl, sym, ap, subst, ◌∙◌, arith}
 use Rattle.std.proofs.lemmas.Bool.{le-ltb}
 use Rattle.pm_header.specs.declared.header.Header.{Header}
 use Rattle.pm_directory.specs.declared.entry.DirectoryEntry.{DirectoryEntry}
@@ -8,9 +8,18 @@ use Rattle.pm_archive.specs.declared.limits.TheConstants.{MAX_LEAF_LEVELS}
 use Rattle.reader.specs.Reading.{Read, ◌>>=◌, GivesUnless}
 use Rattle.reader.proofs.Steps.{unless_on, then_on, then_stop}
 use Rattle.pm_archive.specs.Answers.{IsOutside, UnlessOutside}
+use Rattle.pm_archive.specs.Entries.{LiesIn}
 use Rattle.pm_archive.specs.Looked.{leading_of, leading_at, reached_at, content_at, looked_at}
 
 -- ---- a leaf directory
+
+-- the one that an entry names is inside, whatever is answered
+pub lies_named : {T : Type 0} (h : Header) (entry : Option DirectoryEntry) (leaf : DirectoryEntry) (r : Result T ArchiveFault) → entry ≡ Some leaf
+    → LiesIn h.leaves leaf → (named : DirectoryEntry) → entry ≡ Some named → OnOk r (LiesIn h.leaves named)
+lies_named {T} h entry leaf (Err d) is lies named names = tt
+lies_named {T} h entry leaf (Ok x) is lies named names =
+    let same : leaf ≡ named = cc in
+    subst (LiesIn h.leaves) same lies
 
 -- a fault of a leaf directory is one of the way through it
 pub reached_fault : (bytes : List ℕ) (h : Header) (id more : ℕ) (leaf : DirectoryEntry) (d : ArchiveFault) → leaf.run ≤ 0 → (more ≡ 0 → ⊥)

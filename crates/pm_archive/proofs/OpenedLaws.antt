@@ -94,6 +94,12 @@ pub front_read : {X E : Type 0} (r : Result X E) (into bytes : List ℕ) → is_
 front_read (Ok x) into bytes e gives = gives
 front_read (Err d) into bytes e gives = absurd (cc)
 
+-- other first bytes than those of an archive
+pub other_front : (bytes into : List ℕ) → HEADER_BYTES ≤ length bytes → into ≡ take HEADER_BYTES bytes → take 7 into ≢ magic → OpeningHas bytes faults.Magic
+other_front bytes into long front other =
+    OpeningHas.other_magic refl long (λ is. other (ap (take 7) front ∙ magic_of_front bytes ∙ is))
+
+-- another version
 pub version_of_front : (bytes into : List ℕ) (n : ℕ) → HEADER_BYTES ≤ length bytes → into ≡ take HEADER_BYTES bytes → take 7 into ≡ magic
     → slice_index into 7 ≡ n → n ≢ 3 → OpeningHas bytes (faults.Version n)
 version_of_front bytes into n long front is at other =

@@ -1,7 +1,8 @@
-use Rattle.std.proofs.Common.{◌≡◌, ℕ, ◌+◌, List, set, subst, sym, arith}
+use Rattle.std.proofs.Common.{◌≡◌, ℕ, ◌+◌, List, length, set, subst, sym, ap, ◌∙◌, arith}
+use Rattle.std.proofs.lemmas.List.{get_or_default}
 use Rattle.number_map.specs.Blocks.{firsts_of, AreFilled}
 use Rattle.number_map.proofs.Firsts.{firsts_len, firsts_joined}
-use Rattle.number_map.proofs.Joined.{joined_one}
+use Rattle.number_map.proofs.Joined.{length_kept, joined_one}
 use Rattle.number_map.proofs.Filled.{IsFilled, filled_set, filled_removed, filled_joined}
 use Rattle.number_map.proofs.blocks.join_next.Given as given
 use Rattle.number_map.proofs.blocks.join_next.Goals as goal
@@ -35,3 +36,14 @@ returns-clause-firsts g c =
     subst (λ (ns : List ℕ). ns ≡ firsts_of (set c.remove-next.new.self.items c.args.at c.append.new.self)) (sym c.remove.ensures.items)
     (firsts_joined c.args.blocks.now.items c.remove-next.new.self.items c.args.firsts.now.items c.args.at c.index_mut.result.now c.remove-next.result
     c.append.new.self c.requires.firsts c.remove-next.ensures.items c.index_mut.ensures.value c.append.ensures (some_left g after))
+
+pub append-requires : goal.append-requires
+append-requires g c =
+    let bs = c.args.blocks.now.items in
+    let at = c.args.at in
+    let next = c.index-else-saturating_sub-lt2.result.now in
+    let lower = length_kept bs c.remove-next.new.self.items at c.index_mut.result.now c.index.result.now (omega arith)
+    c.remove-next.ensures.by_index.2 c.index_mut.ensures.value c.index.ensures in
+    let same : c.remove-next.result ≡ next =
+    c.remove-next.ensures.value ∙ get_or_default bs (at + 1) c.remove-next.result next (omega arith) ∙ sym c.index-else-saturating_sub-lt2.ensures in
+    omega (arith, lower, ap length same)

@@ -1,4 +1,5 @@
 use Rattle.std.proofs.Common.{◌+◌, set, sym, ap, subst, ◌∙◌, arith}
+use Rattle.std.proofs.lemmas.Grind.{common_steps}
 use Rattle.std.specs.Ordering.{nat_cmp}
 use Rattle.std.specs.BTreeMap.{insert_entry}
 use Rattle.number_map.specs.Blocks.{joined, firsts_of, Ascends, AreFilled}
@@ -88,3 +89,6 @@ returns-else-at-len-clause-len g c = omega (arith, rw c.unwrap-else-at-len-2.ens
 
 pub returns-else-at-len-clause-firsts_len : goal.returns-else-at-len-clause-firsts_len
 returns-else-at-len-clause-firsts_len g c = omega (arith, rw c.unwrap-else-at-len.ensures at c.push.ensures.len)
+
+pub halve-upper-requires-clause-full : goal.halve-upper-requires-clause-full
+halve-upper-requires-clause-full g c = grind (arith, common_steps)

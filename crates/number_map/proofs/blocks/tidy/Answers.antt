@@ -1,4 +1,5 @@
 use Rattle.std.proofs.Common.{sym, ap, subst, ◌∙◌, arith}
+use Rattle.std.proofs.lemmas.Grind.{common_steps}
 use Rattle.std.proofs.lemmas.List.{nil_from_length}
 use Rattle.number_map.specs.Blocks.{joined, firsts_of, AreFilled}
 use Rattle.number_map.proofs.Filled.{filled_without}
@@ -25,3 +26,6 @@ returns-then-len-eq0-clause-firsts g c =
     c.remove.ensures.items
     ∙ firsts_removed c.args.blocks.now.items c.args.firsts.now.items c.args.at c.requires.firsts
     ∙ ap firsts_of (sym c.remove-empty.ensures.items)
+
+pub join_next-requires-clause-filled : goal.join_next-requires-clause-filled
+join_next-requires-clause-filled g c = grind (arith, common_steps)

@@ -1,6 +1,5 @@
-use Rattle.std.proofs.Common.{arith}
-use Rattle.std.proofs.Common.{rules}
-use Rattle.std.proofs.lemmas.Grind.{common_steps}
+use Rattle.std.proofs.Common.{rules, sym, subst}
+use Rattle.pm_archive.specs.Entries.{LiesIn}
 use Rattle.pm_archive.specs.Looked.{leading_at}
 use Rattle.pm_archive.proofs.leaves.leading_below.Goals as goal
 
@@ -17,5 +16,5 @@ unfolding leading_at
 returns-clause-first g c = search rules
 
 pub returns-clause-still_inside : goal.returns-clause-still_inside
-unfolding leading_at
-returns-clause-still_inside g c = grind (arith, common_steps)
+returns-clause-still_inside g c = λ inside. c.insert.ensures.inside c.args.header.now
+    (subst (LiesIn c.args.header.now.leaves) (sym c.in_ok-leaf.ensures.entry) c.in_ok-leaf.ensures.inside) inside

@@ -61,3 +61,6 @@ push_listed-returns-clause-read g t c e = g.met.B.Bytes.failed_on _ _ _ c.in_ok-
 
 pub push_each-returns-clause-listed : goal.push_each-returns-clause-listed
 push_each-returns-clause-listed g t c = grind (arith, common_steps)
+
+pub push_listed-returns-clause-source : goal.push_listed-returns-clause-source
+push_listed-returns-clause-source g t c = keeps_on g.met.B.Bytes.unchanged_on c.in_ok-entries.ensures.source c.push_each.ensures.source

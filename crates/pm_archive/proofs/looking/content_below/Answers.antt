@@ -1,6 +1,6 @@
-use Rattle.std.proofs.lemmas.Grind.{common_steps}
-use Rattle.std.proofs.Common.{option_map, arith}
+use Rattle.std.proofs.Common.{option_map}
 use Rattle.std.proofs.lemmas.Result.{err_from_is_err_and}
+use Rattle.pm_archive.proofs.KeepsLaws.{keeps_on}
 use Rattle.pm_archive.proofs.LookedSteps.{looked_on, looked_fault}
 use Rattle.pm_archive.proofs.looking.content_below.Goals as goal
 
@@ -20,4 +20,4 @@ pub returns-clause-read : goal.returns-clause-read
 returns-clause-read g c e = g.met.B.Bytes.failed_on _ _ _ c.in_ok-entry.ensures.source.same_behind (c.content_in.ensures.read e)
 
 pub returns-clause-source : goal.returns-clause-source
-returns-clause-source g c = grind (arith, common_steps)
+returns-clause-source g c = keeps_on g.met.B.Bytes.unchanged_on c.in_ok-entry.ensures.source c.content_in.ensures.source

@@ -1,7 +1,8 @@
-use Rattle.std.proofs.Common.{◌≡◌, length, refl, sym, ◌∙◌}
+use Rattle.std.proofs.Common.{◌≡◌, ℕ, List, length, refl, sym, ◌∙◌}
 use Rattle.std.proofs.lemmas.Bool.{false≢true}
 use Rattle.std.proofs.lemmas.Result.{err_from_is_err_and}
-use Rattle.pm_archive.proofs.KeepsLaws.{passed_on}
+use Rattle.pm_archive.specs.Sections.{HasSections}
+use Rattle.pm_archive.proofs.KeepsLaws.{passed_on, keeps_on}
 use Rattle.pm_archive.proofs.OpenedLaws.{misplaced_fault, compressed_fault, has_sections, root_read, root_refused}
 use Rattle.pm_archive.proofs.opening.header_and_root.Goals as goal
 
@@ -29,18 +30,32 @@ returns-clause-found g c = λ bytes holds.
       root_read bytes c.in_ok-header.header c.in_ok-root.root.items (c.in_ok-root.ensures.directory bytes holds),
     )
 
+-- the bytes have these sections, if the root directory couldn't be read
+has : (g : _) (c : goal.After-from_residual-in_err-root g) (bytes : List ℕ) → g.B.Bytes.holds c.directory_from.new.source bytes
+    → HasSections bytes c.in_ok-header.header
+has g c bytes holds =
+    let header = c.in_err-root.ensures.source.no_others bytes holds in
+    let before = c.header_in.ensures.source.no_others bytes header in
+    let all : c.len.result ≡ length bytes = c.len.ensures ∙ c.header_in.ensures.source.same_count ∙ sym (g.met.B.Bytes.sized c.args.source.now bytes before) in
+    has_sections bytes c.in_ok-header.header c.len.result all (c.in_ok-header.ensures.found bytes header) c.in_default.ensures.none
+    (c.if-not-has_plain_directories.ensures.0 refl)
+
 pub returns-in_err-root-clause-fault : goal.returns-in_err-root-clause-fault
 returns-in_err-root-clause-fault g c =
     let p = err_from_is_err_and c.from_residual-in_err-root.result c.from_residual-in_err-root.ensures.1 in
     rw (p.1, p.2) (λ bytes holds.
-    let header = c.in_err-root.ensures.source.no_others bytes holds in
-    let before = c.header_in.ensures.source.no_others bytes header in
-    let all : c.len.result ≡ length bytes = c.len.ensures ∙ c.header_in.ensures.source.same_count ∙ sym (g.met.B.Bytes.sized c.args.source.now bytes before) in
-    let has = has_sections bytes c.in_ok-header.header c.len.result all (c.in_ok-header.ensures.found bytes header) c.in_default.ensures.none
-    (c.if-not-has_plain_directories.ensures.0 refl) in
-    root_refused bytes c.in_ok-header.header c.in_err-root.field-0.0 has (c.in_err-root.ensures.directory bytes holds))
+    root_refused bytes c.in_ok-header.header c.in_err-root.field-0.0 (has g c bytes holds) (c.in_err-root.ensures.directory bytes holds))
+
+pub returns-in_err-root-clause-memory : goal.returns-in_err-root-clause-memory
+returns-in_err-root-clause-memory g c = λ bytes holds _. (c.in_ok-header.header, has g c bytes holds)
 
 pub returns-in_err-root-clause-read : goal.returns-in_err-root-clause-read
 returns-in_err-root-clause-read g c =
     let p = err_from_is_err_and c.from_residual-in_err-root.result c.from_residual-in_err-root.ensures.1 in
     rw (p.1, p.2) (λ e. g.met.B.Bytes.failed_on _ _ _ c.in_ok-header.ensures.source.same_behind (c.in_err-root.ensures.read (passed_on _ _ _ _ e)))
+
+pub returns-in_err-root-clause-source : goal.returns-in_err-root-clause-source
+returns-in_err-root-clause-source g c = keeps_on g.met.B.Bytes.unchanged_on c.in_ok-header.ensures.source c.in_err-root.ensures.source
+
+pub returns-clause-source : goal.returns-clause-source
+returns-clause-source g c = keeps_on g.met.B.Bytes.unchanged_on c.in_ok-header.ensures.source c.in_ok-root.ensures.source

@@ -1,4 +1,5 @@
 use Rattle.std.proofs.Common.{◌+◌, drop, sym, ap, subst, ◌∙◌, arith}
+use Rattle.std.proofs.lemmas.Grind.{common_steps}
 use Rattle.std.specs.Prelude.{slice_get}
 use Rattle.std.specs.Option.{option_or}
 use Rattle.number_map.specs.Blocks.{joined, Ascends}
@@ -36,3 +37,9 @@ returns-in-None g c =
     rw (← c.self.view_is)
     (after ∙ sym (from_home bs c.args.number at home c.index.result.now (omega arith) c.index.ensures
     ∙ ap (λ o. option_or o (slice_get (joined (drop (at + 1) bs)) 0)) (sym c.in-None.ensures)))
+
+pub returns-then-at-len : goal.returns-then-at-len
+returns-then-at-len g c = grind (arith, common_steps)
+
+pub index-requires-2 : goal.index-requires-2
+index-requires-2 g c = grind (arith, common_steps)

@@ -110,3 +110,18 @@ invariant_of-self-in-Err g c =
       count = omega (arith, ap length set, length_set_new es n c.in-Err.value (ap is_some absent), c.self.invariant.count);
       spare = popped.0;
     }
+
+pub returns-then-is_none-clause-entries : goal.returns-then-is_none-clause-entries
+returns-then-is_none-clause-entries g c = rw (← c.self.view_is) c.in-Ok.ensures.entries
+
+pub returns-then-is_none-clause-before : goal.returns-then-is_none-clause-before
+returns-then-is_none-clause-before g c = rw (← c.self.view_is) c.in-Ok.ensures.before
+
+pub returns-else-is_none-clause-entries : goal.returns-else-is_none-clause-entries
+returns-else-is_none-clause-entries g c = rw (← c.self.view_is) c.in-Ok.ensures.entries
+
+pub returns-else-is_none-clause-before : goal.returns-else-is_none-clause-before
+returns-else-is_none-clause-before g c = rw (← c.self.view_is) c.in-Ok.ensures.before
+
+pub put_beside-requires-clause-full : goal.put_beside-requires-clause-full
+put_beside-requires-clause-full g c = c.in-Err.ensures.full

@@ -1,4 +1,5 @@
 use Rattle.std.proofs.Common.{length, sym, ap, subst, ◌∙◌, arith}
+use Rattle.std.proofs.lemmas.Grind.{common_steps}
 use Rattle.std.specs.Option.{is_some}
 use Rattle.number_map.specs.Blocks.{joined, Ascends}
 use Rattle.number_map.proofs.Entries.{ascends_removed, length_removed}
@@ -29,3 +30,12 @@ invariant_of-self g c =
       count = omega (arith, ap length facts.entries, length_removed es n some, c.self.invariant.count);
       spare = c.self.invariant.spare;
     }
+
+pub overflow_sub-self : goal.overflow_sub-self
+overflow_sub-self g c = grind (arith, common_steps)
+
+pub returns-then-at-len-clause-entries : goal.returns-then-at-len-clause-entries
+returns-then-at-len-clause-entries g c = grind (arith, common_steps)
+
+pub returns-then-at-len-clause-removed : goal.returns-then-at-len-clause-removed
+returns-then-at-len-clause-removed g c = grind (arith, common_steps)

@@ -1,3 +1,4 @@
+use Rattle.pm_archive.proofs.LookupLaws.{none_cached}
 use Rattle.pm_archive.proofs.OpenedLaws.{opened_once, opened_unless}
 use Rattle.pm_archive.proofs.lookup.Lookup.open.Goals as goal
 
@@ -8,3 +9,13 @@ returns-in-Ok-clause-only g c = λ bytes h root has dir holds.
 
 pub returns-in-Err-clause-only : goal.returns-in-Err-clause-only
 returns-in-Err-clause-only g c = λ bytes h root has dir holds. opened_unless bytes h root c.in-Err.fault (c.in-Err.ensures.fault bytes holds) has dir
+
+pub returns-in-Ok-clause-found : goal.returns-in-Ok-clause-found
+returns-in-Ok-clause-found g c = λ bytes holds. record {
+  sections = (c.in-Ok.ensures.found bytes holds).0;
+  root = (c.in-Ok.ensures.found bytes holds).1;
+  leaves = none_cached bytes c.in-Ok.header c.none.result c.none.ensures;
+}
+
+pub returns-in-Err-clause-fault : goal.returns-in-Err-clause-fault
+returns-in-Err-clause-fault g c = c.in-Err.ensures.fault

@@ -38,3 +38,18 @@ returns-clause-memory g c =
     subst (λ (l : LookupView). c.content_below.result ≡ Err Memory → LiesInside l.header (leading_of c.args.id l.root)) c.self.view_is
     (λ e. subst (λ (root : List DirectoryEntry). LiesInside c.self.inside.header (leading_of c.args.id root)) c.deref.ensures.value
     (c.content_below.ensures.memory c.self.invariant.3 e))
+
+pub invariant_of-self : goal.invariant_of-self
+invariant_of-self g c = (
+  c.self.invariant.0,
+  c.self.invariant.1,
+  c.content_below.ensures.room c.self.invariant.2,
+  c.content_below.ensures.still_inside c.self.invariant.3,
+)
+
+pub returns-clause-still : goal.returns-clause-still
+returns-clause-still g c = rw (← c.self.view_is) (λ bytes holds of. record {
+  sections = of.sections;
+  root = of.root;
+  leaves = c.content_below.ensures.still bytes holds of.leaves;
+})
