@@ -1,5 +1,8 @@
 -- A map with a cache of its tiles, and which of them are still its tiles.
 use Rattle.std.specs.Prelude.{◌≡◌, ◌⊎◌, ℕ, ◌≤◌, List, [], ◌∷◌, All, Option, Some, None, option_map}
+use Rattle.std.specs.Rc.{rc_slice_items}
+use Rattle.std.specs.declared.alloc.Global.{Global}
+use Rattle.std.specs.declared.rc.RcSlice.{RcSlice}
 use Rattle.feature_model.specs.declared.feature.WorldBox.{WorldBox}
 use Rattle.feature_model.specs.Data.{FeatureData, ChangeData, put, delete}
 use Rattle.feature_store.specs.Content.{IsTileContent}
@@ -60,6 +63,10 @@ pub record WasMap (m : FeatureMap) (cells : List ℕ) (last n : ℕ) (was : Feat
   pub tiles : (z x y : ℕ) → IsUntouched marks z x y n → layers m z x y ≡ layers was z x y
 
 -- ---- what is kept
+
+-- the bytes of a tile that is shared, and none if it is empty
+abbrev pub shared_bytes : Option (RcSlice ℕ Global) → Option (List ℕ)
+shared_bytes content = option_map rc_slice_items content
 
 -- a cached tile is that of the map, unless an edit after its number may have touched it
 pub record IsKept (m : FeatureMap) (marks : List Mark) (last z x y : ℕ) (t : TileView) : Type 0 where

@@ -2,6 +2,7 @@
 
 ghost use Rattle.std.specs.Prelude.{◌≡◌, ◌↔◌, ◌≢◌, ◌<◌, ◌≤◌, ◌+◌, ℕ, List, [], ◌∷◌, length, map, All, true, Some, None};
 ghost use Rattle.std.specs.Prelude.{IsSome, IsTrue, IfOk, IfSome, IfNone, OnOk, OnErr};
+ghost use Rattle.std.specs.Rc.{rc_slice_items};
 ghost use Rattle.feature_model.specs.Data.{put, delete, change_data};
 ghost use Rattle.feature_model.specs.Limits.{IsAllowedChange};
 ghost use Rattle.feature_model.specs.Spelled.{spelled_changes};
@@ -15,14 +16,14 @@ ghost use Rattle.tile_cache.specs.Cells.{stale_cells};
 ghost use Rattle.tile_cache.specs.Kept.{kept_at, fresh, asked_for, KeepsSame};
 ghost use Rattle.tile_cache.specs.Touched.{Mark, Remembers, StaysElsewhere, IsClear, IsNewest, IsNewestOf};
 ghost use Rattle.tile_cache.specs.declared.cached_tiles.Origin.TheVariants.{Cut, Read};
-ghost use Rattle.cached_map.specs.Cached.{with_box, marks_of, marks_after, WasMap, AreReadRight, KeepsOrNot};
+ghost use Rattle.cached_map.specs.Cached.{with_box, marks_of, marks_after, WasMap, AreReadRight, KeepsOrNot, shared_bytes};
 
-use bytes::Bytes;
 use feature_model::{Change, WorldBox};
 use feature_store::{Prepared, Store};
 use hilbert_id::TileAt;
 use std::alloc::{AllocError, Global};
 use std::marker::Model;
+use std::rc::RcSlice;
 use tile_cache::{CachedTile, Origin, TileCache, TouchGrid};
 
 /// A map, the newest edit of each cell of the world, and a cache of tiles.
@@ -98,8 +99,8 @@ fn make_each(store: &mut Store, touched: &mut TouchGrid, changes: Vec<Prepared>,
 }
 
 /// Caches the bytes of a tile, which it shares with the caller, unless the entry is out of memory.
-fn keep_shared(kept: &mut TileCache, at: TileAt, origin: Origin, number: u64, bytes: &Bytes)
-    ensures { KeepsOrNot at.z at.x at.y (record { origin = origin; number = number; bytes = bytes.now }) kept.old kept.new }
+fn keep_shared(kept: &mut TileCache, at: TileAt, origin: Origin, number: u64, bytes: &RcSlice<u8>)
+    ensures { KeepsOrNot at.z at.x at.y (record { origin = origin; number = number; bytes = rc_slice_items bytes.now }) kept.old kept.new }
 {
     if let Ok(bytes) = bytes.clone() {
         let tile = CachedTile {
@@ -248,10 +249,11 @@ impl CachedMap {
     }
 
     /// Caches the bytes of a tile, unless out of memory.
-    fn keep(&mut self, at: TileAt, bytes: &Bytes)
-        requires content { IsTileContent (layers self.old.features at.z at.x at.y) (Some bytes.now) }
+    fn keep(&mut self, at: TileAt, bytes: &RcSlice<u8>)
+        requires content { IsTileContent (layers self.old.features at.z at.x at.y) (Some (rc_slice_items bytes.now)) }
         ensures same { self.new ≡ record self.old { kept = self.new.kept } }
-        ensures keeps { KeepsOrNot at.z at.x at.y (record { origin = Cut; number = self.old.last; bytes = bytes.now }) self.old.kept self.new.kept }
+        ensures keeps { KeepsOrNot at.z at.x at.y (record { origin = Cut; number = self.old.last; bytes = rc_slice_items bytes.now })
+            self.old.kept self.new.kept }
         ensures reads { AreReadRight self.old.features self.old.touched self.old.last self.old.kept
             → AreReadRight self.new.features self.new.touched self.new.last self.new.kept }
     {
@@ -260,11 +262,11 @@ impl CachedMap {
 
     /// Caches the bytes of a tile that were read elsewhere and are those of the map after the edit of this number, unless out of memory.
     /// Whether they are depends on what they were read from.
-    pub fn keep_read(&mut self, at: TileAt, number: u64, bytes: &Bytes)
+    pub fn keep_read(&mut self, at: TileAt, number: u64, bytes: &RcSlice<u8>)
         ensures same { self.new ≡ record self.old { kept = self.new.kept } }
-        ensures keeps { KeepsOrNot at.z at.x at.y (record { origin = Read; number = number; bytes = bytes.now }) self.old.kept self.new.kept }
+        ensures keeps { KeepsOrNot at.z at.x at.y (record { origin = Read; number = number; bytes = rc_slice_items bytes.now }) self.old.kept self.new.kept }
         ensures reads { (was : FeatureMap) → WasMap self.old.features self.old.touched self.old.last number was
-            → IsTileContent (layers was at.z at.x at.y) (Some bytes.now)
+            → IsTileContent (layers was at.z at.x at.y) (Some (rc_slice_items bytes.now))
             → AreReadRight self.old.features self.old.touched self.old.last self.old.kept
             → AreReadRight self.new.features self.new.touched self.new.last self.new.kept }
     {
@@ -272,24 +274,24 @@ impl CachedMap {
     }
 
     /// The bytes of a tile, cut anew.
-    fn cut_tile(&self, at: TileAt) -> Result<Option<Bytes>, AllocError>
-        ensures tile { IfOk result (λ content. IsTileContent (layers self.now.features at.z at.x at.y) content) }
+    fn cut_tile(&self, at: TileAt) -> Result<Option<RcSlice<u8>>, AllocError>
+        ensures tile { IfOk result (λ content. IsTileContent (layers self.now.features at.z at.x at.y) (shared_bytes content)) }
     {
         let Some(mut bytes) = self.store.tile(at)? else {
             return Ok(None);
         };
         bytes.shrink_to_fit();
-        Ok(Some(Bytes::from_vec(bytes)?))
+        Ok(Some(RcSlice::from_vec(bytes)?))
     }
 
     /// The cached bytes of a tile (Mapbox Vector Tile 2.1), if there are any and no edit can have touched the tile since; bytes that were
     /// read count only if `reads` is true. The only error is out of memory.
-    pub fn kept(&mut self, at: TileAt, reads: bool) -> Result<Option<Bytes>, AllocError>
+    pub fn kept(&mut self, at: TileAt, reads: bool) -> Result<Option<RcSlice<u8>>, AllocError>
         ensures tile { (reads ≡ true → AreReadRight self.old.features self.old.touched self.old.last self.old.kept)
-            → IfOk result (λ found. IfSome found (λ bytes. IsTileContent (layers self.old.features at.z at.x at.y) (Some bytes))) }
+            → IfOk result (λ found. IfSome found (λ bytes. IsTileContent (layers self.old.features at.z at.x at.y) (Some (rc_slice_items bytes)))) }
         // Bytes that are cached and fresh are returned.
         ensures given { (newest : ℕ) → IsNewestOf self.old.touched at.z at.x at.y newest
-            → IfOk result (λ found. found ≡ fresh newest reads (kept_at self.old.kept at.z at.x at.y)) }
+            → IfOk result (λ found. shared_bytes found ≡ fresh newest reads (kept_at self.old.kept at.z at.x at.y)) }
         ensures same { self.new ≡ record self.old { kept = self.new.kept } }
         ensures keeps { KeepsSame self.old.kept self.new.kept }
         // The tile is now the one that was asked for last.
@@ -307,11 +309,11 @@ impl CachedMap {
 
     /// The bytes of a tile, cut anew: none if it shows nothing, as above the greatest zoom. They are cached, unless the entry is out of
     /// memory. The only error is out of memory.
-    pub fn make(&mut self, at: TileAt) -> Result<Option<Bytes>, AllocError>
-        ensures tile { IfOk result (λ content. IsTileContent (layers self.old.features at.z at.x at.y) content) }
+    pub fn make(&mut self, at: TileAt) -> Result<Option<RcSlice<u8>>, AllocError>
+        ensures tile { IfOk result (λ content. IsTileContent (layers self.old.features at.z at.x at.y) (shared_bytes content)) }
         ensures same { self.new ≡ record self.old { kept = self.new.kept } }
         ensures keeps { IfOk result (λ content. IfSome content (λ bytes.
-            KeepsOrNot at.z at.x at.y (record { origin = Cut; number = self.old.last; bytes = bytes }) self.old.kept self.new.kept)) }
+            KeepsOrNot at.z at.x at.y (record { origin = Cut; number = self.old.last; bytes = rc_slice_items bytes }) self.old.kept self.new.kept)) }
         // If there is nothing to be cached, the cache is unchanged.
         ensures empty { IfOk result (λ content. IfNone content (self.new.kept ≡ self.old.kept)) }
         ensures failed { OnErr result (self.new.kept ≡ self.old.kept) }

@@ -6,6 +6,7 @@ use Rattle.std.proofs.lemmas.Bool.{false≢true}
 use Rattle.std.proofs.Math.Seq.{take-add}
 use Rattle.std.proofs.lemmas.List.{append-nil, drop-drop, drop-take, drop_at, take-take, take_all, take_at, take-append-drop, length-take, length-take-le}
 use Rattle.std.specs.Io.KnownBytes.{Appends}
+use Rattle.std.specs.Rc.{rc_slice_items}
 use Rattle.http_serve.specs.declared.replies.Content.{Content}
 use Rattle.http_serve.specs.declared.replies.Content.TheVariants.{Empty, Fixed, Whole, Shared, Parts}
 use Rattle.http_serve.specs.declared.replies.Reply.{Reply}
@@ -178,7 +179,7 @@ joined : (parts : List ℕ) (content : Content) → FitsParts parts content → 
 joined parts Empty fits = refl
 joined parts (Fixed text) fits = append-nil text.now
 joined parts (Whole bytes) fits = append-nil bytes.items
-joined parts (Shared bytes) fits = append-nil bytes
+joined parts (Shared bytes) fits = append-nil (rc_slice_items bytes)
 joined parts (Parts first size) fits =
     ap (λ (t : List ℕ). t ++ drop (length first.items) parts) (sym fits.1) ∙ take-append-drop (length first.items) parts
 

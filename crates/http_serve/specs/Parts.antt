@@ -2,6 +2,7 @@
 use Rattle.std.specs.Prelude.{ℕ, ◌≡◌, ◌<◌, ◌≤◌, List, [], ◌++◌, ◌||◌, Bool, false, cond, take, drop, length, Result, Ok, Err, Option, Some, None, Vec, ⊤}
 use Rattle.std.proofs.Common.{Global}
 use Rattle.std.specs.Io.KnownBytes.{Appends}
+use Rattle.std.specs.Rc.{rc_slice_items}
 use Rattle.status_phrase.specs.Codes.{code_of}
 use Rattle.http_serve.specs.declared.connection.ServeFault.{ServeFault}
 use Rattle.http_serve.specs.declared.connection.ServeFault.TheVariants as ends
@@ -17,7 +18,7 @@ abbrev pub front_content : Content → List ℕ
 front_content Empty = []
 front_content (Fixed text) = text.now
 front_content (Whole bytes) = bytes.items
-front_content (Shared bytes) = bytes
+front_content (Shared bytes) = rc_slice_items bytes
 front_content (Parts first size) = first.items
 
 -- the content bytes after the front, if the content is read in parts and its bytes are parts; otherwise none

@@ -1,6 +1,7 @@
 -- Replies, and their bytes.
 use Rattle.std.specs.Prelude.{ℕ, List, [], ◌∷◌, ◌++◌, ◌==◌, ◌||◌, Bool, true, false, nat_eq, cond, length, codes, decimal, Option, Some, None, option_map}
 use Rattle.std.specs.Prelude.{IfSome, ◌≤◌, ◌≡◌, ◌+◌, take, drop, ⊤}
+use Rattle.std.specs.Rc.{rc_slice_items}
 use Rattle.status_phrase.specs.Codes.{code_of}
 use Rattle.status_phrase.specs.Phrases.{phrase_of}
 use Rattle.std.specs.Cmp.Lexicographic.{pointwise}
@@ -47,7 +48,7 @@ abbrev pub content_bytes : List ℕ → Content → List ℕ
 content_bytes parts Empty = []
 content_bytes parts (Fixed text) = text.now
 content_bytes parts (Whole bytes) = bytes.items
-content_bytes parts (Shared bytes) = bytes
+content_bytes parts (Shared bytes) = rc_slice_items bytes
 content_bytes parts (Parts first size) = parts
 
 -- the declared length of a content
@@ -55,7 +56,7 @@ abbrev pub content_size : Content → ℕ
 content_size Empty = 0
 content_size (Fixed text) = length text.now
 content_size (Whole bytes) = length bytes.items
-content_size (Shared bytes) = length bytes
+content_size (Shared bytes) = length (rc_slice_items bytes)
 content_size (Parts first size) = size
 
 -- a content that is read in parts has its declared length and begins with its declared first bytes

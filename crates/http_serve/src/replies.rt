@@ -10,10 +10,10 @@ ghost use Rattle.http_serve.specs.Sent.{Sends};
 ghost use Rattle.http_serve.specs.declared.replies.TheConstants.{MAX_REPLY_HEAD, MAX_WORD, REPLY_SPACE};
 
 use crate::writes::{WriteFault, send_all, send_both};
-use bytes::Bytes;
 use decimal_number::{push_number, push_text};
 use status_phrase::Status;
 use std::io::Write;
+use std::rc::RcSlice;
 
 /// Maximum length in bytes of a content type and of a list of methods.
 pub const MAX_WORD: usize = 64;
@@ -31,7 +31,7 @@ pub enum Content {
     /// Owned bytes.
     Whole(Vec<u8>),
     /// Bytes that others may hold as well, such as a cache.
-    Shared(Bytes),
+    Shared(RcSlice<u8>),
     /// `length` bytes that begin with `first`. The rest is read by `Handler::read_content`.
     Parts { first: Vec<u8>, length: u64 },
 }

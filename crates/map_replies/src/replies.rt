@@ -1,5 +1,6 @@
 //! The replies of the service.
 ghost use Rattle.std.specs.Prelude.{◌≡◌, ◌≤◌, [], length, vec_capacity, IfOk, option_map};
+ghost use Rattle.std.specs.Rc.{rc_slice_items};
 ghost use Rattle.http_serve.specs.Reply.{content_bytes, reply_view, InParts, IsWhole};
 ghost use Rattle.status_phrase.specs.Codes.{code_of};
 ghost use Rattle.map_replies.specs.Words.{fault_word, service_word, edit_word, full_word, fault_status, service_status, edit_status};
@@ -12,11 +13,11 @@ ghost use Rattle.map_replies.specs.Words.{text_type, json_type, tile_type};
 ghost use Rattle.map_replies.specs.declared.replies.TheConstants.{MAX_TEXT};
 
 use crate::fault::RequestFault;
-use bytes::Bytes;
 use decimal_number::{MAX_DIGITS, push_number, push_text};
 use feature_model::EditFault;
 use http_serve::{Content, Reply, Status};
 use std::alloc::{AllocError, Global};
+use std::rc::RcSlice;
 use tile_routes::{Target, TileFormat};
 use tile_service::{Published, ServiceFault};
 
@@ -353,8 +354,12 @@ fn format_type(format: TileFormat) -> &'static str
 }
 
 /// The bytes of a tile as they are sent.
-fn format_content(alloc: Global, format: TileFormat, bytes: Bytes) -> Result<Content, AllocError>
-    ensures content { IfOk result (λ content. content_bytes [] content ≡ format_content format bytes) }
+fn format_content(
+    alloc: Global,
+    format: TileFormat,
+    bytes: RcSlice<u8>,
+) -> Result<Content, AllocError>
+    ensures content { IfOk result (λ content. content_bytes [] content ≡ format_content format (rc_slice_items bytes)) }
     ensures whole { IfOk result (λ content. InParts content ⊥) }
 {
     match format {
@@ -364,8 +369,8 @@ fn format_content(alloc: Global, format: TileFormat, bytes: Bytes) -> Result<Con
 }
 
 /// The reply with the bytes of a tile.
-fn some_tile(alloc: Global, format: TileFormat, bytes: Bytes) -> Result<Reply, AllocError>
-    ensures reply { IfOk result (λ reply. reply_view [] reply ≡ tile_reply format bytes) }
+fn some_tile(alloc: Global, format: TileFormat, bytes: RcSlice<u8>) -> Result<Reply, AllocError>
+    ensures reply { IfOk result (λ reply. reply_view [] reply ≡ tile_reply format (rc_slice_items bytes)) }
     ensures writable { IfOk result IsWhole }
 {
     let kind = format_type(format);
@@ -377,9 +382,9 @@ fn some_tile(alloc: Global, format: TileFormat, bytes: Bytes) -> Result<Reply, A
 pub(crate) fn tile(
     alloc: Global,
     format: TileFormat,
-    content: Option<Bytes>,
+    content: Option<RcSlice<u8>>,
 ) -> Result<Reply, AllocError>
-    ensures reply { IfOk result (λ reply. reply_view [] reply ≡ content_reply format content) }
+    ensures reply { IfOk result (λ reply. reply_view [] reply ≡ content_reply format (option_map rc_slice_items content)) }
     ensures writable { IfOk result IsWhole }
 {
     match content {

@@ -1,10 +1,10 @@
 //! Lines over the newest edits of the world's cells, and over tiles that are kept.
 use crate::lines::{Line, byte};
-use bytes::Bytes;
 use feature_model::WorldBox;
 use hilbert_id::TileAt;
 use script_bytes::short;
 use std::alloc::{AllocError, Global};
+use std::rc::RcSlice;
 use tile_cache::{CachedTile, Origin, TileCache, TouchGrid};
 
 /// A grid of cells, and a cache of tiles.
@@ -43,7 +43,7 @@ impl Caches {
         number: u64,
         first: u64,
     ) -> Result<String, AllocError> {
-        let bytes = Bytes::copy_from_slice(alloc, &[byte(first), 1, 2])?;
+        let bytes = RcSlice::from_slice(alloc, &[byte(first), 1, 2])?;
         let tile = CachedTile {
             origin: Origin::Cut,
             number,

@@ -7,6 +7,7 @@ use Rattle.std.proofs.lemmas.Map.Made.{lookup-map_values}
 use Rattle.std.specs.Map.{lookup, lookup_entry, remove_entry}
 use Rattle.std.specs.Option.{option_map_or}
 use Rattle.std.specs.Prelude.{option_map, slice_get, sum_by}
+use Rattle.std.specs.Rc.{rc_slice_items}
 use Rattle.std.proofs.lemmas.Bool.{eqb-true, eq-eqb, le-leb, lt-leb}
 use Rattle.lru.specs.LruCache.{LruCache, lru_cache, last_entry, promoted, put_entries, displaced}
 use Rattle.lru.proofs.CallerLemmas.{Contains-lookup_entry}
@@ -166,7 +167,7 @@ abbrev pub Entry : Type 0
 Entry = TileKey × CachedTile
 
 abbrev pub size : Entry → ℕ
-size e = length e.1.bytes
+size e = length (rc_slice_items e.1.bytes)
 
 -- the bytes of the first entries, and of the one behind them
 pub bytes_taken : (n : ℕ) (es : List Entry) → length es ≤ suc n
@@ -240,7 +241,7 @@ module _ (c : LruCache TileKey CachedTile) (at : TileKey) (v : CachedTile) where
   bytes_after : (o : Option Entry) → lookup_entry (is_place at) c.entries ≡ o → (w : Option CachedTile) → lookup (is_place at) c.entries ≡ w
       → length c.entries ≤ c.cap → bytes_of (after o)
       + option_map_or size (option_map_or (λ (old : CachedTile). Some (at, old)) w (slice_get c.entries (c.cap - 1))) 0
-      ≡ bytes_of c.entries + length v.bytes
+      ≡ bytes_of c.entries + length (rc_slice_items v.bytes)
   bytes_after None is None was few =
       omega (arith, sum_by-cons size (at, v) (take (c.cap - 1) c.entries), bytes_taken (c.cap - 1) c.entries (omega (arith, few)))
   bytes_after None is (Some w) was few = absurd (none_of c.entries is was)
@@ -257,14 +258,14 @@ module _ (c : LruCache TileKey CachedTile) (at : TileKey) (v : CachedTile) where
 
   -- what gave way, and what is there now, have the bytes that were there and those of the tile
   pub bytes_put : length c.entries ≤ c.cap
-      → bytes_of (put_entries is_place c at v) + option_map_or size (displaced is_place c at v) 0 ≡ bytes_of c.entries + length v.bytes
+      → bytes_of (put_entries is_place c at v) + option_map_or size (displaced is_place c at v) 0 ≡ bytes_of c.entries + length (rc_slice_items v.bytes)
   bytes_put few = bytes_after (lookup_entry (is_place at) c.entries) refl (lookup (is_place at) c.entries) refl few
 
-  small_after : (o : Option Entry) → IsSmall v.bytes → IsFirstSmall (after o)
+  small_after : (o : Option Entry) → IsSmall (rc_slice_items v.bytes) → IsFirstSmall (after o)
   small_after None small = small
   small_after (Some e) small = small
 
-  pub small_put : IsSmall v.bytes → IsFirstSmall (put_entries is_place c at v)
+  pub small_put : IsSmall (rc_slice_items v.bytes) → IsFirstSmall (put_entries is_place c at v)
   small_put = small_after (lookup_entry (is_place at) c.entries)
 
 -- ---- what is kept
@@ -354,5 +355,5 @@ pub not_counted : (newest : ℕ) (reads : Bool) (k : CachedTile) → counts read
 not_counted newest reads k is le = rw (le-leb newest k.number le, is) refl
 
 pub current : (newest : ℕ) (reads : Bool) (k : CachedTile) → counts reads k.origin ≡ true → newest ≤ k.number
-    → Some k.bytes ≡ fresh newest reads (Some (tile_view k))
+    → Some (rc_slice_items k.bytes) ≡ fresh newest reads (Some (tile_view k))
 current newest reads k is le = rw (le-leb newest k.number le, is) refl

@@ -1,5 +1,6 @@
 -- The list that keeps tiles: their places and the tiles, the one that was asked for last first.
 use Rattle.std.specs.Prelude.{◌≡◌, ◌<◌, ◌≤◌, ◌⊎◌, ℕ, suc, List, [], ◌∷◌, length, take, sum_by}
+use Rattle.std.specs.Rc.{rc_slice_items}
 use Rattle.lru.specs.LruCache.{LruCache}
 use Rattle.tile_cache.specs.declared.cached_tiles.CachedTile.{CachedTile}
 use Rattle.tile_cache.specs.declared.cached_tiles.TheConstants.{MAX_CACHED_BYTES}
@@ -8,12 +9,12 @@ use Rattle.tile_cache.specs.Kept.{IsSmall}
 
 -- the bytes of the tiles of these entries together
 abbrev pub bytes_of : List (TileKey × CachedTile) → ℕ
-bytes_of es = sum_by (λ e. length e.1.bytes) es
+bytes_of es = sum_by (λ e. length (rc_slice_items e.1.bytes)) es
 
 -- there is a first tile, and it is small
 abbrev pub IsFirstSmall : List (TileKey × CachedTile) → Type 0
 IsFirstSmall [] = ⊥
-IsFirstSmall (e ∷ es) = IsSmall e.1.bytes
+IsFirstSmall (e ∷ es) = IsSmall (rc_slice_items e.1.bytes)
 
 -- the entries at the front stay, at least the first; with one more they would have too many bytes, unless all stay
 pub record IsFront (old new : LruCache TileKey CachedTile) : Type 0 where

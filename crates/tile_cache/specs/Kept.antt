@@ -2,6 +2,7 @@
 use Rattle.std.specs.Prelude.{◌≡◌, ℕ, Bool, true, false, cond, ◌&&◌, ◌⊎◌, ◌+◌, ◌<◌, ◌≤◌, List, ◌∷◌, ◌++◌, length, sum_by, Option, Some, None, nat_le, nat_eq}
 use Rattle.std.specs.Map.{lookup, lookup_entry, remove_entry}
 use Rattle.std.specs.Option.{option_map_or}
+use Rattle.std.specs.Rc.{rc_slice_items}
 use Rattle.tile_cache.specs.declared.cached_tiles.TheConstants.{MAX_CACHED_TILES, MAX_CACHED_BYTES, MAX_TILE_BYTES}
 use Rattle.tile_cache.specs.declared.cached_tiles.CachedTile.{CachedTile}
 use Rattle.tile_cache.specs.declared.cached_tiles.Origin.{Origin}
@@ -15,7 +16,7 @@ pub record TileView : Type 0 where
   pub bytes : List ℕ
 
 abbrev pub tile_view : CachedTile → TileView
-tile_view k = record { origin = k.origin; number = k.number; bytes = k.bytes }
+tile_view k = record { origin = k.origin; number = k.number; bytes = rc_slice_items k.bytes }
 
 -- a place, and what is kept of its tile
 abbrev pub KeptTile : Type 0

@@ -2,16 +2,17 @@
 
 ghost use Rattle.std.specs.Prelude.{◌≡◌, ◌+◌, ◌<◌, ◌≤◌, [], length, Some, OnOk, OnErr, IfOk, option_map};
 ghost use Rattle.std.specs.Option.{option_map_or};
+ghost use Rattle.std.specs.Rc.{rc_slice_items};
 ghost use Rattle.lru.specs.LruCache.{lru_cache, put_entries};
 ghost use Rattle.tile_cache.specs.Kept.{counts, is_place, IsSmall};
 ghost use Rattle.tile_cache.specs.Entries.{bytes_of, IsFirstSmall, IsFront};
 
-use bytes::Bytes;
 use hilbert_id::TileAt;
 use lru::LruCache;
 use std::alloc::{AllocError, Global};
 use std::marker::Model;
 use std::num::NonZeroUsize;
+use std::rc::RcSlice;
 
 /// The most tiles in the cache.
 pub const MAX_CACHED_TILES: usize = 256;
@@ -44,7 +45,7 @@ pub enum Origin {
 pub struct CachedTile {
     pub origin: Origin,
     pub number: u64,
-    pub bytes: Bytes,
+    pub bytes: RcSlice<u8>,
 }
 
 /// A cache of tiles, by their place: at most `MAX_CACHED_TILES` tiles, and at most `MAX_CACHED_BYTES` bytes.
@@ -90,7 +91,7 @@ fn counts(origin: Origin, reads: bool) -> bool
 
 /// The bytes of the tile that was dropped, or 0 if none was.
 fn bytes_freed(displaced: Option<(TileKey, CachedTile)>) -> usize
-    ensures { result ≡ option_map_or (λ e. length e.1.bytes) displaced 0 }
+    ensures { result ≡ option_map_or (λ e. length (rc_slice_items e.1.bytes)) displaced 0 }
 {
     match displaced {
         Some((_, tile)) => tile.bytes.len(),
@@ -108,10 +109,10 @@ fn put_first(
     requires count { bytes ≡ bytes_of tiles.old.entries }
     requires cap { length tiles.old.entries ≤ tiles.old.cap }
     requires most { bytes ≤ MAX_CACHED_BYTES }
-    requires small { IsSmall tile.bytes }
+    requires small { IsSmall (rc_slice_items tile.bytes) }
     ensures entries { OnOk result (tiles.new ≡ lru_cache (put_entries is_place tiles.old place tile) tiles.old.cap) }
     ensures count { IfOk result (λ n. n ≡ bytes_of tiles.new.entries) }
-    ensures most { IfOk result (λ n. n ≤ bytes + length tile.bytes) }
+    ensures most { IfOk result (λ n. n ≤ bytes + length (rc_slice_items tile.bytes)) }
     ensures refused { OnErr result (tiles.new ≡ tiles.old) }
 {
     let size = tile.bytes.len();
@@ -161,8 +162,8 @@ impl TileCache {
     }
 
     /// The bytes cached for a place, if they are right as of the edit `newest` or a later one, and if they were cut or `reads` is true.
-    pub fn peek(&self, at: TileAt, newest: u64, reads: bool) -> Option<&Bytes>
-        ensures { option_map (λ b. b.now) result ≡ fresh newest reads (kept_at self.now at.z at.x at.y) }
+    pub fn peek(&self, at: TileAt, newest: u64, reads: bool) -> Option<&RcSlice<u8>>
+        ensures { option_map (λ b. rc_slice_items b.now) result ≡ fresh newest reads (kept_at self.now at.z at.x at.y) }
     {
         let place = place_of(at);
         match self.tiles.peek(&place) {
@@ -184,13 +185,13 @@ impl TileCache {
     ///
     /// The only error is out of memory: the cache is unchanged then.
     pub fn keep(&mut self, at: TileAt, tile: CachedTile) -> Result<(), AllocError>
-        ensures kept { OnOk result (IsSmall tile.bytes → kept_at self.new at.z at.x at.y ≡ Some (tile_view tile)) }
-        ensures latest { OnOk result (IsSmall tile.bytes
+        ensures kept { OnOk result (IsSmall (rc_slice_items tile.bytes) → kept_at self.new at.z at.x at.y ≡ Some (tile_view tile)) }
+        ensures latest { OnOk result (IsSmall (rc_slice_items tile.bytes)
             → KeepsLatest (with_first (record { z = at.z; x = at.x; y = at.y }) (tile_view tile) self.old.kept) self.new.kept) }
-        ensures large { ¬ IsSmall tile.bytes → self.new ≡ self.old }
+        ensures large { ¬ IsSmall (rc_slice_items tile.bytes) → self.new ≡ self.old }
         ensures others { OnOk result (KeepsFewer at.z at.x at.y self.old self.new) }
         // Nothing is dropped while there is room.
-        ensures room { length self.old.kept < MAX_CACHED_TILES → bytes_in self.old + length tile.bytes ≤ MAX_CACHED_BYTES
+        ensures room { length self.old.kept < MAX_CACHED_TILES → bytes_in self.old + length (rc_slice_items tile.bytes) ≤ MAX_CACHED_BYTES
             → OnOk result (KeepsOthers at.z at.x at.y self.old self.new) }
         ensures most_tiles { length self.new.kept ≤ MAX_CACHED_TILES }
         ensures most_bytes { bytes_in self.new ≤ MAX_CACHED_BYTES }

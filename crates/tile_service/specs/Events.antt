@@ -1,5 +1,6 @@
 -- What happened, given the event that asked for it and its answer.
 use Rattle.std.specs.Prelude.{◌≡◌, ◌⊎◌, ℕ, List, [], ◌∷◌, map, option_map, Result, Ok, Err}
+use Rattle.cached_map.specs.Cached.{shared_bytes}
 use Rattle.feature_model.specs.Data.{feature_data, change_data, put, delete}
 use Rattle.tile_service.specs.Machine.{got, no_memory, Happening, single, batched, recorded_in, recorded_change, edit, begin, step, cancel, tile, look}
 use Rattle.tile_service.specs.declared.event.Event.{Event}
@@ -21,7 +22,7 @@ Tells version (events.Batch changes) (answers.Edited number) happening =
     happening ≡ edit batched (recorded_in version (map change_data changes.items)) (Ok number)
 Tells version (events.Batch changes) (answers.Refused fault) happening =
     happening ≡ edit batched (recorded_in version (map change_data changes.items)) (Err fault)
-Tells version (events.Tile at) (answers.Tile content) happening = happening ≡ tile at.z at.x at.y (got content)
+Tells version (events.Tile at) (answers.Tile content) happening = happening ≡ tile at.z at.x at.y (got (shared_bytes content))
 Tells version (events.Tile at) (answers.Refused fault) happening = (fault ≡ Memory) × (happening ≡ tile at.z at.x at.y no_memory)
 Tells version (events.Look id) (answers.Look feature) happening = happening ≡ look id (got (option_map feature_data feature))
 Tells version (events.Look id) (answers.Refused fault) happening = (fault ≡ Memory) × (happening ≡ look id no_memory)

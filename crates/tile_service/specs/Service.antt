@@ -2,6 +2,7 @@
 use Rattle.std.specs.Prelude.{◌≡◌, ◌≢◌, ◌⊎◌, ◌<◌, ◌≤◌, ◌+◌, ◌-◌, ◌*◌, ◌^◌, ℕ, zero, List, Bool, false, length, take, slice_range}
 use Rattle.std.specs.Prelude.{Option, Some, None, IfSome, option_map, Result, Ok, Err, MatchResult, Vec}
 use Rattle.std.proofs.Common.{Global}
+use Rattle.std.specs.declared.rc.RcSlice.{RcSlice}
 use Rattle.sector_disk.specs.Disk.{History, Image, seen, HasFailed}
 use Rattle.sector_disk.specs.Disk.History.{synced}
 use Rattle.sector_disk.specs.declared.disk.TheConstants.{SECTOR_BYTES}
@@ -18,7 +19,7 @@ use Rattle.edit_journal.specs.declared.fault.JournalFault.TheVariants as journal
 use Rattle.edit_journal.specs.declared.journal.Journal.{Journal}
 use Rattle.edit_journal.specs.declared.journal.JournalPosition.{JournalPosition}
 use Rattle.edit_journal.specs.declared.sizes.TheConstants.{PART_BYTES}
-use Rattle.cached_map.specs.Cached.{CachedView, AreReadRight}
+use Rattle.cached_map.specs.Cached.{CachedView, AreReadRight, shared_bytes}
 use Rattle.area_content.specs.Content.{ContentView, sectors_taken}
 use Rattle.feature_store.specs.Store.{FeatureMap, greatest_id, snapshot}
 use Rattle.pm_archive.specs.declared.fault.ArchiveFault.{ArchiveFault}
@@ -248,14 +249,14 @@ ReadsFrom archive (read at (Some bytes)) = bytes ≡ slice_range archive at (at 
 ReadsFrom archive happening = Unit {0}
 
 -- what was read of an archive is shared as it is, unless its fault is reported, or that of an allocation
-abbrev pub IsShared : Result (Option (Vec ℕ Global)) ArchiveFault → Result (Option (List ℕ)) ArchiveFault → Type 0
-IsShared (Ok found) (Ok shared) = shared ≡ option_map (λ bytes. bytes.items) found
+abbrev pub IsShared : Result (Option (Vec ℕ Global)) ArchiveFault → Result (Option (RcSlice ℕ Global)) ArchiveFault → Type 0
+IsShared (Ok found) (Ok shared) = shared_bytes shared ≡ option_map (λ bytes. bytes.items) found
 IsShared (Err fault) (Ok shared) = ⊥
 IsShared found (Err fault) = (found ≡ Err fault) ⊎ (fault ≡ archives.Memory)
 
 -- the outcome of a tile
-abbrev pub tile_outcome : Result (Option (List ℕ)) ServiceFault → OrMemory (Option (List ℕ))
-tile_outcome (Ok content) = got content
+abbrev pub tile_outcome : Result (Option (RcSlice ℕ Global)) ServiceFault → OrMemory (Option (List ℕ))
+tile_outcome (Ok content) = got (shared_bytes content)
 tile_outcome (Err fault) = no_memory
 
 -- an edit is on the disk, or may be

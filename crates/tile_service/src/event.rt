@@ -1,8 +1,8 @@
 //! Events and their answers.
 use crate::fault::ServiceFault;
-use bytes::Bytes;
 use feature_model::{Change, Feature};
 use hilbert_id::TileAt;
+use std::rc::RcSlice;
 
 /// A request to a service.
 #[derive(Debug, PartialEq, Eq, Drop)]
@@ -31,7 +31,7 @@ pub enum Answer {
     /// The edit was made, with this number.
     Edited(u64),
     /// The bytes of the tile, or `None` if it is empty.
-    Tile(Option<Bytes>),
+    Tile(Option<RcSlice<u8>>),
     /// The feature, or `None` if the id has none.
     Look(Option<Feature>),
     /// How much of the publication is left: the sectors to write, and one for the root. With 0 it is installed.

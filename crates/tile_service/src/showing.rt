@@ -1,5 +1,6 @@
 //! What a service shows.
 ghost use Rattle.std.specs.Prelude.{◌≡◌, ℕ, List, Some, not, false, true, IfErr, IfOk, IfSome, MatchResult, option_map, string_bytes};
+ghost use Rattle.cached_map.specs.Cached.{shared_bytes};
 ghost use Rattle.feature_model.specs.Limits.{IsAllowed};
 ghost use Rattle.feature_store.specs.Content.{IsTileContent};
 ghost use Rattle.feature_store.specs.Layers.{layers};
@@ -22,20 +23,20 @@ ghost use Rattle.tile_service.specs.declared.fault.ServiceFault.TheVariants.{Mem
 
 use crate::fault::ServiceFault;
 use crate::service::Service;
-use bytes::Bytes;
 use feature_text::FeatureText;
 use hilbert_id::TileAt;
 use map_metadata::metadata_text;
 use pm_archive::ArchiveFault;
 use sector_disk::Sectors;
 use std::alloc::AllocError;
+use std::rc::RcSlice;
 
 /// What was read, with bytes that can be shared.
-fn share(found: Result<Option<Vec<u8>>, ArchiveFault>) -> Result<Option<Bytes>, ArchiveFault>
+fn share(found: Result<Option<Vec<u8>>, ArchiveFault>) -> Result<Option<RcSlice<u8>>, ArchiveFault>
     ensures { IsShared found result }
 {
     match found? {
-        Some(bytes) => match Bytes::from_vec(bytes) {
+        Some(bytes) => match RcSlice::from_vec(bytes) {
             Ok(bytes) => Ok(Some(bytes)),
             Err(_) => Err(ArchiveFault::Memory),
         },
@@ -66,12 +67,12 @@ impl<D: Sectors + Drop> Service<D> {
     /// # Errors
     ///
     /// A read has failed, or an allocation.
-    fn archived_tile(&mut self, at: TileAt) -> Result<Option<Bytes>, ArchiveFault>
+    fn archived_tile(&mut self, at: TileAt) -> Result<Option<RcSlice<u8>>, ArchiveFault>
         ensures same { self.new ≡ record self.old { disk = self.new.disk; published = self.new.published } }
         ensures disk { OnlyReads D.sectors D.honest D.history self.old.disk self.new.disk }
         ensures never_falls { NeverFalls (D.faults self.old.disk) (D.faults self.new.disk) }
         ensures tile { (stored : Stored) → IsUp (D.sectors self.old.disk) (D.history self.old.disk) stored self.old → D.honest self.new.disk
-            → MatchResult result (λ content. IsTileContent (layers stored.snapshot_map at.z at.x at.y) content) IsOutside }
+            → MatchResult result (λ content. IsTileContent (layers stored.snapshot_map at.z at.x at.y) (shared_bytes content)) IsOutside }
         ensures up { (stored : Stored) → IsUp (D.sectors self.old.disk) (D.history self.old.disk) stored self.old → D.honest self.new.disk
             → IsUp (D.sectors self.new.disk) (D.history self.new.disk) stored self.new }
     {
@@ -81,14 +82,14 @@ impl<D: Sectors + Drop> Service<D> {
 
     /// The bytes of a tile in the archive, if no edit since can have changed it; `None` if one may have, if the archive can't be read,
     /// or if the service is broken. They are cached.
-    fn published_tile(&mut self, at: TileAt) -> Option<Option<Bytes>>
+    fn published_tile(&mut self, at: TileAt) -> Option<Option<RcSlice<u8>>>
         ensures same { self.new ≡ record self.old { disk = self.new.disk; published = self.new.published; kept = self.new.kept } }
         ensures disk { OnlyReads D.sectors D.honest D.history self.old.disk self.new.disk }
         ensures never_falls { NeverFalls (D.faults self.old.disk) (D.faults self.new.disk) }
         ensures untouched { self.old.broken ≡ true → self.new.disk ≡ self.old.disk }
         ensures unbroken { IfSome result (λ content. self.old.broken ≡ false) }
         ensures tile { (stored : Stored) → IsUp (D.sectors self.old.disk) (D.history self.old.disk) stored self.old → D.honest self.new.disk
-            → IfSome result (λ content. IsTileContent (layers self.old.features at.z at.x at.y) content) }
+            → IfSome result (λ content. IsTileContent (layers self.old.features at.z at.x at.y) (shared_bytes content)) }
         ensures up { (stored : Stored) → IsUp (D.sectors self.old.disk) (D.history self.old.disk) stored self.old → D.honest self.new.disk
             → IsUp (D.sectors self.new.disk) (D.history self.new.disk) stored self.new }
     {
@@ -113,7 +114,7 @@ impl<D: Sectors + Drop> Service<D> {
     /// zoom too. A cached tile that no edit since can have changed is shared; a broken service shares only what it cut itself. Else, if
     /// no edit since the publication can have changed the tile, it is read from the archive. Else, or if that read fails, it is
     /// generated from the map. What was read or generated is cached. The only error is `Memory`.
-    pub fn tile(&mut self, at: TileAt) -> Result<Option<Bytes>, ServiceFault>
+    pub fn tile(&mut self, at: TileAt) -> Result<Option<RcSlice<u8>>, ServiceFault>
         ensures machine { (known : Known) → Happens (IsTrusted D.sectors D.honest D.history self.old self.new)
             (state_of known self.old) (tile at.z at.x at.y (tile_outcome result)) (state_of known self.new) }
         ensures fault { IfErr result (λ fault. fault ≡ Memory) }
@@ -124,7 +125,7 @@ impl<D: Sectors + Drop> Service<D> {
         // What is cached and fresh is given, and the disk isn't read.
         ensures cached { (newest : ℕ) (bytes : List ℕ) → IsNewestOf self.old.touched at.z at.x at.y newest
             → fresh newest (not self.old.broken) (kept_at self.old.kept at.z at.x at.y) ≡ Some bytes
-            → (self.new.disk ≡ self.old.disk) × IfOk result (λ content. content ≡ Some bytes) }
+            → (self.new.disk ≡ self.old.disk) × IfOk result (λ content. shared_bytes content ≡ Some bytes) }
         ensures up { (stored : Stored) → IsUp (D.sectors self.old.disk) (D.history self.old.disk) stored self.old → D.honest self.new.disk
             → IsUp (D.sectors self.new.disk) (D.history self.new.disk) stored self.new }
     {

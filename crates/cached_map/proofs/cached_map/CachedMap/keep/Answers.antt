@@ -1,15 +1,16 @@
+use Rattle.std.specs.Rc.{rc_slice_items}
 use Rattle.cached_map.proofs.Kept.{cut_kept, cut_beside_reads}
 use Rattle.cached_map.proofs.cached_map.CachedMap.keep.Goals as goal
 
 pub invariant_of-self : goal.invariant_of-self
 invariant_of-self c =
     let at = c.args.at in let inside = c.self.inside in
-    cut_kept inside.store.features inside.touched inside.last inside.kept c.keep_shared.new.kept at.z at.x at.y c.args.bytes.now
+    cut_kept inside.store.features inside.touched inside.last inside.kept c.keep_shared.new.kept at.z at.x at.y (rc_slice_items c.args.bytes.now)
     (rw (← c.self.view_is) at c.requires.content) c.keep_shared.ensures c.self.invariant
 
 pub returns-clause-reads : goal.returns-clause-reads
 returns-clause-reads c =
     let at = c.args.at in let inside = c.self.inside in
     rw (← c.self.view_is)
-    (cut_beside_reads inside.store.features inside.touched inside.last inside.last inside.kept c.keep_shared.new.kept at.z at.x at.y c.args.bytes.now
-    c.keep_shared.ensures)
+    (cut_beside_reads inside.store.features inside.touched inside.last inside.last inside.kept c.keep_shared.new.kept at.z at.x at.y
+    (rc_slice_items c.args.bytes.now) c.keep_shared.ensures)

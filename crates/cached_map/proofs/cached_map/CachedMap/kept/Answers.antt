@@ -1,4 +1,5 @@
 use Rattle.std.proofs.Common.{None, Some, sym, ap, ◌∙◌, subst}
+use Rattle.std.specs.Rc.{rc_slice_items}
 use Rattle.tile_cache.specs.declared.cached_tiles.Origin.TheVariants.{Cut, Read}
 use Rattle.feature_store.specs.Content.{IsTileContent}
 use Rattle.feature_store.specs.Layers.{layers}
@@ -10,7 +11,8 @@ returns-in-Some-clause-tile c =
     let at = c.args.at in let inside = c.self.inside in let kept = c.promote.new.self in
     rw (← c.self.view_is)
     (λ read. subst (λ b. IsTileContent (layers inside.store.features at.z at.x at.y) (Some b)) (sym c.in_ok-clone.ensures.cases)
-    (found_is inside.store.features inside.touched inside.last kept at.z at.x at.y c.newest-newest.result c.args.reads c.in-Some.bytes.now
+    (found_is inside.store.features inside.touched inside.last kept at.z at.x at.y c.newest-newest.result c.args.reads
+    (rc_slice_items c.in-Some.bytes.now)
     (same_kept Cut inside.store.features inside.touched inside.last inside.kept kept c.promote.ensures.same c.self.invariant)
     (λ counted. same_kept Read inside.store.features inside.touched inside.last inside.kept kept c.promote.ensures.same (read counted))
     (rw (← c.self.view_is) at c.newest-newest.ensures.marked) c.in-Some.ensures))
@@ -20,7 +22,7 @@ returns-in-Some-clause-given c =
     let at = c.args.at in let inside = c.self.inside in
     rw (← c.self.view_is)
     (λ newest is. fresh_same inside.touched inside.kept c.promote.new.self at.z at.x at.y c.newest-newest.result newest c.args.reads
-    (Some c.in_ok-clone.field-0) c.promote.ensures.same (rw (← c.self.view_is) at c.newest-newest.ensures.of_cells) is
+    (Some (rc_slice_items c.in_ok-clone.field-0)) c.promote.ensures.same (rw (← c.self.view_is) at c.newest-newest.ensures.of_cells) is
     (ap Some c.in_ok-clone.ensures.cases ∙ c.in-Some.ensures))
 
 pub returns-clause-given : goal.returns-clause-given

@@ -1,4 +1,5 @@
-use Rattle.std.proofs.Common.{ap, refl}
+use Rattle.std.proofs.Common.{ap, option_map, refl}
+use Rattle.std.specs.Rc.{rc_slice_items}
 use Rattle.tile_service.specs.Machine.{got, no_memory, tile}
 use Rattle.tile_service.specs.Service.{state_of}
 use Rattle.tile_service.proofs.Runs.Callers.{tile_step}
@@ -12,7 +13,7 @@ returns-in-Ok-tile-clause-answered g c =
     let d = g.D.Sectors in
     let at = c.args.at in
     let call = c.tile.ensures in
-    let outcome = got c.in-Ok.content in
+    let outcome = got (option_map rc_slice_items c.in-Ok.content) in
     called d.sectors d.honest d.history (tile at.z at.x at.y) (shown_reply (content_reply c.args.format)) _ _ outcome _ c.in-Ok-tile.ensures.reply
     (tile_step d.sectors d.honest d.history _ _ call.same call.disk call.untouched call.up at.z at.x at.y outcome
     c.in-Ok.ensures.machine)

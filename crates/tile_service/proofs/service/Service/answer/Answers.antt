@@ -1,4 +1,5 @@
 use Rattle.std.proofs.Common.{◌∙◌, Ok, Err, map, refl, sym}
+use Rattle.cached_map.specs.Cached.{shared_bytes}
 use Rattle.feature_model.specs.Data.{put, delete, feature_data, change_data}
 use Rattle.tile_service.specs.Machine.{got, no_memory, single, batched, recorded_in, recorded_change, edit, begin, step, cancel, tile, look}
 use Rattle.tile_service.proofs.Runs.Callers.{edit_step, tile_step, look_step, begin_step, step_step, cancel_step}
@@ -61,7 +62,7 @@ returns-in-Batch-clause-failed g c =
 
 pub returns-in-Ok-clause-takes : goal.returns-in-Ok-clause-takes
 returns-in-Ok-clause-takes g c = (
-  tile c.in-Tile.at.z c.in-Tile.at.x c.in-Tile.at.y (got c.in-Ok.content),
+  tile c.in-Tile.at.z c.in-Tile.at.x c.in-Tile.at.y (got (shared_bytes c.in-Ok.content)),
   told_step c.args.self.now.version _ c.in-Tile.is refl refl,
   tile_step g.D.Sectors.sectors g.D.Sectors.honest g.D.Sectors.history _ _ c.tile.ensures.same c.tile.ensures.disk
       c.tile.ensures.untouched c.tile.ensures.up c.in-Tile.at.z c.in-Tile.at.x c.in-Tile.at.y _ c.in-Ok.ensures.machine,

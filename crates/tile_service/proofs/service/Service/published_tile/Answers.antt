@@ -1,6 +1,7 @@
 use Rattle.std.proofs.Common.{◌≡◌, ◌∙◌, ℕ, arith, ap, List, refl, sym, subst}
 use Rattle.std.proofs.lemmas.Bool.{false≢true}
-use Rattle.cached_map.specs.Cached.{WasMap}
+use Rattle.std.specs.Rc.{rc_slice_items}
+use Rattle.cached_map.specs.Cached.{WasMap, shared_bytes}
 use Rattle.feature_store.specs.Content.{IsTileContent}
 use Rattle.feature_store.specs.Layers.{layers}
 use Rattle.mvt_layer.specs.Tile.{LayerView}
@@ -66,7 +67,7 @@ returns-after-content-clause-never_falls g c =
 pub returns-after-content-clause-tile : goal.returns-after-content-clause-tile
 returns-after-content-clause-tile g c = rw (← c.self.view_is) (λ stored up honest.
     let at = c.args.at in
-    subst (λ (ls : List LayerView). IsTileContent ls c.in-Ok.content)
+    subst (λ (ls : List LayerView). IsTileContent ls (shared_bytes c.in-Ok.content))
     (sym (same_layers _ _ stored _ up at.z at.x at.y c.newest.result c.self.inside.journal.edits refl (omega (arith, c.if-newest-self.false))
     (λ n was is older. c.newest.ensures.since n was
     (subst (λ (last : ℕ). WasMap c.self.inside.map.features c.self.inside.map.touched last n was) (sym c.self.invariant.last_is) is) older)))
@@ -81,13 +82,13 @@ returns-after-content-clause-up g c stored up honest =
     let told = c.in-Ok.ensures.tile stored up read_honest in
     elim c.match-content.branch [
       | in-Some w ↦
-          let tile = subst (IsTileContent (layers stored.snapshot_map at.z at.x at.y)) w.in-Some.is told in
+          let tile = subst (λ content. IsTileContent (layers stored.snapshot_map at.z at.x at.y) (shared_bytes content)) w.in-Some.is told in
           subst (λ s. IsUp (g.D.Sectors.sectors s.disk) (g.D.Sectors.history s.disk) stored s) (sym w.self-is)
           (up_keeps_read _ _ stored _ _
           (subst (λ s. IsUp (g.D.Sectors.sectors s.disk) (g.D.Sectors.history s.disk) stored s) (sym c.self-2.view_is) still)
           c.self-2.inside.map w.keep_read.new.self c.self-2.inside.journal.edits
           (record { features = refl; touched = refl; last = c.self-2.invariant.last_is; kept = refl }) w.keep_read.ensures.same refl refl
-          at.z at.x at.y w.in-Some.bytes tile w.keep_read.ensures.reads)
+          at.z at.x at.y (rc_slice_items w.in-Some.bytes) tile w.keep_read.ensures.reads)
       | in_default w ↦ subst (λ s. IsUp (g.D.Sectors.sectors s.disk) (g.D.Sectors.history s.disk) stored s) (sym w.self-is) still
     ]
 

@@ -3,6 +3,7 @@ use Rattle.std.proofs.lemmas.Bool.{not-true}
 use Rattle.sector_bytes.specs.Counts.{NeverFalls}
 use Rattle.sector_bytes.proofs.Counts.{same_count}
 use Rattle.sector_disk.proofs.AskedLaws.{reads_none}
+use Rattle.cached_map.specs.Cached.{shared_bytes}
 use Rattle.feature_store.specs.Content.{IsTileContent}
 use Rattle.feature_store.specs.Layers.{layers}
 use Rattle.tile_service.specs.Inside.{service_view}
@@ -39,7 +40,7 @@ returns-in-Ok-Some-clause-untouched g c = rw (← c.self.view_is) (λ broken. re
 pub returns-in-Ok-Some-clause-cached : goal.returns-in-Ok-Some-clause-cached
 returns-in-Ok-Some-clause-cached g c = rw (← c.self.view_is) (λ newest bytes is given. (
   refl,
-  sym c.in-Ok-Some.field-0-is ∙ c.in-Ok-Some.ensures.given newest is ∙ given,
+  ap shared_bytes (sym c.in-Ok-Some.field-0-is) ∙ c.in-Ok-Some.ensures.given newest is ∙ given,
 ))
 
 pub returns-in-Ok-Some-clause-up : goal.returns-in-Ok-Some-clause-up
@@ -104,14 +105,14 @@ returns-in-Some-clause-machine g c = rw (← c.self.view_is) (λ known. (
       let at = c.args.at in
       let up = up_cached _ _ is.1.0 _ _ is.1.1 c.self.inside.map c.kept.new.self
       (record { features = refl; touched = refl; last = c.self.invariant.last_is; kept = refl }) c.kept.ensures.same refl c.kept.ensures.reads in
-      subst (λ m. IsTileContent (layers m.features at.z at.x at.y) c.in-Some.content) c.kept.ensures.same
+      subst (λ m. IsTileContent (layers m.features at.z at.x at.y) (shared_bytes c.in-Some.content)) c.kept.ensures.same
       (c.in-Some.ensures.tile is.1.0 up is.0)),
   ap (state_of known) (read_same g c),
 ))
 
 pub returns-in-Some-clause-cached : goal.returns-in-Some-clause-cached
 returns-in-Some-clause-cached g c = rw (← c.self.view_is) (λ newest bytes is given. absurd (nothing_given bytes
-    (sym c.in-Ok-None.field-0-is ∙ c.in-Ok-None.ensures.given newest is ∙ given)))
+    (ap shared_bytes (sym c.in-Ok-None.field-0-is) ∙ c.in-Ok-None.ensures.given newest is ∙ given)))
 
 pub returns-in-Some-clause-up : goal.returns-in-Some-clause-up
 returns-in-Some-clause-up g c = rw (← c.self.view_is) (λ stored up honest.
@@ -163,7 +164,7 @@ returns-clause-untouched g c = rw (← c.self.view_is, ap (λ s. s.disk) c.self-
 
 pub returns-clause-cached : goal.returns-clause-cached
 returns-clause-cached g c = rw (← c.self.view_is) (λ newest bytes is given. absurd (nothing_given bytes
-    (sym c.in-Ok-None.field-0-is ∙ c.in-Ok-None.ensures.given newest is ∙ given)))
+    (ap shared_bytes (sym c.in-Ok-None.field-0-is) ∙ c.in-Ok-None.ensures.given newest is ∙ given)))
 
 pub returns-clause-up : goal.returns-clause-up
 returns-clause-up g c = rw (← c.self.view_is) (λ stored up honest.
