@@ -8,7 +8,7 @@ use pm_verify::Report;
 use std::fmt;
 
 /// The result of a verification, as it is printed.
-#[derive(Clone, Copy, Debug, PartialEq, Eq)]
+#[derive(Clone, Copy)]
 pub enum Verdict {
     /// The archive is sound.
     Sound(Report),

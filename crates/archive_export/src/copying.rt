@@ -15,7 +15,7 @@ use whole_write::write_whole;
 const PIECE_SIZE: usize = 65_536;
 
 /// Why an archive wasn't copied whole.
-#[derive(Clone, Copy, Debug, PartialEq, Eq, Error)]
+#[derive(Clone, Copy, Debug, Error)]
 pub enum CopyFault {
     /// A read of the disk failed.
     #[error("a read of the disk failed")]

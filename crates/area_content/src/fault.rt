@@ -2,7 +2,7 @@
 use thiserror::Error;
 
 /// Why a map has no content for an area.
-#[derive(Clone, Copy, Debug, PartialEq, Eq, Error)]
+#[derive(Clone, Copy, Debug, Error)]
 pub enum ContentFault {
     /// The tiles of the map need more than 131,072 entries of an archive.
     #[error("the tiles need more than 131,072 entries")]

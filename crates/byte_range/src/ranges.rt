@@ -7,7 +7,7 @@ ghost use Rattle.byte_range.specs.Ranges.{AreAround, AreEnds, IsRange, is_dash};
 use crate::positions::position_in;
 
 /// The bytes from one position to another, both counted from 0 and both included.
-#[derive(Clone, Copy, Debug, PartialEq, Eq)]
+#[derive(Clone, Copy)]
 pub struct ByteRange {
     /// The first byte.
     pub first: u64,

@@ -4,7 +4,7 @@ use generations::StoreFault;
 use thiserror::Error;
 
 /// Why no copy was made. What was written to the other disk by then is no copy.
-#[derive(Clone, Copy, Debug, PartialEq, Eq, Error)]
+#[derive(Clone, Copy, Debug, Error)]
 pub enum CopyFault {
     /// The disk has no live root or no whole journal, it can't be read, or an allocation failed.
     #[error("the disk can't be copied: {0}")]

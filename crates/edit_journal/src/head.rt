@@ -9,7 +9,7 @@ use byteorder::{ByteOrder, LittleEndian};
 use sector_disk::SECTOR_BYTES;
 
 /// What the head of a record says.
-#[derive(Clone, Copy, Debug, PartialEq, Eq)]
+#[derive(Clone, Copy, Debug)]
 pub struct Head {
     /// The record's version.
     pub version: u32,

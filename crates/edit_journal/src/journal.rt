@@ -2,7 +2,7 @@
 ghost use Rattle.std.specs.Prelude.{◌≡◌, ◌≤◌, ◌<◌, ◌+◌, ◌-◌, ◌%◌, ◌^◌};
 
 /// Where the records in use begin.
-#[derive(Clone, Copy, Debug, PartialEq, Eq)]
+#[derive(Clone, Copy, Debug)]
 pub struct JournalPosition {
     /// The place of the first of them, or of the next one if there is none.
     pub place: u64,
@@ -11,7 +11,7 @@ pub struct JournalPosition {
 }
 
 /// The records in use in a ring of sectors. The places after them are free.
-#[derive(Clone, Copy, Debug, PartialEq, Eq)]
+#[derive(Clone, Copy)]
 pub struct Journal {
     /// The sector that is place 0.
     pub first: u64,

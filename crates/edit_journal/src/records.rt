@@ -1,7 +1,7 @@
 //! A record of the journal.
 
 /// A record of the journal, as it is read.
-#[derive(Debug, Drop)]
+#[derive(Drop)]
 pub struct Record {
     /// The version of its form, from `FIRST_RECORD_VERSION` to `LAST_RECORD_VERSION`.
     pub version: u32,

@@ -7,7 +7,7 @@ use std::alloc::{AllocError, AllocFailed};
 use thiserror::Error;
 
 /// Why some bytes don't begin with the text of an edit.
-#[derive(Clone, Copy, Debug, PartialEq, Eq, Error)]
+#[derive(Clone, Copy, Debug, Error)]
 pub enum TextFault {
     /// Fewer than `MAX_EDIT_BYTES` bytes, which end before the text does, and each field that is whole among them is allowed.
     #[error("the text of an edit is cut short")]

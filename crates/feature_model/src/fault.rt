@@ -7,7 +7,7 @@ use std::alloc::{AllocError, AllocFailed};
 use thiserror::Error;
 
 /// Why a feature is no feature of a map, or an edit no edit of it. Of a feature the faults are returned in this order.
-#[derive(Clone, Copy, Debug, PartialEq, Eq, Error)]
+#[derive(Clone, Copy, Debug, Error)]
 pub enum EditFault {
     /// E1: no object; a member missing, unknown or of another JSON kind; a zoom that is no whole number of 0 to 255.
     #[error("E1 Member")]

@@ -19,7 +19,7 @@ pub struct WorldBox {
 }
 
 /// What a feature is made of.
-#[derive(Debug, PartialEq, Eq, Drop)]
+#[derive(Debug, Drop)]
 pub enum Geometry {
     /// Single points.
     Points(Vec<World>),
@@ -30,7 +30,7 @@ pub enum Geometry {
 }
 
 /// The value of a tag.
-#[derive(Debug, PartialEq, Eq, Drop)]
+#[derive(Debug, Drop)]
 pub enum EditValue {
     Text(String),
     Natural(u64),
@@ -40,14 +40,14 @@ pub enum EditValue {
 }
 
 /// A key and its value.
-#[derive(Debug, PartialEq, Eq, Drop)]
+#[derive(Debug, Drop)]
 pub struct Tag {
     pub key: String,
     pub value: EditValue,
 }
 
 /// A feature of the map, without its number.
-#[derive(Debug, PartialEq, Eq, Drop)]
+#[derive(Debug, Drop)]
 pub struct Feature {
     /// The name of its layer.
     pub layer: String,
@@ -61,7 +61,7 @@ pub struct Feature {
 }
 
 /// A change of the map.
-#[derive(Debug, PartialEq, Eq, Drop)]
+#[derive(Debug, Drop)]
 pub enum Change {
     /// The number has this feature from now on.
     Put { id: u64, feature: Feature },
@@ -70,7 +70,7 @@ pub enum Change {
 }
 
 /// Changes of the map that are made together: all of them, or none.
-#[derive(Debug, PartialEq, Eq, Drop)]
+#[derive(Drop)]
 pub struct Edit {
     pub changes: Vec<Change>,
 }

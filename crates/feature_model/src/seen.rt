@@ -3,7 +3,7 @@
 use crate::feature::Feature;
 
 /// The feature that a number had when the author of an edit looked, or that it had none.
-#[derive(Debug, Drop)]
+#[derive(Drop)]
 pub struct Seen {
     pub id: u64,
     pub feature: Option<Feature>,

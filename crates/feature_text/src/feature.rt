@@ -10,7 +10,7 @@ use crate::texts::name_in;
 const HEAD_LEN: usize = 9;
 
 /// A feature as the bytes of its text have it.
-#[derive(Clone, Copy, Debug)]
+#[derive(Clone, Copy)]
 pub struct FeatureText<'a> {
     /// The name of its layer.
     pub layer: &'a str,

@@ -7,7 +7,7 @@ use feature_model::World;
 const POINT_LEN: usize = 8;
 
 /// The points of a list: eight bytes for each.
-#[derive(Clone, Copy, Debug)]
+#[derive(Clone, Copy)]
 pub struct Points<'a> {
     rest: &'a [u8],
 }
@@ -64,7 +64,7 @@ impl<'a> Iterator for Points<'a> {
 }
 
 /// Lines, or the rings of a polygon.
-#[derive(Clone, Copy, Debug)]
+#[derive(Clone, Copy)]
 pub struct Lines<'a> {
     count: u16,
     rest: &'a [u8],
@@ -127,7 +127,7 @@ impl<'a> Iterator for Lines<'a> {
 }
 
 /// Polygons, each by its rings.
-#[derive(Clone, Copy, Debug)]
+#[derive(Clone, Copy)]
 pub struct Polygons<'a> {
     count: u16,
     rest: &'a [u8],
@@ -190,7 +190,7 @@ impl<'a> Iterator for Polygons<'a> {
 }
 
 /// What a feature is made of.
-#[derive(Clone, Copy, Debug)]
+#[derive(Clone, Copy)]
 pub enum GeometryText<'a> {
     Points(Points<'a>),
     Lines(Lines<'a>),

@@ -5,7 +5,7 @@ use crate::texts::{long_text_in, name_in};
 use feature_model::{FALSE_KIND, NATURAL_KIND, NEGATIVE_KIND, TEXT_KIND};
 
 /// The value of a tag.
-#[derive(Clone, Copy, Debug)]
+#[derive(Clone, Copy)]
 pub enum ValueText<'a> {
     Text(&'a str),
     Natural(u64),
@@ -15,7 +15,7 @@ pub enum ValueText<'a> {
 }
 
 /// A key and its value.
-#[derive(Clone, Copy, Debug)]
+#[derive(Clone, Copy)]
 pub struct TagText<'a> {
     pub key: &'a str,
     pub value: ValueText<'a>,
@@ -79,7 +79,7 @@ impl<'a> TagText<'a> {
 }
 
 /// Tags, with strictly ascending keys.
-#[derive(Clone, Copy, Debug)]
+#[derive(Clone, Copy)]
 pub struct Tags<'a> {
     count: u8,
     rest: &'a [u8],

@@ -3,7 +3,7 @@
 use thiserror::Error;
 
 /// Why a store can't be opened, formatted or changed.
-#[derive(Clone, Copy, Debug, PartialEq, Eq, Error)]
+#[derive(Clone, Copy, Debug, Error)]
 pub enum StoreFault {
     /// The disk doesn't begin with the mark of a format.
     #[error("the disk isn't formatted")]
@@ -23,7 +23,7 @@ pub enum StoreFault {
 }
 
 /// What doesn't have its form on a disk.
-#[derive(Clone, Copy, Debug, PartialEq, Eq, Error)]
+#[derive(Clone, Copy, Debug, Error)]
 pub enum What {
     /// The format's sector, or the count of sectors that it names.
     #[error("its size")]

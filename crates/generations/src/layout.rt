@@ -9,7 +9,7 @@ use sector_disk::SECTOR_BYTES;
 
 /// How many sectors each part of a disk has. The format's sector and two sectors of roots come first, then the
 /// journal, and then the areas of the even and of the odd generations, one as long as the other.
-#[derive(Clone, Copy, Debug, PartialEq, Eq)]
+#[derive(Clone, Copy, Debug)]
 pub struct Layout {
     /// How many sectors the disk was formatted with, from `MIN_SECTORS` to `MAX_SECTORS`.
     pub sectors: u64,

@@ -31,7 +31,7 @@ fn read_sector<D: Sectors>(disk: &mut D, at: u64) -> Result<[u8; SECTOR_BYTES], 
 }
 
 /// What a disk has: its layout, its live root, and the version of its format.
-#[derive(Clone, Copy, Debug, PartialEq, Eq)]
+#[derive(Clone, Copy, Debug)]
 pub struct Found {
     /// How the disk is divided.
     pub layout: Layout,

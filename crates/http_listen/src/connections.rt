@@ -18,7 +18,7 @@ use std::time::Clock;
 use thiserror::Error;
 
 /// Why no more connections are served.
-#[derive(Clone, Copy, Debug, PartialEq, Eq, Error)]
+#[derive(Clone, Copy, Debug, Error)]
 pub enum ListenFault {
     /// A connection couldn't be accepted.
     #[error("a connection could not be accepted")]

@@ -5,7 +5,7 @@ ghost use Rattle.std.specs.Prelude.{◌≡◌, ◌+◌, ◌-◌, ◌*◌, ◌^�
 const LOOK_NANOSECONDS: u64 = 10_000;
 
 /// When the next look at all connections is due. All times are in nanoseconds.
-#[derive(Clone, Copy, PartialEq, Eq)]
+#[derive(Clone, Copy)]
 pub(crate) struct Deadlines {
     /// No peer's time is over before.
     next: u64,

@@ -24,7 +24,7 @@ pub(crate) enum List {
 }
 
 /// The keys of the first and the last connection of a list, and how many it has.
-#[derive(Clone, Copy, PartialEq, Eq)]
+#[derive(Clone, Copy)]
 struct Ends {
     first: Option<usize>,
     last: Option<usize>,

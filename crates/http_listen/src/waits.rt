@@ -9,7 +9,7 @@ use std::time::Duration;
 pub const MAX_KEPT: usize = 16_384;
 
 /// What a stream has become ready for.
-#[derive(Clone, Copy, Debug, PartialEq, Eq)]
+#[derive(Clone, Copy, Debug)]
 pub struct Change {
     /// A read returns bytes, the end of the input or a fault.
     pub reads: bool,

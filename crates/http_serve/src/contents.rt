@@ -16,7 +16,7 @@ use crate::{Content, Handler, Reply, ServeFault};
 use std::io::Write;
 
 /// Why a reply was cut.
-#[derive(Clone, Copy, PartialEq, Eq)]
+#[derive(Clone, Copy)]
 pub(crate) enum SendFault {
     /// A write failed or took 0 bytes.
     Write,
@@ -45,7 +45,7 @@ impl SendFault {
 }
 
 /// What is done with the rest of a content that is read in parts.
-#[derive(Clone, Copy, PartialEq, Eq)]
+#[derive(Clone, Copy)]
 pub(crate) enum Rests {
     /// It is read and written.
     Sent,

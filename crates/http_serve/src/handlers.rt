@@ -14,7 +14,7 @@ use thiserror::Error;
 pub const PART_SIZE: usize = 65_536;
 
 /// Bytes of a content couldn't be read.
-#[derive(Clone, Copy, Debug, PartialEq, Eq, Error)]
+#[derive(Clone, Copy, Debug, Error)]
 #[error("a content could not be read")]
 pub struct ContentFault;
 
@@ -79,7 +79,7 @@ pub trait Handler {
 }
 
 /// Names a content that is read between later replies. Its numbers mean something to the handler alone that gave it.
-#[derive(Clone, Copy, Debug, PartialEq, Eq)]
+#[derive(Clone, Copy)]
 pub struct Ticket {
     /// Which state of its source it is a part of.
     pub generation: u64,

@@ -10,7 +10,7 @@ use std::io::Read;
 use std::marker::Model;
 
 /// A read failed.
-#[derive(Clone, Copy, PartialEq, Eq)]
+#[derive(Clone, Copy)]
 pub(crate) struct ReadFault;
 
 /// The size of the buffer in bytes. If it is used up and less than one request waits, more bytes were

@@ -62,7 +62,7 @@ impl Content {
 }
 
 /// The byte range of a whole that a reply's content is (RFC 9110, 14.4).
-#[derive(Clone, Copy, Debug, PartialEq, Eq)]
+#[derive(Clone, Copy)]
 pub enum ContentRange {
     /// The bytes from `first` to `last`, counted from 0, of `total` in all.
     Part { first: u64, last: u64, total: u64 },

@@ -6,7 +6,7 @@ use crate::frames::Next;
 use crate::searches::{START, Search, find_next};
 
 /// What bytes begin with.
-#[derive(Clone, Copy, Debug, PartialEq, Eq)]
+#[derive(Clone, Copy)]
 pub enum Scanned {
     /// A request, which has this many bytes.
     Whole(usize),

@@ -5,7 +5,7 @@ ghost use Rattle.http_serve.specs.Sent.{Sends};
 use std::io::Write;
 
 /// A write failed or took 0 bytes.
-#[derive(Clone, Copy, PartialEq, Eq)]
+#[derive(Clone, Copy)]
 pub(crate) struct WriteFault;
 
 /// Writes all the bytes, or a proper prefix if a write fails or takes 0 bytes.

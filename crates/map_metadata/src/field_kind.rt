@@ -8,7 +8,7 @@ ghost use Rattle.map_metadata.specs.Summaries.{joined};
 use feature_text::ValueText;
 
 /// The kind of a value, or of all values of a key.
-#[derive(Clone, Copy, PartialEq, Eq)]
+#[derive(Clone, Copy)]
 pub(crate) enum FieldKind {
     Text,
     Number,

@@ -2,7 +2,7 @@
 use feature_model::EditFault;
 
 /// Why a request is refused, other than by the service. Nothing is changed.
-#[derive(Clone, Copy, Debug, PartialEq, Eq)]
+#[derive(Clone, Copy)]
 pub enum RequestFault {
     /// The path isn't served, or nothing is stored there: no feature of that id, no archive.
     NotFound,

@@ -12,7 +12,7 @@ use sector_disk::SECTOR_BYTES;
 use tile_routes::Method;
 
 /// The bytes of the archive to send.
-#[derive(Clone, Copy, PartialEq, Eq)]
+#[derive(Clone, Copy)]
 pub(crate) enum ArchiveRange {
     /// All of them.
     Whole,
@@ -56,7 +56,7 @@ pub(crate) fn part_of(range: Option<&[u8]>, total: u64) -> ArchiveRange
 }
 
 /// The bytes of the archive in a reply that is sent in parts.
-#[derive(Clone, Copy, PartialEq, Eq)]
+#[derive(Clone, Copy)]
 pub(crate) struct Sending {
     /// The first one, counted from 0.
     pub(crate) first: u64,

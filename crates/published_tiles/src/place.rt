@@ -1,7 +1,7 @@
 //! The place of an archive on a disk.
 
 /// Where a disk stores an archive.
-#[derive(Clone, Copy, Debug, PartialEq, Eq)]
+#[derive(Clone, Copy, PartialEq, Eq)]
 pub struct ArchivePlace {
     /// Distinguishes it from earlier archives.
     pub generation: u64,

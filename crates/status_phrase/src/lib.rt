@@ -8,7 +8,7 @@ ghost use Rattle.status_phrase.specs.Phrases.{phrase_of};
 use http::StatusCode;
 
 /// The status of a reply (RFC 9110, 15; 507 is RFC 4918, 11.5).
-#[derive(Clone, Copy, Debug, PartialEq, Eq)]
+#[derive(Clone, Copy, PartialEq, Eq)]
 pub enum Status {
     /// 200
     Ok,

@@ -24,7 +24,7 @@ pub const MAX_CACHED_BYTES: usize = 67_108_864;
 pub const MAX_TILE_BYTES: usize = MAX_CACHED_BYTES / 4;
 
 /// A zoom, a column and a row.
-#[derive(Clone, Copy, Debug, PartialEq, Eq, Hash)]
+#[derive(Clone, Copy, PartialEq, Eq, Hash)]
 pub struct TileKey {
     pub z: u8,
     pub x: u32,
@@ -32,7 +32,7 @@ pub struct TileKey {
 }
 
 /// The origin of a tile's bytes.
-#[derive(Clone, Copy, Debug, PartialEq, Eq)]
+#[derive(Clone, Copy)]
 pub enum Origin {
     /// They were cut from the map in memory.
     Cut,

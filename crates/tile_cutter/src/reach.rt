@@ -15,7 +15,7 @@ use feature_model::{EditFault, Feature, Geometry, MAX_ZOOM, World, WorldBox};
 pub const MAX_TILES: u64 = 262_144;
 
 /// Tiles of one zoom, ends included.
-#[derive(Clone, Copy, Debug, PartialEq, Eq)]
+#[derive(Clone, Copy)]
 pub struct TileRange {
     /// The first column.
     pub x0: u32,

@@ -6,7 +6,7 @@ ghost use Rattle.tile_routes.specs.Targets.{asked_of, IsInRange};
 use crate::target::{Action, Target, View};
 
 /// Which paths are served.
-#[derive(Clone, Copy, Debug, PartialEq, Eq)]
+#[derive(Clone, Copy)]
 pub enum Access {
     /// Those of the map.
     Map,

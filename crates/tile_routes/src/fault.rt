@@ -1,7 +1,7 @@
 //! Why a request is refused by its path and method.
 
 /// Why a request is refused by its path and its method.
-#[derive(Clone, Copy, Debug, PartialEq, Eq)]
+#[derive(Clone, Copy)]
 pub enum RouteFault {
     /// The path isn't served, whatever the method.
     NotFound,

@@ -7,7 +7,7 @@ use crate::fault::RouteFault;
 use crate::target::Target;
 
 /// A method that some path allows (RFC 9110, 9.1).
-#[derive(Clone, Copy, Debug, PartialEq, Eq)]
+#[derive(Clone, Copy, PartialEq, Eq)]
 pub enum Method {
     /// To give what the path shows (9.3.1).
     Get,

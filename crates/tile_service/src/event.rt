@@ -5,7 +5,7 @@ use hilbert_id::TileAt;
 use std::rc::RcSlice;
 
 /// A request to a service.
-#[derive(Debug, PartialEq, Eq, Drop)]
+#[derive(Drop)]
 pub enum Event {
     /// Sets an id's feature.
     Put { id: u64, feature: Feature },
@@ -26,7 +26,7 @@ pub enum Event {
 }
 
 /// What a service answers.
-#[derive(Debug, PartialEq, Eq, Drop)]
+#[derive(Debug, Drop)]
 pub enum Answer {
     /// The edit was made, with this number.
     Edited(u64),

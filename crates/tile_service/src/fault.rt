@@ -3,7 +3,7 @@ use feature_model::EditFault;
 use thiserror::Error;
 
 /// Why an event is refused. Of several the first in this order is reported.
-#[derive(Clone, Copy, Debug, PartialEq, Eq, Error)]
+#[derive(Clone, Copy, Debug, Error)]
 pub enum ServiceFault {
     /// A write or a sync of the disk has failed before, so edits are refused. The disk has to be opened again.
     #[error("the disk has failed: it has to be opened again")]

@@ -11,7 +11,7 @@ use crate::service::Service;
 use sector_disk::Sectors;
 
 /// What was published.
-#[derive(Clone, Copy, Debug, PartialEq, Eq)]
+#[derive(Clone, Copy, Debug)]
 pub struct Published {
     /// The number of the generation.
     pub generation: u64,

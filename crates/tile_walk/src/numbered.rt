@@ -3,7 +3,7 @@
 use tile_cutter::TileRange;
 
 /// A box of tiles of a zoom, and a number.
-#[derive(Clone, Copy, Debug, PartialEq, Eq)]
+#[derive(Clone, Copy)]
 pub struct Numbered {
     /// The tiles. A range whose last column or row is before its first has none.
     pub range: TileRange,

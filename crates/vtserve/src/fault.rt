@@ -89,7 +89,7 @@ impl CommandFault {
 }
 
 /// What a fault is about.
-#[derive(Clone, Copy, PartialEq, Eq)]
+#[derive(Clone, Copy)]
 pub(crate) enum About<'a> {
     /// The disk in memory.
     Nothing,

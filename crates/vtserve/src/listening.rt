@@ -25,7 +25,7 @@ use std::os::fd::AsRawFd;
 const QUEUE: i32 = 4_096;
 
 /// Where connections come from, and how many.
-#[derive(Clone, Copy, PartialEq, Eq)]
+#[derive(Clone, Copy)]
 pub(crate) struct Listening {
     /// A port of 127.0.0.1.
     pub(crate) port: u16,

@@ -47,7 +47,7 @@ fn refused(rt: &impl Eprint, name: impl Display + Drop) -> anyhow::Result<ExitCo
 }
 
 /// How much is told of a fault.
-#[derive(Clone, Copy, PartialEq, Eq)]
+#[derive(Clone, Copy)]
 pub(crate) enum Told {
     /// Its name.
     Name,

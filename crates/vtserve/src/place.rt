@@ -6,7 +6,7 @@ use std::io::ErrorKind;
 use std::os::unix::fs::MetadataExt;
 
 /// What became of an open file: what is written to it now is lost for whoever opens its path again.
-#[derive(Clone, Copy, PartialEq, Eq)]
+#[derive(Clone, Copy)]
 pub(crate) enum Loss {
     /// No file has its path any more.
     Removed,

@@ -7,7 +7,7 @@ use map_replies::{MapReplies, serve_map};
 use sector_disk::Sectors;
 
 /// Where connections come from.
-#[derive(Clone, Copy, PartialEq, Eq)]
+#[derive(Clone, Copy)]
 pub(crate) enum Peers {
     /// One, from standard input and output.
     Streams,
