@@ -2,13 +2,12 @@
 mod calls;
 mod fakes;
 mod faulty;
-mod made;
 mod paths;
 mod runs;
 mod steps;
 mod system;
 
-use sector_disk::FileFault;
+use file_disk::FileFault;
 use std::fmt::Debug;
 use std::io::{self, ErrorKind};
 use std::process::Abort;

@@ -1,8 +1,9 @@
 //! Disks in new files: for every file system.
-ghost use Rattle.std.specs.Prelude.{◌≡◌, ◌<◌, Err, IfErr, IfOk, IsOk};
+ghost use Rattle.std.specs.Prelude.{◌≡◌, ◌<◌, ◌*◌, ◌/◌, Err, IfErr, IfOk, IsOk};
 ghost use Rattle.sector_disk.specs.Asked.{MayWrite};
 ghost use Rattle.sector_disk.specs.Disk.{all_zeros};
 ghost use Rattle.sector_disk.specs.Disk.History.{begun};
+ghost use Rattle.sector_disk.specs.declared.disk.TheConstants.{SECTOR_BYTES};
 ghost use Rattle.generations.specs.Areas.{IsSize};
 ghost use Rattle.generations.specs.declared.fault.StoreFault.TheVariants.{TooSmall, Damaged};
 ghost use Rattle.generations.specs.declared.fault.What.TheVariants.{Size};
@@ -12,11 +13,11 @@ ghost use Rattle.map_server.specs.Faults.{IsOfFile};
 ghost use Rattle.map_server.specs.declared.fault.FileFault.TheVariants.{Store};
 
 use crate::fault::FileFault;
+use file_disk::{FileDisk, NewFile, SectorFile, Start, new_file};
 use generations::{MAX_SECTORS, MIN_SECTORS, StoreFault, What};
-use sector_disk::{FileDisk, Sectors, Start, SystemFile};
+use sector_disk::Sectors;
 use std::fs::OpenFile;
-use std::io::{self, Read, Seek, Write};
-use std::os::unix::fs::FileExt;
+use std::io;
 use std::path::Path;
 use std::rt::Files;
 use tile_service::Service;
@@ -64,37 +65,51 @@ fn settle<D: Sectors + Drop, R: Files>(files: &R, path: &str, disk: &mut D) -> R
 }
 
 /// What the system said as a file couldn't be made.
-fn cause_of(fault: sector_disk::FileFault) -> io::Error {
+fn cause_of(fault: file_disk::FileFault) -> io::Error {
     match fault {
-        sector_disk::FileFault::Open(error)
-        | sector_disk::FileFault::Create(error)
-        | sector_disk::FileFault::Grow(error) => error,
+        file_disk::FileFault::Open(error)
+        | file_disk::FileFault::Create(error)
+        | file_disk::FileFault::Grow(error) => error,
     }
 }
 
-/// Creates a file of this many sectors at a path that doesn't exist, and returns its disk, which holds the empty map. For a count
-/// outside the limits no file is touched. If the format fails, the file is removed, if the system allows it.
-pub fn formatted_file<
-    F: FileExt + OpenFile + Read + Write + Seek + Drop,
-    R: Files<File = F>,
-    S: Start,
->(files: &R, path: &str, sectors: u64, start: S) -> Result<FileDisk<SystemFile<F>, S>, FileFault>
-    requires zeros { S.found ≡ begun all_zeros }
+/// Makes a file of this many sectors of zeros at a path that doesn't exist. For a count outside the limits of a disk no file is touched.
+pub fn new_disk_file<F: OpenFile + Drop, R: Files<File = F>>(
+    files: &R,
+    path: &str,
+    sectors: u64,
+) -> Result<NewFile<F>, FileFault>
     ensures small { sectors < MIN_SECTORS → result ≡ Err (Store TooSmall) }
     ensures large { MAX_SECTORS < sectors → result ≡ Err (Store (Damaged Size)) }
     ensures only { IsSize sectors → IfErr result IsOfFile }
-    ensures count { IfOk result (λ disk. ⟦<FileDisk<SystemFile<F>, S> as Sectors>⟧.sectors disk ≡ sectors) }
-    ensures holds { IfOk result (λ disk. ⟦<FileDisk<SystemFile<F>, S> as Sectors>⟧.honest disk
-        → Keeps sectors sectors first_state (⟦<FileDisk<SystemFile<F>, S> as Sectors>⟧.history disk)) }
+    ensures size { IfOk result (λ new. new.bytes ≡ sectors * SECTOR_BYTES) }
 {
     match check_size(sectors) {
         Ok(()) => {}
         Err(fault) => return Err(FileFault::Store(fault)),
     }
-    let mut disk = match FileDisk::create(files, path, sectors, start) {
-        Ok(disk) => disk,
-        Err(fault) => return Err(FileFault::File(cause_of(fault))),
-    };
+    match new_file(files, path, sectors) {
+        Ok(new) => Ok(new),
+        Err(fault) => Err(FileFault::File(cause_of(fault))),
+    }
+}
+
+/// Has a file of `bytes` zeros, which was made at this path, hold the empty map, and returns its disk. The file's name then outlives a
+/// crash. If the format fails, the file is removed, if the system allows it.
+pub fn formatted_file<F: SectorFile + Drop, R: Files, S: Start>(
+    files: &R,
+    path: &str,
+    file: F,
+    bytes: u64,
+    start: S,
+) -> Result<FileDisk<F, S>, FileFault>
+    requires zeros { S.found ≡ begun all_zeros }
+    ensures only { IsSize (bytes / SECTOR_BYTES) → IfErr result IsOfFile }
+    ensures count { IfOk result (λ disk. ⟦<FileDisk<F, S> as Sectors>⟧.sectors disk ≡ bytes / SECTOR_BYTES) }
+    ensures holds { IfOk result (λ disk. ⟦<FileDisk<F, S> as Sectors>⟧.honest disk
+        → Keeps (bytes / SECTOR_BYTES) (bytes / SECTOR_BYTES) first_state (⟦<FileDisk<F, S> as Sectors>⟧.history disk)) }
+{
+    let mut disk = FileDisk::new(file, bytes, start);
     match settle(files, path, &mut disk) {
         Ok(()) => Ok(disk),
         Err(fault) => {

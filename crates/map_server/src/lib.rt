@@ -10,6 +10,6 @@ mod opening;
 
 pub use connections::serve_map_on;
 pub use fault::FileFault;
-pub use files::{formatted_file, sync_folder};
+pub use files::{formatted_file, new_disk_file, sync_folder};
 pub use fresh::fresh_service;
 pub use opening::opened_service;

@@ -1,16 +1,12 @@
 -- Laws of disks, for the crates above.
-use Rattle.std.proofs.Common.{◌≡◌, ◌⊎◌, ◌/◌, ◌∷◌, ◌≤◌, ℕ, List, length, refl, Result}
+use Rattle.std.proofs.Common.{◌≡◌, ◌⊎◌, ◌≤◌, ℕ, List, refl, Result}
 use Rattle.std.specs.Prelude.{◌↔◌}
 use Rattle.std.specs.List.{IsAmong}
-use Rattle.sector_disk.specs.Calls.{Call, replayed, IsUsable, IsHonest}
-use Rattle.sector_disk.specs.Calls.Call.{gave, gave_run, gave_none, took, refused, flushed, not_flushed}
 use Rattle.sector_disk.specs.Crash.{settled, written_since, chosen, IsChoice}
 use Rattle.sector_disk.specs.Disk.{History, Image, seen, MayHold, MayLeave, moment, LeftSince, Writes, Syncs}
 use Rattle.sector_disk.specs.Disk.History.{synced}
 use Rattle.sector_disk.specs.Moments.{Follows}
-use Rattle.sector_disk.specs.Runs.{Shows}
 use Rattle.sector_disk.specs.declared.disk.DiskFault.{DiskFault}
-use Rattle.sector_disk.specs.declared.disk.TheConstants.{SECTOR_BYTES}
 use Rattle.sector_disk.proofs.Choices.{some_choice}
 use Rattle.sector_disk.proofs.Chosen.{chosen_may, held_is, is_held}
 use Rattle.sector_disk.proofs.History.{seen_may, any_write, any_sync}
@@ -65,37 +61,3 @@ chosen_is_left = chosen_may
 pub left_is_chosen : (history : History) (image : Image) → MayLeave history image
     → (count : ℕ) → (choice : List ℕ) × IsChoice history count image choice
 left_is_chosen = some_choice
-
--- ---- a file stays honest while its answers are what its history says
-
--- A read that gives what the history says keeps it so, whatever was asked before.
-pub read_stays_honest : (found : History) (calls : List Call) (offset : ℕ) (bytes : List ℕ) → IsHonest found calls
-    → bytes ≡ seen (replayed found calls) (offset / SECTOR_BYTES) → IsHonest found (gave offset bytes ∷ calls)
-read_stays_honest found calls offset bytes honest is = (honest, is)
-
--- So does one of several sectors.
-pub run_stays_honest : (found : History) (calls : List Call) (offset : ℕ) (sectors : List (List ℕ)) → IsHonest found calls
-    → Shows (seen (replayed found calls)) (offset / SECTOR_BYTES) (length sectors) sectors → IsHonest found (gave_run offset sectors ∷ calls)
-run_stays_honest found calls offset sectors honest is = (honest, is)
-
--- A read that fails does too.
-pub failed_read_stays_honest : (found : History) (calls : List Call) (offset : ℕ) → IsHonest found calls → IsHonest found (gave_none offset ∷ calls)
-failed_read_stays_honest found calls offset honest = (honest, tt)
-
--- A write keeps it so where no write and no sync has failed before.
-pub write_stays_honest : (found : History) (calls : List Call) (offset : ℕ) (sectors : List (List ℕ)) → IsHonest found calls
-    → IsUsable calls → IsHonest found (took offset sectors ∷ calls)
-write_stays_honest found calls offset sectors honest usable = (honest, usable)
-
--- A write that fails does too, where it is the first call to fail of those.
-pub failed_write_stays_honest : (found : History) (calls : List Call) (offset : ℕ) (sectors : List (List ℕ)) → IsHonest found calls
-    → IsUsable calls → IsHonest found (refused offset sectors ∷ calls)
-failed_write_stays_honest found calls offset sectors honest usable = (honest, usable)
-
--- The same of a sync.
-pub sync_stays_honest : (found : History) (calls : List Call) → IsHonest found calls → IsUsable calls → IsHonest found (flushed ∷ calls)
-sync_stays_honest found calls honest usable = (honest, usable)
-
--- The same of a sync that fails.
-pub failed_sync_stays_honest : (found : History) (calls : List Call) → IsHonest found calls → IsUsable calls → IsHonest found (not_flushed ∷ calls)
-failed_sync_stays_honest found calls honest usable = (honest, usable)

@@ -4,14 +4,13 @@ use crate::boxed::BoxedDisk;
 use crate::fault::{Cause, CommandFault};
 use crate::looks::Looks;
 use crate::noted::Noted;
-use crate::noted_files::NotedFiles;
 use crate::place::{Identity, OpenPath, identity_of};
 use crate::regular::open_regular;
 use crate::serving::{Peers, serve};
 use crate::watching::{Watch, Watched};
+use file_disk::{FileDisk, NewFile, Start, SystemFile, Zeros};
 use generations::{LAST_VERSION, StoreFault};
-use map_server::{formatted_file, opened_service};
-use sector_disk::{FileDisk, Start, SystemFile, Zeros};
+use map_server::{formatted_file, new_disk_file, opened_service};
 use std::cell::Cell;
 use std::fs::{File, OpenOptions, TryLockError};
 use std::io::{self, ErrorKind};
@@ -23,11 +22,15 @@ use tile_service::Service;
 /// Creates a disk file of this many sectors with the empty map, and prints a line.
 pub(crate) fn format_file(rt: &HostRuntime, path: &str, sectors: u64) -> Result<(), CommandFault> {
     let cause: Cell<Cause> = Cell::new(None);
-    let files = NotedFiles {
-        files: rt,
+    let NewFile { file, bytes } = match new_disk_file(rt, path, sectors) {
+        Ok(new) => new,
+        Err(fault) => return Err(CommandFault::of_format(fault, &cause)),
+    };
+    let file = Noted {
+        file: SystemFile::new(file),
         cause: &cause,
     };
-    match formatted_file(&files, path, sectors, Zeros) {
+    match formatted_file(rt, path, file, bytes, Zeros) {
         Ok(_) => {}
         Err(fault) => return Err(CommandFault::of_format(fault, &cause)),
     }

@@ -1,7 +1,8 @@
 //! A file of which the last error is noted.
 
 use crate::fault::Cause;
-use sector_disk::{SECTOR_BYTES, SectorFile};
+use file_disk::SectorFile;
+use sector_disk::SECTOR_BYTES;
 use std::cell::Cell;
 use std::io;
 

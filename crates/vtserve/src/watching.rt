@@ -2,8 +2,9 @@
 
 use crate::looks::Looks;
 use crate::place::Place;
+use file_disk::SectorFile;
 use http_listen::{Places, Waits};
-use sector_disk::{SECTOR_BYTES, SectorFile};
+use sector_disk::SECTOR_BYTES;
 use std::cell::Cell;
 use std::fmt::Display;
 use std::io::{self, ErrorKind, Write};

@@ -1,9 +1,9 @@
 //! What a disk in a file asks of its file, over one that notes it.
-use super::fakes::{Call, Fake, Notes};
-use super::same;
+use super::fakes::{Call, Fake, FakeFile, Notes};
 use super::steps::Step::{Begins, Count, Fills, Reads, ReadsNot, Syncs, SyncsNot, Writes};
 use super::steps::{Step, other_step_in, sector_from};
-use sector_disk::{FileDisk, Unknown};
+use super::{kind_of, same};
+use file_disk::{FileDisk, Unknown, fill};
 use std::cell::Cell;
 use std::io::{self, ErrorKind};
 use std::mem::size_of;
@@ -149,6 +149,43 @@ fn other_failing_call() -> Option<usize> {
 #[test]
 fn reports_a_fault_once(rt: HostRuntime) {
     same(&rt, &other_failing_call(), &None);
+}
+
+const SET_LEN: Call = ("set_len", 1536, 0);
+
+const SYNC_ALL: Call = ("sync_all", 0, 0);
+
+/// The call that fails, what filling a new file comes to, and the calls of the file.
+const FILLINGS: [(usize, Result<(), ErrorKind>, &[Call]); 3] = [
+    (0, Ok(()), &[SET_LEN, SYNC_ALL]),
+    (1, Err(ErrorKind::Other), &[SET_LEN]),
+    (2, Err(ErrorKind::Other), &[SET_LEN, SYNC_ALL]),
+];
+
+/// What filling a new file comes to, and the first call of the file that differs.
+fn filled(failing_call: usize, calls: &'static [Call]) -> (Result<(), ErrorKind>, Option<usize>) {
+    let fake = NotedFile {
+        notes: Notes::new(calls),
+        bytes: Cell::new([0; 512]),
+        failing_call,
+    };
+    let outcome = kind_of(fill(&FakeFile { fake: &fake }, 1536));
+    (outcome, fake.notes.other_call())
+}
+
+/// The first failing call with another outcome, if there is one.
+fn other_filling() -> Option<usize> {
+    for (failing_call, outcome, calls) in &FILLINGS {
+        if filled(*failing_call, calls) != (*outcome, None) {
+            return Some(*failing_call);
+        }
+    }
+    None
+}
+
+#[test]
+fn fills_and_syncs_a_new_file(rt: HostRuntime) {
+    same(&rt, &other_filling(), &None);
 }
 
 /// A file of 8 bytes, the counts of sectors and faults, 16 bytes for the next sector, and two buffers of 64 sectors, each with its first

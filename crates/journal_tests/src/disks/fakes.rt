@@ -1,17 +1,13 @@
 //! Files that tests make up, and what they note.
-ghost use Rattle.std.specs.Prelude.{IsErr};
 ghost use Rattle.std.specs.Io.{ReadsAtMost, WritesAtMost};
 
 use std::cell::Cell;
 use std::fs::{Metadata, OpenFile};
-use std::io::{self, ErrorKind, Read, Seek, SeekFrom, Write};
+use std::io::{self, ErrorKind};
 use std::os::unix::fs::FileExt;
 
 /// A call of a file: its name, and its numbers, such as an offset and a length.
 pub(crate) type Call = (&'static str, u64, u64);
-
-/// A call that no disk has a use for.
-pub(crate) const OTHER: Call = ("other", 0, 0);
 
 /// The calls that are wanted, and how many were made.
 #[derive(Drop)]
@@ -64,14 +60,6 @@ pub(crate) trait Fake {
     fn call(&self, call: Call) -> io::Result<()>;
 }
 
-/// Makes a call that no disk has a use for, and fails.
-fn refused<F: Fake, T>(fake: &F) -> io::Result<T>
-    ensures { IsErr result }
-{
-    let _ = fake.call(OTHER);
-    Err(ErrorKind::Unsupported.into())
-}
-
 /// A file of a test, with the traits of a file of the system.
 #[derive(Drop)]
 pub(crate) struct FakeFile<'a, F> {
@@ -89,8 +77,10 @@ impl<F: Fake> FileExt for FakeFile<'_, F> {
 }
 
 impl<F: Fake> OpenFile for FakeFile<'_, F> {
+    /// A call that no disk has a use for.
     fn metadata(&self) -> io::Result<Metadata> {
-        refused(self.fake)
+        self.fake.call(("metadata", 0, 0))?;
+        Err(ErrorKind::Unsupported.into())
     }
 
     fn set_len(&self, size: u64) -> io::Result<()> {
@@ -103,27 +93,5 @@ impl<F: Fake> OpenFile for FakeFile<'_, F> {
 
     fn sync_data(&self) -> io::Result<()> {
         self.fake.call(("sync_data", 0, 0))
-    }
-}
-
-impl<F: Fake> Read for FakeFile<'_, F> {
-    fn read(&mut self, _buf: &mut [u8]) -> io::Result<usize> {
-        refused(self.fake)
-    }
-}
-
-impl<F: Fake> Write for FakeFile<'_, F> {
-    fn write(&mut self, _buf: &[u8]) -> io::Result<usize> {
-        refused(self.fake)
-    }
-
-    fn flush(&mut self) -> io::Result<()> {
-        refused(self.fake)
-    }
-}
-
-impl<F: Fake> Seek for FakeFile<'_, F> {
-    fn seek(&mut self, _to: SeekFrom) -> io::Result<u64> {
-        refused(self.fake)
     }
 }

@@ -2,7 +2,8 @@
 use super::steps::Step::{Begins, Count, Fills, ReadsNot, Syncs};
 use super::steps::{Step, other_step};
 use super::{same, variant_of};
-use sector_disk::{FileDisk, FileFault, Sectors, Unknown, Zeros};
+use file_disk::{FileDisk, FileFault, Unknown, Zeros};
+use sector_disk::Sectors;
 use std::alloc::Global;
 use std::env::temp_dir;
 use std::hash::{BuildHasher, RandomState};

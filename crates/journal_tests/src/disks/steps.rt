@@ -1,6 +1,7 @@
 //! Steps that tests run over a disk, each with its expected outcome.
 use super::fakes::{Fake, FakeFile};
-use sector_disk::{FileDisk, Sectors, SystemFile, Unknown};
+use file_disk::{FileDisk, SystemFile, Unknown};
+use sector_disk::Sectors;
 
 /// A step with its expected outcome.
 #[derive(Clone, Copy)]

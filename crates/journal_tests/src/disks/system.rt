@@ -1,7 +1,7 @@
 //! What a file of the system is asked where each of its calls takes a part of the bytes.
 use super::fakes::{Call, Fake, FakeFile};
 use super::{kind_of, same};
-use sector_disk::{SectorFile, SystemFile};
+use file_disk::{SectorFile, SystemFile};
 use std::cell::Cell;
 use std::io::{self, ErrorKind};
 

@@ -1,0 +1,3 @@
+mod FileCalls
+mod LimitNumbers
+pub mod Laws
