@@ -3,30 +3,120 @@
 use clap::{Arg, ArgAction, Command};
 use std::alloc::{AllocError, Global};
 
-/// An argument of a command.
+/// What an argument takes.
 #[derive(Clone, Copy)]
-enum Word {
-    /// The number of sectors, by position.
+enum Takes {
+    /// A path.
+    Path,
+    /// A number of sectors.
     Sectors,
-    /// The number of sectors, as an option.
-    NamedSectors,
-    /// The path of a disk file.
-    Disk,
-    /// The port, as an option.
+    /// A port.
     Port,
-    /// The number of connections, as an option.
+    /// A number of connections.
     Connections,
-    /// Whether the paths under `/admin/` are served, as an option.
-    Admin,
-    /// Whether the first failure of the disk ends the command, as an option.
-    Stops,
-    /// The path of an archive that is read.
-    Archive,
-    /// The path of an archive that is written.
-    Output,
-    /// The path of a copy of a disk.
-    Copy,
+    /// Nothing: it is given or not.
+    Nothing,
 }
+
+/// An argument of a command: by position, or an option.
+#[derive(Clone, Copy)]
+struct Word {
+    /// By what it is looked up. DISK has that of an archive's path, so that one look-up reads both.
+    id: &'static str,
+    /// Its name in usages.
+    name: &'static str,
+    /// The option's name.
+    long: Option<&'static str>,
+    takes: Takes,
+    help: &'static str,
+}
+
+/// The path of a disk file.
+const DISK: Word = Word {
+    id: "FILE",
+    name: "DISK",
+    long: None,
+    takes: Takes::Path,
+    help: "A disk file",
+};
+
+/// The path of an archive that is read.
+const ARCHIVE: Word = Word {
+    id: "FILE",
+    name: "FILE",
+    long: None,
+    takes: Takes::Path,
+    help: "A tile archive (PMTiles 3)",
+};
+
+/// The path of an archive that is written.
+const OUTPUT: Word = Word {
+    id: "OUTPUT",
+    name: "FILE",
+    long: None,
+    takes: Takes::Path,
+    help: "The PMTiles file to write; an existing regular file is replaced",
+};
+
+/// The path of a copy of a disk.
+const COPY: Word = Word {
+    id: "OUTPUT",
+    name: "FILE",
+    long: None,
+    takes: Takes::Path,
+    help: "The disk file to create",
+};
+
+/// The number of sectors, by position.
+const SECTORS: Word = Word {
+    id: "N",
+    name: "N",
+    long: None,
+    takes: Takes::Sectors,
+    help: "Sectors of 512 bytes, from 64 to 16777216",
+};
+
+/// The number of sectors, as an option.
+const NAMED_SECTORS: Word = Word {
+    long: Some("sectors"),
+    ..SECTORS
+};
+
+/// The port.
+const PORT: Word = Word {
+    id: "P",
+    name: "P",
+    long: Some("port"),
+    takes: Takes::Port,
+    help: "A port of 127.0.0.1, from 1 to 65535",
+};
+
+/// The number of connections.
+const CONNECTIONS: Word = Word {
+    id: "K",
+    name: "K",
+    long: Some("connections"),
+    takes: Takes::Connections,
+    help: "How many connections are served, from 1 to 4294967295",
+};
+
+/// Whether the paths under `/admin/` are served.
+const ADMIN: Word = Word {
+    id: "ADMIN",
+    name: "ADMIN",
+    long: Some("admin"),
+    takes: Takes::Nothing,
+    help: "Serves the paths under /admin/ too: the status, and the list of features",
+};
+
+/// Whether the first failure of the disk ends the command.
+const STOPS: Word = Word {
+    id: "STOPS",
+    name: "STOPS",
+    long: Some("stop-when-broken"),
+    takes: Takes::Nothing,
+    help: "Ends with status 1 after the current connection once a write or sync of the disk failed",
+};
 
 /// A command: its name, its arguments and its help.
 type Row = (&'static str, &'static [Word], &'static str);
@@ -34,125 +124,50 @@ type Row = (&'static str, &'static [Word], &'static str);
 const COMMANDS: [Row; 9] = [
     (
         "copy",
-        &[Word::Disk, Word::Copy],
+        &[DISK, COPY],
         "Copies a disk file as of one moment, also while it is served; FILE must not exist",
     ),
     (
         "demo",
-        &[Word::Sectors, Word::Admin],
+        &[SECTORS, ADMIN],
         "Serves one connection on standard input and output over an empty map in memory",
     ),
     (
         "export",
-        &[Word::Disk, Word::Output],
+        &[DISK, OUTPUT],
         "Writes the last published archive of a disk file into a file",
     ),
     (
         "format",
-        &[Word::Disk, Word::NamedSectors],
+        &[DISK, NAMED_SECTORS],
         "Creates a disk file with an empty map; DISK must not exist",
     ),
     (
         "pipe",
-        &[Word::Disk, Word::Admin],
+        &[DISK, ADMIN],
         "Serves one connection on standard input and output over the map of a disk file",
     ),
     (
         "serve",
-        &[
-            Word::Disk,
-            Word::Port,
-            Word::Connections,
-            Word::Admin,
-            Word::Stops,
-        ],
+        &[DISK, PORT, CONNECTIONS, ADMIN, STOPS],
         "Serves the map of a disk file on a port of 127.0.0.1 to many clients by turns",
     ),
     (
         "show",
-        &[Word::Archive],
+        &[ARCHIVE],
         "Prints the header and the metadata of a tile archive",
     ),
     (
         "upgrade",
-        &[Word::Disk],
+        &[DISK],
         "Upgrades a disk file to version 2 of the format; make a copy of it first",
     ),
     (
         "verify",
-        &[Word::Archive],
+        &[ARCHIVE],
         "Checks a PMTiles archive: prints its counts or its first fault",
     ),
 ];
-
-/// The argument FILE with this help.
-fn path<'a>(alloc: Global, help: &'a str) -> Arg<'a> {
-    Arg::new(alloc, "FILE")
-        .required(true)
-        .action(ArgAction::Set)
-        .help(help)
-}
-
-/// The argument DISK. Its id is `FILE`, like that of an archive's path, so that one look-up reads both.
-fn disk_path<'a>(alloc: Global) -> Arg<'a> {
-    path(alloc, "A disk file").value_name("DISK")
-}
-
-/// The argument FILE of `export` and of `copy`. It has an id of its own, since `FILE` is that of DISK.
-fn output_path<'a>(alloc: Global, help: &'a str) -> Arg<'a> {
-    Arg::new(alloc, "OUTPUT")
-        .value_name("FILE")
-        .required(true)
-        .action(ArgAction::Set)
-        .help(help)
-}
-
-/// The number of sectors, by position.
-fn sectors<'a>(alloc: Global) -> Arg<'a> {
-    Arg::new(alloc, "N")
-        .required(true)
-        .action(ArgAction::Set)
-        .value_parser(clap::value_parser!(u64))
-        .help("Sectors of 512 bytes, from 64 to 16777216")
-}
-
-/// The option `--port`.
-fn port<'a>(alloc: Global) -> Arg<'a> {
-    Arg::new(alloc, "P")
-        .long("port")
-        .required(true)
-        .action(ArgAction::Set)
-        .value_parser(clap::value_parser!(u16).range(1..))
-        .help("A port of 127.0.0.1, from 1 to 65535")
-}
-
-/// The option `--connections`.
-fn connections<'a>(alloc: Global) -> Arg<'a> {
-    Arg::new(alloc, "K")
-        .long("connections")
-        .required(true)
-        .action(ArgAction::Set)
-        .value_parser(clap::value_parser!(u32).range(1..))
-        .help("How many connections are served, from 1 to 4294967295")
-}
-
-/// The option `--admin`.
-fn admin<'a>(alloc: Global) -> Arg<'a> {
-    Arg::new(alloc, "ADMIN")
-        .long("admin")
-        .action(ArgAction::SetTrue)
-        .help("Serves the paths under /admin/ too: the status, and the list of features")
-}
-
-/// The option `--stop-when-broken`.
-fn stops<'a>(alloc: Global) -> Arg<'a> {
-    Arg::new(alloc, "STOPS")
-        .long("stop-when-broken")
-        .action(ArgAction::SetTrue)
-        .help(
-            "Ends with status 1 after the current connection once a write or sync of the disk failed",
-        )
-}
 
 /// The option `-v`.
 fn verbose<'a>(alloc: Global) -> Arg<'a> {
@@ -164,21 +179,21 @@ fn verbose<'a>(alloc: Global) -> Arg<'a> {
 
 /// The argument in clap's terms.
 fn arg_of<'a>(alloc: Global, word: Word) -> Arg<'a> {
-    match word {
-        Word::Sectors => sectors(alloc),
-        Word::NamedSectors => sectors(alloc).long("sectors"),
-        Word::Disk => disk_path(alloc),
-        Word::Port => port(alloc),
-        Word::Connections => connections(alloc),
-        Word::Admin => admin(alloc),
-        Word::Stops => stops(alloc),
-        Word::Archive => path(alloc, "A tile archive (PMTiles 3)"),
-        Word::Output => output_path(
-            alloc,
-            "The PMTiles file to write; an existing regular file is replaced",
-        ),
-        Word::Copy => output_path(alloc, "The disk file to create"),
-    }
+    let arg = Arg::new(alloc, word.id)
+        .value_name(word.name)
+        .help(word.help);
+    let arg = match word.long {
+        Some(long) => arg.long(long),
+        None => arg,
+    };
+    let arg = match word.takes {
+        Takes::Path => arg,
+        Takes::Sectors => arg.value_parser(clap::value_parser!(u64)),
+        Takes::Port => arg.value_parser(clap::value_parser!(u16).range(1..)),
+        Takes::Connections => arg.value_parser(clap::value_parser!(u32).range(1..)),
+        Takes::Nothing => return arg.action(ArgAction::SetTrue),
+    };
+    arg.required(true).action(ArgAction::Set)
 }
 
 /// Adds arguments to a command.
