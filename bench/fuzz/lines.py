@@ -1,9 +1,9 @@
 #!/usr/bin/env python3
 """Makes lines of the gate's test programs at random, from damaged bytes and texts, and compares their answers with the models.
 
-    python3 bench/fuzz/lines.py READ_RUNS MAP_RUNS REPLY_RUNS [--seed N] [--seconds N]
+    python3 bench/fuzz/lines.py MAP_RUNS SERVICE_RUNS [--seed N] [--seconds N]
 
-READ_RUNS, MAP_RUNS and REPLY_RUNS are the programs of these crates, which `rt run` leaves in their `out/`. One process answers 1,500
+MAP_RUNS and SERVICE_RUNS are the programs of these crates, which `rt run` leaves in their `out/`. One process answers 1,500
 lines, so some thousand lines a second are compared: tiles, texts of changes and edits, directories, metadata, archives and their
 contents, features and edits as JSON, snapshots, records of both versions, and connections in pieces of two sizes. Each process has the lines of
 one seed; the next ones have those of the next seed. The script prints each line that differs, and ends with 1 if one does or a process ends with
@@ -58,9 +58,10 @@ def line(chance, rows):
     return f"{word} " + "".join(mark for mark in held.decode("utf-8", "replace") if mark not in "\r\n<>")
 
 
-def differences(program, asked, wanted):
-    """The lines of a process whose answers differ, each with the answer that is wanted and the one that is found."""
-    done = subprocess.run([program], input="".join(each + "\n" for each in asked).encode(), capture_output=True, timeout=60)
+def differences(program, begin, asked, wanted):
+    """The lines of a process whose answers differ, each with the answer that is wanted and the one that is found. `begin` is the text in front of them, which
+    has no answer."""
+    done = subprocess.run([program], input=(begin + "".join(each + "\n" for each in asked)).encode(), capture_output=True, timeout=60)
     found = done.stdout.decode().split("\n")[:-1]
     differ = [row for row in zip(asked, wanted, found) if row[1] != row[2]]
     if done.returncode or len(found) != len(asked):
@@ -90,19 +91,19 @@ def of_connections(seed):
 
 def main(words):
     parser = argparse.ArgumentParser()
-    parser.add_argument("read_runs")
     parser.add_argument("map_runs")
-    parser.add_argument("reply_runs")
+    parser.add_argument("service_runs")
     parser.add_argument("--seed", type=int, default=1)
     parser.add_argument("--seconds", type=int, default=60)
     options = parser.parse_args(words)
     end, seed, count, faults = time.monotonic() + options.seconds, options.seed, 0, 0
     while time.monotonic() < end:
-        makers = [(options.read_runs, lambda: of_bytes(read_stand.Stand(), READ, seed)), (options.map_runs, lambda: of_bytes(map_stand.Stand(), MAP, seed)),
-                  (options.reply_runs, lambda: of_connections(seed))]
-        for program, make in makers:
+        makers = [(options.map_runs, "part reads\n", lambda: of_bytes(read_stand.Stand(), READ, seed)),
+                  (options.map_runs, "part maps\n", lambda: of_bytes(map_stand.Stand(), MAP, seed)),
+                  (options.service_runs, "part connections\n", lambda: of_connections(seed))]
+        for program, begin, make in makers:
             asked, wanted = make()
-            differ = differences(program, asked, wanted)
+            differ = differences(program, begin, asked, wanted)
             count, faults = count + len(asked), faults + len(differ)
             for row in differ[:5]:
                 print("{:.400}\n    wanted {:.200}\n    found  {:.200}".format(*row), flush=True)

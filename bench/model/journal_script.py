@@ -1,10 +1,10 @@
-"""The script of `journal_runs` and its expected output: a model of a disk with its generations and its journal answers each line."""
+"""The part `journal` of the script of `service_runs`: a model of a disk with its generations and its journal answers each line."""
 import words
 from crashes import Seen, every_choice
 from disk import SECTOR, Fault, Root, layout_of, root_of, version_of
 from journal_stand import Trial
 
-CRATE = "journal_runs"
+CRATE, PART = "service_runs", "journal"
 
 # A number whose bytes are all different, lowest first 1 to 8.
 NUMBER = 0x0807060504030201
@@ -293,10 +293,10 @@ def heads():
     yield from heading("The parts of a record of three: sectors 0 to 2. Sector 3 is a body of a shorter text, 4 one of zeros, 5 one of another version.")
     yield from ["disk 6", f"ring 0 3 0 {NUMBER - 1}", f"append = {LETTERS[993]}", f"write 3 = 2:1 1:1 1:2 {NUMBER}:8 992:4 'a"]
     yield from [f"write 4 = 2:1 1:1 1:2 {NUMBER}:8 993:4", f"write 5 = 2:1 2:1 1:2 {NUMBER}:8 993:4"]
-    yield from [f"part 0 {NUMBER} {at} {part}" for at in range(6) for part in range(4)]
+    yield from [f"has_part 0 {NUMBER} {at} {part}" for at in range(6) for part in range(4)]
     yield from heading("The same in version 2: a body of version 1 isn't one of the record's.")
     yield from ["disk 5", f"ring 0 3 0 {NUMBER - 1}", f"append 2 = {LETTERS[993]}", f"write 3 = 2:1 1:1 1:2 {NUMBER}:8 993:4"]
-    yield from [f"write 4 = 2:1 2:1 2:2 {NUMBER}:8 993:4", *(f"part 0 {NUMBER} {at} {part}" for at in range(5) for part in range(4))]
+    yield from [f"write 4 = 2:1 2:1 2:2 {NUMBER}:8 993:4", *(f"has_part 0 {NUMBER} {at} {part}" for at in range(5) for part in range(4))]
 
 
 def append_crashes():

@@ -201,7 +201,7 @@ class Trial:
             return optional(head_version(sector, number, most))
         return " ".join([optional(head_version(sector, number, 2)), *(optional(head_of(sector, version, number)) for version in (1, 2))])
 
-    def do_part(self, head_at, number, at, part):
+    def do_has_part(self, head_at, number, at, part):
         first, sector = self.disk.read(head_at), self.disk.read(at)
         version = head_version(first, number, 2)
         head = head_of(first, version, number) if version else None

@@ -1,6 +1,6 @@
 """Edits of a map that look random, as the lines `random` of `map_runs` make them, and the block of `map_script.py` with these lines.
 
-`crates/map_runs/src/random.rt` draws the same numbers in the same order.
+`crates/map_runs/src/maps/random.rt` draws the same numbers in the same order.
 """
 from chance import Chance
 from disk import Change

@@ -1,4 +1,4 @@
-"""What `map_runs` has to answer to a line: a second implementation of a map, its tiles, texts and metadata, from the documents alone.
+"""What `map_runs` has to answer to a line of the part `maps`: a second implementation of a map, its tiles, texts and metadata, from the documents alone.
 
 It shares no code with the product. `crates/map_runs/src/main.rt` says what each command does.
 """
@@ -457,7 +457,7 @@ class Stand:
         elif word == "caches":
             self.caches = Caches()
         else:
-            return f"? {word}"
+            return f"? {word} {rest}"
         return "new"
 
     def command(self, word, rest):

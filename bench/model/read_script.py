@@ -1,4 +1,4 @@
-"""The script of `crates/read_runs`: its lines, each with its answer by `read_stand.py`.
+"""The part `reads` of the script of `crates/map_runs`: its lines, each with its answer by `read_stand.py`.
 
 A line may stand beside the answer that a worked example, a standard or a table gives it: where the model has another one, no script is
 written.
@@ -19,7 +19,7 @@ from wire import number, part, varint
 sys.path.append(str(Path(__file__).resolve().parents[1] / "tests" / "archives"))
 import foreign_archives
 
-CRATE = "read_runs"
+CRATE, PART = "map_runs", "reads"
 LAST = 2**64 - 1
 TILE = "1a130a017012090807180122030900002880207802"
 
@@ -512,14 +512,14 @@ def number_lines():
     yield from [("written 0 7", "of 0, 7."), (f"written 65536 {LAST}", f"of 65536, {LAST}.")]
 
 
-PARTS = [wire_lines, shape_lines, tile_lines, edit_lines, header_lines, directory_lines, sound_lines, leaf_lines, judged_lines, metadata_lines, show_lines,
+BLOCKS = [wire_lines, shape_lines, tile_lines, edit_lines, header_lines, directory_lines, sound_lines, leaf_lines, judged_lines, metadata_lines, show_lines,
          foreign_lines, build_lines, id_lines, number_lines, read_hostile.lines]
 
 
 def files():
     """Standard input, and what must be written."""
     stand, asked, answers = Stand(), [], []
-    for line in (line for part_ in PARTS for line in part_()):
+    for line in (line for block in BLOCKS for line in block()):
         line, wanted = (line, None) if isinstance(line, str) else line
         answer = stand.answer(line)
         if wanted is not None and answer != wanted:

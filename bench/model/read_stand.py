@@ -1,6 +1,6 @@
-"""What `read_runs` has to answer to a line: second readers of messages, tiles, edits and archives, from the documents alone.
+"""What `map_runs` has to answer to a line of the part `reads`: second readers of messages, tiles, edits and archives, from the documents alone.
 
-It shares no code with the product. `crates/read_runs/src/main.rt` says what each command does.
+It shares no code with the product. `crates/map_runs/src/main.rt` says what each command does.
 """
 import re
 

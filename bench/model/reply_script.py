@@ -1,4 +1,4 @@
-"""The script of `crates/reply_runs`: lines of connections, and what each is to be answered by the models beside this file.
+"""The part `connections` of the script of `service_runs`: lines of connections, and what each is to be answered by the models beside this file.
 
 `scripts.py` writes it. First the models are held to the worked examples of docs/HTTP.md and docs/FORMATS.md, which no model made.
 """
@@ -18,7 +18,7 @@ import reply_routes
 import reply_turns
 from reply_stand import BODY, Script, Stand, request
 
-CRATE = "reply_runs"
+CRATE, PART = "service_runs", "connections"
 
 
 # ---- worked examples

@@ -1,4 +1,4 @@
-"""The script of `service_runs` and its expected output: a model of a service on a disk in memory answers each line."""
+"""The part `service` of the script of `service_runs`: a model of a service on a disk in memory answers each line."""
 import service_batches
 import service_damage
 import service_edits
@@ -10,7 +10,7 @@ import service_versions
 import words
 from service_stand import Trial
 
-CRATE = "service_runs"
+CRATE, PART = "service_runs", "service"
 BLOCKS = [*service_edits.BLOCKS, *service_batches.BLOCKS, *service_publications.BLOCKS, *service_openings.BLOCKS, *service_versions.BLOCKS]
 BLOCKS += [*service_exports.BLOCKS, *service_damage.BLOCKS, *service_random.BLOCKS]
 

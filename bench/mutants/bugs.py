@@ -23,10 +23,18 @@ from machine import Refused, Service
 from tiles import tile
 
 
-def script(crate):
-    """The lines of a script and their answers, each with its number."""
-    files = (HERE.parents[1] / "crates" / crate / name for name in ("stdin", "stdout"))
-    return [(number, *row) for number, row in enumerate(zip(*(file.read_text().split("\n") for file in files)), 1)]
+def script(crate, part=None):
+    """The lines of a script, or of a part of it, and their answers, each with its number. A line that begins a part has no answer."""
+    asked, answers = ((HERE.parents[1] / "crates" / crate / name).read_text().splitlines() for name in ("stdin", "stdout"))
+    found, now, rest = [], None, iter(answers)
+    for number, line in enumerate(asked, 1):
+        if line.startswith("part "):
+            now = line.removeprefix("part ")
+            continue
+        row = number, line, next(rest)
+        if now == part:
+            found.append(row)
+    return found
 
 
 @contextlib.contextmanager
@@ -82,7 +90,7 @@ def of_map():
 
 
 def of_connections(rows):
-    """Lines of `reply_runs` by what catches them."""
+    """Lines of connections by what catches them."""
     yield "always_out_of_memory", lines_of(rows, "ask|wait", r"HTTP/1\.1 2")
     yield "always_turns", lines_of(rows, "ask|wait", r"end: (Closed|Refused|Asked)|Err\(")
     # A line with several sizes has each reply once: the others are the same bytes.
@@ -97,16 +105,16 @@ def shown(bug, crate, found):
 
 
 def main():
-    rows, good = script("service_runs"), True
+    rows, good = script("service_runs", "service"), True
     for bug, owner, name, other in of_service():
         with planted(owner, name, other):
-            good &= shown(bug, "service_runs", list(differing(service_stand.Trial(), rows)))
-    rows = script("map_runs")
+            good &= shown(bug, "service_runs, part service", list(differing(service_stand.Trial(), rows)))
+    rows = script("map_runs", "maps")
     for bug, owner, name, other in of_map():
         with planted(owner, name, other):
             good &= shown(bug, "map_runs", list(differing(map_stand.Stand(), rows)))
-    for bug, found in of_connections(script("reply_runs")):
-        good &= shown(bug, "reply_runs", found)
+    for bug, found in of_connections(script("service_runs", "connections")):
+        good &= shown(bug, "service_runs, part connections", found)
     return 0 if good else 1
 
 

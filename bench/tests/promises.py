@@ -5,8 +5,8 @@
 
 It reads the tables' cells. `crate::Type::function` (`clause`, ..) is a function of that crate whose contract has these clauses, lemma `name`
 of `crate` a lemma in its proofs/, `.._tests` (`name`, ..) tests of that crate, `.._tests` (rows `name`, ..) rows of the tables that its
-tests run, `.._runs` (lines `word`, ..) lines of its script that begin with the word, and `NAME_runs` (blocks `name`, ..) functions of
-`bench/model/NAME_*.py`, which write such lines. It prints what it doesn't find, and ends with 1 then.
+tests run, `.._runs` (lines `word`, ..) lines of its script that begin with the word, `.._runs` (part `name`, lines `word`, ..) and part `name` of
+`.._runs` (lines `word`, ..) those of that part, and `.._runs` (blocks `name`, ..) functions of the models that write such lines. It prints what it doesn't find, and ends with 1 then.
 """
 import functools
 import re
@@ -67,16 +67,23 @@ def rows_of(crate):
 
 
 @functools.cache
-def words_of(crate):
-    """The words with which lines of a script begin, each call of a line that has several."""
-    lines = (CRATES / crate / "stdin").read_text().splitlines()
-    return {call.split(" ")[0] for line in lines for call in line.split("; ")}
+def words_of(crate, part):
+    """The words with which lines of a script begin, or of a part of it, each call of a line that has several."""
+    found, now = set(), ""
+    for line in (CRATES / crate / "stdin").read_text().splitlines():
+        if line.startswith("part "):
+            now = line.removeprefix("part ")
+        elif part in ("", now):
+            found |= {call.split(" ")[0] for call in line.split("; ")}
+    return found
 
 
 @functools.cache
-def blocks_of(script):
-    """The names of the functions of the models that write a script."""
-    texts = [model.read_text() for model in (ROOT / "bench" / "model").glob(f"{script}_*.py")]
+def blocks_of(crate):
+    """The names of the functions of the models that write a script: of modules `NAME_..` where `NAME_script` has it as its crate."""
+    models = ROOT / "bench" / "model"
+    names = [model.stem.removesuffix("script") for model in models.glob("*_script.py") if f'= "{crate}"' in model.read_text()]
+    texts = [model.read_text() for name in names for model in models.glob(f"{name}*.py")]
     return {name for text in texts for name in re.findall(r"^def (\w+)\(", text, re.M)}
 
 
@@ -107,10 +114,12 @@ def missing_in(text):
         yield from (f"test {test} of {crate}" for test in listed(tests) if test not in tests_of(crate))
     for crate, rows in re.findall(r"`(\w+_tests)` \(rows ((?:`\w+`(?:, )?)+)\)", text):
         yield from (f"row {row} of {crate}" for row in listed(rows) if row not in rows_of(crate))
-    for crate, words in re.findall(r"`(\w+_runs)` \(lines ((?:`\w+`(?:, )?)+)\)", text):
-        yield from (f"line {word} of {crate}" for word in listed(words) if word not in words_of(crate))
-    for script, blocks in re.findall(r"`(\w+)_runs` \(blocks ((?:`\w+`(?:, )?)+)\)", text):
-        yield from (f"block {block} of {script}_runs" for block in listed(blocks) if block not in blocks_of(script))
+    for part, crate, words in re.findall(r"(?:part `(\w+)` of )?`(\w+_runs)` \(lines ((?:`\w+`(?:, )?)+)\)", text):
+        yield from (f"line {word} of {crate} {part}" for word in listed(words) if word not in words_of(crate, part))
+    for crate, part, words in re.findall(r"`(\w+_runs)` \(part `(\w+)`, lines ((?:`\w+`(?:, )?)+)\)", text):
+        yield from (f"line {word} of {crate} {part}" for word in listed(words) if word not in words_of(crate, part))
+    for crate, blocks in re.findall(r"`(\w+_runs)` \(blocks ((?:`\w+`(?:, )?)+)\)", text):
+        yield from (f"block {block} of {crate}" for block in listed(blocks) if block not in blocks_of(crate))
 
 
 def main():

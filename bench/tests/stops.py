@@ -21,7 +21,7 @@ def difference(program, lines):
     """The first line whose answer differs, with the model's answer and the program's; None if there is none."""
     trial = Trial()
     expected = [trial.answer(line) for line in lines]
-    asked = "".join(line + "\n" for line in lines)
+    asked = "".join(line + "\n" for line in ["part service", *lines])
     answers = subprocess.run([program], input=asked, capture_output=True, text=True, timeout=600).stdout.splitlines()
     answers += ["no answer"] * (len(lines) - len(answers))
     return next((found for found in zip(lines, expected, answers) if found[1] != found[2]), None)

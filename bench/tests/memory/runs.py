@@ -36,7 +36,8 @@ def asked():
 
 def run(lines, more):
     """The status of a process, and its answers."""
-    done = subprocess.run([PROGRAM], input="".join(line + "\n" for line in lines), capture_output=True, text=True, timeout=60, env=more)
+    asked = "".join(line + "\n" for line in ["part service", *lines])
+    done = subprocess.run([PROGRAM], input=asked, capture_output=True, text=True, timeout=60, env=more)
     return done.returncode, done.stdout.split("\n")[:-1]
 
 

@@ -1,5 +1,6 @@
 //! What a line says.
-use script_bytes::{number_in, parted};
+use hilbert_id::TileAt;
+use script_bytes::{number_in, parted, short};
 use std::alloc::{AllocError, Global};
 
 /// A line: its first word, what stands behind it, and the numbers in that, 0 where there are fewer.
@@ -13,6 +14,11 @@ pub(crate) struct Line<'a> {
 /// A number as a byte, the greatest where it is greater.
 pub(crate) fn byte(number: u64) -> u8 {
     u8::try_from(number).unwrap_or(u8::MAX)
+}
+
+/// The tile of a zoom, a column and a row, if there is one.
+pub(crate) fn tile_at([zoom, column, row, ..]: [u64; 8]) -> Option<TileAt> {
+    TileAt::new(byte(zoom), short(column), short(row))
 }
 
 fn numbers_in(text: &str) -> [u64; 8] {
@@ -33,10 +39,7 @@ pub(crate) fn line_in(text: &str) -> Line<'_> {
     }
 }
 
-/// Whether there are at most so many blocks.
-pub(crate) fn blocks_text(alloc: Global, count: usize, most: u64) -> Result<String, AllocError> {
-    if count as u64 <= most {
-        return format!(in alloc; "at most {most} blocks");
-    }
-    format!(in alloc; "{count} blocks")
+/// The answer to a line whose word is unknown, or whose bytes can't be made out.
+pub(crate) fn unknown(alloc: Global, line: Line<'_>) -> Result<String, AllocError> {
+    format!(in alloc; "? {} {}", line.word, line.rest)
 }

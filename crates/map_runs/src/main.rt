@@ -1,10 +1,14 @@
-//! Runs a script over a map and its parts: a line on standard input, its answer on standard output.
+//! Runs a script over a map and its parts, and over bytes of any maker: a line on standard input, its answer on standard output.
 //!
-//! A line is a word and what stands behind it. An empty line and one that begins with `#` are repeated; the answer to an unknown word
-//! is `?` and the word. FEATURE is a feature as JSON (`docs/HTTP.md`) in which `<COUNT:TEXT>` stands for a text that is repeated; all
-//! else are decimal numbers, 0 where they are left out. BOX is the first and the last column and the first and the last row of a box
-//! of the world. In place of an answer stands the word of a fault. An answer of over 10,000 bytes is told by its first ones, its length
-//! and a digest. What is wanted of each line is in `bench/model/map_stand.py`.
+//! A line `part maps` or `part reads` says whose commands follow; it has no answer, and each part keeps what it works on. A line is a word
+//! and what stands behind it. An empty line and one that begins with `#` are repeated; the answer to an unknown word, and to bytes that
+//! can't be made out, is `?` and the line. `<COUNT:TEXT>` in a FEATURE or an INPUT stands for a text that is repeated. Numbers are decimal,
+//! 0 where they are left out. In place of an answer stands a fault. An answer of over 10,000 bytes is told by its first ones, its length and
+//! a digest. What is wanted of each line is in `bench/model/map_stand.py` and `bench/model/read_stand.py`.
+//!
+//! # `part maps`, which the first lines are of
+//!
+//! FEATURE is a feature as JSON (`docs/HTTP.md`). BOX is the first and the last column and the first and the last row of a box of the world.
 //!
 //! A feature alone, and edits:
 //!
@@ -58,39 +62,69 @@
 //! | `boxblocks MOST` | whether there are at most so many blocks |
 //! | `mark BOX NUMBER`, `touched Z X Y` | an edit touched a box; the newest edit that can have touched a tile |
 //! | `hold Z X Y NUMBER BYTE`, `held Z X Y NUMBER` | a tile is held with an edit's number; its bytes, if they are held with this number or a later one |
+//!
+//! # `part reads`
+//!
+//! INPUT is hexadecimal digits, `-` for no bytes, or `@NAME` for bytes that a line has kept, and then changes from left to right: `AT=HEX`
+//! puts bytes at a place, `..LEN` cuts, `+HEX` adds.
+//!
+//! | Line | Answer |
+//! |---|---|
+//! | `keep NAME INPUT` | how many bytes have this name from now on |
+//! | `varint INPUT` | the number in front, and how many bytes it takes |
+//! | `fields INPUT` | the fields of a message, up to the first fault |
+//! | `tile INPUT` | the layers of a vector tile |
+//! | `change INPUT`, `edit INPUT` | the change, or the edit, whose text stands in front, and how many bytes that has |
+//! | `header INPUT`, `directory INPUT`, `metadata INPUT` | the header of an archive; the entries of a directory; whether it is a JSON object |
+//! | `find ID INPUT` | the entry of a directory that leads to an id |
+//! | `list INPUT` | the tile entries of an archive |
+//! | `contents ID,ID.. INPUT`, `looks ID,ID.. INPUT` | the contents of ids in an archive; the same by one look-up that is kept |
+//! | `verify INPUT`, `show INPUT` | the status and the line of `vtserve verify`; what `vtserve show` writes |
+//! | `build ID:HEX ..` | the archive of tiles of these ids and contents |
+//! | `even COUNT HEX`, `evenjudged COUNT HEX` | the archive of so many tiles of even ids with one content; the line of `verify` about it |
+//! | `apart COUNT LENGTH` | the archive of so many tiles of even ids, each with a content of so many bytes of its own |
+//! | `shape KIND INTEGER ..` | the shape of `points`, `lines`, `polygons` or `unknown` that integers spell |
+//! | `example points`, `example line`, `example ring` | the integers of the standard's example of this shape |
+//! | `nothing` | the integers that are written of no lines, and of no rings |
+//! | `spell N ..` | numbers as they are spelled in a message, one behind the other |
+//! | `zigzag N`, `unzigzag N` | a signed number as an unsigned one, and back |
+//! | `id Z X Y`, `place ID` | the id of a tile, and the tile of an id |
+//! | `range TEXT`, `rangeof INPUT` | the bytes that the value of a field `range` asks for |
+//! | `digits TEXT`, `written N N` | the number that digits write; two numbers in digits behind texts |
 #![tactic(auto)]
 
-mod areas;
-mod boxes;
-mod caches;
-mod features;
 mod lines;
 mod maps;
-mod numbers;
-mod random;
-mod stands;
+mod reads;
+mod script;
 mod texts;
 
-use stands::Stand;
+use script::Script;
 use std::io;
 
-/// Answers a line.
-fn answer_line(rt: &HostRuntime, stand: &mut Stand, line: &str) -> io::Result<()> {
-    let text = stand.answer(rt.alloc(), line)?;
+/// Answers a line. One that says whose commands follow has no answer.
+fn answer_line(rt: &HostRuntime, script: &mut Script, line: &str) -> io::Result<()> {
+    if let Some(name) = line.strip_prefix("part ") {
+        if !script.begin(name) {
+            println!(rt; "unknown part {name}")?;
+        }
+        return Ok(());
+    }
+    let text = script.answer(rt.alloc(), line)?;
     println!(rt; "{text}")
 }
 
-/// Answers each line. The stand is lent, so that no way out of the loop has it to drop.
-fn answer_lines(rt: &HostRuntime, stand: &mut Stand) -> io::Result<()> {
+/// Answers each line. The script is lent, so that no way out of the loop has it to drop.
+fn answer_lines(rt: &HostRuntime, script: &mut Script) -> io::Result<()> {
     for line in rt.lines(rt.alloc()) {
-        answer_line(rt, stand, line?.as_str())?;
+        answer_line(rt, script, line?.as_str())?;
     }
     Ok(())
 }
 
 fn main(rt: HostRuntime) -> io::Result<()> {
-    let mut stand = Stand::new(rt.alloc())?;
-    let answered = answer_lines(&rt, &mut stand);
-    drop(stand);
+    let mut script = Script::new(rt.alloc())?;
+    let answered = answer_lines(&rt, &mut script);
+    drop(script);
     answered
 }

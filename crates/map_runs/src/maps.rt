@@ -1,319 +1,79 @@
-//! Lines over a map.
-ghost use Rattle.std.specs.Prelude.{◌≤◌, All, length};
-ghost use Rattle.feature_model.specs.Data.{edit_data};
-ghost use Rattle.feature_model.specs.Spelled.{spelled_changes};
-ghost use Rattle.feature_model.specs.Types.{IsChange};
-ghost use Rattle.feature_model.specs.declared.limits.TheConstants.{MAX_EDIT_BYTES};
+//! The part `maps`: lines over a map and its parts.
+mod areas;
+mod boxes;
+mod caches;
+mod features;
+mod map;
+mod numbers;
+mod random;
+mod texts;
 
-use crate::areas::area;
-use crate::features::{feature_in, kept};
-use crate::lines::{Line, byte};
-use crate::random::make_random;
+use crate::lines::{Line, unknown};
+use box_index::BoxIndex;
 use cached_map::CachedMap;
-use edit_text::{decode, encode_change};
-use feature_model::{Change, Edit, Feature, check};
-use feature_store::{Store, Tiles};
-use hilbert_id::TileAt;
-use map_metadata::{metadata, metadata_text};
-use mvt_layer::{Layer, read_tile};
-use script_bytes::{digest, number_in, parted, short};
+use caches::Caches;
+use number_map::NumberMap;
 use std::alloc::{AllocError, Global};
 use std::mem;
 
-/// The most features of a map.
-const MOST: usize = 100_000;
-
-/// The most bytes of a snapshot that is read.
-const MOST_BYTES: usize = 16_777_216;
-
-/// The empty map, whose last edit has this number.
-pub(crate) fn empty_map(alloc: Global, last: u64) -> Result<CachedMap, AllocError> {
-    CachedMap::new(alloc, Store::new(alloc), last)
+/// A map, and parts of maps.
+#[derive(Drop)]
+pub(crate) struct Maps {
+    map: CachedMap,
+    numbers: NumberMap<u64>,
+    boxes: BoxIndex,
+    caches: Caches,
 }
 
-/// What is told of the edit of this number.
-pub(crate) fn edited(alloc: Global, number: u64, map: &CachedMap) -> Result<String, AllocError> {
-    let count = map.store().len();
-    format!(in alloc; "edit {number}: {count} features")
-}
-
-/// Gives a number a feature.
-pub(crate) fn put(
-    alloc: Global,
-    map: &mut CachedMap,
-    id: u64,
-    feature: Feature,
-) -> Result<String, AllocError> {
-    if let Err(fault) = check(id, &feature) {
-        return fault.to_string(alloc);
+impl Maps {
+    pub(crate) fn new(alloc: Global) -> Result<Maps, AllocError> {
+        let caches = Caches::new(alloc)?;
+        let map = map::empty_map(alloc, 0)?;
+        Ok(Maps {
+            map,
+            numbers: NumberMap::new(alloc),
+            boxes: BoxIndex::new(alloc),
+            caches,
+        })
     }
-    let change = Change::Put { id, feature };
-    let _text = encode_change(alloc, &change)?;
-    let mut changes = Vec::new(alloc);
-    changes.push(change)?;
-    make(alloc, map, Edit { changes })
-}
 
-fn put_json(alloc: Global, map: &mut CachedMap, rest: &str) -> Result<String, AllocError> {
-    let (id, json) = parted(rest);
-    match feature_in(alloc, json) {
-        Ok(feature) => put(alloc, map, number_in(id), feature),
-        Err(refusal) => refusal.to_string(alloc),
-    }
-}
-
-/// Takes the feature of a number away.
-pub(crate) fn delete(alloc: Global, map: &mut CachedMap, id: u64) -> Result<String, AllocError> {
-    let Some(number) = map.last().checked_add(1) else {
-        return String::from_str(alloc, "numbers spent");
-    };
-    let found = map.remove(id, number);
-    let count = map.store().len();
-    format!(in alloc; "edit {number}: {count} features, was there {found}")
-}
-
-/// Makes the changes of an edit together.
-fn make(alloc: Global, map: &mut CachedMap, edit: Edit) -> Result<String, AllocError>
-    requires changes { All IsChange (edit_data edit) }
-    requires text { length (spelled_changes (edit_data edit)) ≤ MAX_EDIT_BYTES }
-{
-    let Some(number) = map.last().checked_add(1) else {
-        return String::from_str(alloc, "numbers spent");
-    };
-    if map.store().len() > MOST {
-        return String::from_str(alloc, "too many features");
-    }
-    let changes = map.prepare(&edit.changes)?;
-    map.make_edit(changes, number);
-    edited(alloc, number, map)
-}
-
-fn make_text(alloc: Global, map: &mut CachedMap, text: &str) -> Result<String, AllocError> {
-    let Ok(bytes) = hex::decode(alloc, text) else {
-        return String::from_str(alloc, "no hex");
-    };
-    match decode(alloc, &bytes) {
-        Ok((edit, _)) => make(alloc, map, edit),
-        Err(fault) => format!(in alloc; "{fault:?}"),
-    }
-}
-
-/// The feature of a number.
-fn look(alloc: Global, store: &Store, id: u64) -> Result<String, AllocError> {
-    match store.get(id) {
-        Some(feature) => kept(alloc, feature),
-        None => String::from_str(alloc, "none"),
-    }
-}
-
-/// A tile: as it is kept, or made.
-fn tile(alloc: Global, map: &mut CachedMap, at: TileAt) -> Result<String, AllocError> {
-    if let Some(bytes) = map.kept(at, false)? {
-        let text = hex::encode(alloc, bytes.as_slice())?;
-        return format!(in alloc; "kept {text}");
-    }
-    match map.make(at)? {
-        Some(bytes) => {
-            let text = hex::encode(alloc, bytes.as_slice())?;
-            format!(in alloc; "made {text}")
+    /// Of a line that begins anew with the map, or with what is as dear, or of one that is unknown.
+    fn other_answer(&mut self, alloc: Global, line: Line<'_>) -> Result<String, AllocError> {
+        match line.word {
+            "map" => drop(mem::replace(&mut self.map, map::empty_map(alloc, line.numbers[0])?)),
+            "numbers" => drop(mem::replace(&mut self.numbers, NumberMap::new(alloc))),
+            "boxes" => drop(mem::replace(&mut self.boxes, BoxIndex::new(alloc))),
+            "caches" => drop(mem::replace(&mut self.caches, Caches::new(alloc)?)),
+            _ => return unknown(alloc, line),
         }
-        None => String::from_str(alloc, "nothing"),
+        String::from_str(alloc, "new")
     }
-}
 
-/// A tile that is cut anew, kept or not: no bytes where it shows nothing.
-fn anew(alloc: Global, store: &Store, at: TileAt) -> Result<String, AllocError> {
-    match store.tile(at)? {
-        Some(bytes) => hex::encode(alloc, bytes.as_slice()),
-        None => Ok(String::new(alloc)),
-    }
-}
-
-/// A layer's name, version, extent, and the numbers of its features.
-type Listed<'a> = (&'a str, u32, u32, Vec<u64>);
-
-fn listed<'a>(alloc: Global, layer: &Layer<'a>) -> Result<Listed<'a>, AllocError> {
-    let mut ids = Vec::new(alloc);
-    for feature in &layer.features {
-        ids.push(feature.id.unwrap_or(0))?;
-    }
-    Ok((layer.name, layer.version, layer.extent, ids))
-}
-
-fn all_listed(alloc: Global, layers: &[Layer<'_>]) -> Result<String, AllocError> {
-    let mut all = Vec::new(alloc);
-    for layer in layers {
-        all.push(listed(alloc, layer)?)?;
-    }
-    format!(in alloc; "{all:?}")
-}
-
-/// The layers that a tile's bytes have, none where it shows nothing.
-fn layers(alloc: Global, store: &Store, at: TileAt) -> Result<String, AllocError> {
-    let bytes = store.tile(at)?.unwrap_or(Vec::new(alloc));
-    match read_tile(alloc, &bytes) {
-        Ok(layers) => all_listed(alloc, &layers),
-        Err(fault) => format!(in alloc; "{fault:?}"),
-    }
-}
-
-/// Adds the next tile, with its id. Whether there is one.
-fn push_tile(
-    alloc: Global,
-    all: &mut Vec<(u64, String)>,
-    tiles: &mut Tiles<'_>,
-) -> Result<bool, AllocError> {
-    match tiles.next()? {
-        Some((id, bytes)) => {
-            all.push((id, hex::encode(alloc, bytes.as_slice())?))?;
-            Ok(true)
+    /// What a line comes to.
+    pub(crate) fn answer(&mut self, alloc: Global, line: Line<'_>) -> Result<String, AllocError> {
+        if let Some(told) = features::answer(alloc, &mut self.map, line) {
+            return told;
         }
-        None => Ok(false),
-    }
-}
-
-fn push_tiles(
-    alloc: Global,
-    all: &mut Vec<(u64, String)>,
-    tiles: &mut Tiles<'_>,
-) -> Result<(), AllocError> {
-    for _ in 0..u64::MAX {
-        if !push_tile(alloc, all, tiles)? {
-            break;
+        if let Some(told) = map::answer(alloc, &mut self.map, line) {
+            return told;
         }
-    }
-    Ok(())
-}
-
-/// All tiles, each with its id.
-fn tiles(alloc: Global, store: &Store) -> Result<String, AllocError> {
-    let mut all = Vec::new(alloc);
-    let mut tiles = store.tiles()?;
-    let pushed = push_tiles(alloc, &mut all, &mut tiles);
-    drop(tiles);
-    pushed?;
-    format!(in alloc; "{all:?}")
-}
-
-/// The snapshot of the map that is read back from a map's snapshot.
-fn snapshot(alloc: Global, store: &Store) -> Result<String, AllocError> {
-    let text = store.snapshot_text()?;
-    if text.len() > MOST_BYTES {
-        return String::from_str(alloc, "too many bytes");
-    }
-    match Store::from_snapshot(alloc, &text) {
-        Ok(same) => hex::encode(alloc, same.snapshot_text()?.as_slice()),
-        Err(fault) => fault.to_string(alloc),
-    }
-}
-
-/// Takes the map of a snapshot in the map's place. Its last edit keeps the number.
-fn restore(alloc: Global, map: &mut CachedMap, text: &str) -> Result<String, AllocError> {
-    let Ok(bytes) = hex::decode(alloc, text) else {
-        return String::from_str(alloc, "no hex");
-    };
-    if bytes.len() > MOST_BYTES {
-        return String::from_str(alloc, "too many bytes");
-    }
-    match Store::from_snapshot(alloc, &bytes) {
-        Ok(store) => {
-            let count = store.len();
-            let restored = CachedMap::new(alloc, store, map.last())?;
-            drop(mem::replace(map, restored));
-            format!(in alloc; "{count} features")
+        if let Some(told) = numbers::answer(alloc, &mut self.numbers, line) {
+            return told;
         }
-        Err(fault) => fault.to_string(alloc),
-    }
-}
-
-/// The metadata as text, and as a value where that has another one.
-fn described(alloc: Global, store: &Store) -> Result<String, AllocError> {
-    let text = metadata_text(alloc, store)?;
-    let value = metadata(alloc, store)?.to_string(alloc)?;
-    if text == value {
-        return Ok(text);
-    }
-    format!(in alloc; "{text}, and as a value {value}")
-}
-
-/// What a line about a tile comes to.
-fn tile_answer(
-    alloc: Global,
-    map: &mut CachedMap,
-    line: Line<'_>,
-    at: TileAt,
-) -> Result<String, AllocError> {
-    match line.word {
-        "tile" => tile(alloc, map, at),
-        "anew" => anew(alloc, map.store(), at),
-        "layers" => layers(alloc, map.store(), at),
-        _ => format!(in alloc; "{}", map.newest(at)),
-    }
-}
-
-fn place_answer(alloc: Global, map: &mut CachedMap, line: Line<'_>) -> Result<String, AllocError> {
-    let [zoom, column, row, ..] = line.numbers;
-    match TileAt::new(byte(zoom), short(column), short(row)) {
-        Some(at) => tile_answer(alloc, map, line, at),
-        None => String::from_str(alloc, "no tile"),
-    }
-}
-
-/// The tiles of a square, each as a line `tile` answers it: its zoom, its first column and row, and how many of these it has. The answer
-/// is how many are cached, and a digest: 31 times that of the tiles before, column by column, plus the hash of the answer, modulo 2^64.
-fn square(
-    alloc: Global,
-    map: &mut CachedMap,
-    [zoom, column, row, side, ..]: [u64; 8],
-) -> Result<String, AllocError> {
-    let mut cached = 0u64;
-    let mut sum = 0u64;
-    for across in 0..side {
-        for down in 0..side {
-            let x = column.wrapping_add(across);
-            let y = row.wrapping_add(down);
-            let line = Line {
-                word: "tile",
-                rest: "",
-                numbers: [zoom, x, y, 0, 0, 0, 0, 0],
-            };
-            let answer = place_answer(alloc, map, line)?;
-            if answer.as_str().starts_with("kept") {
-                cached = cached.wrapping_add(1);
-            }
-            let hash = digest(answer.as_str().as_bytes());
-            sum = sum.wrapping_mul(31).wrapping_add(hash);
+        if let Some(told) = boxes::answer(alloc, &mut self.boxes, line) {
+            return told;
         }
-    }
-    format!(in alloc; "{cached} cached, digest {sum}")
-}
-
-/// What a line about what a map holds comes to.
-fn held_answer(alloc: Global, store: &Store, line: Line<'_>) -> Option<Result<String, AllocError>> {
-    match line.word {
-        "look" => Some(look(alloc, store, line.numbers[0])),
-        "tiles" => Some(tiles(alloc, store)),
-        "snapshot" => Some(snapshot(alloc, store)),
-        "metadata" => Some(described(alloc, store)),
-        "area" => Some(area(alloc, store, line.numbers[0])),
-        _ => None,
+        if let Some(told) = self.caches.answer(alloc, line) {
+            return told;
+        }
+        self.other_answer(alloc, line)
     }
 }
 
-/// What a line over a map comes to.
-pub(crate) fn answer(
-    alloc: Global,
-    map: &mut CachedMap,
-    line: Line<'_>,
-) -> Option<Result<String, AllocError>> {
-    match line.word {
-        "put" => Some(put_json(alloc, map, line.rest)),
-        "delete" => Some(delete(alloc, map, line.numbers[0])),
-        "make" => Some(make_text(alloc, map, line.rest)),
-        "random" => Some(make_random(alloc, map, line.numbers)),
-        "restore" => Some(restore(alloc, map, line.rest)),
-        "tile" | "anew" | "layers" | "newest" => Some(place_answer(alloc, map, line)),
-        "square" => Some(square(alloc, map, line.numbers)),
-        _ => held_answer(alloc, map.store(), line),
+/// Whether there are at most so many blocks.
+fn blocks_text(alloc: Global, count: usize, most: u64) -> Result<String, AllocError> {
+    if count as u64 <= most {
+        return format!(in alloc; "at most {most} blocks");
     }
+    format!(in alloc; "{count} blocks")
 }

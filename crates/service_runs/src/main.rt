@@ -1,95 +1,90 @@
-//! Runs a script over a map on a disk in memory: edits, tiles and publications of a service, failing calls of its disk, and what opens again
-//! after a crash.
+//! Runs a script in parts, each over a state of its own: disks with their generations and journals, a map on a disk as a service, and
+//! connections to such a map.
 //!
-//! Line k of standard output answers line k of standard input. Empty lines and lines that begin with `#` are echoed. A command has its numbers
-//! first and its bytes after `=`, spelled as `script_bytes` reads them. Answers are in the form of `{:?}`, long ones as a count and a hash;
-//! `in N` is the number of calls of the disk.
-//!
-//! | Command | Action |
-//! |---|---|
-//! | `disk N` | makes a disk of N sectors of zeros |
-//! | `write AT = BYTES` | writes a sector: these bytes, padded with zeros |
-//! | `sector AT`, `sectors` | prints a sector up to its last nonzero byte; the numbers of the sectors that are not all zeros |
-//! | `fail_from N` | after the next `format`, `upgrade`, `export` or `open`, all calls of the disk from number N on fail |
-//! | `fail_not_made N`, `fail_made N` | the same of call N alone, before or after its work is done |
-//! | `format`, `format_version V` | formats the disk for the empty map, in the last version of the format or in version V |
-//! | `upgrade` | upgrades the disk to the last version of the format |
-//! | `export`, `export N` | copies the published archive of the disk, which isn't opened; to a writer that has room for N bytes |
-//! | `open` | opens the disk as a service |
-//! | `stop` | takes the disk away with its unsynced writes, and prints the number of calls since it was opened |
-//! | `resume` | brings the stopped disk back |
-//! | `crash C C ..` | makes the disk that a crash leaves of the stopped one: for the i-th unsynced sector its C-th write, or 0 for none |
-//! | `put ID FEATURE`, `delete ID`, `tile Z X Y`, `look ID`, `begin`, `step`, `cancel` | runs an event, or several with `; ` between them; see `features` |
-//! | `batch CHANGE & CHANGE ..` | an event too: changes, each as `put ID FEATURE` or `delete ID`; `batch` alone has none |
-//! | `nothing` | runs no event |
-//! | `publish` | publishes the map by one call |
-//! | `archive`, `archive AT N` | reads the published archive, or N bytes of it |
-//! | `verify` | verifies the published archive |
-//! | `metadata`, `version` | prints the metadata of the map; the version of the disk |
+//! A line `part NAME` begins the part `journal`, `service` or `connections`, whose commands follow, and prints nothing. Each other line prints
+//! its answer. Empty lines and lines that begin with `#` are echoed. What is no command of its part, or doesn't fit, is printed after `?`.
+//! The head of each part's module lists its commands.
 #![tactic(auto)]
 
 mod answers;
-mod calls;
-mod disks;
-mod events;
-mod exports;
-mod features;
-mod lines;
-mod sessions;
+mod commands;
+mod connections;
+mod journal;
+mod sectors;
+mod service;
 
-use lines::{Line, Verb, line_in};
-use sessions::Trial;
 use std::alloc::{AllocError, Global};
-use std::io;
+use std::{io, mem};
 
-/// The answer to a command. `None` if it does not fit or no service is open.
-fn answered(
-    alloc: Global,
-    trial: &mut Trial,
-    line: &Line,
-    text: &str,
-) -> Result<Option<String>, AllocError> {
-    match line.verb {
-        Verb::Disk(verb) => disks::answered(alloc, trial, verb, line),
-        Verb::Session(verb) => sessions::answered(alloc, trial, verb, line),
-        Verb::Call(verb) => calls::answered(alloc, trial, verb, &line.numbers, text),
+/// The part of the script whose commands follow, with its state.
+#[derive(Drop)]
+enum Part {
+    /// No part was begun, or one that isn't known.
+    Unknown,
+    Journal(journal::Trial),
+    Service(service::Trial),
+    Connections(connections::Trial),
+}
+
+/// The part of this name in its first state. `Unknown` if there is no such part.
+fn part_of(alloc: Global, name: &str) -> Result<Part, AllocError> {
+    match name {
+        "journal" => Ok(Part::Journal(journal::Trial::new(alloc)?)),
+        "service" => Ok(Part::Service(service::Trial::new(alloc)?)),
+        "connections" => Ok(Part::Connections(connections::Trial::new(alloc)?)),
+        _ => Ok(Part::Unknown),
     }
 }
 
-/// The answer to a line of text. `None` if it is no command, does not fit, or no service is open.
-fn answer_to(alloc: Global, trial: &mut Trial, text: &str) -> Result<Option<String>, AllocError> {
-    match line_in(alloc, text)? {
-        Some(line) => {
-            let answer = answered(alloc, trial, &line, text);
-            drop(line);
-            answer
-        }
-        None => Ok(None),
+/// Begins the part of this name, and drops the one before.
+fn begin(rt: &HostRuntime, part: &mut Part, name: &str) -> io::Result<()> {
+    let next = part_of(rt.alloc(), name)?;
+    let is_known = !matches!(next, Part::Unknown);
+    drop(mem::replace(part, next));
+    if is_known {
+        return Ok(());
+    }
+    println!(rt; "no part {name}")
+}
+
+/// The answer to a command of the part. `None` if it has no such command, or it doesn't fit.
+fn answer_to(alloc: Global, part: &mut Part, text: &str) -> Result<Option<String>, AllocError> {
+    match part {
+        Part::Unknown => Ok(None),
+        Part::Journal(trial) => journal::answer_to(alloc, trial, text),
+        Part::Service(trial) => service::answer_to(alloc, trial, text),
+        Part::Connections(trial) => connections::answer_to(alloc, trial, text),
     }
 }
 
-/// Answers a line of text.
-fn answer_line(rt: &HostRuntime, trial: &mut Trial, text: &str) -> io::Result<()> {
-    if text.is_empty() || text.starts_with('#') {
-        return println!(rt; "{text}");
-    }
-    match answer_to(rt.alloc(), trial, text)? {
+fn answer_command(rt: &HostRuntime, part: &mut Part, text: &str) -> io::Result<()> {
+    match answer_to(rt.alloc(), part, text)? {
         Some(answer) => println!(rt; "{answer}"),
         None => println!(rt; "? {text}"),
     }
 }
 
-/// Answers each line. The service is borrowed, so that no way out of the loop drops it.
-fn answer_lines(rt: &HostRuntime, trial: &mut Trial) -> io::Result<()> {
+fn answer_line(rt: &HostRuntime, part: &mut Part, text: &str) -> io::Result<()> {
+    if text.is_empty() || text.starts_with('#') {
+        return println!(rt; "{text}");
+    }
+    match text.strip_prefix("part ") {
+        Some(name) => begin(rt, part, name),
+        None => answer_command(rt, part, text),
+    }
+}
+
+/// Answers each line. The part is borrowed, so that no way out of the loop drops a disk or a service.
+fn answer_lines(rt: &HostRuntime, part: &mut Part) -> io::Result<()> {
     for line in rt.lines(rt.alloc()) {
-        answer_line(rt, trial, line?.as_str())?;
+        answer_line(rt, part, line?.as_str())?;
     }
     Ok(())
 }
 
 fn main(rt: HostRuntime) -> io::Result<()> {
-    let mut trial = Trial::new(rt.alloc())?;
-    let answered = answer_lines(&rt, &mut trial);
-    drop(trial);
+    let mut part = Part::Unknown;
+    let answered = answer_lines(&rt, &mut part);
+    drop(part);
     answered
 }

@@ -1,4 +1,0 @@
-//! Peers that connect to a listener on this machine, and the lines of the log. Peers that act at times are lines of the script of `reply_runs`.
-
-mod lines;
-mod peers;

@@ -1,0 +1,77 @@
+//! The part `journal`: a disk in memory, its sectors and what a crash leaves of them, its generations, and its journal of edits.
+//!
+//! A command has its numbers first and its bytes after `=`, spelled as `script_bytes` reads them. Answers are in the form of `{:?}`; `in N` is
+//! the number of calls of the disk. The call numbers of `fail_..` start at 1, after the last command that made a disk or set failing calls.
+//!
+//! | Command | Action |
+//! |---|---|
+//! | `disk N` | makes a disk of N sectors of zeros |
+//! | `write AT = BYTES` | writes a sector: these bytes, padded with zeros |
+//! | `sync` | syncs the disk |
+//! | `sector AT` | prints a sector up to its last nonzero byte |
+//! | `sectors` | prints the numbers of the sectors that are not all zeros |
+//! | `fail_from N`, `fail_not_made N`, `fail_made N` | makes calls fail: all from number N on, or only call N, before or after its work is done |
+//! | `fail_none` | no call fails |
+//! | `stop` | takes the disk away with its unsynced writes |
+//! | `crash C C ..` | makes the disk that a crash leaves of the stopped one: for the i-th unsynced sector its C-th write, or 0 for none |
+//! | `layout N` | prints the layout of a disk of N sectors |
+//! | `format` | formats the disk in the last version of the format |
+//! | `format_version V` | formats the disk in version V of the format |
+//! | `upgrade` | upgrades the disk to the last version of the format |
+//! | `root` | reads the live root |
+//! | `area G I = BYTES` | writes sector I of the area of generation G |
+//! | `install G E J S A` | installs a root: generation, edits, journal place, lengths of snapshot and archive |
+//! | `ring FIRST PLACES PLACE EDITS` | recovers the journal in PLACES sectors from FIRST on: EDITS edits came before the record at PLACE |
+//! | `ring FIRST PLACES PLACE EDITS V` | the same on a disk of version V, not 2 |
+//! | `append = BYTES`, `append V = BYTES` | appends a record of version 1 or V to the journal |
+//! | `next` | prints the free places and the start of the next record |
+//! | `mark` | remembers the start of the next record |
+//! | `release N` | releases the N places before the mark |
+//! | `head AT NUMBER` | prints which version of the head of record NUMBER a sector is, and what it says as one of version 1 and as one of version 2 |
+//! | `head AT NUMBER V` | prints which version of the head it is, up to V |
+//! | `has_part HEAD NUMBER AT PART` | prints whether sector AT is this part of record NUMBER, whose head is in sector HEAD |
+mod disks;
+mod generation;
+mod rings;
+mod trial;
+mod verbs;
+
+use crate::commands::{Operands, operands_in, verb_in};
+use script_bytes::parted;
+use std::alloc::{AllocError, Global};
+pub(crate) use trial::Trial;
+use verbs::{VERBS, Verb};
+
+/// The answer to a command. `None` if its numbers don't fit.
+fn answered(
+    alloc: Global,
+    trial: &mut Trial,
+    verb: Verb,
+    operands: &Operands,
+) -> Result<Option<String>, AllocError> {
+    match verb {
+        Verb::Disk(verb) => disks::answered(alloc, trial, verb, operands),
+        Verb::Generation(verb) => generation::answered(alloc, trial, verb, operands),
+        Verb::Ring(verb) => rings::answered(alloc, trial, verb, operands),
+    }
+}
+
+/// The answer to a line of text. `None` if it is no command, or its numbers don't fit.
+pub(crate) fn answer_to(
+    alloc: Global,
+    trial: &mut Trial,
+    text: &str,
+) -> Result<Option<String>, AllocError> {
+    let (word, rest) = parted(text);
+    let Some(verb) = verb_in(&VERBS, word) else {
+        return Ok(None);
+    };
+    match operands_in(alloc, rest)? {
+        Some(operands) => {
+            let answer = answered(alloc, trial, verb, &operands);
+            drop(operands);
+            answer
+        }
+        None => Ok(None),
+    }
+}
