@@ -4,9 +4,10 @@
     python3 bench/tests/promises.py
 
 It reads the tables' cells. `crate::Type::function` (`clause`, ..) is a function of that crate whose contract has these clauses, lemma `name`
-of `crate` a lemma in its proofs/, `.._tests` (`name`, ..) tests of that crate, `.._tests` (rows `name`, ..) rows of the tables that its
+of `crate` a lemma in its proofs/, `tests_..` (`name`, ..) tests of that crate, `tests_..` (rows `name`, ..) rows of the tables that its
 tests run, `.._runs` (lines `word`, ..) lines of its script that begin with the word, `.._runs` (part `name`, lines `word`, ..) and part `name` of
-`.._runs` (lines `word`, ..) those of that part, and `.._runs` (blocks `name`, ..) functions of the models that write such lines. It prints what it doesn't find, and ends with 1 then.
+`.._runs` (lines `word`, ..) those of that part, and `.._runs` (blocks `name`, ..) functions of the models that write such lines. It prints what
+it doesn't find, and ends with 1 then.
 """
 import functools
 import re
@@ -110,9 +111,9 @@ def missing_in(text):
         rows = re.search(rf"^\| Lemma of `{table}` \|.*\n\|-.*\n((?:\|.*\n)+)", text, re.M).group(1)
         names = [name for row in rows.splitlines() for name in listed(row.split("|")[1])]
         yield from (f"lemma {name} of {table}" for name in names if name not in lemmas_of(table))
-    for crate, tests in re.findall(r"`(\w+_tests)` \(((?:`\w+`(?:, )?)+)\)", text):
+    for crate, tests in re.findall(r"`(tests_\w+)` \(((?:`\w+`(?:, )?)+)\)", text):
         yield from (f"test {test} of {crate}" for test in listed(tests) if test not in tests_of(crate))
-    for crate, rows in re.findall(r"`(\w+_tests)` \(rows ((?:`\w+`(?:, )?)+)\)", text):
+    for crate, rows in re.findall(r"`(tests_\w+)` \(rows ((?:`\w+`(?:, )?)+)\)", text):
         yield from (f"row {row} of {crate}" for row in listed(rows) if row not in rows_of(crate))
     for part, crate, words in re.findall(r"(?:part `(\w+)` of )?`(\w+_runs)` \(lines ((?:`\w+`(?:, )?)+)\)", text):
         yield from (f"line {word} of {crate} {part}" for word in listed(words) if word not in words_of(crate, part))
