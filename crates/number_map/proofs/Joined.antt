@@ -1,7 +1,8 @@
 -- Blocks one after another.
 use Rattle.std.proofs.Common.{◌≡◌, ℕ, suc, ◌+◌, ◌<◌, List, [], ◌∷◌, ◌++◌, length, get_or, set, take, drop, sym, ap, ◌∙◌, add-one, append_assoc, arith}
 use Rattle.std.specs.List.{insert}
-use Rattle.std.proofs.lemmas.List.{take-append-drop, drop_at, take-append-le, take-take, length-take-le, get_or-take, get_or_append_left, get_or_default, set_split}
+use Rattle.std.proofs.lemmas.List.{take-append-drop, drop_at, take-append-le, take-take, length-take-le}
+use Rattle.std.proofs.lemmas.List.{get_or-take, get_or_append_left, get_or_default, set_split}
 use Rattle.std.proofs.lemmas.List.{take_more_set, drop-set-lt, drop_more}
 use Rattle.std.proofs.lemmas.List.Concat.{flat_map-append}
 use Rattle.number_map.specs.Blocks.{joined}
