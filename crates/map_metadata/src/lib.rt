@@ -9,4 +9,4 @@ mod field_kind;
 mod summary;
 mod writer;
 
-pub use writer::{metadata, metadata_text};
+pub use writer::metadata_text;

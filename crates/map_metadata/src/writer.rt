@@ -93,8 +93,8 @@ fn document(alloc: Global, layers: Value) -> Result<Value, AllocError>
     Ok(Value::Object(members))
 }
 
-/// The metadata of a map. The only error is out of memory.
-pub fn metadata(alloc: Global, store: &Store) -> Result<Value, AllocError>
+/// The metadata of a map as a value.
+fn metadata(alloc: Global, store: &Store) -> Result<Value, AllocError>
     ensures { IfOk result (λ v. IsMetadata store.now.features (view v)) }
 {
     let layers = summed_up(alloc, store.blocks())?;

@@ -14,7 +14,7 @@ use edit_text::{decode, encode_change};
 use feature_model::{Change, Edit, Feature, check};
 use feature_store::{Store, Tiles};
 use hilbert_id::TileAt;
-use map_metadata::{metadata, metadata_text};
+use map_metadata::metadata_text;
 use mvt_layer::{Layer, read_tile};
 use script_bytes::digest;
 use std::alloc::{AllocError, Global};
@@ -205,16 +205,6 @@ fn restore(alloc: Global, map: &mut CachedMap, text: &str) -> Result<String, All
     }
 }
 
-/// The metadata as text, and as a value where that has another one.
-fn described(alloc: Global, store: &Store) -> Result<String, AllocError> {
-    let text = metadata_text(alloc, store)?;
-    let value = metadata(alloc, store)?.to_string(alloc)?;
-    if text == value {
-        return Ok(text);
-    }
-    format!(in alloc; "{text}, and as a value {value}")
-}
-
 /// What a line about a tile comes to.
 fn tile_answer(alloc: Global, map: &mut CachedMap, line: Line<'_>) -> Result<String, AllocError> {
     let Some(at) = tile_at(line.numbers) else {
@@ -273,7 +263,7 @@ pub(crate) fn answer(
         "look" => Some(look(alloc, map.store(), line.numbers[0])),
         "tiles" => Some(tiles(alloc, map.store())),
         "snapshot" => Some(snapshot(alloc, map.store())),
-        "metadata" => Some(described(alloc, map.store())),
+        "metadata" => Some(metadata_text(alloc, map.store())),
         "area" => Some(area(alloc, map.store(), line.numbers[0])),
         _ => None,
     }
