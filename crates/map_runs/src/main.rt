@@ -106,7 +106,7 @@ use std::io;
 fn answer_line(rt: &HostRuntime, script: &mut Script, line: &str) -> io::Result<()> {
     if let Some(name) = line.strip_prefix("part ") {
         if !script.begin(name) {
-            println!(rt; "unknown part {name}")?;
+            println!(rt; "no part {name}")?;
         }
         return Ok(());
     }
