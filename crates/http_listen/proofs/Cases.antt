@@ -3,7 +3,7 @@ use Rattle.std.proofs.Common.{ℕ, List, Bool, Option, Result, Ok, Err}
 use Rattle.std.specs.Prelude.{IfOk, IfErr}
 use Rattle.http_serve.specs.declared.connection.ServeFault.{ServeFault}
 use Rattle.http_serve.specs.declared.connection.Served.{Served}
-use Rattle.http_serve.specs.Requests.{RequestView}
+use Rattle.http_requests.specs.Requests.{RequestView}
 use Rattle.http_serve.specs.Reply.{ReplyView}
 use Rattle.http_serve.specs.Told.{IsServed, IsServedUpTo}
 use Rattle.http_listen.specs.Connections.{CameTo}

@@ -3,7 +3,7 @@ use Rattle.std.proofs.Common.{◌≡◌, ◌+◌, ℕ, List, [], ◌∷◌, ◌+
 use Rattle.std.proofs.lemmas.List.Elements.{filter-append}
 use Rattle.std.specs.Prelude.{filter, Some}
 use Rattle.http_serve.specs.declared.handlers.Ticket.{Ticket}
-use Rattle.http_serve.specs.Requests.{RequestView}
+use Rattle.http_requests.specs.Requests.{RequestView}
 use Rattle.http_serve.specs.Reply.{ReplyView}
 use Rattle.http_listen.specs.Connections.{Stretch, Event, at_stretch, at_part, is_first, Happens, Serves, NextStretch, NextPart}
 use Rattle.http_listen.specs.Connections.{IsOverKnown, AreOverKnown, begun}

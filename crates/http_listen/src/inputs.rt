@@ -1,8 +1,8 @@
 //! The bytes of a connection that were read and not answered.
 ghost use Rattle.std.specs.Prelude.{◌≡◌, ◌++◌, [], length, take, drop, IfOk, OnErr};
-ghost use Rattle.http_serve.specs.Scans.{IsScanned};
+ghost use Rattle.http_requests.specs.Scans.{IsScanned};
 
-use http_serve::{Scan, Scanned};
+use http_requests::{Scan, Scanned};
 use std::alloc::{AllocError, Global};
 use std::marker::Model;
 
@@ -16,7 +16,7 @@ pub(crate) struct Input {
 
 impl Model for Input {
     ghost use Rattle.std.specs.Prelude.{ℕ, List};
-    ghost use Rattle.http_serve.specs.Scans.{HasScanned};
+    ghost use Rattle.http_requests.specs.Scans.{HasScanned};
 
     ghost Value = { List ℕ };
 

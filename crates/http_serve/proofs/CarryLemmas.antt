@@ -4,15 +4,15 @@ use Rattle.std.proofs.Common.{refl, sym, ap, ◌∙◌, subst, append_assoc}
 use Rattle.std.proofs.lemmas.List.{append-nil}
 use Rattle.std.specs.Io.KnownBytes.{Appends}
 use Rattle.httparse.specs.Grammar.{RequestHead}
-use Rattle.http_serve.specs.declared.refusals.Refusal.{Refusal}
-use Rattle.http_serve.specs.Requests.{Request, IsHead, IsRequest, Begins, Ending, going, closed, asked, refused, EndsAs, IsRefused, asks_to_close}
-use Rattle.http_serve.specs.Requests.{RequestView, request_view, request_view_at, path_of}
-use Rattle.http_serve.specs.declared.frames.Frame.{Frame}
-use Rattle.http_serve.specs.Frame.{IsFrameOf}
-use Rattle.http_serve.specs.Reply.{ReplyView, is_head, reply_bytes, reply_to, reply_at, refusal_bytes}
+use Rattle.http_requests.specs.declared.refusals.Refusal.{Refusal}
+use Rattle.http_requests.specs.Requests.{Request, IsHead, IsRequest, Begins, Ending, going, closed, asked, refused, EndsAs, IsRefused, asks_to_close}
+use Rattle.http_requests.specs.Requests.{RequestView, request_view, request_view_at, path_of, is_head}
+use Rattle.http_requests.specs.declared.frames.Frame.{Frame}
+use Rattle.http_requests.specs.Frame.{IsFrameOf}
+use Rattle.http_serve.specs.Reply.{ReplyView, reply_bytes, reply_to, reply_at, refusal_bytes}
 use Rattle.http_serve.specs.Served.{RisesBy, reply_count, Answers, AnswersEnd, AnswersNext, RepliesNext, Carries, Ends, Breaks, StopsNext, Anything}
 use Rattle.http_serve.specs.Parts.{IsStopped}
-use Rattle.http_serve.proofs.HeadLemmas.{IsHead-append}
+use Rattle.http_requests.proofs.HeadLemmas.{IsHead-append}
 use Rattle.http_serve.proofs.KnownLemmas.{Appends-then, Appends_none}
 
 IsRequest-append : (bytes more : List ℕ) (request : Request) (rest : List ℕ) → IsRequest bytes request rest

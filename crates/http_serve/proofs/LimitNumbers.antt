@@ -1,29 +1,11 @@
 -- The limits of a connection, as numbers.
 use Rattle.std.proofs.Common.{◌≡◌, refl}
 use Rattle.http_serve.specs.declared.connection.TheConstants.{MAX_READS}
-use Rattle.http_serve.specs.declared.fields.TheConstants.{MAX_BODY}
-use Rattle.http_serve.specs.declared.frames.TheConstants.{MAX_HEAD, MAX_FIELDS, MAX_REQUEST}
 use Rattle.http_serve.specs.declared.handlers.TheConstants.{PART_SIZE}
-use Rattle.http_serve.specs.declared.inputs.TheConstants.{READ_SPACE}
 use Rattle.http_serve.specs.declared.replies.TheConstants.{MAX_REPLY_HEAD, MAX_WORD, REPLY_SPACE}
 
 max_reads_is : MAX_READS ≡ 4294967296
 max_reads_is = refl
-
-max_head_is : MAX_HEAD ≡ 8192
-max_head_is = refl
-
-max_fields_is : MAX_FIELDS ≡ 32
-max_fields_is = refl
-
-max_body_is : MAX_BODY ≡ 65536
-max_body_is = refl
-
-max_request_is : MAX_REQUEST ≡ 73728
-max_request_is = refl
-
-read_space_is : READ_SPACE ≡ 147456
-read_space_is = refl
 
 part_size_is : PART_SIZE ≡ 65536
 part_size_is = refl

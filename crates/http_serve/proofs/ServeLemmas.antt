@@ -5,9 +5,9 @@ use Rattle.std.specs.Prelude.{⊤, Result, Ok, Err, IfOk, IfErr}
 use Rattle.httparse.specs.Grammar.{RequestHead}
 use Rattle.std.proofs.lemmas.List.{append-nil}
 use Rattle.std.specs.Io.KnownBytes.{Appends, Consumes, IsAtEnd}
-use Rattle.http_serve.specs.declared.refusals.Refusal.{Refusal}
-use Rattle.http_serve.specs.declared.refusals.Rejection.{Rejection}
-use Rattle.http_serve.specs.declared.refusals.TheConstants.{NO_HEAD}
+use Rattle.http_requests.specs.declared.refusals.Refusal.{Refusal}
+use Rattle.http_requests.specs.declared.refusals.Rejection.{Rejection}
+use Rattle.http_requests.specs.declared.refusals.TheConstants.{NO_HEAD}
 use Rattle.http_serve.specs.declared.connection.End.{End}
 use Rattle.http_serve.specs.declared.connection.End.TheVariants.{Closed, Asked, Refused, Turns}
 use Rattle.http_serve.specs.declared.connection.Served.{Served}
@@ -15,21 +15,21 @@ use Rattle.http_serve.specs.declared.connection.ServeFault.{ServeFault}
 use Rattle.http_serve.specs.declared.connection.ServeFault.TheVariants.{Memory, Read, Write, Content, Rest}
 use Rattle.http_serve.specs.declared.contents.SendFault.{SendFault}
 use Rattle.http_serve.specs.declared.contents.SendFault.TheVariants as cuts
-use Rattle.http_serve.specs.declared.frames.Frame.{Frame}
-use Rattle.http_serve.specs.declared.frames.TheConstants.{MAX_REQUEST}
-use Rattle.http_serve.specs.Input.{buffer_size}
+use Rattle.http_requests.specs.declared.frames.Frame.{Frame}
+use Rattle.http_requests.specs.declared.frames.TheConstants.{MAX_REQUEST}
+use Rattle.http_requests.specs.Input.{buffer_size}
 use Rattle.http_serve.specs.Reads.{Gives, GivesTimes}
-use Rattle.http_serve.specs.Frame.{IsFrameOf}
+use Rattle.http_requests.specs.Frame.{IsFrameOf}
 use Rattle.http_serve.specs.Parts.{GivesOrFails, IsStopped, IfRest, cut_after}
-use Rattle.http_serve.specs.Requests.{Request, Ending, going, closed, asked, refused, EndsAs, IsRefused, Requests}
-use Rattle.http_serve.specs.Requests.{RequestView, request_view_at}
-use Rattle.http_serve.specs.Reply.{ReplyView, reply_at, refusal_bytes, has_head_method}
+use Rattle.http_requests.specs.Requests.{Request, Ending, going, closed, asked, refused, EndsAs, IsRefused, Requests}
+use Rattle.http_requests.specs.Requests.{RequestView, request_view_at, has_head_method}
+use Rattle.http_serve.specs.Reply.{ReplyView, reply_at, refusal_bytes}
 use Rattle.http_serve.specs.Served.{RisesBy, reply_count, Answers, AnswersEnd, AnswersAll, AnswersNext, RepliesNext}
 use Rattle.http_serve.specs.Served.{Carries, Ends, Breaks, Stops, Anything, MayFollow}
 use Rattle.http_serve.specs.Steps.{HasPlainEnd, IsFinished, IsUnfinished, IsBroken, IsLeftAt}
 use Rattle.http_serve.specs.Told.{end_of, IfTurns, IsServed, IsServedTo, IsServedSoFar, IsServedInPart, IsServedUpTo, IsAnswered, LosesAtMost}
 use Rattle.http_serve.specs.Told.{HasContent, IsNotRest, OnRest, StopsAtRest, MeetsTurns, KeepsTurns, AnswersInput}
-use Rattle.http_serve.proofs.HeadLemmas.{empty_no_head, refused_none}
+use Rattle.http_requests.proofs.HeadLemmas.{empty_no_head, refused_none}
 use Rattle.http_serve.proofs.KnownLemmas.{Appends-then, Consumes-then, Consumes_none}
 use Rattle.http_serve.proofs.CarryLemmas.{Begins-append, Begins-then, Answers-then, Carries_start, Ends_push}
 use Rattle.http_serve.proofs.CarryLemmas.{Frame_next, Frame_stops, Breaks_at, Breaks_refused}

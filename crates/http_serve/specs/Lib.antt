@@ -1,14 +1,7 @@
 pub mod Buffers
-pub mod Fields
-pub mod Frame
-pub mod Input
-pub mod Lines
 pub mod Parts
 pub mod Reads
 pub mod Reply
-pub mod Requests
-pub mod Scans
-pub mod Search
 pub mod Sent
 pub mod Served
 pub mod Steps

@@ -1,16 +1,15 @@
 -- Replies, and their bytes.
-use Rattle.std.specs.Prelude.{ℕ, List, [], ◌∷◌, ◌++◌, ◌==◌, ◌||◌, Bool, true, false, nat_eq, cond, length, codes, decimal, Option, Some, None, option_map}
+use Rattle.std.specs.Prelude.{ℕ, List, [], ◌∷◌, ◌++◌, ◌==◌, ◌||◌, Bool, true, false, cond, length, codes, decimal, Option, Some, None, option_map}
 use Rattle.std.specs.Prelude.{IfSome, ◌≤◌, ◌≡◌, ◌+◌, take, drop, ⊤}
 use Rattle.std.specs.Rc.{rc_slice_items}
 use Rattle.status_phrase.specs.Codes.{code_of}
 use Rattle.status_phrase.specs.Phrases.{phrase_of}
-use Rattle.std.specs.Cmp.Lexicographic.{pointwise}
 use Rattle.httparse.specs.Grammar.{RequestHead}
 use Rattle.httparse.specs.Spans.{span_bytes}
-use Rattle.http_serve.specs.Requests.{Request, asks_to_close}
-use Rattle.http_serve.specs.declared.frames.Frame.{Frame}
-use Rattle.http_serve.specs.declared.refusals.Refusal.{Refusal}
-use Rattle.http_serve.specs.declared.refusals.Refusal.TheVariants.{Head, Host, Coding, Expect, Length, Body, Short}
+use Rattle.http_requests.specs.Requests.{Request, asks_to_close, is_head, has_head_method}
+use Rattle.http_requests.specs.declared.frames.Frame.{Frame}
+use Rattle.http_requests.specs.declared.refusals.Refusal.{Refusal}
+use Rattle.http_requests.specs.declared.refusals.Refusal.TheVariants.{Head, Host, Coding, Expect, Length, Body, Short}
 use Rattle.http_serve.specs.declared.replies.TheConstants.{MAX_WORD}
 use Rattle.http_serve.specs.declared.replies.Content.{Content}
 use Rattle.http_serve.specs.declared.replies.Content.TheVariants.{Empty, Fixed, Whole, Shared, Parts}
@@ -178,10 +177,6 @@ sent_content bare reply = cond (bare || has_no_content reply.status) [] reply.co
 abbrev pub reply_bytes : Bool → Bool → ReplyView → List ℕ
 reply_bytes close bare reply = reply_head close (head_of reply) ++ sent_content bare reply
 
--- the method is HEAD, whose replies are only heads (RFC 9110, 9.3.2)
-abbrev pub is_head : List ℕ → Bool
-is_head method = pointwise nat_eq method (codes "HEAD")
-
 -- the reply to a request
 abbrev pub reply_to : Request → ReplyView → List ℕ
 reply_to request reply = reply_bytes (asks_to_close request.head) (is_head request.head.method) reply
@@ -205,11 +200,6 @@ refusal_view Expect = refused_by 417 (codes "Expect\n")
 refusal_view Length = refused_by 400 (codes "Length\n")
 refusal_view Body = refused_by 413 (codes "Body\n")
 refusal_view Short = refused_by 400 (codes "Short\n")
-
--- there is a head, whose method is HEAD
-abbrev pub has_head_method : Option RequestHead → Bool
-has_head_method None = false
-has_head_method (Some head) = is_head head.method
 
 -- the reply to an invalid request with this head, if it has one
 abbrev pub refusal_bytes : Option RequestHead → Refusal → List ℕ

@@ -2,9 +2,9 @@
 use Rattle.std.specs.Prelude.{◌≡◌, ℕ, ◌+◌, ◌-◌, ◌^◌, ◌<◌, min, Bool, List, [], ◌∷◌, ◌++◌, length, take, Option, ⊤, ◌⊎◌}
 use Rattle.std.specs.Io.KnownBytes.{Appends, IsAtEnd}
 use Rattle.httparse.specs.Grammar.{RequestHead}
-use Rattle.http_serve.specs.declared.refusals.Refusal.{Refusal}
-use Rattle.http_serve.specs.Requests.{Request, IsRequest, IsRefused, Begins, Ending, going, closed, asked, refused, Requests}
-use Rattle.http_serve.specs.Requests.{RequestView, request_view, asks_to_close}
+use Rattle.http_requests.specs.declared.refusals.Refusal.{Refusal}
+use Rattle.http_requests.specs.Requests.{Request, IsRequest, IsRefused, Begins, Ending, going, closed, asked, refused, Requests}
+use Rattle.http_requests.specs.Requests.{RequestView, request_view, asks_to_close}
 use Rattle.http_serve.specs.Parts.{IsStopped}
 use Rattle.http_serve.specs.Reply.{ReplyView, reply_to, refusal_bytes}
 

@@ -8,11 +8,11 @@ use Rattle.http_serve.specs.declared.connection.Pause.TheVariants.{Ended, More}
 use Rattle.http_serve.specs.declared.connection.ServeFault.{ServeFault}
 use Rattle.http_serve.specs.declared.connection.ServeFault.TheVariants.{Memory, Read, Write, Content, Rest}
 use Rattle.http_serve.specs.declared.connection.Served.{Served}
-use Rattle.http_serve.specs.declared.frames.TheConstants.{MAX_REQUEST}
-use Rattle.http_serve.specs.declared.refusals.Refusal.{Refusal}
-use Rattle.http_serve.specs.Requests.{IsRefused, EndsAs, Ending, going, closed, asked, refused}
-use Rattle.http_serve.specs.Requests.{RequestView}
-use Rattle.http_serve.specs.Reply.{ReplyView, refusal_bytes, has_head_method}
+use Rattle.http_requests.specs.declared.frames.TheConstants.{MAX_REQUEST}
+use Rattle.http_requests.specs.declared.refusals.Refusal.{Refusal}
+use Rattle.http_requests.specs.Requests.{IsRefused, EndsAs, Ending, going, closed, asked, refused}
+use Rattle.http_requests.specs.Requests.{RequestView, has_head_method}
+use Rattle.http_serve.specs.Reply.{ReplyView, refusal_bytes}
 use Rattle.http_serve.specs.Served.{RisesBy, reply_count, AnswersNext, RepliesNext, Carries, Ends, Breaks, Stops, Anything}
 use Rattle.http_serve.specs.Told.{end_of, OnRest}
 

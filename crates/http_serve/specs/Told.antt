@@ -6,10 +6,10 @@ use Rattle.http_serve.specs.declared.connection.End.TheVariants.{Closed, Asked, 
 use Rattle.http_serve.specs.declared.connection.ServeFault.{ServeFault}
 use Rattle.http_serve.specs.declared.connection.ServeFault.TheVariants.{Memory, Read, Write, Content, Rest}
 use Rattle.http_serve.specs.declared.connection.Served.{Served}
-use Rattle.http_serve.specs.Input.{buffer_size}
+use Rattle.http_requests.specs.Input.{buffer_size}
 use Rattle.http_serve.specs.Reads.{GivesTimes}
-use Rattle.http_serve.specs.Requests.{Request, IsRequest, Requests, Ending, going, closed, asked, refused}
-use Rattle.http_serve.specs.Requests.{RequestView}
+use Rattle.http_requests.specs.Requests.{Request, IsRequest, Requests, Ending, going, closed, asked, refused}
+use Rattle.http_requests.specs.Requests.{RequestView}
 use Rattle.http_serve.specs.Reply.{ReplyView}
 use Rattle.http_serve.specs.Served.{RisesBy, reply_count, AnswersAll, AnswersNext, RepliesNext, Carries, Ends, Breaks, Stops, MayFollow}
 

@@ -3,9 +3,9 @@ ghost use Rattle.std.specs.Prelude.{◌≡◌, ◌⊎◌, ◌≤◌, ◌<◌, le
 ghost use Rattle.httparse.specs.Grammar.{RequestHead};
 ghost use Rattle.httparse.specs.Spans.{IsWithin, span_bytes};
 ghost use Rattle.std.specs.Option.{option_map};
-ghost use Rattle.http_serve.specs.Requests.{path_of, request_view_at};
-ghost use Rattle.http_serve.specs.Reply.{ReplyView, reply_at, refusal_bytes, has_head_method};
-ghost use Rattle.http_serve.specs.Search.{IsKnown};
+ghost use Rattle.http_requests.specs.Requests.{request_view_at, has_head_method};
+ghost use Rattle.http_serve.specs.Reply.{ReplyView, reply_at, refusal_bytes};
+ghost use Rattle.http_requests.specs.Search.{IsKnown};
 ghost use Rattle.http_serve.specs.Sent.{Sends};
 ghost use Rattle.http_serve.specs.Steps.{IsPaused, IsBroken, IsLeftAt, IsFinished, IsUnfinished};
 ghost use Rattle.http_serve.specs.declared.handlers.TheConstants.{PART_SIZE};
@@ -16,14 +16,12 @@ ghost use Rattle.http_serve.specs.Told.{IsServed, IsServedUpTo, StopsAtRest, Has
 ghost use Rattle.http_serve.specs.Parts.{GivesOrFails, IsCutIn, IsStopped, IfRest, IsNoRest, IsNoContentFault};
 
 use crate::contents::{Rests, SendFault, send_reply};
-use crate::fields::position_or_len;
-use crate::frames::{Frame, Next, is_head};
-use crate::refusals::{NO_HEAD, Rejection};
+use crate::refusals::refusal_reply;
 use crate::replies::send_front;
-use crate::searches::{START, find_next};
 use crate::sessions::{Buffers, Session};
 use crate::writes::WriteFault;
 use crate::{Handler, Request};
+use http_requests::{Frame, NO_HEAD, Next, Rejection, START, find_next, is_head, path_of};
 use httparse::spans::Span;
 use std::io::{Read, Write};
 use thiserror::Error;
@@ -89,13 +87,6 @@ enum Pause {
     Ended(Served),
     /// `requests` replies were written, and more bytes are needed. If none follow, `rejection` is the reason.
     More { requests: u64, rejection: Rejection },
-}
-
-/// A request's path: its target up to the first question mark.
-fn path_of(target: &[u8]) -> &[u8]
-    ensures { result.now ≡ path_of target.now }
-{
-    &target[..position_or_len(target, b'?')]
 }
 
 /// The bytes of a part, if it is present.
@@ -169,7 +160,7 @@ fn refuse<W: Write>(
     ensures sent { (head : Option RequestHead) → rejection.bare ≡ has_head_method head
         → Sends result (W.contents writer.old) (W.contents writer.new) (refusal_bytes head rejection.refusal) }
 {
-    let reply = rejection.refusal.reply();
+    let reply = refusal_reply(rejection.refusal);
     send_front(writer, out, &reply, true, rejection.bare)
 }
 

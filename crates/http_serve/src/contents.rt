@@ -5,7 +5,7 @@ ghost use Rattle.http_serve.specs.Parts.{cut_after, rest_bytes};
 ghost use Rattle.http_serve.specs.declared.contents.Rests.TheVariants.{Sent, Left};
 ghost use Rattle.http_serve.specs.declared.handlers.TheConstants.{PART_SIZE};
 ghost use Rattle.http_serve.specs.declared.replies.TheConstants.{REPLY_SPACE};
-ghost use Rattle.http_serve.specs.Requests.{RequestView};
+ghost use Rattle.http_requests.specs.Requests.{RequestView};
 ghost use Rattle.http_serve.specs.Reply.{ReplyView, IsReply, InParts, HasShortWords, head_view, reply_bytes};
 ghost use Rattle.http_serve.specs.Sent.{Sends};
 

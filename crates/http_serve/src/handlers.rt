@@ -4,7 +4,7 @@ ghost use Rattle.std.specs.Option.{option_map};
 ghost use Rattle.http_serve.specs.declared.handlers.TheConstants.{PART_SIZE};
 ghost use Rattle.http_serve.specs.declared.handlers.Ticket.{Ticket};
 ghost use Rattle.http_serve.specs.Parts.{read_outcome};
-ghost use Rattle.http_serve.specs.Requests.{RequestView};
+ghost use Rattle.http_requests.specs.Requests.{RequestView};
 ghost use Rattle.http_serve.specs.Reply.{ReplyView, IsReply, InParts, HasShortWords, head_view, with_part};
 
 use crate::Reply;

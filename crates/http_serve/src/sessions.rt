@@ -2,12 +2,11 @@
 ghost use Rattle.std.specs.Prelude.{◌≡◌, ◌≤◌, [], IsTrue, IsOk, false, vec_capacity};
 ghost use Rattle.http_serve.specs.declared.handlers.TheConstants.{PART_SIZE};
 ghost use Rattle.http_serve.specs.declared.replies.TheConstants.{REPLY_SPACE};
-ghost use Rattle.http_serve.specs.Search.{IsKnown};
+ghost use Rattle.http_requests.specs.Search.{IsKnown};
 
 use crate::handlers::PART_SIZE;
-use crate::inputs::Input;
 use crate::replies::REPLY_SPACE;
-use crate::searches::{START, Search};
+use http_requests::{Input, START, Search};
 use std::alloc::{AllocError, Global};
 use std::marker::Model;
 

@@ -5,7 +5,7 @@ use Rattle.http_serve.specs.declared.connection.End.TheVariants.{Closed, Asked, 
 use Rattle.http_serve.specs.declared.connection.Served.{Served}
 use Rattle.http_serve.specs.declared.connection.ServeFault.{ServeFault}
 use Rattle.http_serve.specs.declared.connection.ServeFault.TheVariants.{Memory, Read, Write, Content, Rest}
-use Rattle.http_serve.specs.Requests.{Request, RequestView, Ending, going, closed, asked, refused}
+use Rattle.http_requests.specs.Requests.{Request, RequestView, Ending, going, closed, asked, refused}
 use Rattle.http_serve.specs.Reply.{ReplyView}
 use Rattle.http_serve.specs.Served.{Answers, AnswersEnd, AnswersAll, AnswersNext, RepliesNext, MayFollow, Carries, Ends, Breaks}
 use Rattle.http_serve.specs.Told.{IfTurns, IsServedTo, IsServedSoFar, IsServedInPart, IsServed, IsServedUpTo}

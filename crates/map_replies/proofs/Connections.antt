@@ -2,7 +2,7 @@
 use Rattle.std.proofs.Common.{◌≡◌, ℕ, List, [], ◌++◌, Option, refl, sym, ap, subst}
 use Rattle.http_serve.specs.declared.connection.ServeFault.{ServeFault}
 use Rattle.http_serve.specs.declared.connection.Served.{Served}
-use Rattle.http_serve.specs.Requests.{RequestView}
+use Rattle.http_requests.specs.Requests.{RequestView}
 use Rattle.http_serve.specs.Reply.{ReplyView}
 use Rattle.http_serve.specs.Told.{IsServed, IsServedUpTo}
 use Rattle.sector_disk.specs.Disk.{History}

@@ -1,7 +1,7 @@
 -- The state of the request handler, regardless of its address in memory.
 use Rattle.std.specs.Prelude.{◌≡◌, ℕ, ◌-◌, min, List, Option, ◌++◌}
 use Rattle.http_serve.specs.declared.handlers.Ticket.{Ticket}
-use Rattle.http_serve.specs.Requests.{RequestView}
+use Rattle.http_requests.specs.Requests.{RequestView}
 use Rattle.http_serve.specs.Reply.{ReplyView}
 use Rattle.sector_disk.specs.Disk.{History}
 use Rattle.tile_service.specs.Machine.{Happening}

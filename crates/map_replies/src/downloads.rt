@@ -1,7 +1,7 @@
 //! The rest of a download, which is read by its ticket between other replies.
 ghost use Rattle.std.specs.Prelude.{◌≡◌, ◌≤◌, ◌<◌, ◌↔◌, ◌⊎◌, ◌+◌, ℕ, List, Some, IsTrue, IfErr, false, length, take, drop};
 ghost use Rattle.http_serve.specs.Parts.{read_outcome};
-ghost use Rattle.http_serve.specs.Requests.{RequestView};
+ghost use Rattle.http_requests.specs.Requests.{RequestView};
 ghost use Rattle.http_serve.specs.Reply.{ReplyView};
 ghost use Rattle.tile_service.specs.Service.{IsPlaceIn, ShowsArchive};
 ghost use Rattle.map_replies.specs.Meanings.{DiskFailed};

@@ -1,7 +1,7 @@
 use Rattle.std.proofs.Common.{◌≡◌, ◌∙◌, ap, option_map, subst}
-use Rattle.http_serve.specs.Requests.{RequestView, path_of, request_view_at}
+use Rattle.http_requests.specs.Requests.{RequestView, path_of, request_view_at, is_head}
 use Rattle.http_serve.specs.Parts.{GivesOrFails, IsStopped}
-use Rattle.http_serve.specs.Reply.{reply_bytes, is_head}
+use Rattle.http_serve.specs.Reply.{reply_bytes}
 use Rattle.http_serve.specs.Sent.{Sends}
 use Rattle.http_serve.proofs.PartLemmas.{in_parts, if_rest, readable}
 use Rattle.http_serve.proofs.connection.answer_one.Goals as goal

@@ -1,18 +1,18 @@
 use Rattle.std.proofs.Common.{◌≡◌, ◌<◌, ℕ, List, Err, refl, sym, ap, ◌∙◌, subst, arith, length, length-append, length-drop, take}
 use Rattle.std.specs.Io.KnownBytes.{Appends}
-use Rattle.http_serve.specs.declared.frames.Next.TheVariants.{Whole, Refused, More}
+use Rattle.http_requests.specs.declared.frames.Next.TheVariants.{Whole, Refused, More}
 use Rattle.http_serve.specs.declared.connection.ServeFault.{ServeFault}
-use Rattle.http_serve.specs.declared.frames.Frame.{Frame}
-use Rattle.http_serve.specs.Frame.{IsFrameOf, IsNext}
+use Rattle.http_requests.specs.declared.frames.Frame.{Frame}
+use Rattle.http_requests.specs.Frame.{IsFrameOf, IsNext}
 use Rattle.http_serve.specs.Parts.{GivesOrFails, IsStopped, IfRest}
-use Rattle.http_serve.specs.Search.{IsKnown}
+use Rattle.http_requests.specs.Search.{IsKnown}
 use Rattle.http_serve.specs.Steps.{IsBroken, IsLeftAt}
 use Rattle.http_serve.specs.Told.{HasContent, IsNotMemory, IsNotRest, IsNotContent}
-use Rattle.http_serve.specs.Requests.{Request, asked, refused}
-use Rattle.http_serve.specs.Requests.{request_view_at}
+use Rattle.http_requests.specs.Requests.{Request, asked, refused}
+use Rattle.http_requests.specs.Requests.{request_view_at}
 use Rattle.http_serve.specs.Reply.{ReplyView, refusal_bytes, reply_at}
 use Rattle.http_serve.specs.Served.{Anything, Carries}
-use Rattle.http_serve.proofs.HeadLemmas.{missing_now}
+use Rattle.http_requests.proofs.HeadLemmas.{missing_now}
 use Rattle.http_serve.proofs.CarryLemmas.{Carries_start, Ends_push, Breaks_refused, Frame_push, Frame_ends}
 use Rattle.http_serve.proofs.PartLemmas.{cut_content, cut_no_memory, cut_whole, cut_unread}
 use Rattle.http_serve.proofs.ServeLemmas.{asked_other, refused_other, cut_breaks, cut_left}

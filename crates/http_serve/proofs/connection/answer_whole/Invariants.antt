@@ -1,5 +1,5 @@
 use Rattle.std.proofs.Common.{length}
-use Rattle.http_serve.specs.Search.{IsKnown}
+use Rattle.http_requests.specs.Search.{IsKnown}
 use Rattle.http_serve.specs.Served.{Carries}
 use Rattle.http_serve.proofs.connection.answer_whole.Given as goal
 

@@ -1,8 +1,8 @@
 use Rattle.std.proofs.lemmas.Grind.{common_steps}
 use Rattle.std.proofs.Common.{refl, arith, ap, length}
-use Rattle.http_serve.specs.Requests.{refused}
+use Rattle.http_requests.specs.Requests.{refused}
 use Rattle.http_serve.specs.Reply.{refusal_bytes}
-use Rattle.http_serve.proofs.HeadLemmas.{some_bytes}
+use Rattle.http_requests.proofs.HeadLemmas.{some_bytes}
 use Rattle.http_serve.proofs.connection.finish.Goals as goal
 
 pub returns-in-Ok-clause-ends : goal.returns-in-Ok-clause-ends

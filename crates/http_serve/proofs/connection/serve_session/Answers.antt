@@ -1,11 +1,11 @@
 use Rattle.std.proofs.Common.{◌≡◌, refl, arith, sym, subst, List, [], ℕ, ◌+◌, ◌-◌, ◌*◌}
 use Rattle.std.specs.Prelude.{Result}
-use Rattle.http_serve.specs.Input.{buffer_size}
-use Rattle.http_serve.specs.Search.{IsKnown}
+use Rattle.http_requests.specs.Input.{buffer_size}
+use Rattle.http_requests.specs.Search.{IsKnown}
 use Rattle.http_serve.specs.Told.{LosesAtMost, KeepsTurns}
 use Rattle.http_serve.specs.declared.connection.Served.{Served}
 use Rattle.http_serve.specs.declared.connection.ServeFault.{ServeFault}
-use Rattle.http_serve.proofs.LineLemmas.{IsKnown-append}
+use Rattle.http_requests.proofs.LineLemmas.{IsKnown-append}
 use Rattle.http_serve.proofs.ServeLemmas.{SoFar_start, SoFar_stops, SoFar_failed_read, SoFar_goes, SoFar_told, SoFar_broken, SoFar_done, SoFar_failed, if_ok}
 use Rattle.http_serve.proofs.ExitLemmas.{exit_no_value, exit_is, exit_fault}
 use Rattle.http_serve.proofs.ServeLemmas.{broken_reads}

@@ -1,6 +1,6 @@
 use Rattle.std.proofs.Common.{◌≤◌, ◌*◌}
-use Rattle.http_serve.specs.Input.{buffer_size}
-use Rattle.http_serve.specs.Search.{IsKnown}
+use Rattle.http_requests.specs.Input.{buffer_size}
+use Rattle.http_requests.specs.Search.{IsKnown}
 use Rattle.http_serve.specs.Told.{LosesAtMost}
 use Rattle.http_serve.proofs.ServeLemmas.{Adds, IsSoFar}
 use Rattle.http_serve.proofs.connection.serve_session.Given as goal

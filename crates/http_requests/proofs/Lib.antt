@@ -1,0 +1,7 @@
+pub mod FieldLemmas
+pub mod HeadLemmas
+pub mod InputLemmas
+pub mod Laws
+mod LimitNumbers
+pub mod LineLemmas
+pub mod ReadingLemmas

@@ -1,0 +1,7 @@
+pub mod Fields
+pub mod Frame
+pub mod Input
+pub mod Lines
+pub mod Requests
+pub mod Scans
+pub mod Search

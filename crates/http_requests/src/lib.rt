@@ -1,0 +1,17 @@
+//! The requests in the bytes of an HTTP/1.1 connection, as they arrive, and why bytes are none (RFC 9110 and RFC 9112).
+#![tactic(auto)]
+
+mod fields;
+mod frames;
+mod inputs;
+mod lines;
+mod positions;
+mod refusals;
+mod scans;
+mod searches;
+
+pub use frames::{Frame, MAX_REQUEST, Missing, Next, is_head, path_of};
+pub use inputs::{Input, READ_SPACE, ReadFault};
+pub use refusals::{NO_HEAD, Refusal, Rejection};
+pub use scans::{Scan, Scanned};
+pub use searches::{START, Search, find_next};

@@ -1,6 +1,0 @@
-use Rattle.std.proofs.Common.{◌≡◌, drop}
-use Rattle.http_serve.specs.Lines.{after_bytes}
-use Rattle.http_serve.proofs.lines.Lines.after_bytes.Given as goal
-
-abbrev pub invariant-loop-byte : goal.invariant-loop-byte
-invariant-loop-byte l = after_bytes l.lines (drop l.byte-index l.bytes) ≡ after_bytes l.fn.self l.bytes
