@@ -284,9 +284,9 @@ impl<D: Sectors + Drop> Service<D> {
         let text = delete_edit_text(id);
         let text = deletion_text(self.version, &text);
         match self.journal.append(&mut self.disk, self.version, text) {
-            Ok(number) => {
-                self.map.remove(id, number);
-                Ok(number)
+            Ok(last) => {
+                self.map.remove(id, last);
+                Ok(last)
             }
             Err(fault) => Err(self.fail(fault)),
         }

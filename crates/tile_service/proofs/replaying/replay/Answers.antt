@@ -1,5 +1,5 @@
 use Rattle.std.proofs.lemmas.Grind.{common_steps}
-use Rattle.std.proofs.Common.{◌≡◌, ◌<◌, ◌+◌, List, [], ◌∷◌, ◌++◌, length, sym, ◌∙◌, ap, subst, arith, append_assoc, length-append}
+use Rattle.std.proofs.Common.{◌≡◌, ◌<◌, ◌+◌, List, [], ◌∷◌, ◌++◌, length, sym, ◌∙◌, ap, subst, arith, rules, append_assoc, length-append}
 use Rattle.std.proofs.lemmas.List.{length-map, map-append}
 use Rattle.std.proofs.lemmas.Result.{err_from_is_err_and}
 use Rattle.std.specs.Vec.Iter.{into_iter_items}
@@ -13,6 +13,19 @@ use Rattle.tile_service.proofs.replaying.replay.Goals as goal
 
 records_append : (found more : List Record) → records_of (found ++ more) ≡ records_of found ++ records_of more
 records_append found more = map-append record_data found more
+
+-- with an answer the must-fail edit last_replayed_edit_forgotten is refused at once
+pub loop-recorded-init : goal.loop-recorded-init
+loop-recorded-init c = record {
+  can_next = tt;
+  is_finite = tt;
+  items = search rules;
+  left = search rules;
+  made = search rules;
+  reads = λ first. first;
+  last = search rules;
+  short = search rules;
+}
 
 pub loop-recorded-preserved : goal.loop-recorded-preserved
 loop-recorded-preserved c =

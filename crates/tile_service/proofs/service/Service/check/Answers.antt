@@ -1,6 +1,6 @@
 use Rattle.sector_disk.proofs.History.{any_sync, started}
 use Rattle.tile_service.proofs.Disk.Synced.{sync_leaves_stored, up_synced}
-use Rattle.std.proofs.Common.{inl, inr, None, refl}
+use Rattle.std.proofs.Common.{inl, inr, None, refl, rules}
 use Rattle.tile_service.proofs.Archive.Unchanged.{shows_the_same}
 use Rattle.tile_service.proofs.Publications.Steps.{service_on_disk, service_idle}
 use Rattle.tile_service.proofs.service.Service.check.Goals as goal
@@ -78,3 +78,7 @@ returns-in-Err-clause-disk g c = rw (← c.self.view_is) c.sync.ensures.disk
 
 pub returns-in-Err-clause-synced : goal.returns-in-Err-clause-synced
 returns-in-Err-clause-synced g c = rw (← c.self.view_is) c.in-Err.ensures.syncs
+
+-- with an answer the must-fail edit acknowledged_edit_taken_away_for_a_while is refused at once
+pub returns-in-Err-clause-failed : goal.returns-in-Err-clause-failed
+returns-in-Err-clause-failed g c = rw (← c.self.view_is) (inl (refl, search rules))

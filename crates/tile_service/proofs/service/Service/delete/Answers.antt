@@ -1,4 +1,4 @@
-use Rattle.std.proofs.Common.{◌≡◌, ◌≢◌, Ok, ℕ, List, [], ◌∷◌, refl, sym, ap, subst, arith, length}
+use Rattle.std.proofs.Common.{◌≡◌, ◌≢◌, Ok, ℕ, List, [], ◌∷◌, refl, sym, ap, subst, arith, rules, length}
 use Rattle.edit_journal.specs.Appends.{ring_of, TakesSteps}
 use Rattle.edit_journal.specs.Records.{IsRecordLength, parts_of, record_of}
 use Rattle.edit_text.specs.Recorded.{text_in}
@@ -76,7 +76,7 @@ returns-in-Ok-clause-takes g c = rw (← c.self.view_is) (record {
       append_any_moment g.D.Sectors.sectors g.D.Sectors.history stored _ c.self.invariant.ring up (recorded_change version (delete c.args.id))
       (delete_recorded version c.args.id c.self.invariant.version_is fits) refl
       _ (ap (record_of version) (c.deletion_text-text.ensures c.args.id c.delete_edit_text-text.ensures)) c.append.new.disk (c.append.ensures.frame honest)
-      single (Ok c.in-Ok.number) tt (c.append.ensures.any_moment (stored_records stored) honest at));
+      single (Ok c.in-Ok.last) tt (c.append.ensures.any_moment (stored_records stored) honest at));
   acknowledged = (λ stored honest up.
       let version = c.self.inside.version in
       let fits : NumberFits c.args.id = c.has.ensures.number c.if-not-has.false in
@@ -144,3 +144,13 @@ delete_edit_text-text-requires g c = c.has.ensures.number c.if-not-has.false
 pub invariant_of-self-in-Err : goal.invariant_of-self-in-Err
 invariant_of-self-in-Err g c = refused_service c.append.new.self c.self.inside.map c.self.inside.map c.append.ensures.disk.same_count c.in-Err.ensures.kept refl
     c.self.invariant
+
+-- with an answer the must-fail edit refused_edit_stands_in_an_image is refused at once
+pub returns-in-Ok-clause-machine : goal.returns-in-Ok-clause-machine
+returns-in-Ok-clause-machine g c = rw (← c.self.view_is) (λ known. record {
+  unbroken = c.if-self.false;
+  can = search rules;
+  room = search rules;
+  told = search rules;
+  made = search rules;
+})
