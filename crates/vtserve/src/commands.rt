@@ -18,15 +18,25 @@ enum Takes {
     Nothing,
 }
 
-/// An argument of a command: by position, or an option.
+/// How an argument is given.
+#[derive(Clone, Copy)]
+enum Given {
+    /// By its position.
+    Place,
+    /// As an option of this name.
+    Long(&'static str),
+    /// As an option of this letter.
+    Short(char),
+}
+
+/// An argument of a command.
 #[derive(Clone, Copy)]
 struct Word {
     /// By what it is looked up. DISK has that of an archive's path, so that one look-up reads both.
     id: &'static str,
     /// Its name in usages.
     name: &'static str,
-    /// The option's name.
-    long: Option<&'static str>,
+    given: Given,
     takes: Takes,
     help: &'static str,
 }
@@ -35,7 +45,7 @@ struct Word {
 const DISK: Word = Word {
     id: "FILE",
     name: "DISK",
-    long: None,
+    given: Given::Place,
     takes: Takes::Path,
     help: "A disk file",
 };
@@ -44,7 +54,7 @@ const DISK: Word = Word {
 const ARCHIVE: Word = Word {
     id: "FILE",
     name: "FILE",
-    long: None,
+    given: Given::Place,
     takes: Takes::Path,
     help: "A tile archive (PMTiles 3)",
 };
@@ -53,7 +63,7 @@ const ARCHIVE: Word = Word {
 const OUTPUT: Word = Word {
     id: "OUTPUT",
     name: "FILE",
-    long: None,
+    given: Given::Place,
     takes: Takes::Path,
     help: "The PMTiles file to write; an existing regular file is replaced",
 };
@@ -62,7 +72,7 @@ const OUTPUT: Word = Word {
 const COPY: Word = Word {
     id: "OUTPUT",
     name: "FILE",
-    long: None,
+    given: Given::Place,
     takes: Takes::Path,
     help: "The disk file to create",
 };
@@ -71,14 +81,14 @@ const COPY: Word = Word {
 const SECTORS: Word = Word {
     id: "N",
     name: "N",
-    long: None,
+    given: Given::Place,
     takes: Takes::Sectors,
     help: "Sectors of 512 bytes, from 64 to 16777216",
 };
 
 /// The number of sectors, as an option.
 const NAMED_SECTORS: Word = Word {
-    long: Some("sectors"),
+    given: Given::Long("sectors"),
     ..SECTORS
 };
 
@@ -86,7 +96,7 @@ const NAMED_SECTORS: Word = Word {
 const PORT: Word = Word {
     id: "P",
     name: "P",
-    long: Some("port"),
+    given: Given::Long("port"),
     takes: Takes::Port,
     help: "A port of 127.0.0.1, from 1 to 65535",
 };
@@ -95,7 +105,7 @@ const PORT: Word = Word {
 const CONNECTIONS: Word = Word {
     id: "K",
     name: "K",
-    long: Some("connections"),
+    given: Given::Long("connections"),
     takes: Takes::Connections,
     help: "How many connections are served, from 1 to 4294967295",
 };
@@ -104,7 +114,7 @@ const CONNECTIONS: Word = Word {
 const ADMIN: Word = Word {
     id: "ADMIN",
     name: "ADMIN",
-    long: Some("admin"),
+    given: Given::Long("admin"),
     takes: Takes::Nothing,
     help: "Serves the paths under /admin/ too: the status, and the list of features",
 };
@@ -113,78 +123,80 @@ const ADMIN: Word = Word {
 const STOPS: Word = Word {
     id: "STOPS",
     name: "STOPS",
-    long: Some("stop-when-broken"),
+    given: Given::Long("stop-when-broken"),
     takes: Takes::Nothing,
     help: "Ends with status 1 after the current connection once a write or sync of the disk failed",
+};
+
+/// How much is told of an error.
+const VERBOSE: Word = Word {
+    id: "VERBOSE",
+    name: "VERBOSE",
+    given: Given::Short('v'),
+    takes: Takes::Nothing,
+    help: "Tells the path and the system's word with an error",
 };
 
 /// A command: its name, its arguments and its help.
 type Row = (&'static str, &'static [Word], &'static str);
 
-const COMMANDS: [Row; 9] = [
+static COMMANDS: [Row; 9] = [
     (
         "copy",
-        &[DISK, COPY],
+        &[DISK, COPY, VERBOSE],
         "Copies a disk file as of one moment, also while it is served; FILE must not exist",
     ),
     (
         "demo",
-        &[SECTORS, ADMIN],
+        &[SECTORS, ADMIN, VERBOSE],
         "Serves one connection on standard input and output over an empty map in memory",
     ),
     (
         "export",
-        &[DISK, OUTPUT],
+        &[DISK, OUTPUT, VERBOSE],
         "Writes the last published archive of a disk file into a file",
     ),
     (
         "format",
-        &[DISK, NAMED_SECTORS],
+        &[DISK, NAMED_SECTORS, VERBOSE],
         "Creates a disk file with an empty map; DISK must not exist",
     ),
     (
         "pipe",
-        &[DISK, ADMIN],
+        &[DISK, ADMIN, VERBOSE],
         "Serves one connection on standard input and output over the map of a disk file",
     ),
     (
         "serve",
-        &[DISK, PORT, CONNECTIONS, ADMIN, STOPS],
+        &[DISK, PORT, CONNECTIONS, ADMIN, STOPS, VERBOSE],
         "Serves the map of a disk file on a port of 127.0.0.1 to many clients by turns",
     ),
     (
         "show",
-        &[ARCHIVE],
+        &[ARCHIVE, VERBOSE],
         "Prints the header and the metadata of a tile archive",
     ),
     (
         "upgrade",
-        &[DISK],
+        &[DISK, VERBOSE],
         "Upgrades a disk file to version 2 of the format; make a copy of it first",
     ),
     (
         "verify",
-        &[ARCHIVE],
+        &[ARCHIVE, VERBOSE],
         "Checks a PMTiles archive: prints its counts or its first fault",
     ),
 ];
-
-/// The option `-v`.
-fn verbose<'a>(alloc: Global) -> Arg<'a> {
-    Arg::new(alloc, "VERBOSE")
-        .short('v')
-        .action(ArgAction::SetTrue)
-        .help("Tells the path and the system's word with an error")
-}
 
 /// The argument in clap's terms.
 fn arg_of<'a>(alloc: Global, word: Word) -> Arg<'a> {
     let arg = Arg::new(alloc, word.id)
         .value_name(word.name)
         .help(word.help);
-    let arg = match word.long {
-        Some(long) => arg.long(long),
-        None => arg,
+    let arg = match word.given {
+        Given::Place => arg,
+        Given::Long(name) => arg.long(name),
+        Given::Short(letter) => arg.short(letter),
     };
     let arg = match word.takes {
         Takes::Path => arg,
@@ -209,16 +221,10 @@ fn with_words<'a>(
     Ok(command)
 }
 
-/// The command of a row of the table.
-fn command_of<'a>(alloc: Global, row: Row) -> Result<Command<'a>, AllocError> {
-    let (name, words, about) = row;
-    let command = with_words(alloc, Command::new(alloc, name).about(about), words)?;
-    command.arg(verbose(alloc))
-}
-
 /// Adds the command of a row as a subcommand.
 fn with_row<'a>(alloc: Global, command: Command<'a>, row: Row) -> Result<Command<'a>, AllocError> {
-    match command_of(alloc, row) {
+    let (name, words, about) = row;
+    match with_words(alloc, Command::new(alloc, name).about(about), words) {
         Ok(below) => command.subcommand(below),
         Err(fault) => Err(fault),
     }
@@ -235,8 +241,8 @@ fn program<'a>(alloc: Global) -> Command<'a> {
 /// The command line of the program.
 pub(crate) fn command_line<'a>(alloc: Global) -> Result<Command<'a>, AllocError> {
     let mut command = program(alloc);
-    for row in COMMANDS {
-        command = with_row(alloc, command, row)?;
+    for row in &COMMANDS {
+        command = with_row(alloc, command, *row)?;
     }
     Ok(command)
 }

@@ -1,27 +1,17 @@
-//! The command that writes the published archive into a file.
+//! The published archive, written into a file.
 ghost use Rattle.std.specs.Prelude.{◌≤◌, ◌+◌};
 ghost use Rattle.generations.specs.Areas.{sectors_of};
 
-use crate::fault::{Cause, CommandFault};
-use crate::files::{OpenedFile, opened_file};
-use crate::noted::Noted;
+use crate::fault::CommandFault;
+use crate::place::{Identity, identity_of};
+use crate::printing::print_number;
 use archive_export::{ArchivePlace, CopyFault, copy_archive, find_archive};
-use file_disk::{FileDisk, Start};
 use generations::StoreFault;
 use map_server::sync_folder;
 use sector_disk::Sectors;
-use std::cell::Cell;
 use std::fs::{self, File, OpenOptions, Permissions};
 use std::io::{self, ErrorKind};
-use std::os::unix::fs::{MetadataExt, OpenOptionsExt, PermissionsExt};
-
-/// Whether two paths lead to one file.
-fn is_same_file(rt: &HostRuntime, path: &str, other: &str) -> bool {
-    match (fs::metadata(rt, path), fs::metadata(rt, other)) {
-        (Ok(file), Ok(other)) => file.dev() == other.dev() && file.ino() == other.ino(),
-        _ => false,
-    }
-}
+use std::os::unix::fs::{OpenOptionsExt, PermissionsExt};
 
 /// Copies an archive of a disk into a file, and syncs it.
 fn copy_into<D: Sectors>(
@@ -43,7 +33,7 @@ fn copy_into<D: Sectors>(
     }
 }
 
-/// Gives a file another name, which outlives a crash. A file that has this name is replaced.
+/// Gives a new file its name, which outlives a crash. A file that has this name is replaced. If it can't be given, the new file is removed.
 pub(crate) fn rename(rt: &HostRuntime, part: &str, goal: &str) -> Result<(), CommandFault> {
     let renamed = match fs::rename(rt, part, goal) {
         Ok(()) => sync_folder(rt, goal),
@@ -51,14 +41,24 @@ pub(crate) fn rename(rt: &HostRuntime, part: &str, goal: &str) -> Result<(), Com
     };
     match renamed {
         Ok(()) => Ok(()),
-        Err(error) => Err(CommandFault::Output(Some(error))),
+        Err(error) => {
+            let _ = fs::remove_file(rt, part);
+            Err(CommandFault::Output(Some(error)))
+        }
     }
 }
 
-/// The permissions of the regular file at a path, if there is a file. What isn't a regular file, a link among them, is refused.
-fn replaced_permissions(rt: &HostRuntime, path: &str) -> Result<Option<Permissions>, CommandFault> {
+/// The permissions of the regular file at a path, if there is a file. What isn't a regular file, a link among them, is refused, and so
+/// is the disk.
+fn replaced_permissions(
+    rt: &HostRuntime,
+    path: &str,
+    disk: Identity,
+) -> Result<Option<Permissions>, CommandFault> {
     match fs::symlink_metadata(rt, path) {
-        Ok(metadata) if metadata.is_file() => Ok(Some(metadata.permissions())),
+        Ok(metadata) if metadata.is_file() && identity_of(&metadata) != disk => {
+            Ok(Some(metadata.permissions()))
+        }
         Err(error) if error.kind() == ErrorKind::NotFound => Ok(None),
         Err(error) => Err(CommandFault::Output(Some(error))),
         Ok(_) => Err(CommandFault::Output(None)),
@@ -100,22 +100,21 @@ fn write_beside<D: Sectors>(
         Ok(file) => file,
         Err(error) => return Err(CommandFault::Output(Some(error))),
     };
-    let written = match copy_into(disk, archive, file) {
+    match copy_into(disk, archive, file) {
         Ok(()) => rename(rt, part.as_str(), goal),
-        Err(fault) => Err(fault),
-    };
-    if written.is_err() {
-        let _ = fs::remove_file(rt, part.as_str());
+        Err(fault) => {
+            let _ = fs::remove_file(rt, part.as_str());
+            Err(fault)
+        }
     }
-    written
 }
 
-/// Writes the archive that was published last on a disk into a file, unless that is the file at this path, and says how many bytes it
-/// has. A file that is replaced leaves its permissions to the new one.
-fn export<D: Sectors>(
+/// Writes the archive that was published last on a disk into a file, unless that is the disk's own, and says how many bytes it has. A
+/// file that is replaced leaves its permissions to the new one.
+pub(crate) fn export<D: Sectors>(
     rt: &HostRuntime,
     disk: &mut D,
-    path: &str,
+    from: Identity,
     goal: &str,
 ) -> Result<(), CommandFault> {
     let archive = match find_archive(disk) {
@@ -125,39 +124,7 @@ fn export<D: Sectors>(
     if archive.len == 0 {
         return Err(CommandFault::NoArchive);
     }
-    if is_same_file(rt, path, goal) {
-        return Err(CommandFault::Output(None));
-    }
-    let permissions = replaced_permissions(rt, goal)?;
+    let permissions = replaced_permissions(rt, goal, from)?;
     write_beside(rt, disk, archive, goal, permissions)?;
-    let size = archive.len;
-    match println!(rt; "{size} bytes") {
-        Ok(()) => Ok(()),
-        Err(error) => Err(CommandFault::Write(Some(error))),
-    }
-}
-
-/// Writes the archive that was published last on the disk in a file, whatever the file had, into another file, and says how many
-/// bytes it has. Only the disk's format, its roots and the archive are read.
-pub(crate) fn export_file<S: Start>(
-    rt: &HostRuntime,
-    path: &str,
-    goal: &str,
-    start: S,
-) -> Result<(), CommandFault> {
-    let OpenedFile {
-        file,
-        bytes,
-        identity: _,
-        held: _held,
-    } = opened_file(rt, path)?;
-    let cause: Cell<Cause> = Cell::new(None);
-    let file = Noted {
-        file,
-        cause: &cause,
-    };
-    match export(rt, &mut FileDisk::new(file, bytes, start), path, goal) {
-        Err(CommandFault::Store(fault)) => Err(CommandFault::of_disk(fault, &cause)),
-        outcome => outcome,
-    }
+    print_number(rt, "", archive.len, " bytes")
 }

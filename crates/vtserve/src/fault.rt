@@ -10,7 +10,7 @@ use std::{fmt, io};
 pub(crate) type Cause = Option<io::Error>;
 
 /// The faults of commands.
-#[derive(Drop)]
+#[derive(Clone, Copy)]
 pub(crate) enum CommandFault {
     /// The file isn't a regular file, can't be opened, locked or created, its folder can't be synced, or another process has locked it.
     File(Cause),
@@ -46,7 +46,7 @@ impl CommandFault {
     /// The fault of a disk, whose file noted this as a call of it failed.
     pub(crate) fn of_disk(fault: StoreFault, cause: &Cell<Cause>) -> CommandFault {
         match fault {
-            StoreFault::Device => CommandFault::Device(cause.take()),
+            StoreFault::Device => CommandFault::Device(cause.get()),
             _ => CommandFault::Store(fault),
         }
     }
@@ -65,46 +65,52 @@ impl CommandFault {
         }
     }
 
-    /// What it is about, in a command over this path.
-    pub(crate) fn about<'a>(&self, path: &'a str) -> About<'a> {
-        match self {
-            CommandFault::Listen { port, .. } => About::Port(*port),
-            // `demo` has no path.
-            _ if path.is_empty() => About::Nothing,
-            _ => About::Path(path),
-        }
-    }
-
     /// What the system said, where it is known.
-    pub(crate) fn cause(&self) -> Option<&io::Error> {
+    fn cause(&self) -> Cause {
         match self {
             CommandFault::File(cause)
             | CommandFault::Output(cause)
             | CommandFault::Device(cause)
             | CommandFault::Listen { cause, .. }
-            | CommandFault::Write(cause) => cause.as_ref(),
+            | CommandFault::Write(cause) => *cause,
             _ => None,
         }
     }
 }
 
-/// What a fault is about.
+/// The paths of a command. One that it doesn't have is empty.
 #[derive(Clone, Copy)]
-pub(crate) enum About<'a> {
-    /// The disk in memory.
-    Nothing,
-    /// The file at a path.
-    Path(&'a str),
-    /// A port of 127.0.0.1.
-    Port(u16),
+pub(crate) struct Paths<'a> {
+    /// That of the disk or the archive that it is over.
+    pub(crate) path: &'a str,
+    /// That of the file that it writes.
+    pub(crate) goal: &'a str,
 }
 
-impl fmt::Display for About<'_> {
+/// A fault of a command over these paths, with what it is about, and what the system said where it is known.
+#[derive(Clone, Copy)]
+pub(crate) struct Report<'a> {
+    pub(crate) fault: CommandFault,
+    pub(crate) paths: Paths<'a>,
+}
+
+impl fmt::Display for Report<'_> {
     fn fmt<W: fmt::Write>(&self, f: &mut fmt::Formatter<W>) -> fmt::Result {
-        match self {
-            About::Nothing => Ok(()),
-            About::Path(path) => write!(f, ": {path}"),
-            About::Port(port) => write!(f, ": 127.0.0.1:{port}"),
+        let name = self.fault.name();
+        let path = match self.fault {
+            CommandFault::Output(_) => self.paths.goal,
+            _ => self.paths.path,
+        };
+        let written = match self.fault {
+            CommandFault::Listen { port, .. } => write!(f, "{name}: 127.0.0.1:{port}"),
+            // `demo` has no path.
+            _ if path.is_empty() => f.write_str(name),
+            _ => write!(f, "{name}: {path}"),
+        };
+        written?;
+        match self.fault.cause() {
+            Some(cause) => write!(f, ": {cause}"),
+            None => Ok(()),
         }
     }
 }

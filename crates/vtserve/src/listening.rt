@@ -8,6 +8,7 @@ ghost use Rattle.tile_service.specs.Runs.{TakesRun};
 use crate::descriptors::max_connections;
 use crate::fault::CommandFault;
 use crate::looks::Looks;
+use crate::printing::print_number;
 use crate::watching::Halting;
 use clap::ArgMatches;
 use generations::StoreFault;
@@ -51,12 +52,6 @@ pub(crate) fn listening_of(words: &ArgMatches<'_>) -> Option<Listening>
     })
 }
 
-/// Says where connections are accepted.
-fn tell_port(rt: &HostRuntime, port: u16) -> io::Result<()> {
-    println!(rt; "serving on 127.0.0.1:{port}")?;
-    rt.stdout().flush()
-}
-
 /// Listens on a port of 127.0.0.1.
 fn listen_on(rt: &HostRuntime, port: u16) -> io::Result<SystemListener> {
     let listener = TcpListener::bind(rt, SocketAddr::from((Ipv4Addr::LOCALHOST, port)))?;
@@ -74,10 +69,8 @@ fn listener_on(rt: &HostRuntime, port: u16) -> Result<SystemListener, CommandFau
             return Err(CommandFault::Listen { port, cause });
         }
     };
-    match tell_port(rt, port) {
-        Ok(()) => Ok(listener),
-        Err(error) => Err(CommandFault::Write(Some(error))),
-    }
+    print_number(rt, "serving on 127.0.0.1:", u64::from(port), "")?;
+    Ok(listener)
 }
 
 /// Serves the connections by turns, with this log. The disk file is watched meanwhile.

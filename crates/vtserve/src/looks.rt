@@ -1,46 +1,48 @@
 //! Looks at the place of a disk file from time to time.
 
-use crate::place::{OpenPath, Place};
-use crate::watching::{Watch, tell_first};
+use crate::watching::{Watch, Watched};
 use std::cell::Cell;
 use std::time::{Clock, Duration};
 
 /// How many seconds it is at least from one look to the next.
 const SECONDS_BETWEEN: u64 = 60;
 
-/// What is known of a disk file while it is served, and its place, which is looked at from time to time.
+/// A disk file that is served, and whose place is looked at from time to time.
 #[derive(Drop)]
 pub(crate) struct Looks<'a> {
-    /// Where the file is, if the disk is in a file.
-    place: Option<OpenPath<'a>>,
-    watch: &'a Cell<Watch>,
+    /// The file, if the disk is in a file.
+    watched: Option<Watched<'a>>,
     /// When the place was looked at last, by the monotonic clock.
     last: Cell<Duration>,
 }
 
 impl<'a> Looks<'a> {
     /// No look was taken yet.
-    pub(crate) fn new(place: Option<OpenPath<'a>>, watch: &'a Cell<Watch>) -> Looks<'a> {
+    pub(crate) fn new(watched: Option<Watched<'a>>) -> Looks<'a> {
         Looks {
-            place,
-            watch,
+            watched,
             last: Cell::new(Duration::ZERO),
         }
     }
 
     /// Has failures told of from now on.
     pub(crate) fn begin(&self) {
-        self.watch.set(Watch::On);
+        if let Some(watched) = self.watched {
+            watched.watch.set(Watch::On);
+        }
     }
 
     /// Whether a write or a sync has failed, or the file was lost.
     pub(crate) fn has_failed(&self) -> bool {
-        self.watch.get() == Watch::Failed
+        match self.watched {
+            Some(watched) => watched.watch.get() == Watch::Failed,
+            None => false,
+        }
     }
 
     /// Whether the last look was a while ago. If it was, now is the time of the last one.
-    fn is_due(&self, place: OpenPath<'a>) -> bool {
-        let now = place.rt.monotonic().unwrap_or(Duration::ZERO);
+    fn is_due(&self, rt: &HostRuntime) -> bool {
+        let now = rt.monotonic().unwrap_or(Duration::ZERO);
         let is_due = now.saturating_sub(self.last.get()) >= Duration::from_secs(SECONDS_BETWEEN);
         if is_due {
             self.last.set(now);
@@ -50,14 +52,14 @@ impl<'a> Looks<'a> {
 
     /// Looks at the place if the last look was a while ago. A file that was lost is told of, if no failure was before.
     pub(crate) fn look(&self) {
-        let Some(place) = self.place else {
+        let Some(watched) = self.watched else {
             return;
         };
-        if !self.is_due(place) {
+        if !self.is_due(watched.place.rt) {
             return;
         }
-        if let Some(loss) = place.loss() {
-            tell_first(self.watch, &mut place.rt.stderr(), loss);
+        if let Some(loss) = watched.place.loss() {
+            watched.tell(loss);
         }
     }
 }

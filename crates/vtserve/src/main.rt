@@ -13,31 +13,30 @@ mod listening;
 mod looks;
 mod noted;
 mod place;
+mod printing;
 mod regular;
 mod serving;
+mod tasks;
 mod watching;
 
 use archives::{show_file, verify_file};
 use clap::ArgMatches;
 use clap::error::ErrorKind::OutOfMemory;
 use commands::command_line;
-use copying::copy_file;
-use exporting::export_file;
-use fault::CommandFault;
+use fault::{CommandFault, Paths, Report};
 use file_disk::Unknown;
-use files::{format_file, serve_file, upgrade_file};
+use files::{format_file, serve_file};
 use generations::StoreFault;
 use listening::listening_of;
 use looks::Looks;
 use map_server::fresh_service;
 use serving::{Peers, serve};
 use std::alloc::AllocError;
-use std::cell::Cell;
 use std::fmt::Display;
 use std::io::ErrorKind;
 use std::process::ExitCode;
+use tasks::{Task, copy_file, done_with_file};
 use tile_routes::Access;
-use watching::Watch;
 
 /// Prints a fault's name.
 fn refused(rt: &impl Eprint, name: impl Display + Drop) -> anyhow::Result<ExitCode> {
@@ -54,17 +53,6 @@ pub(crate) enum Told {
     Cause,
 }
 
-/// The name of a fault, what it is about, and what the system said where it is known.
-fn refused_with(rt: &HostRuntime, fault: &CommandFault, path: &str) -> anyhow::Result<ExitCode> {
-    let name = fault.name();
-    let about = fault.about(path);
-    match fault.cause() {
-        Some(cause) => eprintln!(rt; "vtserve: {name}{about}: {cause}")?,
-        None => eprintln!(rt; "vtserve: {name}{about}")?,
-    }
-    Ok(ExitCode::from(1))
-}
-
 /// Prints the name of a fault of the file at a path.
 fn refused_file(
     rt: &impl Eprint,
@@ -74,18 +62,15 @@ fn refused_file(
 ) -> anyhow::Result<ExitCode> {
     match told {
         Told::Name => refused(rt, name),
-        Told::Cause => {
-            eprintln!(rt; "vtserve: {name}: {path}")?;
-            Ok(ExitCode::from(1))
-        }
+        Told::Cause => refused(rt, format_args!("{name}: {path}")),
     }
 }
 
-/// The status of a command over this path, and its fault on standard error.
+/// The status of a command over these paths, and its fault on standard error.
 fn ended(
     rt: &HostRuntime,
     outcome: Result<(), CommandFault>,
-    path: &str,
+    paths: Paths<'_>,
     told: Told,
 ) -> anyhow::Result<ExitCode> {
     match outcome {
@@ -93,31 +78,15 @@ fn ended(
         Err(CommandFault::Told) => Ok(ExitCode::from(1)),
         Err(fault) => match told {
             Told::Name => refused(rt, fault.name()),
-            Told::Cause => refused_with(rt, &fault, path),
+            Told::Cause => refused(rt, Report { fault, paths }),
         },
     }
 }
 
-/// The same of a command that writes another file, at `goal`.
-fn ended_onto(
-    rt: &HostRuntime,
-    outcome: Result<(), CommandFault>,
-    path: &str,
-    goal: &str,
-    told: Told,
-) -> anyhow::Result<ExitCode> {
-    let about = match outcome {
-        Err(CommandFault::Output(_)) => goal,
-        _ => path,
-    };
-    ended(rt, outcome, about, told)
-}
-
 /// Serves one connection on standard input and output, over the empty map on a disk in memory.
 fn demo(rt: &HostRuntime, sectors: u64, access: Access) -> Result<(), CommandFault> {
-    let watch = Cell::new(Watch::Off);
     match fresh_service(rt.alloc(), sectors, access) {
-        Ok(map) => serve(rt, map, Peers::Streams, &Looks::new(None, &watch)),
+        Ok(map) => serve(rt, map, Peers::Streams, &Looks::new(None)),
         Err(fault) => Err(CommandFault::Store(fault)),
     }
 }
@@ -145,36 +114,34 @@ fn run(rt: &HostRuntime, matches: &ArgMatches<'_>) -> anyhow::Result<ExitCode> {
     let Some((name, words)) = matches.subcommand() else {
         return Ok(ExitCode::from(2));
     };
-    let path = words.get_str("FILE").unwrap_or("");
+    let paths = Paths {
+        path: words.get_str("FILE").unwrap_or(""),
+        goal: words.get_str("OUTPUT").unwrap_or(""),
+    };
     let sectors = words.get_one::<u64>("N").unwrap_or(0);
     let told = told_in(words);
-    match name {
-        "demo" => ended(rt, demo(rt, sectors, access_in(words)), path, told),
-        "copy" => {
-            let goal = words.get_str("OUTPUT").unwrap_or("");
-            ended_onto(rt, copy_file(rt, path, goal, Unknown), path, goal, told)
-        }
-        "export" => {
-            let goal = words.get_str("OUTPUT").unwrap_or("");
-            ended_onto(rt, export_file(rt, path, goal, Unknown), path, goal, told)
-        }
-        "format" => ended(rt, format_file(rt, path, sectors), path, told),
-        "pipe" => {
-            let outcome = serve_file(rt, path, access_in(words), Peers::Streams, Unknown);
-            ended(rt, outcome, path, told)
-        }
+    let outcome = match name {
+        "copy" => copy_file(rt, paths, Unknown),
+        "demo" => demo(rt, sectors, access_in(words)),
+        "export" => done_with_file(rt, paths, Task::Export, Unknown),
+        "format" => format_file(rt, paths.path, sectors),
+        "pipe" => serve_file(rt, paths.path, access_in(words), Peers::Streams, Unknown),
         "serve" => match listening_of(words) {
-            Some(asked) => {
-                let outcome = serve_file(rt, path, access_in(words), Peers::Port(asked), Unknown);
-                ended(rt, outcome, path, told)
-            }
-            None => Ok(ExitCode::from(2)),
+            Some(asked) => serve_file(
+                rt,
+                paths.path,
+                access_in(words),
+                Peers::Port(asked),
+                Unknown,
+            ),
+            None => return Ok(ExitCode::from(2)),
         },
-        "show" => show_file(rt, path, told),
-        "upgrade" => ended(rt, upgrade_file(rt, path, Unknown), path, told),
-        "verify" => verify_file(rt, path, told, Unknown),
-        _ => Ok(ExitCode::from(2)),
-    }
+        "show" => return show_file(rt, paths.path, told),
+        "upgrade" => done_with_file(rt, paths, Task::Upgrade, Unknown),
+        "verify" => return verify_file(rt, paths.path, told, Unknown),
+        _ => return Ok(ExitCode::from(2)),
+    };
+    ended(rt, outcome, paths, told)
 }
 
 /// The words of the command line. One that isn't UTF-8 is taken for a path that leads to no file.

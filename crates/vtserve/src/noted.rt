@@ -1,31 +1,43 @@
 //! A file of which the last error is noted.
 
 use crate::fault::Cause;
+use crate::watching::Watched;
 use file_disk::SectorFile;
 use sector_disk::SECTOR_BYTES;
 use std::cell::Cell;
-use std::io;
+use std::io::{self, ErrorKind};
 
-/// Notes what the system said as a call failed. Returns an error of the same kind.
-pub(crate) fn note(cause: &Cell<Cause>, error: io::Error) -> io::Error {
-    let kind = error.kind();
-    cause.set(Some(error));
-    kind.into()
-}
-
-/// A file that notes what the system said as a call of it failed, for the command that tells of it.
+/// A file that notes what the system said as a call of it failed, for the command that tells of it. While it is watched, its first write
+/// or sync that fails is told of, and nothing is written to it once it was lost: such a write or sync fails.
 #[derive(Drop)]
 pub(crate) struct Noted<'a, F> {
     pub(crate) file: F,
     pub(crate) cause: &'a Cell<Cause>,
+    pub(crate) watched: Option<Watched<'a>>,
 }
 
 impl<F> Noted<'_, F> {
     /// What a call came to.
     fn noted(&self, outcome: io::Result<()>) -> io::Result<()> {
-        match outcome {
-            Ok(()) => Ok(()),
-            Err(error) => Err(note(self.cause, error)),
+        if let Err(error) = outcome {
+            self.cause.set(Some(error));
+        }
+        outcome
+    }
+
+    /// What a write or a sync came to.
+    fn told(&self, call: &str, outcome: io::Result<()>) -> io::Result<()> {
+        if let (Err(error), Some(watched)) = (outcome, self.watched) {
+            watched.tell(format_args!("{call}: {error}"));
+        }
+        self.noted(outcome)
+    }
+
+    /// Whether it was lost while it is watched.
+    fn is_lost(&self) -> bool {
+        match self.watched {
+            Some(watched) => watched.is_lost(),
+            None => false,
         }
     }
 }
@@ -42,12 +54,20 @@ impl<F: SectorFile> SectorFile for Noted<'_, F> {
     }
 
     fn write_at(&mut self, from: &[[u8; SECTOR_BYTES]], offset: u64) -> io::Result<()> {
-        let outcome = self.file.write_at(from, offset);
-        self.noted(outcome)
+        let outcome = if self.is_lost() {
+            Err(ErrorKind::NotFound.into())
+        } else {
+            self.file.write_at(from, offset)
+        };
+        self.told("write", outcome)
     }
 
     fn sync_data(&mut self) -> io::Result<()> {
-        let outcome = self.file.sync_data();
-        self.noted(outcome)
+        let outcome = if self.is_lost() {
+            Err(ErrorKind::NotFound.into())
+        } else {
+            self.file.sync_data()
+        };
+        self.told("sync", outcome)
     }
 }

@@ -1,13 +1,11 @@
 //! A disk file that fails, and what follows.
 
 use crate::looks::Looks;
-use crate::place::Place;
-use file_disk::SectorFile;
+use crate::place::OpenPath;
 use http_listen::{Places, Waits};
-use sector_disk::SECTOR_BYTES;
 use std::cell::Cell;
 use std::fmt::Display;
-use std::io::{self, ErrorKind, Write};
+use std::io;
 use std::net::{OpenListener, SocketAddr};
 use std::time::Duration;
 
@@ -22,67 +20,34 @@ pub(crate) enum Watch {
     Failed,
 }
 
-/// Tells of a failure of a file that is watched. Only the first one is told of.
-pub(crate) fn tell_first<W: Write>(watch: &Cell<Watch>, told: &mut W, what: impl Display + Drop) {
-    if watch.get() == Watch::On {
-        watch.set(Watch::Failed);
-        let _ = writeln!(told, "vtserve: Device: {what}");
-    }
-}
-
-/// A file whose first write or sync that fails is told of, while it is watched. Nothing is written to a file that was removed, replaced or
-/// cut since it was opened: such a write or sync fails.
-#[derive(Drop)]
-pub(crate) struct Watched<'a, F, W, P> {
-    pub(crate) file: F,
+/// A disk file that is watched.
+#[derive(Clone, Copy)]
+pub(crate) struct Watched<'a> {
     /// Where the file was opened.
-    pub(crate) place: P,
-    /// Where it is told.
-    pub(crate) told: W,
+    pub(crate) place: OpenPath<'a>,
     pub(crate) watch: &'a Cell<Watch>,
 }
 
-impl<F, W: Write, P: Place> Watched<'_, F, W, P> {
-    /// Refuses to write to a file that was lost. The first time that is told of. A file that was put back isn't written to either.
-    fn in_place(&mut self) -> io::Result<()> {
+impl Watched<'_> {
+    /// Tells of a failure. Only the first one is told of.
+    pub(crate) fn tell(&self, what: impl Display + Drop) {
+        if self.watch.get() == Watch::On {
+            self.watch.set(Watch::Failed);
+            let _ = eprintln!(self.place.rt; "vtserve: Device: {what}");
+        }
+    }
+
+    /// Whether the file has failed, or was removed, replaced or cut since it was opened. The first time that is told of. A file that
+    /// was put back remains lost.
+    pub(crate) fn is_lost(&self) -> bool {
         if self.watch.get() == Watch::Failed {
-            return Err(ErrorKind::NotFound.into());
+            return true;
         }
         let Some(loss) = self.place.loss() else {
-            return Ok(());
+            return false;
         };
-        tell_first(self.watch, &mut self.told, loss);
-        Err(ErrorKind::NotFound.into())
-    }
-
-    /// What a call came to. The first one that failed is told of.
-    fn seen(&mut self, call: &str, outcome: io::Result<()>) -> io::Result<()> {
-        if let Err(error) = &outcome {
-            tell_first(self.watch, &mut self.told, format_args!("{call}: {error}"));
-        }
-        outcome
-    }
-}
-
-impl<F: SectorFile, W: Write, P: Place> SectorFile for Watched<'_, F, W, P> {
-    fn read_at(&mut self, into: &mut [u8; SECTOR_BYTES], offset: u64) -> io::Result<()> {
-        self.file.read_at(into, offset)
-    }
-
-    fn read_run_at(&mut self, into: &mut [[u8; SECTOR_BYTES]], offset: u64) -> io::Result<()> {
-        self.file.read_run_at(into, offset)
-    }
-
-    fn write_at(&mut self, from: &[[u8; SECTOR_BYTES]], offset: u64) -> io::Result<()> {
-        self.in_place()?;
-        let outcome = self.file.write_at(from, offset);
-        self.seen("write", outcome)
-    }
-
-    fn sync_data(&mut self) -> io::Result<()> {
-        self.in_place()?;
-        let outcome = self.file.sync_data();
-        self.seen("sync", outcome)
+        self.tell(loss);
+        true
     }
 }
 
