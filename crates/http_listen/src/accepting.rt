@@ -78,7 +78,7 @@ impl<S: OpenStream + Drop> Room<S> {
             return Found::Nothing;
         }
         match listener.accept() {
-            Ok((stream, _)) => {
+            Ok(stream) => {
                 self.failed_accepts = 0;
                 Found::New(stream)
             }

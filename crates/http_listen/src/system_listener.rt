@@ -11,7 +11,7 @@ use mio::{Events, Interest, Poll, Token};
 use std::alloc::{AllocError, Global};
 use std::io::{self, ErrorKind};
 use std::marker::Model;
-use std::net::{Net, OpenListener, SocketAddr, TcpListener, TcpStream};
+use std::net::{Net, TcpListener, TcpStream};
 use std::os::fd::{AsRawFd, RawFd};
 use std::time::Duration;
 
@@ -107,15 +107,14 @@ fn report_event(event: &Event, places: &mut Places<TcpStream>) -> bool
     false
 }
 
-impl OpenListener for SystemListener {
+impl Waits for SystemListener {
     type Stream = TcpStream;
 
-    fn accept(&self) -> io::Result<(TcpStream, SocketAddr)> {
-        self.listener.accept()
+    fn accept(&self) -> io::Result<TcpStream> {
+        let (stream, _) = self.listener.accept()?;
+        Ok(stream)
     }
-}
 
-impl Waits for SystemListener {
     fn max_open(&self) -> usize
         ensures { result ≡ self.now.max_open }
     {

@@ -2,7 +2,6 @@
 
 use crate::places::Places;
 use std::io;
-use std::net::OpenListener;
 use std::time::Duration;
 
 /// The maximum number of open connections.
@@ -19,8 +18,18 @@ pub struct Change {
     pub ends: bool,
 }
 
-/// A listener that can be waited for together with streams. No call of `accept` waits: it returns `WouldBlock` if no connection is there.
-pub trait Waits: OpenListener {
+/// A listener that can be waited for together with streams.
+pub trait Waits {
+    /// The stream of a connection.
+    type Stream: Drop;
+
+    /// Accepts a connection, and never waits for one.
+    ///
+    /// # Errors
+    ///
+    /// `WouldBlock` if no connection is there; that of the system.
+    fn accept(&self) -> io::Result<Self::Stream>;
+
     /// How many connections may be open at once. More than `MAX_KEPT` never are.
     fn max_open(&self) -> usize {
         MAX_KEPT

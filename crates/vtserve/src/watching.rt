@@ -6,7 +6,6 @@ use http_listen::{Places, Waits};
 use std::cell::Cell;
 use std::fmt::Display;
 use std::io;
-use std::net::{OpenListener, SocketAddr};
 use std::time::Duration;
 
 /// What is known of a disk file.
@@ -61,15 +60,13 @@ pub(crate) struct Halting<'a, 'b, L> {
     pub(crate) looks: &'a Looks<'b>,
 }
 
-impl<L: OpenListener> OpenListener for Halting<'_, '_, L> {
+impl<L: Waits> Waits for Halting<'_, '_, L> {
     type Stream = L::Stream;
 
-    fn accept(&self) -> io::Result<(L::Stream, SocketAddr)> {
+    fn accept(&self) -> io::Result<L::Stream> {
         self.listener.accept()
     }
-}
 
-impl<L: Waits> Waits for Halting<'_, '_, L> {
     fn max_open(&self) -> usize {
         self.listener.max_open()
     }

@@ -3,7 +3,6 @@ use super::{Peer, Stream, Watch, is_interrupted};
 use http_listen::{Places, Waits};
 use std::cell::Cell;
 use std::io::{self, ErrorKind};
-use std::net::{Ipv4Addr, OpenListener, SocketAddr};
 use std::time::Duration;
 
 /// How many connections may be open.
@@ -115,10 +114,10 @@ impl<'a> Listener<'a> {
     }
 }
 
-impl<'a> OpenListener for Listener<'a> {
+impl<'a> Waits for Listener<'a> {
     type Stream = Stream<'a>;
 
-    fn accept(&self) -> io::Result<(Stream<'a>, SocketAddr)> {
+    fn accept(&self) -> io::Result<Stream<'a>> {
         let watch = self.watch;
         let accepted = self.accepted.get();
         let peer = match self.peers.get(accepted) {
@@ -127,14 +126,9 @@ impl<'a> OpenListener for Listener<'a> {
         };
         self.try_accept()?;
         self.accepted.set(accepted.saturating_add(1));
-        Ok((
-            Stream { peer, watch },
-            SocketAddr::from((Ipv4Addr::LOCALHOST, 1)),
-        ))
+        Ok(Stream { peer, watch })
     }
-}
 
-impl Waits for Listener<'_> {
     fn max_open(&self) -> usize {
         MAX_OPEN
     }
