@@ -1,5 +1,6 @@
 //! Why a call of this crate fails.
 
+use std::fmt;
 use thiserror::Error;
 
 /// Why a store can't be opened, formatted or changed.
@@ -26,18 +27,25 @@ pub enum StoreFault {
 #[derive(Clone, Copy, Debug, Error)]
 pub enum What {
     /// The format's sector, or the count of sectors that it names.
-    #[error("its size")]
     Size,
     /// A sector of a root, or both.
-    #[error("the sector of a root")]
     RootSector,
     /// A snapshot.
-    #[error("a snapshot")]
     Snapshot,
     /// The journal.
-    #[error("the journal")]
     Journal,
     /// A text of edits.
-    #[error("a text of edits")]
     Text,
+}
+
+impl fmt::Display for What {
+    fn fmt<W: fmt::Write>(&self, f: &mut fmt::Formatter<W>) -> fmt::Result {
+        f.write_str(match self {
+            What::Size => "its size",
+            What::RootSector => "the sector of a root",
+            What::Snapshot => "a snapshot",
+            What::Journal => "the journal",
+            What::Text => "a text of edits",
+        })
+    }
 }

@@ -16,25 +16,33 @@ use crate::kinds::{Shape, ShapeKind};
 use crate::point::Pt;
 use pb_wire::unzigzag;
 use std::alloc::{AllocError, AllocFailed, Global};
+use std::fmt;
 use thiserror::Error;
 
 /// Why integers are not a shape of their kind, or that an allocation failed.
 #[derive(Clone, Copy, Debug, PartialEq, Eq, Error)]
 pub enum GeometryFault {
     /// A command is another than the shape needs, or integers follow the points.
-    #[error("another command than one that must stand there")]
     Command,
     /// A command's count is lower or higher than the kind allows.
-    #[error("a command is done fewer or more times than it may be")]
     Count,
     /// The integers end before a command or a point that the shape needs.
-    #[error("the integers end inside the shape")]
     Cut,
     /// A coordinate exceeds 64 bits.
-    #[error("a coordinate leaves 64 bits")]
     Cursor,
-    #[error("out of memory")]
     Memory,
+}
+
+impl fmt::Display for GeometryFault {
+    fn fmt<W: fmt::Write>(&self, f: &mut fmt::Formatter<W>) -> fmt::Result {
+        f.write_str(match self {
+            GeometryFault::Command => "another command than one that must stand there",
+            GeometryFault::Count => "a command is done fewer or more times than it may be",
+            GeometryFault::Cut => "the integers end inside the shape",
+            GeometryFault::Cursor => "a coordinate leaves 64 bits",
+            GeometryFault::Memory => "out of memory",
+        })
+    }
 }
 
 impl<T: Drop> From<AllocFailed<T>> for GeometryFault {
