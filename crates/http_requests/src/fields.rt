@@ -9,7 +9,7 @@ ghost use Rattle.http_requests.specs.Fields.{is_word, IsStated, values_of, limit
 ghost use Rattle.http_requests.specs.Fields.{body_length, has_field, is_hosted, framing};
 
 use crate::refusals::Refusal;
-use decimal_number::{are_digits, digits_number};
+use http_values::{are_digits, digits_number};
 use httparse::spans::{HeaderSpan, Span};
 
 /// Maximum length of a body in bytes.

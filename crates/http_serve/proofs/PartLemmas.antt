@@ -14,7 +14,7 @@ use Rattle.http_serve.specs.Parts.{front_content, rest_content, front_bytes, res
 use Rattle.http_serve.specs.Parts.{IfRest, IsNoRest, IsNoContentFault, cut_after}
 use Rattle.http_serve.specs.Reply.{ReplyView, HeadView, head_of, head_view, reply_view, content_bytes, content_size, FitsParts, IsReply, InParts, with_part}
 use Rattle.http_serve.specs.Reply.{has_no_content, reply_head, reply_bytes}
-use Rattle.status_phrase.specs.Codes.{code_of}
+use Rattle.http_values.specs.Codes.{code_of}
 use Rattle.http_requests.specs.Requests.{RequestView}
 use Rattle.http_serve.specs.declared.contents.SendFault.{SendFault}
 use Rattle.http_serve.specs.declared.contents.SendFault.TheVariants as cuts

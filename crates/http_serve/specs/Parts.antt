@@ -3,7 +3,7 @@ use Rattle.std.specs.Prelude.{ℕ, ◌≡◌, ◌<◌, ◌≤◌, List, [], ◌+
 use Rattle.std.proofs.Common.{Global}
 use Rattle.std.specs.Io.KnownBytes.{Appends}
 use Rattle.std.specs.Rc.{rc_slice_items}
-use Rattle.status_phrase.specs.Codes.{code_of}
+use Rattle.http_values.specs.Codes.{code_of}
 use Rattle.http_serve.specs.declared.connection.ServeFault.{ServeFault}
 use Rattle.http_serve.specs.declared.connection.ServeFault.TheVariants as ends
 use Rattle.http_serve.specs.declared.contents.SendFault.{SendFault}

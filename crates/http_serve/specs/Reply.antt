@@ -2,8 +2,8 @@
 use Rattle.std.specs.Prelude.{ℕ, List, [], ◌∷◌, ◌++◌, ◌==◌, ◌||◌, Bool, true, false, cond, length, codes, decimal, Option, Some, None, option_map}
 use Rattle.std.specs.Prelude.{IfSome, ◌≤◌, ◌≡◌, ◌+◌, take, drop, ⊤}
 use Rattle.std.specs.Rc.{rc_slice_items}
-use Rattle.status_phrase.specs.Codes.{code_of}
-use Rattle.status_phrase.specs.Phrases.{phrase_of}
+use Rattle.http_values.specs.Codes.{code_of}
+use Rattle.http_values.specs.Phrases.{phrase_of}
 use Rattle.httparse.specs.Grammar.{RequestHead}
 use Rattle.httparse.specs.Spans.{span_bytes}
 use Rattle.http_requests.specs.Requests.{Request, asks_to_close, is_head, has_head_method}

@@ -2,11 +2,11 @@
 ghost use Rattle.std.specs.Prelude.{◌≡◌, codes, Some};
 ghost use Rattle.http_serve.specs.Parts.{front_content};
 ghost use Rattle.http_serve.specs.Reply.{HasShortWords, head_of, head_view, refusal_view, refused_by};
-ghost use Rattle.status_phrase.specs.Codes.{code_of};
+ghost use Rattle.http_values.specs.Codes.{code_of};
 
 use crate::{Content, Reply};
 use http_requests::Refusal;
-use status_phrase::Status;
+use http_values::Status;
 
 /// A reply of a status and a text.
 fn refused_by(status: Status, text: &'static [u8]) -> Reply

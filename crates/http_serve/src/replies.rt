@@ -1,8 +1,8 @@
 //! Replies and their bytes.
 ghost use Rattle.std.specs.Prelude.{◌≡◌, ◌≤◌, ◌<◌, ◌+◌, ◌*◌, ◌++◌, length, vec_len, vec_capacity, IfSome, None, not, ◌||◌};
 ghost use Rattle.std.specs.Option.{option_map};
-ghost use Rattle.status_phrase.specs.Codes.{code_of};
-ghost use Rattle.decimal_number.specs.declared.TheConstants.{MAX_DIGITS};
+ghost use Rattle.http_values.specs.Codes.{code_of};
+ghost use Rattle.http_values.specs.declared.digits.TheConstants.{MAX_DIGITS};
 ghost use Rattle.http_serve.specs.Parts.{front_content, front_bytes};
 ghost use Rattle.http_serve.specs.Reply.{HasShortWords, head_view, content_size, part_line, unsatisfied_line};
 ghost use Rattle.http_serve.specs.Reply.{range_line, word_line, length_line, closing_line, field_lines, reply_head, has_no_content};
@@ -10,8 +10,7 @@ ghost use Rattle.http_serve.specs.Sent.{Sends};
 ghost use Rattle.http_serve.specs.declared.replies.TheConstants.{MAX_REPLY_HEAD, MAX_WORD, REPLY_SPACE};
 
 use crate::writes::{WriteFault, send_all, send_both};
-use decimal_number::{push_number, push_text};
-use status_phrase::Status;
+use http_values::{Status, push_number, push_text};
 use std::io::Write;
 use std::rc::RcSlice;
 

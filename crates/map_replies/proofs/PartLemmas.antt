@@ -3,8 +3,8 @@ use Rattle.std.proofs.Common.{◌≡◌, ℕ, List, Option, Some, None, sym, ◌
 use Rattle.std.specs.Borrow.{Bor}
 use Rattle.std.specs.Prelude.{◌↔◌, option_map}
 use Rattle.std.proofs.lemmas.Option.{none-some}
-use Rattle.byte_range.specs.Ranges.{IsRange}
-use Rattle.byte_range.specs.declared.ranges.ByteRange.{ByteRange}
+use Rattle.http_values.specs.Ranges.{IsRange}
+use Rattle.http_values.specs.declared.ranges.ByteRange.{ByteRange}
 use Rattle.map_replies.specs.Parts.{Asks}
 
 -- what `byte_range` returns for a value

@@ -1,6 +1,6 @@
 -- Parts of the published archive, selected by the header field Range (RFC 9110, 14), and the replies with them.
 use Rattle.std.specs.Prelude.{◌≡◌, ◌<◌, ◌≤◌, ◌+◌, ◌-◌, ℕ, min, List, codes, Option, Some, None}
-use Rattle.byte_range.specs.Ranges.{IsRange}
+use Rattle.http_values.specs.Ranges.{IsRange}
 use Rattle.http_serve.specs.Reply.{ReplyView, plain_reply}
 use Rattle.http_serve.specs.declared.replies.ContentRange.TheVariants as ranges
 use Rattle.tile_routes.specs.declared.method.Method.{Method}

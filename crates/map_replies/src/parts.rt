@@ -6,8 +6,8 @@ ghost use Rattle.map_replies.specs.declared.parts.TheConstants.{FIRST_BYTES};
 ghost use Rattle.map_replies.specs.Parts.{range_for, IsPart, octets_type, range_word, part_reply};
 ghost use Rattle.map_replies.specs.Words.{text_type, service_refusal};
 
-use byte_range::byte_range;
 use http_serve::{Content, ContentRange, Reply, Status};
+use http_values::byte_range;
 use sector_disk::SECTOR_BYTES;
 use tile_routes::Method;
 

@@ -2,7 +2,7 @@
 ghost use Rattle.std.specs.Prelude.{◌≡◌, ◌≤◌, [], length, vec_capacity, IfOk, option_map};
 ghost use Rattle.std.specs.Rc.{rc_slice_items};
 ghost use Rattle.http_serve.specs.Reply.{content_bytes, reply_view, InParts, IsWhole};
-ghost use Rattle.status_phrase.specs.Codes.{code_of};
+ghost use Rattle.http_values.specs.Codes.{code_of};
 ghost use Rattle.map_replies.specs.Words.{fault_word, service_word, edit_word, full_word, fault_status, service_status, edit_status};
 ghost use Rattle.map_replies.specs.Words.{service_refusal, not_allowed_reply, json_reply, empty_reply, number_body, number_reply};
 ghost use Rattle.map_replies.specs.Words.{outcome_reply, changed_word, changed_reply, left_reply};
@@ -13,9 +13,9 @@ ghost use Rattle.map_replies.specs.Words.{text_type, json_type, tile_type};
 ghost use Rattle.map_replies.specs.declared.replies.TheConstants.{MAX_TEXT};
 
 use crate::fault::RequestFault;
-use decimal_number::{MAX_DIGITS, push_number, push_text};
 use feature_model::EditFault;
 use http_serve::{Content, Reply, Status};
+use http_values::{MAX_DIGITS, push_number, push_text};
 use std::alloc::{AllocError, Global};
 use std::rc::RcSlice;
 use tile_routes::{Target, TileFormat};

@@ -6,8 +6,8 @@ ghost use Rattle.map_replies.specs.Words.{status_body, status_reply};
 ghost use Rattle.map_replies.specs.declared.telling.TheConstants.{MAX_PART, MAX_STATUS};
 
 use crate::replies;
-use decimal_number::{MAX_DIGITS, push_number, push_text};
 use http_serve::Reply;
+use http_values::{MAX_DIGITS, push_number, push_text};
 use std::alloc::{AllocError, Global};
 use tile_service::Status;
 

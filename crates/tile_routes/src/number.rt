@@ -3,8 +3,8 @@ ghost use Rattle.std.specs.Prelude.{◌≡◌, ◌<◌, IfSome};
 ghost use Rattle.feature_model.specs.declared.limits.TheConstants.{NUMBER_END};
 ghost use Rattle.tile_routes.specs.Number.{is_plain_number, number_of};
 
-use decimal_number::{are_digits, digits_number};
 use feature_model::NUMBER_END;
+use http_values::{are_digits, digits_number};
 
 /// Whether the text is one digit or more, with no needless 0 in front.
 fn is_plain(text: &[u8]) -> bool

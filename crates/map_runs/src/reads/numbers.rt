@@ -2,10 +2,9 @@
 use super::examples::example;
 use crate::lines::{Line, tile_at};
 use crate::texts::{read_text, shown_text};
-use byte_range::byte_range;
-use decimal_number::{are_digits, digits_number, push_number, push_text};
 use geometry_commands::{ShapeKind, decode, encode_lines, encode_rings};
 use hilbert_id::{id_of, tile_of};
+use http_values::{are_digits, byte_range, digits_number, push_number, push_text};
 use pb_wire::{put_varint, unzigzag, zigzag};
 use script_bytes::{number_in, parted, short};
 use std::alloc::{AllocError, Global};

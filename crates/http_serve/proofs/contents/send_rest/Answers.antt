@@ -1,7 +1,7 @@
 use Rattle.std.proofs.Common.{◌≡◌, ◌<◌, ◌∙◌, Bool, true, false, List, ℕ, length, sym, refl, subst, arith}
 use Rattle.std.proofs.lemmas.Bool.{false≢true}
 use Rattle.std.specs.Prelude.{not, ◌||◌}
-use Rattle.status_phrase.specs.Codes.{code_of}
+use Rattle.http_values.specs.Codes.{code_of}
 use Rattle.http_serve.specs.declared.replies.Content.{Content}
 use Rattle.http_serve.specs.declared.contents.Rests.{Rests}
 use Rattle.http_serve.specs.declared.contents.Rests.TheVariants.{Sent, Left}

@@ -1,3 +1,0 @@
--- Numbers in decimal.
-mod Digits
-mod LimitNumbers

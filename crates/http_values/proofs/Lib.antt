@@ -1,0 +1,4 @@
+mod Ends
+mod LimitNumbers
+mod Numerals
+mod Reasons
