@@ -6,7 +6,7 @@ set -euo pipefail
 here="$(cd "$(dirname "$0")" && pwd)"
 work="$(mktemp -d)"
 trap 'rm -rf "$work"' EXIT
-python3 "$here/../../tools/scratch.py" "$work" map_bench feature_store feature_model edit_text feature_text mvt_layer hilbert_id anyhow
+python3 "$here/../../tools/scratch.py" "$work" map_bench feature_store feature_model edit_text mvt_layer hilbert_id anyhow
 crate="$work/crates/map_bench"
 cp "$here/main.rt.txt" "$crate/src/main.rt"
 cp "$here/grown_map.rt.txt" "$crate/src/grown_map.rt"

@@ -10,8 +10,8 @@ use Rattle.std.proofs.lemmas.List.Elements.{All-head, All-tail}
 use Rattle.serde_json.specs.Data.{Data, Members, put, member}
 use Rattle.feature_model.specs.Data.{TagData}
 use Rattle.feature_model.specs.Limits.{keys_of, HasAscendingKeys, ValueFits, ValuesFit}
-use Rattle.feature_text.specs.declared.tags.TagText.{TagText}
-use Rattle.feature_text.specs.Views.{value_view, tag_view}
+use Rattle.edit_text.specs.declared.tags.TagText.{TagText}
+use Rattle.edit_text.specs.Views.{value_view, tag_view}
 use Rattle.edit_json.specs.Json.{value_json, tags_json}
 
 key_above : (k : List ℕ) (ts : List TagData) (t : TagData) (rest : List TagData)

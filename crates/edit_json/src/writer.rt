@@ -4,11 +4,11 @@ ghost use Rattle.std.specs.Prelude.{◌≡◌, IfOk, OnOk};
 ghost use Rattle.serde_json.specs.Data.{object, member, no_members};
 ghost use Rattle.serde_json.specs.View.{view, members_view};
 ghost use Rattle.feature_model.specs.Limits.{HasAscendingKeys, TagsFit, ValueFits, ValuesFit};
-ghost use Rattle.feature_text.specs.Views.{points_view, lines_view, polygons_view, geometry_view, value_view, tags_view, feature_view};
+ghost use Rattle.edit_text.specs.Views.{points_view, lines_view, polygons_view, geometry_view, value_view, tags_view, feature_view};
 ghost use Rattle.edit_json.specs.Json.{point_json, points_json, lines_json, polygons_json, shape_of, shape_json, value_json, tags_json, json_of};
 
+use edit_text::{FeatureText, GeometryText, Lines, Points, Polygons, Tags, ValueText};
 use feature_model::World;
-use feature_text::{FeatureText, GeometryText, Lines, Points, Polygons, Tags, ValueText};
 use serde_json::value::Map;
 use serde_json::{Value, put};
 use std::alloc::{AllocError, Global};

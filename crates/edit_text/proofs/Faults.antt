@@ -1,10 +1,10 @@
 -- Which faults a step of reading has.
-use Rattle.std.proofs.Common.{◌≡◌, ◌≢◌, ℕ, zero, suc, ◌==◌, Bool, true, false, cond, List, [], ◌∷◌, length, take, drop, get_or, Ok, Err, ap, ◌∙◌}
+use Rattle.std.proofs.Common.{◌≡◌, ◌≢◌, ℕ, zero, suc, ◌==◌, Bool, true, false, cond, List, [], ◌∷◌, length, take, drop, get_or, Ok, Err, ap}
 use Rattle.std.specs.Prelude.{nat_lt}
 use Rattle.edit_text.specs.declared.fault.TextFault.TheVariants.{Cut, Bad, Memory}
 use Rattle.reader.proofs.Steps.{then_never, same_fault, not_both}
 use Rattle.feature_model.specs.Data.{TagData, ChangeData}
-use Rattle.edit_text.specs.Decoding.{BeginsAsPut, BeginsAsEdit}
+use Rattle.edit_text.specs.Decoding.{BeginsAsEdit}
 use Rattle.edit_text.specs.Reading.{Part, then_read, read_as, read_if, byte_at, front_at, two_at, eight_at}
 use Rattle.edit_text.specs.Reading.{number_at, text_at, name_at, long_text_at, negative_at, value_behind, value_at, tag_at, next_number_at, change_count_at}
 
@@ -100,23 +100,6 @@ value_no_memory bytes = then_no_memory _ _ (byte_no_memory bytes) value_of_no_me
 pub tag_no_memory : (tags : List TagData) (bytes : List ℕ) → tag_at tags bytes ≢ Err Memory
 unfolding tag_at
 tag_no_memory tags bytes = then_no_memory _ _ (if_no_memory _ _ (name_no_memory bytes)) (λ key rest. as_no_memory _ _ (value_no_memory rest))
-
--- ---- what begins as a Put
-
-pub byte_front : (bytes : List ℕ) (b : ℕ) (rest : List ℕ) → byte_at bytes ≡ Ok (b, rest) → b ≡ 1 → BeginsAsPut bytes
-unfolding byte_at
-byte_front [] b rest is one = absurd (cc)
-byte_front (x ∷ bytes) b rest is one =
-    let pair : ◌≡◌ {A = ℕ × List ℕ} (x, bytes) (b, rest) = cc in
-    let first : x ≡ 1 = ap (λ (q : ℕ × List ℕ). q.0) pair ∙ one in
-    (bytes, λ i. first i ∷ bytes)
-
-pub take_front : (n : ℕ) (bytes : List ℕ) → BeginsAsPut (take n bytes) → BeginsAsPut bytes
-take_front zero bytes put = absurd (cc)
-take_front (suc n) [] put = put
-take_front (suc n) (x ∷ bytes) put =
-    let first : x ≡ 1 = ap (λ (xs : List ℕ). get_or xs 0 0) put.1 in
-    (bytes, λ i. first i ∷ bytes)
 
 -- ---- what begins as an edit
 

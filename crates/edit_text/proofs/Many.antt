@@ -1,6 +1,5 @@
 -- A loop that reads a given number of parts.
-use Rattle.std.proofs.Common.{◌≡◌, ℕ, zero, suc, ◌+◌, ◌-◌, ◌<◌, ◌≤◌, List, [], ◌∷◌, ◌++◌, Ok, Err, refl, subst, sym, arith}
-use Rattle.std.specs.Prelude.{IsOk}
+use Rattle.std.proofs.Common.{◌≡◌, ℕ, ◌+◌, ◌-◌, ◌<◌, ◌≤◌, List, [], ◌∷◌, ◌++◌, Ok, Err}
 use Rattle.reader.specs.Reading.{◌>>=◌, repeated}
 use Rattle.reader.proofs.Steps.{then_on, then_stop, repeated_on, repeated_stop, repeated_done}
 use Rattle.edit_text.specs.declared.fault.TextFault.{TextFault}
@@ -30,23 +29,3 @@ module _ {A : Type 0} (read : List A → List ℕ → Part A) where
   pub many_done : (count i : ℕ) (done : List A) (bytes : List ℕ) (whole : Part (List A))
       → count ≤ i → many_at read (count - i) done bytes ≡ whole → whole ≡ Ok (done, bytes)
   many_done count i done bytes whole h so_far = repeated_done (next_at read) count i (done, bytes) whole h so_far
-
--- a fact of the bytes at which the first begins, if a later one was reached, or is it
-pub first_has : (Has : List ℕ → Type 0) (i : ℕ) (rest bytes : List ℕ) → (i ≡ 0 → rest ≡ bytes) → (0 < i → Has bytes) → Has rest → Has bytes
-first_has Has zero rest bytes start first has = subst Has (start refl) has
-first_has Has (suc i) rest bytes start first has = first (omega arith)
-
--- the first is there
-pub first_read : {A : Type 0} (read : List ℕ → Part A) (i : ℕ) (rest bytes : List ℕ)
-    → (i ≡ 0 → rest ≡ bytes) → (0 < i → IsOk (read bytes)) → IsOk (read rest) → IsOk (read bytes)
-first_read read i rest bytes start first ok = first_has (λ bs. IsOk (read bs)) i rest bytes start first ok
-
-pub is_whole : {A : Type 0} (part : Part A) (x : A × List ℕ) → part ≡ Ok x → IsOk part
-is_whole part x is = subst IsOk (sym is) refl
-
--- the same, where how each is read depends on those before it
-pub first_of : {A : Type 0} (read : List A → List ℕ → Part A) (i : ℕ) (done : List A) (rest bytes : List ℕ)
-    → (i ≡ 0 → (done ≡ []) × (rest ≡ bytes)) → (0 < i → IsOk (read [] bytes)) → IsOk (read done rest) → IsOk (read [] bytes)
-first_of read zero done rest bytes start first ok =
-    subst (λ bs. IsOk (read [] bs)) (start refl).1 (subst (λ xs. IsOk (read xs rest)) (start refl).0 ok)
-first_of read (suc i) done rest bytes start first ok = first (omega arith)

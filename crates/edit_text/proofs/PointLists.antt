@@ -5,14 +5,13 @@ use Rattle.std.specs.Prelude.{IsOk}
 use Rattle.std.specs.Int.{w32, from_le_bytes}
 use Rattle.std.proofs.lemmas.Bool.{cases_lt, le-ltb, lt-ltb}
 use Rattle.std.proofs.lemmas.List.{length-drop}
-use Rattle.feature_model.specs.Limits.{is_count}
 use Rattle.reader.specs.Reading.{repeated}
-use Rattle.reader.proofs.Steps.{then_ok, same_fault, ok_never}
+use Rattle.reader.proofs.Steps.{same_fault, ok_never}
 use Rattle.feature_model.specs.declared.feature.World.{World}
 use Rattle.edit_text.specs.declared.fault.TextFault.TheVariants.{Cut, Bad, Memory}
 use Rattle.edit_text.specs.Reading.{Part, then_read, read_as, read_if, front_at, two_at, four_at}
-use Rattle.edit_text.specs.Reading.{count_at, point_at, line_at, lines_at, HasFirstLine, next_at, many_at}
-use Rattle.edit_text.proofs.Many.{goes_on, is_whole}
+use Rattle.edit_text.specs.Reading.{count_at, point_at, line_at, many_at}
+use Rattle.edit_text.proofs.Many.{goes_on}
 use Rattle.edit_text.proofs.Faults.{cut_is_not_memory, as_no_memory, if_no_memory, then_no_memory, front_no_memory}
 
 -- the number in the first four bytes
@@ -91,7 +90,7 @@ unfolding line_at two_at
 line_no_memory least bytes =
     then_no_memory _ _ (if_no_memory _ _ (as_no_memory _ _ (front_no_memory 2 bytes))) (λ count rest. points_no_memory count rest)
 
--- ---- the first of lines
+-- ---- what passes a test
 
 if_by : {A : Type 0} (test : A → Bool) (x y : A × List ℕ) (b : Bool) → test x.0 ≡ b → ◌≡◌ {A = Part A} (cond b (Ok x) (Err Bad)) (Ok y)
     → (x ≡ y) × (test x.0 ≡ true)
@@ -103,21 +102,6 @@ if_ok {A} test (Ok x) y is =
     let both = if_by test x y (test x.0) refl is in
     ((λ i. Ok (both.0 i)), subst (λ (z : A × List ℕ). test z.0 ≡ true) both.0 both.1)
 if_ok test (Err fault) y is = absurd (cc)
-
-first_line : (least count : ℕ) (rest : List ℕ) (y : List (List World) × List ℕ) → is_count 1 count ≡ true → many_at (λ _. line_at least) count [] rest ≡ Ok y
-    → IsOk (line_at least rest)
-unfolding repeated
-first_line least zero rest y some is = absurd (cc)
-first_line least (suc count) rest y some is =
-    let first = then_ok (then_read (line_at least rest) (λ x behind. Ok (x ∷ [], behind))) (repeated (next_at (λ _. line_at least)) count) y is in
-    is_whole _ _ (then_ok (line_at least rest) (λ x. Ok (x.0 ∷ [], x.1)) first.0 first.1).1
-
-pub lines_start : (least : ℕ) (bytes : List ℕ) (y : List (List World) × List ℕ) → lines_at least bytes ≡ Ok y → HasFirstLine least bytes
-unfolding lines_at
-lines_start least bytes y is =
-    let counted = then_ok (count_at 1 bytes) (λ count. many_at (λ _. line_at least) count.0 [] count.1) y is in
-    let some = if_ok (is_count 1) (two_at bytes) counted.0 counted.1 in
-    (counted.0, some.0, first_line least counted.0.0 counted.0.1 y some.1 counted.2)
 
 pub count_no_memory : (least : ℕ) (bytes : List ℕ) → count_at least bytes ≢ Err Memory
 unfolding two_at

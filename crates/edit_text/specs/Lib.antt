@@ -3,3 +3,7 @@ pub mod Cut
 pub mod Decoding
 pub mod Reading
 pub mod Recorded
+pub mod Same
+pub mod Stored
+pub mod Trusted
+pub mod Views

@@ -1,6 +1,6 @@
 -- Reading from left to right: what is at the start and the bytes after it, or the first fault that is met.
-use Rattle.std.specs.Prelude.{◌≡◌, ℕ, ◌+◌, ◌^◌, ◌==◌, ◌&&◌, Bool, true, false, nat_lt, nat_le, if◌then◌else◌}
-use Rattle.std.specs.Prelude.{List, [], ◌∷◌, ◌++◌, length, take, drop, Ok, Err, IsOk}
+use Rattle.std.specs.Prelude.{ℕ, ◌+◌, ◌^◌, ◌==◌, ◌&&◌, Bool, true, false, nat_lt, nat_le, if◌then◌else◌}
+use Rattle.std.specs.Prelude.{List, [], ◌∷◌, ◌++◌, length, take, drop, Ok, Err}
 use Rattle.std.specs.Ordering.{nat_cmp, is_lt}
 use Rattle.std.specs.Cmp.Lexicographic.{slice_cmp}
 use Rattle.std.specs.Int.{w16, w32, w64, from_le_bytes, cast_signed}
@@ -88,10 +88,6 @@ line_at least bytes = list_at least point_at bytes
 
 unfoldable pub lines_at : ℕ → List ℕ → Part (List (List World))
 lines_at least bytes = list_at 1 (line_at least) bytes
-
--- the first of these lines or rings is there
-abbrev pub HasFirstLine : ℕ → List ℕ → Type 0
-HasFirstLine least bytes = (x : ℕ × List ℕ) × (two_at bytes ≡ Ok x) × IsOk (line_at least x.1)
 
 unfoldable pub polygons_at : List ℕ → Part (List (List (List World)))
 polygons_at bytes = list_at 1 (lines_at MIN_RING) bytes

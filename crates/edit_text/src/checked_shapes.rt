@@ -1,14 +1,26 @@
 //! Where geometries at the start of bytes end, found without any memory.
 
-ghost use Rattle.std.specs.Prelude.{[]};
+ghost use Rattle.std.specs.Prelude.{ℕ, []};
 ghost use Rattle.feature_model.specs.declared.limits.TheConstants.{MIN_RING};
+ghost use Rattle.reader.specs.Reading.{Reads};
 ghost use Rattle.edit_text.specs.Checking.{Checks};
-ghost use Rattle.edit_text.specs.Reading.{many_at, point_at, line_at, lines_at, polygons_at, geometry_behind, geometry_at};
+ghost use Rattle.edit_text.specs.Reading.{many_at, count_at, point_at, line_at, lines_at, polygons_at, geometry_behind, geometry_at};
 
 use crate::fault::TextFault;
-use crate::fields::read_byte;
-use crate::shapes::{POINT_LEN, read_count};
-use feature_model::{LINES_KIND, MIN_LINE, MIN_RING, POINTS_KIND, POLYGONS_KIND};
+use crate::fields::{read_byte, read_u16};
+use crate::lists::POINT_LEN;
+use feature_model::{LINES_KIND, MIN_LINE, MIN_RING, POINTS_KIND, POLYGONS_KIND, count_fits};
+
+/// A count of at least `least`, and at most `MAX_ELEMENTS`.
+fn read_count(bytes: &[u8], least: usize) -> Result<(u16, &[u8]), TextFault>
+    ensures { Reads (λ r. (r.0, r.1.now)) result (count_at least bytes.now) }
+{
+    let (count, rest) = read_u16(bytes)?;
+    if !count_fits(usize::from(count), least) {
+        return Err(TextFault::Bad);
+    }
+    Ok((count, rest))
+}
 
 /// The bytes after `count` points.
 fn check_points(count: u16, bytes: &[u8]) -> Result<&[u8], TextFault>

@@ -1,14 +1,29 @@
 //! Where tags at the start of bytes end, found without any memory.
 
-ghost use Rattle.std.specs.Prelude.{[]};
+ghost use Rattle.std.specs.Prelude.{◌≡◌, ℕ, ◌≤◌, []};
+ghost use Rattle.std.specs.Ordering.{nat_cmp, is_lt};
+ghost use Rattle.std.specs.Cmp.Lexicographic.{slice_cmp};
 ghost use Rattle.reader.specs.Reading.{Reads};
 ghost use Rattle.edit_text.specs.Checking.{Checks, next_key_at};
-ghost use Rattle.edit_text.specs.Reading.{many_at, value_behind, value_at, tag_at, tags_at};
+ghost use Rattle.edit_text.specs.Reading.{many_at, negative_at, value_behind, value_at, tag_at, tag_count_at, tags_at};
 
 use crate::fault::TextFault;
 use crate::fields::{read_byte, read_long_text, read_name, read_u64};
-use crate::tags::{is_before, read_negative, read_tag_count};
-use feature_model::{FALSE_KIND, NATURAL_KIND, NEGATIVE_KIND, TEXT_KIND, TRUE_KIND};
+use feature_model::{
+    FALSE_KIND, NATURAL_KIND, NEGATIVE_KIND, TEXT_KIND, TRUE_KIND, tag_count_fits,
+};
+
+/// The bits of a number below 0: the first of them is set.
+#[tactic(auto, unfolding(crate::specs::Reading::negative_at))]
+fn read_negative(bytes: &[u8]) -> Result<(u64, &[u8]), TextFault>
+    ensures { Reads (λ r. (r.0, r.1.now)) result (negative_at bytes.now) }
+{
+    let (bits, rest) = read_u64(bytes)?;
+    if bits < 1 << 63 {
+        return Err(TextFault::Bad);
+    }
+    Ok((bits, rest))
+}
 
 /// The bytes after a value of this kind.
 #[tactic(auto, unfolding(crate::specs::Reading::value_behind))]
@@ -32,6 +47,13 @@ fn check_value(bytes: &[u8]) -> Result<&[u8], TextFault>
 {
     let (kind, rest) = read_byte(bytes)?;
     check_value_of(kind, rest)
+}
+
+/// Whether a key comes before another, byte by byte.
+fn is_before(key: &str, other: &str) -> bool
+    ensures { result ≡ is_lt (slice_cmp nat_cmp key.now other.now) }
+{
+    key < other
 }
 
 /// A key after `last`.
@@ -58,6 +80,17 @@ fn check_each_tag(count: u8, bytes: &[u8]) -> Result<&[u8], TextFault>
         last = key;
     }
     Ok(rest)
+}
+
+/// How many tags there are: at most `MAX_TAGS`.
+fn read_tag_count(bytes: &[u8]) -> Result<(u8, &[u8]), TextFault>
+    ensures { Reads (λ r. (r.0, r.1.now)) result (tag_count_at bytes.now) }
+{
+    let (count, rest) = read_byte(bytes)?;
+    if !tag_count_fits(usize::from(count)) {
+        return Err(TextFault::Bad);
+    }
+    Ok((count, rest))
 }
 
 /// The bytes after at most `MAX_TAGS` tags, with strictly ascending keys.

@@ -5,35 +5,17 @@ ghost use Rattle.feature_model.specs.Data.{ChangeData, change_data, EditData, ed
 ghost use Rattle.feature_model.specs.Spelled.{spelled_change, spelled};
 ghost use Rattle.edit_text.specs.Decoding.{BeginsWithChange, BeginsWith, BeginsAsPut, BeginsAsEdit, IsCutChange, IsCut};
 ghost use Rattle.reader.specs.Reading.{Gives};
-ghost use Rattle.edit_text.specs.Reading.{decode_change_at, decode_at};
+ghost use Rattle.edit_text.specs.Reading.{decode_at};
 
-use crate::changes::read_change;
+use crate::checking::{MAX_CHANGE_BYTES, check_change};
 use crate::edits::read_edit;
 use crate::fault::TextFault;
-use feature_model::{Change, Edit, MAX_EDIT_BYTES};
+use crate::owned::to_change;
+use feature_model::{Change, Edit};
 use std::alloc::Global;
-
-/// The most bytes of the text of a change.
-pub(crate) const MAX_CHANGE_BYTES: usize = MAX_EDIT_BYTES as usize;
 
 /// The most bytes of the text of an edit: its count, and the texts of its changes.
 const MAX_BYTES: usize = 1 + MAX_CHANGE_BYTES;
-
-/// The change at the start, and the bytes after it, up to the length of the longest text of a change.
-#[tactic(auto, unfolding(crate::specs::Reading::decode_change_at))]
-fn read_short_change(alloc: Global, bytes: &[u8]) -> Result<(Change, &[u8]), TextFault>
-    ensures change { Gives TextFault.Memory (λ r. (change_data r.0, r.1.now)) result (decode_change_at bytes.now) }
-    ensures memory { result ≡ Err TextFault.Memory → BeginsAsPut bytes.now }
-{
-    if bytes.len() < MAX_CHANGE_BYTES {
-        return read_change(alloc, &[], bytes);
-    }
-    match read_change(alloc, &[], &bytes[..MAX_CHANGE_BYTES]) {
-        Ok((change, rest)) => Ok((change, rest)),
-        Err(TextFault::Cut | TextFault::Bad) => Err(TextFault::Bad),
-        Err(TextFault::Memory) => Err(TextFault::Memory),
-    }
-}
 
 /// The change whose text is at the start, and the length of the text in bytes. Bytes may follow it.
 pub fn decode_change(alloc: Global, bytes: &[u8]) -> Result<(Change, usize), TextFault>
@@ -52,8 +34,8 @@ pub fn decode_change(alloc: Global, bytes: &[u8]) -> Result<(Change, usize), Tex
     // All other bytes are bad, unless memory runs out.
     ensures bad { result ≡ Err TextFault.Bad → ¬ IsCutChange bytes.now × ((c : ChangeData) → ¬ BeginsWithChange c bytes.now) }
 {
-    let (change, rest) = read_short_change(alloc, bytes)?;
-    let len = bytes.len().min(MAX_CHANGE_BYTES) - rest.len();
+    let len = check_change(bytes)?;
+    let change = to_change(alloc, bytes)?;
     Ok((change, len))
 }
 

@@ -3,14 +3,28 @@
 ghost use Rattle.std.specs.Prelude.{◌≡◌, ℕ, [], map};
 ghost use Rattle.feature_model.specs.Data.{change_data, edit_data};
 ghost use Rattle.edit_text.specs.Decoding.{BeginsAsEdit};
-ghost use Rattle.reader.specs.Reading.{Reads, Gives};
+ghost use Rattle.reader.specs.Reading.{Reads, Finds, Gives};
 ghost use Rattle.edit_text.specs.Reading.{many_at, change_at, change_count_at, edit_at};
 
-use crate::changes::read_change;
+use crate::checking::check_next;
 use crate::fault::TextFault;
 use crate::fields::read_byte;
+use crate::owned::to_change;
 use feature_model::{Change, Edit, change_count_fits};
 use std::alloc::Global;
+
+/// The change after these. Memory is allocated once its whole text is known to be there.
+fn read_change<'a>(
+    alloc: Global,
+    changes: &[Change],
+    bytes: &'a [u8],
+) -> Result<(Change, &'a [u8]), TextFault>
+    ensures { Finds TextFault.Memory (λ r. (change_data r.0, r.1.now)) result (change_at (map change_data changes.now) bytes.entry.now) }
+{
+    let rest = check_next(changes, bytes)?;
+    let change = to_change(alloc, bytes)?;
+    Ok((change, rest))
+}
 
 /// `count` changes, each of a number of its own.
 fn read_each_change(

@@ -3,7 +3,7 @@ use Rattle.std.specs.Prelude.{ℕ, List}
 use Rattle.std.specs.Borrow.{Bor}
 use Rattle.std.specs.List.{flat_map}
 use Rattle.feature_model.specs.Data.{FeatureData}
-use Rattle.feature_text.specs.Views.{feature_view}
+use Rattle.edit_text.specs.Views.{feature_view}
 use Rattle.feature_store.specs.declared.gathered.Found.{Found}
 use Rattle.feature_store.specs.Inside.{Stored, stored_data}
 use Rattle.feature_store.specs.Store.{FeatureMap, entry_at}

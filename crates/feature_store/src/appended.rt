@@ -8,7 +8,7 @@ ghost use Rattle.feature_store.specs.declared.limit.TheConstants.{TEXTS_END};
 
 use crate::limit::TEXTS_END;
 use crate::store::Store;
-use feature_text::StoredFeature;
+use edit_text::StoredFeature;
 use std::alloc::AllocError;
 
 /// Gives a feature to a number above all others.

@@ -10,8 +10,8 @@ ghost use Rattle.feature_store.specs.Inside.{entries_data};
 
 use crate::indexed::index_entry;
 use box_index::IndexEntry;
+use edit_text::StoredFeature;
 use feature_model::MAX_ZOOM;
-use feature_text::StoredFeature;
 use number_map::{Block, Entry, NumberMap};
 use std::alloc::{AllocError, Global};
 use std::marker::Model;

@@ -2,7 +2,7 @@
 
 ghost use Rattle.std.specs.Prelude.{ℕ, ◌≤◌, List, ◌∷◌, ◌++◌, ◌≡◌, [], All, map, OnOk, IfOk};
 ghost use Rattle.feature_model.specs.Limits.{IsAllowed, ValueFits};
-ghost use Rattle.feature_text.specs.Views.{tags_view, feature_view};
+ghost use Rattle.edit_text.specs.Views.{tags_view, feature_view};
 ghost use Rattle.geometry_commands.specs.Shapes.{ShapeView};
 ghost use Rattle.mvt_layer.specs.Tile.{FeatureView};
 ghost use Rattle.mvt_write.specs.Writes.{Writes};
@@ -16,8 +16,8 @@ ghost use Rattle.feature_store.specs.Layers.{numbered, added_to, cuts_of};
 ghost use Rattle.feature_store.specs.Store.{IsMap, entry_at};
 
 use crate::cutter::Cutter;
+use edit_text::{FeatureText, StoredFeature, Tags};
 use feature_model::MAX_ZOOM;
-use feature_text::{FeatureText, StoredFeature, Tags};
 use geometry_commands::{PackedShape, ShapeKind};
 use hilbert_id::TileAt;
 use mvt_write::LayerWriter;

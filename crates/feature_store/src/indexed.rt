@@ -3,7 +3,7 @@ ghost use Rattle.std.specs.Prelude.{◌≡◌, ◌≤◌, ◌<◌, ◌+◌, ℕ,
 ghost use Rattle.std.specs.List.Sorted.{IsPermutation};
 ghost use Rattle.box_index.specs.declared.entry.IndexEntry.{IndexEntry};
 ghost use Rattle.feature_model.specs.Data.{FeatureData};
-ghost use Rattle.feature_text.specs.Views.{feature_view};
+ghost use Rattle.edit_text.specs.Views.{feature_view};
 ghost use Rattle.number_map.specs.Blocks.{Ascends};
 ghost use Rattle.tile_cutter.specs.WorldBox.{bounding_box};
 ghost use Rattle.feature_store.specs.Indexed.{index_entry, IsIndexed, ShowsAll};
@@ -11,8 +11,8 @@ ghost use Rattle.feature_store.specs.Inside.{stored_data};
 ghost use Rattle.feature_store.specs.Store.{FeatureMap, IsMap, feature_at, with_feature, without_feature};
 
 use box_index::{BoxIndex, IndexEntry, Span};
+use edit_text::{FeatureText, StoredFeature};
 use feature_model::{MAX_ZOOM, WorldBox};
-use feature_text::{FeatureText, StoredFeature};
 use hilbert_id::TileAt;
 use std::alloc::{AllocError, Global};
 use tile_cutter::{bounding_box, tile_box};

@@ -6,8 +6,8 @@ ghost use Rattle.feature_model.specs.Limits.{IsAllowedChange};
 ghost use Rattle.feature_store.specs.Prepared.{prepared_data};
 ghost use Rattle.feature_store.specs.Store.{puts_in};
 
+use edit_text::StoredFeature;
 use feature_model::Change;
-use feature_text::StoredFeature;
 use std::alloc::{AllocError, Global};
 
 /// A change, with the text of the feature that it sets.

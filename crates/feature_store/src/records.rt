@@ -14,9 +14,8 @@ ghost use Rattle.feature_store.specs.Prepared.{prepared_data};
 ghost use Rattle.feature_store.specs.Records.{count_in, IsCounted, AreTexts, HasNoNext};
 
 use crate::prepared::Prepared;
-use edit_text::{TextFault, decode_change, delete_text};
+use edit_text::{StoredFeature, TextFault, decode_change, delete_text};
 use feature_model::{Change, DELETE_KIND, MAX_EDIT_BYTES, change_count_fits};
-use feature_text::StoredFeature;
 use std::alloc::{AllocError, Global};
 
 /// The bytes of the text of a deletion: its kind, and a number.

@@ -13,8 +13,7 @@ use crate::appended::append;
 use crate::fault::SnapshotFault;
 use crate::limit::TEXTS_END;
 use crate::store::Store;
-use edit_text::TextFault;
-use feature_text::StoredFeature;
+use edit_text::{StoredFeature, TextFault};
 use number_map::{Block, Entry};
 use std::alloc::{AllocError, Global};
 

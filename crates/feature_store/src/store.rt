@@ -4,7 +4,7 @@ ghost use Rattle.std.specs.Prelude.{◌≡◌, ◌⊎◌, ℕ, [], ◌+◌, ◌<
 ghost use Rattle.std.specs.Prelude.{All, OnOk, OnErr, IsTrue, option_map};
 ghost use Rattle.feature_model.specs.Data.{change_data};
 ghost use Rattle.feature_model.specs.Limits.{IsAllowed, IsAllowedChange};
-ghost use Rattle.feature_text.specs.Views.{feature_view};
+ghost use Rattle.edit_text.specs.Views.{feature_view};
 ghost use Rattle.number_map.specs.Blocks.{joined};
 ghost use Rattle.tile_cutter.specs.WorldBox.{bounding_box};
 ghost use Rattle.feature_store.specs.Content.{IsTileContent};
@@ -25,8 +25,8 @@ use crate::placed::PlacedBoxes;
 use crate::prepared::{Prepared, count_puts, prepare_each};
 use crate::snapshot_texts::{append_block_texts, read_map};
 use box_index::BoxIndex;
+use edit_text::{FeatureText, StoredFeature};
 use feature_model::{Change, MAX_ZOOM, WorldBox};
-use feature_text::{FeatureText, StoredFeature};
 use hilbert_id::TileAt;
 use number_map::{Block, NumberMap};
 use std::alloc::{AllocError, Global};

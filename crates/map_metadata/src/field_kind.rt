@@ -1,11 +1,11 @@
 //! What the values of a key are.
 
 ghost use Rattle.std.specs.Prelude.{◌≡◌};
-ghost use Rattle.feature_text.specs.Views.{value_view};
+ghost use Rattle.edit_text.specs.Views.{value_view};
 ghost use Rattle.map_metadata.specs.Fields.{kind_of, kind_name};
 ghost use Rattle.map_metadata.specs.Summaries.{joined};
 
-use feature_text::ValueText;
+use edit_text::ValueText;
 
 /// The kind of a value, or of all values of a key.
 #[derive(Clone, Copy)]

@@ -2,14 +2,14 @@
 
 ghost use Rattle.std.specs.Prelude.{◌≡◌, ℕ, List, [], ◌∷◌, min, max, Some, OnOk, IfOk, if◌then◌else◌};
 ghost use Rattle.std.specs.Str.{bytes_eq};
-ghost use Rattle.feature_text.specs.Views.{tags_view, feature_view};
+ghost use Rattle.edit_text.specs.Views.{tags_view, feature_view};
 ghost use Rattle.number_map.specs.Blocks.{joined};
 ghost use Rattle.feature_store.specs.Inside.{entries_data};
 ghost use Rattle.map_metadata.specs.Fields.{kinds_of, features_in, kinds_in};
 ghost use Rattle.map_metadata.specs.Summaries.{kind_at, with_kind, with_kinds, with_features, zooms_in, kind_in, Adds, SumsUp};
 
 use crate::field_kind::FieldKind;
-use feature_text::{FeatureText, StoredFeature, Tags};
+use edit_text::{FeatureText, StoredFeature, Tags};
 use number_map::{Block, Entry};
 use std::alloc::{AllocError, Global};
 use std::collections::BTreeMap;

@@ -2,7 +2,7 @@
 ghost use Rattle.std.specs.Prelude.{◌≡◌, [], false, Some, IfOk, IfErr};
 ghost use Rattle.edit_json.specs.Json.{json_of};
 ghost use Rattle.feature_model.specs.Limits.{FeatureFits};
-ghost use Rattle.feature_text.specs.Views.{feature_view};
+ghost use Rattle.edit_text.specs.Views.{feature_view};
 ghost use Rattle.http_serve.specs.Reply.{reply_view, IsWhole};
 ghost use Rattle.serde_json.specs.View.{view};
 ghost use Rattle.serde_json.specs.Written.{has_float, compact_text};
@@ -17,7 +17,7 @@ use crate::calls::Calls;
 use crate::fault::RequestFault;
 use crate::{replies, telling};
 use edit_json::feature_to_json;
-use feature_text::FeatureText;
+use edit_text::FeatureText;
 use hilbert_id::TileAt;
 use http_serve::Reply;
 use http_values::{MAX_DIGITS, push_number, push_text};

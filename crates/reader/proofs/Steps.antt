@@ -199,14 +199,6 @@ module _ {Fault : Type 0} where
       let e : there ≡ d = sym same ∙ same_fault here d (sym told ∙ out) in
       never (is ∙ ap failed e)
 
-  -- where it fails and reading never meets that fault, something is read
-  pub memory_found : {A X : Type 0} (memory : Fault) (read : Read Fault A) (passed : Result X Fault) (here there : Fault)
-      → read ≢ Err memory → (read ≡ Err there) ⊎ ((there ≡ memory) × IsOk read) → passed ≡ Err here → here ≡ there
-      → passed ≡ Err memory → IsOk read
-  memory_found memory read passed here there never (inl is) told same out =
-      absurd (passed_never memory read passed here there never is told same out)
-  memory_found memory read passed here there never (inr found) told same out = found.1
-
   -- each fault of the first is such a one, and each of what it leads to: so is each of both
   pub then_faults : {A B : Type 0} (Is : Fault → Type 0) (first : Read Fault A) (next : A → Read Fault B)
       → ((d : Fault) → first ≡ Err d → Is d) → ((x : A) (d : Fault) → next x ≡ Err d → Is d)

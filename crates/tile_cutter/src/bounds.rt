@@ -2,15 +2,15 @@
 
 ghost use Rattle.std.specs.Prelude.{◌≡◌, ◌⊎◌, ◌≤◌, false, [], ◌∷◌};
 ghost use Rattle.std.specs.Bool.{Decides};
-ghost use Rattle.feature_text.specs.Views.{points_view};
+ghost use Rattle.edit_text.specs.Views.{points_view};
 ghost use Rattle.tile_cutter.specs.Covered.{IsInRange};
 ghost use Rattle.tile_cutter.specs.Cut.{in_box, least_corner, greatest_corner, reaches_box, meets_box, tile_ring, line_cut};
 
 use crate::coordinates::{EXTENT, MARGIN};
 use crate::reach::{TileRange, range_of};
 use crate::text_box::widened_by_points;
+use edit_text::Points;
 use feature_model::MAX_ZOOM;
-use feature_text::Points;
 use geometry_commands::Pt;
 use hilbert_id::TileAt;
 

@@ -2,7 +2,7 @@
 
 ghost use Rattle.std.specs.Prelude.{◌≡◌, ◌≤◌, ◌↔◌, None, IfOk, IfSome};
 ghost use Rattle.feature_model.specs.Limits.{GeometryFits};
-ghost use Rattle.feature_text.specs.Views.{geometry_view, value_view, feature_view};
+ghost use Rattle.edit_text.specs.Views.{geometry_view, value_view, feature_view};
 ghost use Rattle.mvt_layer.specs.Tile as mvt;
 ghost use Rattle.tile_cutter.specs.Cut.{shown_value, geometry_cut, has_zoom, feature_cut};
 ghost use Rattle.tile_cutter.specs.Put.{IsClear, HasPut, Shows};
@@ -10,8 +10,8 @@ ghost use Rattle.tile_cutter.specs.Put.{IsClear, HasPut, Shows};
 use crate::lines::put_lines;
 use crate::points::put_points;
 use crate::rings::put_rings;
+use edit_text::{FeatureText, GeometryText, ValueText};
 use feature_model::MAX_ZOOM;
-use feature_text::{FeatureText, GeometryText, ValueText};
 use geometry_commands::{PackedShape, Pt, ShapeKind};
 use hilbert_id::TileAt;
 use mvt_layer::TagValue;

@@ -2,7 +2,7 @@
 
 ghost use Rattle.std.specs.Prelude.{◌≡◌, ◌≤◌, ◌++◌, [], false, All, IfOk, OnOk};
 ghost use Rattle.feature_model.specs.Limits.{CountFits};
-ghost use Rattle.feature_text.specs.Views.{points_view, lines_view};
+ghost use Rattle.edit_text.specs.Views.{points_view, lines_view};
 ghost use Rattle.geometry_commands.specs.Encodable.{CanSpellLines};
 ghost use Rattle.geometry_commands.specs.Packed.{Adds};
 ghost use Rattle.geometry_commands.specs.Shapes as shapes;
@@ -13,8 +13,8 @@ ghost use Rattle.tile_cutter.specs.Range.{IsDrawable, IsOfTile};
 
 use crate::bounds::{points_meet_box, segment_meets_box};
 use crate::coordinates::{position, repeats};
+use edit_text::{Lines, Points};
 use feature_model::MAX_ZOOM;
-use feature_text::{Lines, Points};
 use geometry_commands::{PackedShape, Pt, ShapeKind};
 use hilbert_id::TileAt;
 use std::alloc::AllocError;

@@ -4,7 +4,7 @@ ghost use Rattle.std.specs.Prelude.{◌≡◌, ◌≤◌, ◌++◌, length, All,
 ghost use Rattle.std.specs.List.{flat_map};
 ghost use Rattle.pb_wire.specs.Varint.{varint};
 ghost use Rattle.feature_model.specs.Limits.{CountFits};
-ghost use Rattle.feature_text.specs.Views.{points_view};
+ghost use Rattle.edit_text.specs.Views.{points_view};
 ghost use Rattle.geometry_commands.specs.Commands.{steps};
 ghost use Rattle.geometry_commands.specs.Shapes as shapes;
 ghost use Rattle.geometry_commands.specs.Shapes.{last_of};
@@ -15,8 +15,8 @@ ghost use Rattle.tile_cutter.specs.Range.{IsOfTile};
 
 use crate::bounds::is_in_box;
 use crate::coordinates::{position, repeats};
+use edit_text::Points;
 use feature_model::MAX_ZOOM;
-use feature_text::Points;
 use geometry_commands::{PackedShape, Pt, ShapeKind};
 use hilbert_id::TileAt;
 use std::alloc::AllocError;

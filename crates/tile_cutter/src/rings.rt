@@ -2,7 +2,7 @@
 
 ghost use Rattle.std.specs.Prelude.{◌≡◌, ◌≤◌, ◌<◌, ◌^◌, ◌*ℤ◌, length, true, Some, option_to_list, is_some, All, IfOk, OnOk};
 ghost use Rattle.feature_model.specs.Limits.{CountFits, RingsFit};
-ghost use Rattle.feature_text.specs.Views.{points_view, lines_view, polygons_view};
+ghost use Rattle.edit_text.specs.Views.{points_view, lines_view, polygons_view};
 ghost use Rattle.geometry_commands.specs.Packed.{Adds};
 ghost use Rattle.geometry_commands.specs.Shapes as shapes;
 ghost use Rattle.tile_cutter.specs.Cut.{tile_ring, is_ring, cross, twice_area, turned, inner_rings, polygon_cut, polygons_cut, unless_empty};
@@ -12,8 +12,8 @@ ghost use Rattle.tile_cutter.specs.Range.{IsWithin, IsSmall, IsOfTile, IsDrawabl
 
 use crate::bounds::points_meet_box;
 use crate::coordinates::{position, repeats};
+use edit_text::{Lines, Points, Polygons};
 use feature_model::MAX_ZOOM;
-use feature_text::{Lines, Points, Polygons};
 use geometry_commands::{PackedShape, Pt, ShapeKind};
 use hilbert_id::TileAt;
 use std::alloc::AllocError;

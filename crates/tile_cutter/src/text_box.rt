@@ -1,14 +1,14 @@
 //! The boxes of features in the bytes of their texts.
 
 ghost use Rattle.std.specs.Prelude.{◌≡◌, None, flat_map};
-ghost use Rattle.feature_text.specs.Views.{points_view, lines_view, polygons_view, geometry_view};
+ghost use Rattle.edit_text.specs.Views.{points_view, lines_view, polygons_view, geometry_view};
 ghost use Rattle.tile_cutter.specs.Covered.{all_of, all_points};
 ghost use Rattle.tile_cutter.specs.Widened.{bounds_after};
 ghost use Rattle.tile_cutter.specs.WorldBox.{bounding_box};
 
 use crate::reach::{or_origin, widened};
+use edit_text::{FeatureText, GeometryText, Lines, Points, Polygons};
 use feature_model::WorldBox;
-use feature_text::{FeatureText, GeometryText, Lines, Points, Polygons};
 
 /// The box with the points of a list.
 pub(crate) fn widened_by_points(bounds: Option<WorldBox>, points: Points<'_>) -> Option<WorldBox>

@@ -2,13 +2,13 @@
 ghost use Rattle.std.specs.Prelude.{◌≡◌, ◌↔◌, map, All, IsTrue, MatchOption, option_map};
 ghost use Rattle.feature_model.specs.Data.{feature_data};
 ghost use Rattle.feature_model.specs.Seen.{seen_data};
-ghost use Rattle.feature_text.specs.Views.{feature_view};
+ghost use Rattle.edit_text.specs.Views.{feature_view};
 ghost use Rattle.tile_service.specs.Seen.{IsAsSeen, IsFirstChanged};
 
 use crate::service::Service;
+use edit_text::{FeatureText, is_feature};
 use feature_model::{Feature, Seen};
 use feature_store::Store;
-use feature_text::{FeatureText, is_feature};
 use sector_disk::Sectors;
 
 /// Whether a feature is still the one that was seen, or both are missing.

@@ -15,7 +15,7 @@ ghost use Rattle.tile_service.specs.declared.fault.ServiceFault.TheVariants.{Mem
 use crate::event::{Answer, Event};
 use crate::fault::ServiceFault;
 use crate::service::Service;
-use feature_text::to_feature;
+use edit_text::to_feature;
 use sector_disk::Sectors;
 use std::alloc::AllocError;
 

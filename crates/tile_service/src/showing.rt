@@ -5,7 +5,7 @@ ghost use Rattle.feature_model.specs.Limits.{IsAllowed};
 ghost use Rattle.feature_store.specs.Content.{IsTileContent};
 ghost use Rattle.feature_store.specs.Layers.{layers};
 ghost use Rattle.feature_store.specs.Store.{feature_at, feature_from};
-ghost use Rattle.feature_text.specs.Views.{feature_view};
+ghost use Rattle.edit_text.specs.Views.{feature_view};
 ghost use Rattle.map_metadata.specs.Metadata.{IsMetadata};
 ghost use Rattle.pm_archive.specs.Answers.{IsOutside};
 ghost use Rattle.sector_bytes.specs.Counts.{NeverFalls};
@@ -23,7 +23,7 @@ ghost use Rattle.tile_service.specs.declared.fault.ServiceFault.TheVariants.{Mem
 
 use crate::fault::ServiceFault;
 use crate::service::Service;
-use feature_text::FeatureText;
+use edit_text::FeatureText;
 use hilbert_id::TileAt;
 use map_metadata::metadata_text;
 use pm_archive::ArchiveFault;

@@ -1,16 +1,15 @@
 //! Lines about a feature or an edit as JSON.
 ghost use Rattle.std.specs.Prelude.{IfOk};
 ghost use Rattle.feature_model.specs.Limits.{FeatureFits, IsAllowed};
-ghost use Rattle.feature_text.specs.Views.{feature_view};
+ghost use Rattle.edit_text.specs.Views.{feature_view};
 
 use super::map::put;
 use super::texts::{batch_text, deleted, made_text, record};
 use crate::lines::Line;
 use cached_map::CachedMap;
 use edit_json::{batch_from_json, checked_from_json, feature_from_json, feature_to_json};
-use edit_text::encode_change;
+use edit_text::{FeatureText, StoredFeature, encode_change};
 use feature_model::{Change, EditFault, Feature, MAX_ZOOM, Seen, check};
-use feature_text::{FeatureText, StoredFeature};
 use script_bytes::{expanded, parted};
 use serde_json::Value;
 use std::alloc::{AllocError, Global};

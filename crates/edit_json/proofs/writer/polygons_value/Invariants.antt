@@ -1,6 +1,6 @@
 use Rattle.std.proofs.Common.{◌≡◌, ◌++◌, map}
 use Rattle.serde_json.specs.View.{view}
-use Rattle.feature_text.specs.Views.{polygons_view}
+use Rattle.edit_text.specs.Views.{polygons_view}
 use Rattle.edit_json.specs.Json.{lines_json}
 use Rattle.edit_json.proofs.writer.polygons_value.Given as goal
 

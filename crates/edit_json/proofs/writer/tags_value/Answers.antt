@@ -2,7 +2,7 @@ use Rattle.std.proofs.Common.{ap, ◌∙◌, map}
 use Rattle.serde_json.specs.Data.{object}
 use Rattle.serde_json.specs.View.{view, members_view}
 use Rattle.serde_json.proofs.Views.{view-Object}
-use Rattle.feature_text.specs.Views.{tag_view, tags_view}
+use Rattle.edit_text.specs.Views.{tag_view, tags_view}
 use Rattle.edit_json.specs.Json.{tags_json}
 use Rattle.edit_json.proofs.WriteLemmas.{value_there, parts_next, parts_over, put_next}
 use Rattle.edit_json.proofs.writer.tags_value.Goals as goal

@@ -1,6 +1,6 @@
 use Rattle.std.proofs.Common.{◌≡◌, ◌++◌, map}
 use Rattle.serde_json.specs.View.{members_view}
-use Rattle.feature_text.specs.Views.{tag_view, tags_view}
+use Rattle.edit_text.specs.Views.{tag_view, tags_view}
 use Rattle.edit_json.specs.Json.{tags_json}
 use Rattle.edit_json.proofs.writer.tags_value.Given as goal
 

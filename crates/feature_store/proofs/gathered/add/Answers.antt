@@ -3,7 +3,7 @@ use Rattle.std.specs.Option.{UnwrapsOrElse, option_copied_mut}
 use Rattle.std.proofs.lemmas.Map.Text.{btree_map_updates_str}
 use Rattle.std.proofs.lemmas.Result.{on_ok_weaker}
 use Rattle.std.proofs.lemmas.Grind.{text_groups}
-use Rattle.feature_text.specs.Views.{feature_view}
+use Rattle.edit_text.specs.Views.{feature_view}
 use Rattle.mvt_write.specs.declared.layer_writer.LayerWriter.{LayerWriter}
 use Rattle.mvt_write.specs.Writes.{Writes}
 use Rattle.feature_store.specs.Layers.{numbered}

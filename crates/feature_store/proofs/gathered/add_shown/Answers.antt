@@ -1,7 +1,7 @@
 use Rattle.std.proofs.Common.{subst}
 use Rattle.std.specs.Prelude.{IfSome}
 use Rattle.std.proofs.lemmas.Result.{on_ok_weaker}
-use Rattle.feature_text.specs.Views.{feature_view}
+use Rattle.edit_text.specs.Views.{feature_view}
 use Rattle.tile_cutter.specs.Put.{Shows}
 use Rattle.feature_store.proofs.Gathers.{shown_more, nothing_more}
 use Rattle.feature_store.proofs.gathered.add_shown.Goals as goal

@@ -1,6 +1,6 @@
 use Rattle.std.proofs.Common.{map, ◌∙◌}
 use Rattle.std.proofs.lemmas.Result.{on_ok_weaker}
-use Rattle.feature_text.specs.Views.{tags_view}
+use Rattle.edit_text.specs.Views.{tags_view}
 use Rattle.tile_cutter.specs.Cut.{shown_tag}
 use Rattle.feature_store.proofs.gathered.put_feature.Goals as goal
 

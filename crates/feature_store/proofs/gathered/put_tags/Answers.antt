@@ -1,6 +1,6 @@
 use Rattle.std.proofs.Common.{◌∷◌, [], ◌++◌, subst}
 use Rattle.feature_model.specs.Limits.{ValueFits}
-use Rattle.feature_text.specs.Views.{tag_view, tags_view}
+use Rattle.edit_text.specs.Views.{tag_view, tags_view}
 use Rattle.mvt_write.specs.Writes.{Writes}
 use Rattle.tile_cutter.proofs.Each.{rest_keeps}
 use Rattle.feature_store.proofs.Gathers.{tags_item, tags_over}

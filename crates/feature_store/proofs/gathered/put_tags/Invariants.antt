@@ -1,7 +1,7 @@
 use Rattle.std.proofs.Common.{ℕ, List}
 use Rattle.std.specs.Prelude.{All}
 use Rattle.feature_model.specs.Limits.{ValueFits}
-use Rattle.feature_text.specs.Views.{tags_view}
+use Rattle.edit_text.specs.Views.{tags_view}
 use Rattle.mvt_layer.specs.Tile.{FeatureView}
 use Rattle.feature_store.proofs.Gathers.{HasTags}
 use Rattle.feature_store.proofs.gathered.put_tags.Given as goal

@@ -1,4 +1,4 @@
-use Rattle.feature_text.specs.Views.{feature_view}
+use Rattle.edit_text.specs.Views.{feature_view}
 use Rattle.map_metadata.proofs.Added.{entries_more}
 use Rattle.map_metadata.proofs.summary.add_entries.Goals as goal
 

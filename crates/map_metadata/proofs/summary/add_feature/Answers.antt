@@ -1,7 +1,7 @@
 use Rattle.std.proofs.Common.{arith, refl}
 use Rattle.std.specs.BTreeMap.Entry.{map_with_value}
 use Rattle.std.proofs.lemmas.Grind.{text_groups}
-use Rattle.feature_text.specs.Views.{feature_view}
+use Rattle.edit_text.specs.Views.{feature_view}
 use Rattle.map_metadata.specs.declared.summary.LayerSummary.{LayerSummary}
 use Rattle.map_metadata.proofs.Added.{zooms_after, kind_after, feature_zooms, feature_kinds}
 use Rattle.map_metadata.proofs.summary.add_feature.Goals as goal

@@ -1,5 +1,5 @@
 use Rattle.std.proofs.Common.{sym, ap, ◌∙◌}
-use Rattle.feature_text.specs.Views.{tag_view, tags_view}
+use Rattle.edit_text.specs.Views.{tag_view, tags_view}
 use Rattle.map_metadata.specs.Fields.{kinds_of}
 use Rattle.map_metadata.specs.Summaries.{kind_at, with_kinds}
 use Rattle.map_metadata.proofs.Added.{tags_more}

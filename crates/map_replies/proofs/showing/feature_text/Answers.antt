@@ -1,6 +1,6 @@
 use Rattle.std.proofs.Common.{ap, ◌∙◌}
 use Rattle.serde_json.specs.Written.{has_float, compact_text}
-use Rattle.feature_text.specs.Views.{feature_view}
+use Rattle.edit_text.specs.Views.{feature_view}
 use Rattle.map_replies.proofs.Texts.{feature_whole}
 use Rattle.map_replies.proofs.showing.feature_text.Goals as goal
 

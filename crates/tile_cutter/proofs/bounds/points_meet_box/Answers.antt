@@ -1,5 +1,5 @@
 use Rattle.std.proofs.Common.{sym, ◌∙◌, ap, true≢false}
-use Rattle.feature_text.specs.Views.{points_view}
+use Rattle.edit_text.specs.Views.{points_view}
 use Rattle.tile_cutter.specs.Widened.{range_of}
 use Rattle.tile_cutter.proofs.Outside.{line_outside}
 use Rattle.tile_cutter.proofs.RingBoxes.{ring_says}

@@ -1,5 +1,5 @@
 use Rattle.std.proofs.Common.{refl, sym, ◌∙◌}
-use Rattle.feature_text.specs.Views.{feature_view}
+use Rattle.edit_text.specs.Views.{feature_view}
 use Rattle.tile_cutter.proofs.PutShapes.{hidden_by_zoom, shown_or_none, what_is_shown}
 use Rattle.tile_cutter.proofs.cutting.put_cut.Goals as goal
 

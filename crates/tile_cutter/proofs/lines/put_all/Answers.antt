@@ -1,8 +1,8 @@
 use Rattle.std.proofs.Common.{false, refl, sym, subst}
 use Rattle.std.specs.Prelude.{All}
 use Rattle.feature_model.specs.Limits.{CountFits}
-use Rattle.feature_text.specs.declared.lists.Lines.{Lines}
-use Rattle.feature_text.specs.Views.{points_view, lines_view}
+use Rattle.edit_text.specs.declared.lists.Lines.{Lines}
+use Rattle.edit_text.specs.Views.{points_view, lines_view}
 use Rattle.tile_cutter.specs.Cut.{line_cut, lines_cut}
 use Rattle.tile_cutter.proofs.Each.{first_keeps, rest_keeps}
 use Rattle.tile_cutter.proofs.PutLists.{ListsGo, lists_begin, lists_item, lists_over}

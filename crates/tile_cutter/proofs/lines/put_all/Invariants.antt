@@ -1,7 +1,7 @@
 use Rattle.std.proofs.Common.{false}
 use Rattle.std.specs.Prelude.{All}
 use Rattle.feature_model.specs.Limits.{CountFits}
-use Rattle.feature_text.specs.Views.{lines_view}
+use Rattle.edit_text.specs.Views.{lines_view}
 use Rattle.tile_cutter.specs.Cut.{line_cut, lines_cut}
 use Rattle.tile_cutter.proofs.PutLists.{ListsGo}
 use Rattle.tile_cutter.proofs.lines.put_all.Given as goal

@@ -1,6 +1,6 @@
 use Rattle.std.proofs.Common.{[], None, false, sym, subst, ◌∙◌, arith}
-use Rattle.feature_text.specs.declared.lists.Points.{Points}
-use Rattle.feature_text.specs.Views.{points_view}
+use Rattle.edit_text.specs.declared.lists.Points.{Points}
+use Rattle.edit_text.specs.Views.{points_view}
 use Rattle.tile_cutter.specs.Cut.{line_cut}
 use Rattle.tile_cutter.proofs.PutLists.{LineGoes, adds_nothing, line_begins, line_keeps_chain, line_goes_further, line_ends_with, line_is_drawable, chain_can}
 use Rattle.tile_cutter.proofs.lines.put_line.Goals as goal

@@ -1,4 +1,4 @@
-use Rattle.feature_text.specs.Views.{points_view}
+use Rattle.edit_text.specs.Views.{points_view}
 use Rattle.tile_cutter.proofs.PutLists.{LineGoes}
 use Rattle.tile_cutter.proofs.lines.put_line.Given as goal
 

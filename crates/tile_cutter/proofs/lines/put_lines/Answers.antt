@@ -1,5 +1,5 @@
 use Rattle.std.proofs.Common.{false, sym, ◌∙◌}
-use Rattle.feature_text.specs.Views.{lines_view}
+use Rattle.edit_text.specs.Views.{lines_view}
 use Rattle.geometry_commands.specs.Shapes.{lines}
 use Rattle.tile_cutter.specs.Cut.{lines_cut}
 use Rattle.tile_cutter.proofs.PutShapes.{clear_cursor, none_are_put, lines_are_put}

@@ -1,6 +1,6 @@
 use Rattle.std.proofs.Common.{None, refl, sym, subst, arith}
-use Rattle.feature_text.specs.declared.lists.Points.{Points}
-use Rattle.feature_text.specs.Views.{points_view}
+use Rattle.edit_text.specs.declared.lists.Points.{Points}
+use Rattle.edit_text.specs.Views.{points_view}
 use Rattle.tile_cutter.proofs.PutPoints.{CountGoes, count_begins, count_item, count_over}
 use Rattle.tile_cutter.proofs.points.count_shown.Goals as goal
 

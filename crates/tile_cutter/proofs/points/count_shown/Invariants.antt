@@ -1,4 +1,4 @@
-use Rattle.feature_text.specs.Views.{points_view}
+use Rattle.edit_text.specs.Views.{points_view}
 use Rattle.tile_cutter.proofs.PutPoints.{CountGoes}
 use Rattle.tile_cutter.proofs.points.count_shown.Given as goal
 

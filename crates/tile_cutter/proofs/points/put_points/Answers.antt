@@ -1,5 +1,5 @@
 use Rattle.std.proofs.Common.{◌^◌, ◌<◌, length, sym, subst, arith}
-use Rattle.feature_text.specs.Views.{points_view}
+use Rattle.edit_text.specs.Views.{points_view}
 use Rattle.tile_cutter.specs.Cut.{points_cut}
 use Rattle.tile_cutter.specs.Range.{IsOfTile}
 use Rattle.tile_cutter.proofs.PutShapes.{clear_cursor, points_are_put}

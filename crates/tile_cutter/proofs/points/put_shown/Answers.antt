@@ -1,6 +1,6 @@
 use Rattle.std.proofs.Common.{None, sym, subst, ◌∙◌}
-use Rattle.feature_text.specs.declared.lists.Points.{Points}
-use Rattle.feature_text.specs.Views.{points_view}
+use Rattle.edit_text.specs.declared.lists.Points.{Points}
+use Rattle.edit_text.specs.Views.{points_view}
 use Rattle.tile_cutter.proofs.PutPoints.{PointsGo, points_go, point_put, point_left, points_bytes, points_at, points_of_tile}
 use Rattle.tile_cutter.proofs.Spelled.{near_in_tile}
 use Rattle.tile_cutter.proofs.points.put_shown.Goals as goal

@@ -1,4 +1,4 @@
-use Rattle.feature_text.specs.Views.{points_view}
+use Rattle.edit_text.specs.Views.{points_view}
 use Rattle.tile_cutter.proofs.PutPoints.{PointsGo}
 use Rattle.tile_cutter.proofs.points.put_shown.Given as goal
 

@@ -1,8 +1,8 @@
 use Rattle.std.proofs.Common.{[], None, length, true, false, refl, subst, ap, sym, ◌∙◌}
 use Rattle.std.specs.Prelude.{All}
 use Rattle.std.proofs.lemmas.List.Elements.{All-take}
-use Rattle.feature_text.specs.declared.lists.Points.{Points}
-use Rattle.feature_text.specs.Views.{points_view}
+use Rattle.edit_text.specs.declared.lists.Points.{Points}
+use Rattle.edit_text.specs.Views.{points_view}
 use Rattle.tile_cutter.specs.Cut.{tile_points}
 use Rattle.tile_cutter.specs.Passes.{returns_to_start}
 use Rattle.tile_cutter.specs.Range.{IsOfTile}

@@ -1,4 +1,4 @@
-use Rattle.feature_text.specs.Views.{points_view}
+use Rattle.edit_text.specs.Views.{points_view}
 use Rattle.tile_cutter.specs.Cut.{tile_points}
 use Rattle.tile_cutter.proofs.Passes.{HasKept, left_after}
 use Rattle.tile_cutter.proofs.rings.gather_ring.Given as goal

@@ -1,6 +1,6 @@
 use Rattle.std.proofs.Common.{◌<◌, ◌^◌, length, true, ap, subst, arith}
 use Rattle.std.specs.Prelude.{All, option_to_list}
-use Rattle.feature_text.specs.Views.{points_view}
+use Rattle.edit_text.specs.Views.{points_view}
 use Rattle.tile_cutter.specs.Passes.{shown_ring}
 use Rattle.tile_cutter.specs.Range.{IsDrawable}
 use Rattle.tile_cutter.proofs.Areas.{ring_with_area}

@@ -1,6 +1,6 @@
 use Rattle.std.proofs.Common.{true, refl}
 use Rattle.feature_model.specs.Limits.{RingsFit}
-use Rattle.feature_text.specs.Views.{lines_view, polygons_view}
+use Rattle.edit_text.specs.Views.{lines_view, polygons_view}
 use Rattle.tile_cutter.specs.Cut.{polygon_cut, polygons_cut}
 use Rattle.tile_cutter.proofs.Each.{first_keeps, rest_keeps}
 use Rattle.tile_cutter.proofs.PutLists.{lists_begin, lists_item, lists_over}

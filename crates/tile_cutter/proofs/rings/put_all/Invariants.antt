@@ -1,7 +1,7 @@
 use Rattle.std.proofs.Common.{true}
 use Rattle.std.specs.Prelude.{All}
 use Rattle.feature_model.specs.Limits.{RingsFit}
-use Rattle.feature_text.specs.Views.{polygons_view}
+use Rattle.edit_text.specs.Views.{polygons_view}
 use Rattle.tile_cutter.specs.Cut.{polygon_cut, polygons_cut}
 use Rattle.tile_cutter.proofs.PutLists.{ListsGo}
 use Rattle.tile_cutter.proofs.rings.put_all.Given as goal

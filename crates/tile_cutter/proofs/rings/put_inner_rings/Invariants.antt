@@ -1,7 +1,7 @@
 use Rattle.std.proofs.Common.{true}
 use Rattle.std.specs.Prelude.{All, option_to_list}
 use Rattle.feature_model.specs.Limits.{CountFits}
-use Rattle.feature_text.specs.Views.{lines_view}
+use Rattle.edit_text.specs.Views.{lines_view}
 use Rattle.tile_cutter.specs.declared.rings.Role.TheVariants.{Inner}
 use Rattle.tile_cutter.specs.Cut.{tile_ring, inner_rings}
 use Rattle.tile_cutter.specs.Passes.{shown_ring}

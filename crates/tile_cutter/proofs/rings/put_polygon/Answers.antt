@@ -2,7 +2,7 @@ use Rattle.std.proofs.Common.{true, sym, ◌∙◌, subst}
 use Rattle.std.specs.Prelude.{All, option_to_list}
 use Rattle.std.proofs.lemmas.List.Elements.{All-append}
 use Rattle.feature_model.specs.Limits.{CountFits}
-use Rattle.feature_text.specs.Views.{points_view, lines_view}
+use Rattle.edit_text.specs.Views.{points_view, lines_view}
 use Rattle.geometry_commands.specs.Packed.{Adds}
 use Rattle.geometry_commands.proofs.Packing.{adds_both}
 use Rattle.tile_cutter.specs.declared.rings.Role.TheVariants.{Outer}

@@ -1,4 +1,4 @@
-use Rattle.feature_text.specs.Views.{points_view}
+use Rattle.edit_text.specs.Views.{points_view}
 use Rattle.tile_cutter.specs.Cut.{tile_ring}
 use Rattle.tile_cutter.specs.Passes.{shown_ring}
 use Rattle.tile_cutter.proofs.PutLists.{ring_can, ring_put, no_ring}

@@ -1,5 +1,5 @@
 use Rattle.std.proofs.Common.{true, sym, ◌∙◌}
-use Rattle.feature_text.specs.Views.{polygons_view}
+use Rattle.edit_text.specs.Views.{polygons_view}
 use Rattle.geometry_commands.specs.Shapes.{rings}
 use Rattle.tile_cutter.specs.Cut.{polygons_cut}
 use Rattle.tile_cutter.proofs.PutShapes.{clear_cursor, none_are_put, rings_are_put}

@@ -1,6 +1,6 @@
 use Rattle.std.proofs.Common.{◌≡◌, suc, ◌-◌, ◌<◌, ◌^◌, length, ap, ◌∙◌, arith}
 use Rattle.std.proofs.lemmas.Int.{ints}
-use Rattle.feature_text.specs.Views.{points_view}
+use Rattle.edit_text.specs.Views.{points_view}
 use Rattle.tile_cutter.proofs.Areas.{area_begins, area_item, area_over, area_of_none, sum_fits, sum_is}
 use Rattle.tile_cutter.proofs.Kept.{small_of_tile}
 use Rattle.tile_cutter.proofs.rings.twice_area.Goals as goal

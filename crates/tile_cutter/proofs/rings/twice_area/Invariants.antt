@@ -1,5 +1,5 @@
 use Rattle.std.proofs.Common.{◌≡◌, pos, neg_ℤ, ◌≤ℤ◌, ◌≤◌, ◌-◌, ◌*◌, ◌^◌, length, map}
-use Rattle.feature_text.specs.Views.{points_view}
+use Rattle.edit_text.specs.Views.{points_view}
 use Rattle.tile_cutter.specs.Cut.{tile_ring, twice_area}
 use Rattle.tile_cutter.specs.Range.{IsSmall}
 use Rattle.tile_cutter.proofs.Areas.{area_along}

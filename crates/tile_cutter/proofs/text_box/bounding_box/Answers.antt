@@ -1,5 +1,5 @@
 use Rattle.std.proofs.Common.{ap, ◌∙◌}
-use Rattle.feature_text.specs.Views.{geometry_view}
+use Rattle.edit_text.specs.Views.{geometry_view}
 use Rattle.tile_cutter.specs.Widened.{box_or_origin}
 use Rattle.tile_cutter.proofs.WorldBox.{bounding_box_is}
 use Rattle.tile_cutter.proofs.text_box.bounding_box.Goals as goal

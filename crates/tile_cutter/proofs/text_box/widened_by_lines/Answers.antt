@@ -1,4 +1,4 @@
-use Rattle.feature_text.specs.Views.{points_view, lines_view}
+use Rattle.edit_text.specs.Views.{points_view, lines_view}
 use Rattle.tile_cutter.proofs.TextPasses.{bounds_item, bounds_over}
 use Rattle.tile_cutter.proofs.text_box.widened_by_lines.Goals as goal
 

@@ -1,5 +1,5 @@
 use Rattle.std.proofs.Common.{◌≡◌}
-use Rattle.feature_text.specs.Views.{points_view}
+use Rattle.edit_text.specs.Views.{points_view}
 use Rattle.tile_cutter.specs.Widened.{bounds_after}
 use Rattle.tile_cutter.proofs.text_box.widened_by_points.Given as goal
 

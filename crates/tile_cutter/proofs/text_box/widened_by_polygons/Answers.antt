@@ -1,4 +1,4 @@
-use Rattle.feature_text.specs.Views.{lines_view, polygons_view}
+use Rattle.edit_text.specs.Views.{lines_view, polygons_view}
 use Rattle.tile_cutter.specs.Covered.{all_of}
 use Rattle.tile_cutter.proofs.TextPasses.{bounds_item, bounds_over}
 use Rattle.tile_cutter.proofs.text_box.widened_by_polygons.Goals as goal

@@ -1,6 +1,6 @@
 use Rattle.std.proofs.Common.{◌≡◌}
 use Rattle.std.specs.Prelude.{flat_map}
-use Rattle.feature_text.specs.Views.{polygons_view}
+use Rattle.edit_text.specs.Views.{polygons_view}
 use Rattle.tile_cutter.specs.Covered.{all_of}
 use Rattle.tile_cutter.specs.Widened.{bounds_after}
 use Rattle.tile_cutter.proofs.text_box.widened_by_polygons.Given as goal

@@ -1,6 +1,6 @@
 use Rattle.std.proofs.Common.{rules}
 use Rattle.std.specs.Prelude.{IsSome, IsTrue}
-use Rattle.feature_text.specs.Views.{feature_view}
+use Rattle.edit_text.specs.Views.{feature_view}
 use Rattle.tile_service.proofs.Edits.Limits.{fits_there}
 use Rattle.tile_service.proofs.editing.has.Goals as goal
 

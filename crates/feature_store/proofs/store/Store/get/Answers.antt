@@ -1,7 +1,7 @@
 use Rattle.std.proofs.Common.{◌≡◌, sym, ap, subst, ◌∙◌}
 use Rattle.std.specs.Prelude.{Some, IfSome, option_map}
 use Rattle.feature_model.specs.Limits.{IsAllowed}
-use Rattle.feature_text.specs.Views.{feature_view}
+use Rattle.edit_text.specs.Views.{feature_view}
 use Rattle.feature_store.specs.Inside.{stored_data, entries_data}
 use Rattle.feature_store.specs.Store.{feature_at}
 use Rattle.feature_store.proofs.Allowed.{allowed_there}

@@ -1,5 +1,5 @@
 use Rattle.std.proofs.Common.{Some, None, refl}
-use Rattle.feature_text.specs.Views.{feature_view}
+use Rattle.edit_text.specs.Views.{feature_view}
 use Rattle.tile_service.specs.Machine.{got, no_memory, look}
 use Rattle.tile_service.proofs.Runs.Callers.{look_step}
 use Rattle.map_replies.specs.Words.{shown_reply, found_reply}

@@ -1,8 +1,0 @@
-use Rattle.std.proofs.Common.{◌≡◌, ◌++◌, map}
-use Rattle.feature_model.specs.Data.{tag_data}
-use Rattle.feature_text.specs.Views.{tags_view}
-use Rattle.feature_text.proofs.owned.own_tags.Given as goal
-
--- those that are owned, and those that are left
-abbrev pub invariant-loop-tag : goal.invariant-loop-tag
-invariant-loop-tag l = map tag_data l.owned.items ++ tags_view l.tag-iterator ≡ tags_view l.fn.tags

@@ -1,4 +1,0 @@
-pub mod Trusted
-pub mod Views
-pub mod Same
-pub mod Stored
