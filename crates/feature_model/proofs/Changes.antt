@@ -7,9 +7,10 @@ use Rattle.std.proofs.lemmas.List.Elements.{All-push}
 use Rattle.std.proofs.lemmas.List.Folds.{length-flat_map-take}
 use Rattle.feature_model.specs.declared.limits.TheConstants.{MAX_EDIT_BYTES}
 use Rattle.feature_model.specs.declared.fault.EditFault.{EditFault}
+use Rattle.feature_model.specs.declared.fault.EditFault.TheVariants as faults
 use Rattle.feature_model.specs.declared.feature.Change.{Change}
 use Rattle.feature_model.specs.Data.{ChangeData, put, delete, EditData, number_of, change_data}
-use Rattle.feature_model.specs.Limits.{IsNew, AreDistinct, ChangeFits, IsAllowedChange, TextsFit, IsFirstOf, IsFirstWithin}
+use Rattle.feature_model.specs.Limits.{IsNew, HasChanges, AreDistinct, ChangeFits, IsAllowedChange, TextsFit, IsFirstOf, IsFirstWithin, IsFirstEditFault}
 use Rattle.feature_model.specs.Spelled.{spelled_change, spelled_changes}
 
 -- what is read is the change there
@@ -99,6 +100,40 @@ first_within i xs x fault l is so_far first = record {
   before = subst (All ChangeFits) (sym (take-map change_data i xs)) so_far;
   fault_is = first;
 }
+
+-- a change with a fault doesn't fit
+breaks : (c : ChangeData) (fault : EditFault) → IsFirstOf c fault → ChangeFits c → ⊥
+breaks (put id f) faults.Number first fits = first fits.0
+breaks (put id f) faults.Layer first fits = first.1 fits.1.layer
+breaks (put id f) faults.Zoom first fits = first.2 fits.1.zooms
+breaks (put id f) faults.Geometry first fits = first.3 fits.1.geometry
+breaks (put id f) faults.Tags first fits = first.4 fits.1.tags
+breaks (put id f) faults.Value first fits = first.5 fits.1.values
+breaks (put id f) fault first fits = first
+breaks (delete id) faults.Number first fits = first fits
+breaks (delete id) fault first fits = first
+
+pub not_all_fit : (cs : EditData) (fault : EditFault) → IsFirstWithin cs fault → All ChangeFits cs → ⊥
+not_all_fit cs fault first fit = breaks first.change fault first.fault_is (subst ChangeFits first.is (fit first.index first.change first.within))
+
+-- the fault of a change is none of the edit's own
+not_long : (c : ChangeData) → IsFirstOf c faults.Long → ⊥
+not_long (put id f) first = first
+not_long (delete id) first = first
+
+not_batch : (c : ChangeData) → IsFirstOf c faults.Batch → ⊥
+not_batch (put id f) first = first
+not_batch (delete id) first = first
+
+not_twice : (c : ChangeData) → IsFirstOf c faults.Twice → ⊥
+not_twice (put id f) first = first
+not_twice (delete id) first = first
+
+pub first_edit_fault : (cs : EditData) (fault : EditFault) → HasChanges cs → AreDistinct cs → IsFirstWithin cs fault → IsFirstEditFault cs fault
+first_edit_fault cs faults.Long count distinct first = absurd (not_long first.change first.fault_is)
+first_edit_fault cs faults.Batch count distinct first = absurd (not_batch first.change first.fault_is)
+first_edit_fault cs faults.Twice count distinct first = absurd (not_twice first.change first.fault_is)
+first_edit_fault cs fault count distinct first = (count, distinct, first)
 
 -- ---- lengths
 

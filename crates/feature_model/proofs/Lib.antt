@@ -2,4 +2,5 @@ pub mod Ascending
 pub mod Changes
 pub mod LimitNumbers
 pub mod Mapped
+pub mod Tests
 pub mod TextLengths

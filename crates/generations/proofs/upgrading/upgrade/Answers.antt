@@ -1,6 +1,7 @@
-use Rattle.std.proofs.Common.{◌≡◌, inl, inr, ⊎_elim, ℕ, sym, subst, ◌∙◌}
-use Rattle.sector_disk.specs.Disk.{History, seen}
+use Rattle.std.proofs.Common.{◌≡◌, inl, inr, ⊎_elim, ℕ, sym, ap, subst, ◌∙◌, arith}
+use Rattle.sector_disk.specs.Disk.{History, moment, seen}
 use Rattle.sector_disk.specs.Disk.History.{synced}
+use Rattle.sector_disk.proofs.AskedLaws.{reads_may, writes_on}
 use Rattle.sector_disk.proofs.History.{any_sync}
 use Rattle.generations.specs.Disks.{IsFaultOf}
 use Rattle.generations.specs.Sectors.{IsFormat, version_from}
@@ -67,3 +68,47 @@ returns-in-Err-write_and_sync-clause-any_moment g c = λ honest.
     let format = format_read _ _ _ _ c.in-Ok-read_layout.found.0.sectors c.sync.ensures.disk.same_count before (c.in-Ok-read_layout.ensures.format there) in
     write_upgrades _ _ _ (c.read_layout.ensures.disk.same_history there ∙ before) c.in-Ok-read_layout.found.0.sectors format
     c.format_bytes-format.result c.format_bytes-format.ensures _ (c.write_and_sync.ensures.leaves honest)
+
+pub returns-in-Err-read_layout-clause-disk : goal.returns-in-Err-read_layout-clause-disk
+returns-in-Err-read_layout-clause-disk g c = writes_on c.sync.ensures.disk (reads_may c.read_layout.ensures.disk)
+
+pub returns-in-Err-read_layout-clause-steps : goal.returns-in-Err-read_layout-clause-steps
+returns-in-Err-read_layout-clause-steps g c honest =
+    let before = c.in-Ok.ensures.syncs (c.read_layout.ensures.disk.was_honest honest) in
+    omega (arith, ap moment (c.read_layout.ensures.disk.same_history honest ∙ before))
+
+pub returns-then-version-eq-LAST_VERSION-clause-disk : goal.returns-then-version-eq-LAST_VERSION-clause-disk
+returns-then-version-eq-LAST_VERSION-clause-disk g c = writes_on c.sync.ensures.disk (reads_may c.read_layout.ensures.disk)
+
+pub returns-in-Ok-write_and_sync-clause-disk : goal.returns-in-Ok-write_and_sync-clause-disk
+returns-in-Ok-write_and_sync-clause-disk g c =
+    writes_on (writes_on c.sync.ensures.disk (reads_may c.read_layout.ensures.disk)) c.write_and_sync.ensures.disk
+
+pub returns-in-Ok-write_and_sync-clause-failed : goal.returns-in-Ok-write_and_sync-clause-failed
+returns-in-Ok-write_and_sync-clause-failed g c = c.in-Ok-write_and_sync.ensures.failed ∙ c.in-Ok-read_layout.ensures.failed ∙ c.in-Ok.ensures.faults
+
+pub returns-in-Ok-write_and_sync-clause-steps : goal.returns-in-Ok-write_and_sync-clause-steps
+returns-in-Ok-write_and_sync-clause-steps g c honest =
+    let there = c.write_and_sync.ensures.disk.was_honest honest in
+    let before = c.in-Ok.ensures.syncs (c.read_layout.ensures.disk.was_honest there) in
+    omega (arith, c.write_and_sync.ensures.steps honest, ap moment (c.read_layout.ensures.disk.same_history there ∙ before))
+
+pub returns-in-Ok-write_and_sync-clause-already : goal.returns-in-Ok-write_and_sync-clause-already
+returns-in-Ok-write_and_sync-clause-already g c honest last =
+    let there = c.write_and_sync.ensures.disk.was_honest honest in
+    let before = c.in-Ok.ensures.syncs (c.read_layout.ensures.disk.was_honest there) in
+    absurd (c.if-version-eq-LAST_VERSION.false (sym (version_read _ _ c.in-Ok-read_layout.found.1 before (c.in-Ok-read_layout.ensures.version there)) ∙ last))
+
+pub returns-in-Err-write_and_sync-clause-disk : goal.returns-in-Err-write_and_sync-clause-disk
+returns-in-Err-write_and_sync-clause-disk g c =
+    writes_on (writes_on c.sync.ensures.disk (reads_may c.read_layout.ensures.disk)) c.write_and_sync.ensures.disk
+
+pub returns-in-Err-write_and_sync-clause-failed : goal.returns-in-Err-write_and_sync-clause-failed
+returns-in-Err-write_and_sync-clause-failed g c =
+    rw (← c.in-Ok.ensures.faults, ← c.in-Ok-read_layout.ensures.failed) c.in-Err-write_and_sync.ensures.failed
+
+pub returns-in-Err-write_and_sync-clause-steps : goal.returns-in-Err-write_and_sync-clause-steps
+returns-in-Err-write_and_sync-clause-steps g c honest =
+    let there = c.write_and_sync.ensures.disk.was_honest honest in
+    let before = c.in-Ok.ensures.syncs (c.read_layout.ensures.disk.was_honest there) in
+    omega (arith, c.write_and_sync.ensures.steps honest, ap moment (c.read_layout.ensures.disk.same_history there ∙ before))

@@ -1,4 +1,4 @@
-use Rattle.std.proofs.Common.{rules}
+use Rattle.std.proofs.Common.{Err, refl, ap, arith, rules}
 use Rattle.std.proofs.lemmas.Result.{err_from_is_err_and}
 use Rattle.reader.proofs.Steps.{repeated_on, repeated_stop, repeated_done}
 use Rattle.geometry_commands.specs.Decoding.{walk_step}
@@ -26,3 +26,44 @@ loop-i-preserved c =
 pub returns-clause-exact : goal.returns-clause-exact
 returns-clause-exact c = repeated_done walk_step c.args.count c.loop-i.i (c.loop-i.points.items, c.loop-i.at, c.loop-i.rest.now) _
     c.loop-i-test.false c.loop-i.invariant.spelled
+
+pub returns-in_err-reserve-clause-exact : goal.returns-in_err-reserve-clause-exact
+returns-in_err-reserve-clause-exact c =
+    let p = err_from_is_err_and c.from_residual.result c.from_residual.ensures.1 in
+    rw (p.1, p.2) (λ other. absurd (other refl))
+
+pub returns-in_err-reserve-clause-behind : goal.returns-in_err-reserve-clause-behind
+returns-in_err-reserve-clause-behind c =
+    let p = err_from_is_err_and c.from_residual.result c.from_residual.ensures.1 in
+    rw p.1 tt
+
+pub returns-in_err-reserve-clause-full : goal.returns-in_err-reserve-clause-full
+returns-in_err-reserve-clause-full c =
+    let p = err_from_is_err_and c.from_residual.result c.from_residual.ensures.1 in
+    rw p.1 (λ _. omega (arith, c.in_err-reserve.ensures.full, c.min.ensures))
+
+pub returns-in_err-to-clause-behind : goal.returns-in_err-to-clause-behind
+returns-in_err-to-clause-behind c =
+    let p = err_from_is_err_and c.from_residual-in_err-to.result c.from_residual-in_err-to.ensures.1 in
+    rw p.1 tt
+
+pub returns-in_err-to-clause-full : goal.returns-in_err-to-clause-full
+returns-in_err-to-clause-full c =
+    let p = err_from_is_err_and c.from_residual-in_err-to.result c.from_residual-in_err-to.ensures.1 in
+    rw (p.1, p.2) (λ is. absurd (c.in_err-to.ensures.memory (ap Err is)))
+
+pub returns-in_err-push-clause-exact : goal.returns-in_err-push-clause-exact
+returns-in_err-push-clause-exact c =
+    let p = err_from_is_err_and c.from_residual-in_err-push.result c.from_residual-in_err-push.ensures.1 in
+    rw (p.1, p.2) (λ other. absurd (other refl))
+
+pub returns-in_err-push-clause-behind : goal.returns-in_err-push-clause-behind
+returns-in_err-push-clause-behind c =
+    let p = err_from_is_err_and c.from_residual-in_err-push.result c.from_residual-in_err-push.ensures.1 in
+    rw p.1 tt
+
+pub returns-in_err-push-clause-full : goal.returns-in_err-push-clause-full
+returns-in_err-push-clause-full c =
+    let p = err_from_is_err_and c.from_residual-in_err-push.result c.from_residual-in_err-push.ensures.1 in
+    let inv = c.loop-i.invariant in
+    rw p.1 (λ _. omega (arith, c.in_err-push.ensures.full, inv.long, inv.room, inv.left, c.in_ok-to.ensures.behind))

@@ -1,6 +1,7 @@
 use Rattle.std.proofs.lemmas.Grind.{common_steps}
 use Rattle.std.proofs.Common.{◌≡◌, ◌∷◌, [], ◌-◌, length, take, drop, get_or, refl, sym, ◌∙◌, arith}
 use Rattle.std.proofs.lemmas.List.{append-nil}
+use Rattle.std.proofs.lemmas.Result.{IfOk-from_err}
 use Rattle.geometry_commands.specs.Commands.{command, origin}
 use Rattle.geometry_commands.specs.Shapes.{close_spelled}
 use Rattle.geometry_commands.proofs.Written.{split_first, line_written}
@@ -44,3 +45,59 @@ returns-else-closed-clause-last c = grind (arith, common_steps)
 
 pub returns-else-closed-clause-whole : goal.returns-else-closed-clause-whole
 returns-else-closed-clause-whole c = grind (arith, common_steps)
+
+-- ---- no memory
+
+pub returns-in_err-reserve-clause-line : goal.returns-in_err-reserve-clause-line
+returns-in_err-reserve-clause-line c = IfOk-from_err c.from_residual.result _ c.from_residual.ensures.0
+
+pub returns-in_err-reserve-clause-last : goal.returns-in_err-reserve-clause-last
+returns-in_err-reserve-clause-last c = IfOk-from_err c.from_residual.result _ c.from_residual.ensures.0
+
+pub returns-in_err-reserve-clause-whole : goal.returns-in_err-reserve-clause-whole
+returns-in_err-reserve-clause-whole c = IfOk-from_err c.from_residual.result _ c.from_residual.ensures.0
+
+pub returns-in_err-push-clause-line : goal.returns-in_err-push-clause-line
+returns-in_err-push-clause-line c = IfOk-from_err c.from_residual-in_err-push.result _ c.from_residual-in_err-push.ensures.0
+
+pub returns-in_err-push-clause-last : goal.returns-in_err-push-clause-last
+returns-in_err-push-clause-last c = IfOk-from_err c.from_residual-in_err-push.result _ c.from_residual-in_err-push.ensures.0
+
+pub returns-in_err-push-clause-whole : goal.returns-in_err-push-clause-whole
+returns-in_err-push-clause-whole c = IfOk-from_err c.from_residual-in_err-push.result _ c.from_residual-in_err-push.ensures.0
+
+pub returns-in_err-put_step-clause-line : goal.returns-in_err-put_step-clause-line
+returns-in_err-put_step-clause-line c = IfOk-from_err c.from_residual-in_err-put_step.result _ c.from_residual-in_err-put_step.ensures.0
+
+pub returns-in_err-put_step-clause-last : goal.returns-in_err-put_step-clause-last
+returns-in_err-put_step-clause-last c = IfOk-from_err c.from_residual-in_err-put_step.result _ c.from_residual-in_err-put_step.ensures.0
+
+pub returns-in_err-put_step-clause-whole : goal.returns-in_err-put_step-clause-whole
+returns-in_err-put_step-clause-whole c = IfOk-from_err c.from_residual-in_err-put_step.result _ c.from_residual-in_err-put_step.ensures.0
+
+pub returns-in_err-push-2-clause-line : goal.returns-in_err-push-2-clause-line
+returns-in_err-push-2-clause-line c = IfOk-from_err c.from_residual-in_err-push-2.result _ c.from_residual-in_err-push-2.ensures.0
+
+pub returns-in_err-push-2-clause-last : goal.returns-in_err-push-2-clause-last
+returns-in_err-push-2-clause-last c = IfOk-from_err c.from_residual-in_err-push-2.result _ c.from_residual-in_err-push-2.ensures.0
+
+pub returns-in_err-push-2-clause-whole : goal.returns-in_err-push-2-clause-whole
+returns-in_err-push-2-clause-whole c = IfOk-from_err c.from_residual-in_err-push-2.result _ c.from_residual-in_err-push-2.ensures.0
+
+pub returns-in_err-last-clause-line : goal.returns-in_err-last-clause-line
+returns-in_err-last-clause-line c = IfOk-from_err c.from_residual-in_err-last.result _ c.from_residual-in_err-last.ensures.0
+
+pub returns-in_err-last-clause-last : goal.returns-in_err-last-clause-last
+returns-in_err-last-clause-last c = IfOk-from_err c.from_residual-in_err-last.result _ c.from_residual-in_err-last.ensures.0
+
+pub returns-in_err-last-clause-whole : goal.returns-in_err-last-clause-whole
+returns-in_err-last-clause-whole c = IfOk-from_err c.from_residual-in_err-last.result _ c.from_residual-in_err-last.ensures.0
+
+pub returns-in_err-push-3-clause-line : goal.returns-in_err-push-3-clause-line
+returns-in_err-push-3-clause-line c = IfOk-from_err c.from_residual-in_err-push-3.result _ c.from_residual-in_err-push-3.ensures.0
+
+pub returns-in_err-push-3-clause-last : goal.returns-in_err-push-3-clause-last
+returns-in_err-push-3-clause-last c = IfOk-from_err c.from_residual-in_err-push-3.result _ c.from_residual-in_err-push-3.ensures.0
+
+pub returns-in_err-push-3-clause-whole : goal.returns-in_err-push-3-clause-whole
+returns-in_err-push-3-clause-whole c = IfOk-from_err c.from_residual-in_err-push-3.result _ c.from_residual-in_err-push-3.ensures.0

@@ -29,3 +29,39 @@ returns-then-len-eq0-clause-firsts g c =
 
 pub join_next-requires-clause-filled : goal.join_next-requires-clause-filled
 join_next-requires-clause-filled g c = grind (arith, common_steps)
+
+pub returns-then-len-eq0-clause-capacity : goal.returns-then-len-eq0-clause-capacity
+returns-then-len-eq0-clause-capacity g c = c.remove-empty.ensures.capacity
+
+pub returns-then-len-eq0-clause-firsts_capacity : goal.returns-then-len-eq0-clause-firsts_capacity
+returns-then-len-eq0-clause-firsts_capacity g c = c.remove.ensures.capacity
+
+pub join_next-requires-clause-firsts : goal.join_next-requires-clause-firsts
+join_next-requires-clause-firsts g c = c.requires.firsts
+
+pub join_next-requires-2-clause-filled : goal.join_next-requires-2-clause-filled
+join_next-requires-2-clause-filled g c = c.join_next.ensures.filled
+
+pub join_next-requires-2-clause-firsts : goal.join_next-requires-2-clause-firsts
+join_next-requires-2-clause-firsts g c = c.join_next.ensures.firsts
+
+pub returns-clause-entries : goal.returns-clause-entries
+returns-clause-entries g c = c.join_next-2.ensures.entries ∙ c.join_next.ensures.entries
+
+pub returns-clause-filled : goal.returns-clause-filled
+returns-clause-filled g c = c.join_next-2.ensures.filled
+
+pub returns-clause-firsts : goal.returns-clause-firsts
+returns-clause-firsts g c = c.join_next-2.ensures.firsts
+
+pub returns-clause-len : goal.returns-clause-len
+returns-clause-len g c = omega (arith, c.join_next-2.ensures.len, c.join_next.ensures.len)
+
+pub returns-clause-capacity : goal.returns-clause-capacity
+returns-clause-capacity g c = c.join_next-2.ensures.capacity ∙ c.join_next.ensures.capacity
+
+pub returns-clause-firsts_len : goal.returns-clause-firsts_len
+returns-clause-firsts_len g c = omega (arith, c.join_next-2.ensures.firsts_len, c.join_next.ensures.firsts_len)
+
+pub returns-clause-firsts_capacity : goal.returns-clause-firsts_capacity
+returns-clause-firsts_capacity g c = c.join_next-2.ensures.firsts_capacity ∙ c.join_next.ensures.firsts_capacity

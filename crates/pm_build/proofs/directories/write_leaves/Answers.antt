@@ -1,3 +1,4 @@
+use Rattle.std.proofs.lemmas.Grind.{common_steps}
 use Rattle.std.proofs.Common.{◌≡◌, ◌++◌, List, ◌∙◌, ap, append_assoc, arith}
 use Rattle.std.proofs.lemmas.List.{take-append-drop, length-append}
 use Rattle.pm_directory.specs.declared.entry.DirectoryEntry.{DirectoryEntry}
@@ -28,3 +29,15 @@ loop-rest-preserved c =
       few = omega (arith, c.in_ok-push_leaf.ensures.count, i.full c.loop-rest-test.true);
       full = λ some. omega (arith, c.in_ok-push_leaf.ensures.count, i.full c.loop-rest-test.true);
     }
+
+pub push_leaf-requires-clause-each : goal.push_leaf-requires-clause-each
+push_leaf-requires-clause-each c = grind (arith, common_steps)
+
+pub push_leaf-requires-clause-ends : goal.push_leaf-requires-clause-ends
+push_leaf-requires-clause-ends c = grind (arith, common_steps)
+
+pub returns-clause-leaves : goal.returns-clause-leaves
+returns-clause-leaves c = grind (arith, common_steps)
+
+pub returns-clause-few : goal.returns-clause-few
+returns-clause-few c = grind (arith, common_steps)

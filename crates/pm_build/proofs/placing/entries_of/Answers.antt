@@ -1,3 +1,4 @@
+use Rattle.std.proofs.lemmas.Grind.{common_steps}
 use Rattle.std.proofs.Common.{◌≡◌, ◌+◌, ℕ, List, [], length, map, take, get_or, Some, refl, sym, ap, subst, ◌∙◌, arith}
 use Rattle.std.specs.List.{concat}
 use Rattle.std.proofs.lemmas.List.{length_push, take_all}
@@ -42,3 +43,6 @@ returns-clause-placed c =
     let all : take c.loop-run.run-index c.args.runs.now ≡ c.args.runs.now = take_all c.loop-run.run-index c.args.runs.now (omega arith) in
     placed_all (run_views cs c.args.runs.now) c.loop-run.entries.items cs
     (subst (λ (runs : List Run). EachPlaced cs (run_views cs runs) c.loop-run.entries.items) all c.loop-run.invariant.placed) c.requires.contents
+
+pub stored_at-stored-requires : goal.stored_at-stored-requires
+stored_at-stored-requires c = grind (arith, common_steps)

@@ -1,3 +1,4 @@
+use Rattle.std.proofs.lemmas.Grind.{common_steps}
 use Rattle.std.proofs.lemmas.List.{take_at}
 use Rattle.pm_build.specs.declared.run.Run.{Run}
 use Rattle.pm_build.proofs.Adding.{joined_there}
@@ -21,3 +22,27 @@ returns-clause-unchanged c =
     let same = c.if-join_last.ensures.unchanged ∙ c.deref_mut.ensures.value in
     subst (λ (runs : List Run). OnErr c.begin_run.result (c.begin_run.new.runs.items ≡ runs))
     (restored _ c.join_last.new.runs items same (omega (arith, c.args.runs.now.ok))) c.begin_run.ensures.unchanged
+
+pub returns-then-join_last-clause-added : goal.returns-then-join_last-clause-added
+returns-then-join_last-clause-added c = grind (arith, common_steps)
+
+pub returns-then-join_last-clause-places : goal.returns-then-join_last-clause-places
+returns-then-join_last-clause-places c = grind (arith, common_steps)
+
+pub returns-then-join_last-clause-few : goal.returns-then-join_last-clause-few
+returns-then-join_last-clause-few c = grind (arith, common_steps)
+
+pub returns-then-join_last-clause-many : goal.returns-then-join_last-clause-many
+returns-then-join_last-clause-many c = grind (arith, common_steps)
+
+pub begin_run-requires-clause-few : goal.begin_run-requires-clause-few
+begin_run-requires-clause-few c = grind (arith, common_steps)
+
+pub begin_run-requires-clause-places : goal.begin_run-requires-clause-places
+begin_run-requires-clause-places c = grind (arith, common_steps)
+
+pub returns-clause-added : goal.returns-clause-added
+returns-clause-added c = grind (arith, common_steps)
+
+pub returns-clause-many : goal.returns-clause-many
+returns-clause-many c = grind (arith, common_steps)

@@ -1,3 +1,4 @@
+use Rattle.std.proofs.lemmas.Grind.{common_steps}
 use Rattle.std.proofs.Common.{◌-◌, ◌<◌, length, refl, sym, ◌∙◌, arith}
 use Rattle.std.proofs.lemmas.Bool.Decides.{nat_tests}
 use Rattle.pm_build.specs.declared.run.Run.{Run}
@@ -33,3 +34,18 @@ returns-clause-runs c =
     let runs = c.args.runs.now in
     let more : 0 < length runs = grind (arith, nat_tests, c.is_empty.ensures, c.if-is_empty.false) in
     last_set c.args.contents.now runs (length runs - 1) none _ (omega (arith, more)) refl
+
+pub goes_on-requires-clause-place : goal.goes_on-requires-clause-place
+goes_on-requires-clause-place c = grind (arith, common_steps)
+
+pub returns-then-not-goes_on-clause-runs : goal.returns-then-not-goes_on-clause-runs
+returns-then-not-goes_on-clause-runs c = grind (arith, common_steps)
+
+pub returns-then-not-goes_on-clause-places : goal.returns-then-not-goes_on-clause-places
+returns-then-not-goes_on-clause-places c = grind (arith, common_steps)
+
+pub returns-then-not-goes_on-clause-unchanged : goal.returns-then-not-goes_on-clause-unchanged
+returns-then-not-goes_on-clause-unchanged c = grind (arith, common_steps)
+
+pub returns-clause-places : goal.returns-clause-places
+returns-clause-places c = grind (arith, common_steps)

@@ -1,3 +1,4 @@
+use Rattle.std.proofs.lemmas.Grind.{common_steps}
 use Rattle.std.proofs.Common.{◌<◌, ◌^◌, length, true, ap, subst, arith}
 use Rattle.std.specs.Prelude.{All, option_to_list}
 use Rattle.edit_text.specs.Views.{points_view}
@@ -22,3 +23,6 @@ returns-clause-drawable c =
     let few : length ring < 2 ^ 29 = omega (arith, ap length is, short, c.requires.few) in
     subst (λ r. All (IsDrawable true at.x at.y) (option_to_list (shown_ring c.args.role r))) is
     (shown_drawable at.x at.y c.args.role ring few c.in_ok-gather_ring.ensures.of_tile)
+
+pub returns-clause-ring : goal.returns-clause-ring
+returns-clause-ring c = grind (arith, common_steps)

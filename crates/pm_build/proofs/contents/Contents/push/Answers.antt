@@ -1,3 +1,4 @@
+use Rattle.std.proofs.lemmas.Grind.{common_steps}
 use Rattle.std.proofs.Common.{◌≡◌, ◌++◌, ◌∷◌, [], ℕ, List, length, refl, ap, ◌∙◌, arith}
 use Rattle.pm_build.specs.declared.contents.Stored.{Stored}
 use Rattle.pm_build.proofs.Storing.{IsGrownStore, store_same, store_grown}
@@ -33,3 +34,6 @@ invariant_of-self-2 c = (grown c).store
 
 pub returns-clause-contents : goal.returns-clause-contents
 returns-clause-contents c = (grown c).view_is ∙ ap (λ (cs : List (List ℕ)). cs ++ c.args.content.now ∷ []) c.self.view_is
+
+pub returns-clause-place : goal.returns-clause-place
+returns-clause-place c = grind (arith, common_steps)
