@@ -4,7 +4,7 @@ use crate::places::List;
 use crate::refusals::{Refusal, refusal_of};
 use crate::rooms::{Found, Room, fails_too_often};
 use crate::waits::{MAX_KEPT, Waits};
-use std::io::{ErrorKind, Write};
+use std::io::Write;
 use std::net::OpenStream;
 use std::time::Duration;
 
@@ -15,10 +15,10 @@ impl<S: OpenStream + Drop> Room<S> {
     /// The connection that is closed for one that comes: one that has ended, or else the one that has waited longest for a request, if it
     /// has waited for a second and has sent nothing.
     fn giving_way(&self, now: Duration) -> Option<usize> {
-        if let Some(key) = self.places.first(List::Ended) {
+        if let Some(key) = self.places.ends(List::Ended).first {
             return Some(key);
         }
-        let key = self.places.first(List::Idle)?;
+        let key = self.places.ends(List::Idle).first?;
         match self.places.get(key) {
             Some(kept) if kept.may_give_way(now) => Some(key),
             _ => None,
@@ -43,25 +43,26 @@ impl<S: OpenStream + Drop> Room<S> {
         }
     }
 
-    /// What follows if a connection couldn't be accepted.
+    /// What follows if a connection wasn't accepted. Returns `false` if no more are served.
     fn refused<L: Waits<Stream = S>, W: Write>(
         &mut self,
         now: Duration,
         listener: &mut L,
         refusal: Refusal,
         log: &mut W,
-    ) -> Found<S> {
-        if refusal == Refusal::Passing && !fails_too_often(&mut self.failed_accepts) {
-            return Found::Nothing;
-        }
-        if refusal == Refusal::Full && self.places.count() > 0 {
-            self.give_way(now, listener, log);
-            return Found::Nothing;
-        }
-        if self.end_any(now, log) {
-            Found::Nothing
-        } else {
-            Found::Over
+    ) -> bool {
+        match refusal {
+            Refusal::Empty => {
+                self.failed_accepts = 0;
+                self.comes = false;
+                true
+            }
+            Refusal::Passing if !fails_too_often(&mut self.failed_accepts) => true,
+            Refusal::Full if self.places.count() > 0 => {
+                self.give_way(now, listener, log);
+                true
+            }
+            _ => self.end_any(now, log),
         }
     }
 
@@ -77,17 +78,17 @@ impl<S: OpenStream + Drop> Room<S> {
             self.give_way(now, listener, log);
             return Found::Nothing;
         }
-        match listener.accept() {
+        let refusal = match listener.accept() {
             Ok(stream) => {
                 self.failed_accepts = 0;
-                Found::New(stream)
+                return Found::New(stream);
             }
-            Err(e) if e.kind() == ErrorKind::WouldBlock => {
-                self.failed_accepts = 0;
-                self.comes = false;
-                Found::Nothing
-            }
-            Err(e) => self.refused(now, listener, refusal_of(&e), log),
+            Err(error) => refusal_of(&error),
+        };
+        if self.refused(now, listener, refusal, log) {
+            Found::Nothing
+        } else {
+            Found::Over
         }
     }
 }

@@ -159,7 +159,8 @@ where
     let outcome = add_part(handler, unsent, &mut kept.output);
     room.spend(clock, start);
     let now = room.now(clock);
-    room.parted(now, kept, outcome, log);
+    let ending = kept.send_part(now, outcome);
+    room.keep_or_end(now, kept, ending, log);
 }
 
 /// Serves this many connections of a listener by turns, and writes a line to the log as each ends: `connection I: R requests, END`. I

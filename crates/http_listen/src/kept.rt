@@ -4,16 +4,19 @@ ghost use Rattle.http_serve.specs.declared.connection.ServeFault.TheVariants.{Me
 ghost use Rattle.http_listen.specs.Lines.{result_word, replied_requests};
 
 use crate::inputs::Input;
+use crate::lines::write_line;
 use crate::outputs::Output;
 use crate::paced::{is_passing, nanoseconds_of};
-use crate::paces::Pace;
+use crate::paces::{Pace, Stage};
 use crate::places::List;
 use crate::readiness::Readiness;
 use crate::rests::{Unsent, once_sent};
+use crate::turns::Next;
 use http_requests::{MAX_REQUEST, Scanned};
 use http_serve::{End, ServeFault, Served};
 use std::alloc::Global;
 use std::io::{self, ErrorKind, Read, Write};
+use std::net::{OpenStream, Shutdown};
 use std::time::Duration;
 
 /// How many seconds a peer is waited for that sends nothing after its last reply.
@@ -33,6 +36,9 @@ const NOTHING: Result<Served, ServeFault> = Ok(Served {
     requests: 0,
     end: End::Closed,
 });
+
+/// What a connection came to, if it ends.
+pub(crate) type Ending = Option<Result<Served, ServeFault>>;
 
 /// What is known of a connection, beside its bytes.
 #[derive(Clone, Copy)]
@@ -93,7 +99,7 @@ impl<S> Kept<S> {
             turn,
             input: Input::new(alloc),
             output: Output::new(alloc),
-            pace: Pace::new(),
+            pace: Pace::begin(Stage::Idle),
         }
     }
 
@@ -107,24 +113,6 @@ impl<S> Kept<S> {
         !self.output.waiting().is_empty()
     }
 
-    /// The rest of a content of which the next part is to be read, since all bytes before it were sent.
-    pub(crate) fn due(&self) -> Option<Unsent> {
-        if self.has_output() {
-            None
-        } else {
-            self.turn.unsent
-        }
-    }
-
-    /// Whether it may have its turn.
-    fn may_turn(&self) -> bool {
-        if self.sends() {
-            self.turn.ready.writes
-        } else {
-            self.turn.ready.reads || self.turn.searches
-        }
-    }
-
     /// Whether its stream is watched by this key for what it waits for.
     fn is_watched(&self, key: usize) -> bool {
         match self.turn.watched {
@@ -135,7 +123,12 @@ impl<S> Kept<S> {
 
     /// The list that it is to be in, at this key.
     pub(crate) fn list(&self, key: usize) -> List {
-        if self.may_turn() {
+        let may_turn = if self.sends() {
+            self.turn.ready.writes
+        } else {
+            self.turn.ready.reads || self.turn.searches
+        };
+        if may_turn {
             List::Ready
         } else if !self.is_watched(key) {
             List::Unwatched
@@ -156,7 +149,7 @@ impl<S> Kept<S> {
 
     /// When its peer has no time left, in nanoseconds.
     pub(crate) fn deadline(&self) -> u64 {
-        let mut left = self.pace.left();
+        let mut left = self.pace.left;
         if self.turn.drops.is_some() {
             left = left.min(LAST_WAIT_SECONDS * 1_000_000_000);
         }
@@ -178,6 +171,12 @@ impl<S> Kept<S> {
         } else {
             NOTHING
         }
+    }
+
+    /// Writes its line to the log: what its last stretch came to, with the requests that got a whole reply before.
+    pub(crate) fn log_end<W: Write>(&self, outcome: Result<Served, ServeFault>, log: &mut W) {
+        let outcome = with_earlier(outcome, self.turn.requests);
+        let _ = write_line(log, self.turn.number, outcome);
     }
 
     /// How many bytes of the input can be answered: a request, or bytes that are none, whatever follows, or all bytes at the input's end.
@@ -222,11 +221,6 @@ impl<S> Kept<S> {
         }
     }
 
-    /// One part more of a content was read, and this is left of it.
-    pub(crate) fn leave(&mut self, unsent: Option<Unsent>) {
-        self.turn.unsent = unsent;
-    }
-
     /// The replies of its last stretch were sent.
     pub(crate) fn replied(&mut self, now: Duration) {
         self.output.clear();
@@ -240,31 +234,51 @@ impl<S> Kept<S> {
     }
 
     /// The connection has ended, and what its peer still sends is dropped.
-    pub(crate) fn begin_drop(&mut self, now: Duration) {
+    fn begin_drop(&mut self, now: Duration) {
         self.turn.drops = Some(MAX_DROPPED);
         self.turn.searches = false;
         self.turn.unsent = None;
         self.output.clear();
         self.input.drop_front(usize::MAX);
-        self.pace = Pace::new();
+        self.pace = Pace::begin(Stage::Idle);
         self.turn.since = now;
     }
 }
 
+impl<S: OpenStream> Kept<S> {
+    /// Ends the connection, and writes its line to the log. Unless its peer reads no last reply, or sends no more, what it still sends is
+    /// dropped for a while, so that it reads its last reply, and not that the connection was reset (RFC 9112, 9.6). Returns whether that is
+    /// so: otherwise the stream is closed.
+    pub(crate) fn end<W: Write>(
+        &mut self,
+        now: Duration,
+        outcome: Result<Served, ServeFault>,
+        log: &mut W,
+    ) -> bool {
+        self.log_end(outcome, log);
+        if outcome.is_err() || self.turn.ended || self.stream.shutdown(Shutdown::Write).is_err() {
+            return false;
+        }
+        self.begin_drop(now);
+        true
+    }
+}
+
 impl<S: Read> Kept<S> {
-    /// A read failed: nothing has come yet, or nothing will.
-    fn not_read(&mut self, error: &io::Error) -> Result<bool, ServeFault> {
+    /// A read failed. Whether bytes may come yet.
+    fn may_read_again(&mut self, error: &io::Error) -> bool {
         if error.kind() == ErrorKind::WouldBlock {
             self.turn.ready.reads = false;
         }
-        if is_passing(error) {
-            return Ok(false);
-        }
-        Err(ServeFault::Read { requests: 0 })
+        is_passing(error)
     }
 
-    /// Makes one read. Whether the input is to be searched, since bytes or its end came.
-    pub(crate) fn receive(&mut self, now: Duration) -> Result<bool, ServeFault> {
+    /// Makes one read, and searches the input for a request, if bytes or its end came. If all connections hold too much, one that has begun
+    /// a request is ended.
+    pub(crate) fn receive(&mut self, now: Duration, is_full: bool) -> Next {
+        if is_full && self.input.len() > 0 {
+            return Next::Rests(Some(Err(ServeFault::Memory)));
+        }
         let mut piece = [0; PIECE];
         let space = MAX_REQUEST.saturating_sub(self.input.len()).min(PIECE);
         match self.stream.read(&mut piece[..space]) {
@@ -272,14 +286,15 @@ impl<S: Read> Kept<S> {
             Ok(count) => {
                 self.turn.ready = self.turn.ready.read(count >= space);
                 if self.input.add(&piece[..count]).is_err() {
-                    return Err(ServeFault::Memory);
+                    return Next::Rests(Some(Err(ServeFault::Memory)));
                 }
             }
-            Err(e) => return self.not_read(&e),
+            Err(e) if self.may_read_again(&e) => return Next::Rests(None),
+            Err(_) => return Next::Rests(Some(Err(ServeFault::Read { requests: 0 }))),
         }
         self.pace = self.pace_at(now).received();
         self.turn.since = now;
-        Ok(true)
+        self.search(now)
     }
 
     /// Makes one read, and drops what it gives. Whether more may come.
@@ -293,7 +308,7 @@ impl<S: Read> Kept<S> {
                 self.turn.since = now;
                 count > 0 && left > count && !self.pace.is_over()
             }
-            Err(e) => self.not_read(&e).is_ok(),
+            Err(e) => self.may_read_again(&e),
         }
     }
 }
@@ -319,10 +334,7 @@ impl<S: Write> Kept<S> {
 }
 
 /// What a connection came to with its last stretch, before which this many requests got a whole reply.
-pub(crate) fn with_earlier(
-    outcome: Result<Served, ServeFault>,
-    earlier: u64,
-) -> Result<Served, ServeFault>
+fn with_earlier(outcome: Result<Served, ServeFault>, earlier: u64) -> Result<Served, ServeFault>
     ensures word { result_word result ≡ result_word outcome }
     ensures requests { outcome ≢ Err Memory → replied_requests result ≡ min (replied_requests outcome + earlier) (2 ^ 64 - 1) }
 {

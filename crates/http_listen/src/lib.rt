@@ -16,6 +16,7 @@ mod refusals;
 mod rests;
 mod rooms;
 mod system_listener;
+mod turns;
 mod waiting;
 mod waits;
 mod writers;

@@ -29,14 +29,14 @@ pub(crate) enum Stage {
 pub(crate) struct Pace {
     stage: Stage,
     /// The time that is left, in nanoseconds.
-    left: u64,
+    pub(crate) left: u64,
     /// How many bytes were sent that haven't earned a second yet.
     spare: u64,
 }
 
 impl Pace {
     /// The beginning of a stage.
-    fn begin(stage: Stage) -> Pace
+    pub(crate) fn begin(stage: Stage) -> Pace
         ensures { result ≡ begun stage }
     {
         Pace {
@@ -44,13 +44,6 @@ impl Pace {
             left: WAIT_SECONDS * SECOND,
             spare: 0,
         }
-    }
-
-    /// A connection of which nothing was read.
-    pub(crate) fn new() -> Pace
-        ensures { result ≡ begun Idle }
-    {
-        Pace::begin(Stage::Idle)
     }
 
     /// A read is to be made, with nothing of a request there, or a part of one. The first read after a reply begins a stage.
@@ -106,13 +99,6 @@ impl Pace {
             spare: (unpaid % u128::from(BYTES_A_SECOND)) as u64,
             ..self
         }
-    }
-
-    /// The time that is left, in nanoseconds.
-    pub(crate) fn left(self) -> u64
-        ensures { result ≡ self.left }
-    {
-        self.left
     }
 
     /// Whether no time is left.

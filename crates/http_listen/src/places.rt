@@ -25,10 +25,10 @@ pub(crate) enum List {
 
 /// The keys of the first and the last connection of a list, and how many it has.
 #[derive(Clone, Copy)]
-struct Ends {
-    first: Option<usize>,
+pub(crate) struct Ends {
+    pub(crate) first: Option<usize>,
     last: Option<usize>,
-    count: usize,
+    pub(crate) count: usize,
 }
 
 const EMPTY: Ends = Ends {
@@ -58,10 +58,10 @@ pub struct Places<S> {
     idle: Ends,
     busy: Ends,
     ended: Ends,
-    /// How many bytes they hold.
-    held: usize,
+    /// How many bytes of requests and replies they hold.
+    pub(crate) held: usize,
     /// On how many the replies take more than `MAX_OUTPUT` bytes.
-    large: usize,
+    pub(crate) large: usize,
 }
 
 impl<S> Places<S> {
@@ -97,18 +97,8 @@ impl<S> Places<S> {
         }
     }
 
-    /// How many bytes of requests and replies they hold.
-    pub(crate) fn held(&self) -> usize {
-        self.held
-    }
-
-    /// On how many the replies take more than `MAX_OUTPUT` bytes.
-    pub(crate) fn large(&self) -> usize {
-        self.large
-    }
-
     /// The ends of a list.
-    fn ends(&self, list: List) -> Ends {
+    pub(crate) fn ends(&self, list: List) -> Ends {
         match list {
             List::Ready => self.ready,
             List::Unwatched => self.unwatched,
@@ -131,21 +121,14 @@ impl<S> Places<S> {
         }
     }
 
-    /// How many connections a list has.
-    pub(crate) fn count_of(&self, list: List) -> usize {
-        self.ends(list).count
-    }
-
-    /// The key of the first connection of a list.
-    pub(crate) fn first(&self, list: List) -> Option<usize> {
-        self.ends(list).first
-    }
-
     /// The key of some connection, if there is one.
     pub(crate) fn any(&self) -> Option<usize> {
-        let waiting = self.first(List::Ended).or(self.first(List::Idle));
-        let working = self.first(List::Busy).or(self.first(List::Unwatched));
-        waiting.or(working).or(self.first(List::Ready))
+        let waiting = self.ends(List::Ended).first.or(self.ends(List::Idle).first);
+        let working = self
+            .ends(List::Busy)
+            .first
+            .or(self.ends(List::Unwatched).first);
+        waiting.or(working).or(self.ends(List::Ready).first)
     }
 
     /// Sets which connection of a list comes after another one, or after `None` as its first. `None` ends the list.
@@ -314,12 +297,6 @@ impl<S> Places<S> {
         self.held = self.held.saturating_sub(held);
         self.large = self.large.saturating_sub(usize::from(is_large));
         Some(kept)
-    }
-
-    /// Takes the first connection out that may have its turn.
-    pub(crate) fn take_ready(&mut self) -> Option<Kept<S>> {
-        let key = self.first(List::Ready)?;
-        self.take(key)
     }
 
     /// Reports what the stream of the connection at a key has become ready for. If there is none, nothing happens.

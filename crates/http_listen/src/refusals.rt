@@ -13,8 +13,10 @@ const EPROTO: i32 = 71;
 const ENOBUFS: i32 = 105;
 
 /// What a failed accept means.
-#[derive(Clone, Copy, PartialEq, Eq)]
+#[derive(Clone, Copy)]
 pub(crate) enum Refusal {
+    /// No connection has come.
+    Empty,
     /// This one failed, or a signal came: the next may be accepted.
     Passing,
     /// Descriptors or memory ran out: a stream must be closed first.
@@ -32,14 +34,14 @@ pub(crate) fn refusal_of(error: &io::Error) -> Refusal {
         _ => {}
     }
     match error.kind() {
+        ErrorKind::WouldBlock => Refusal::Empty,
         ErrorKind::ConnectionAborted
         | ErrorKind::ConnectionReset
         | ErrorKind::HostUnreachable
         | ErrorKind::Interrupted
         | ErrorKind::NetworkDown
         | ErrorKind::NetworkUnreachable
-        | ErrorKind::TimedOut
-        | ErrorKind::WouldBlock => Refusal::Passing,
+        | ErrorKind::TimedOut => Refusal::Passing,
         _ => Refusal::Final,
     }
 }

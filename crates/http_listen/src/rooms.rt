@@ -1,17 +1,18 @@
 //! The open connections, and whose turn it is.
-ghost use Rattle.std.specs.Prelude.{◌≡◌, true};
+ghost use Rattle.std.specs.Prelude.{◌≡◌, ◌≢◌, Some, true};
+ghost use Rattle.http_listen.specs.declared.rooms.Found.{Found};
 ghost use Rattle.http_listen.specs.declared.rooms.Found.TheVariants.{New};
 
 use crate::deadlines::Deadlines;
-use crate::kept::{Kept, with_earlier};
-use crate::lines::write_line;
-use crate::places::Places;
+use crate::kept::{Ending, Kept};
+use crate::places::{List, Places};
 use crate::rests::Unsent;
+use crate::turns::Next;
 use crate::waits::Waits;
 use http_serve::{ServeFault, Served};
 use std::alloc::Global;
 use std::io::{Read, Write};
-use std::net::{OpenStream, Shutdown};
+use std::net::OpenStream;
 use std::time::{Clock, Duration};
 
 /// The maximum number of bytes of replies that wait on a connection: 1 MiB.
@@ -115,30 +116,24 @@ impl<S> Room<S> {
 
     /// Whether the connections hold so much that no more is taken.
     fn is_full(&self) -> bool {
-        self.places.held() >= MAX_HELD
+        self.places.held >= MAX_HELD
     }
 
     /// How many bytes of replies may wait on the connection that is answered next.
     pub(crate) fn output_limit(&self) -> usize {
         if self.is_full() {
             0
-        } else if self.places.large() < MAX_LARGE {
+        } else if self.places.large < MAX_LARGE {
             MAX_LARGE_OUTPUT
         } else {
             MAX_OUTPUT
         }
     }
-
-    /// Takes the next connection out that has its turn in this round.
-    fn take_turn(&mut self) -> Option<Kept<S>> {
-        self.round = self.round.checked_sub(1)?;
-        self.places.take_ready()
-    }
 }
 
 impl<S: OpenStream + Drop> Room<S> {
     /// Keeps a connection up to its next turn. If memory runs out, it is closed. Returns its key.
-    fn put<W: Write>(&mut self, kept: Kept<S>, log: &mut W) -> Option<usize> {
+    fn keep<W: Write>(&mut self, kept: Kept<S>, log: &mut W) -> Option<usize> {
         self.deadlines.note(kept.deadline());
         if !kept.sends() {
             self.may_stop = true;
@@ -147,47 +142,43 @@ impl<S: OpenStream + Drop> Room<S> {
             Ok(key) => Some(key),
             Err(kept) => {
                 if kept.turn.drops.is_none() {
-                    let _ = write_line(
-                        log,
-                        kept.turn.number,
-                        with_earlier(kept.given_up(), kept.turn.requests),
-                    );
+                    kept.log_end(kept.given_up(), log);
                 }
                 None
             }
         }
     }
 
-    /// Keeps a connection up to its next turn. If memory runs out, it is closed.
-    pub(crate) fn keep<W: Write>(&mut self, kept: Kept<S>, log: &mut W) {
-        self.put(kept, log);
-    }
-
-    /// Keeps a new connection, which has its first turn next.
-    fn keep_first<W: Write>(&mut self, kept: Kept<S>, log: &mut W) {
-        if let Some(key) = self.put(kept, log) {
-            self.places.move_first(key);
-            self.round = self.round.saturating_add(1);
-        }
-    }
-
-    /// Ends a connection, and writes its line to the log. Unless its peer reads no last reply, or sends no more, what it still sends is
-    /// dropped for a while, so that it reads its last reply, and not that the connection was reset (RFC 9112, 9.6).
-    pub(crate) fn end<W: Write>(
+    /// Keeps a connection up to its next turn, or ends it, if it came to an end.
+    pub(crate) fn keep_or_end<W: Write>(
         &mut self,
         now: Duration,
         mut kept: Kept<S>,
+        ending: Ending,
+        log: &mut W,
+    ) {
+        let is_kept = match ending {
+            Some(outcome) => kept.end(now, outcome, log),
+            None => true,
+        };
+        if is_kept {
+            self.keep(kept, log);
+        }
+    }
+
+    /// Keeps a new connection, which has its first turn next, unless it couldn't be served.
+    pub(crate) fn opened<W: Write>(
+        &mut self,
+        kept: Kept<S>,
         outcome: Result<Served, ServeFault>,
         log: &mut W,
     ) {
-        let _ = write_line(
-            log,
-            kept.turn.number,
-            with_earlier(outcome, kept.turn.requests),
-        );
-        if outcome.is_ok() && !kept.turn.ended && kept.stream.shutdown(Shutdown::Write).is_ok() {
-            kept.begin_drop(now);
-            self.keep(kept, log);
+        if outcome.is_err() {
+            return self.keep_or_end(kept.turn.since, kept, Some(outcome), log);
+        }
+        if let Some(key) = self.keep(kept, log) {
+            self.places.move_first(key);
+            self.round = self.round.saturating_add(1);
         }
     }
 
@@ -197,37 +188,14 @@ impl<S: OpenStream + Drop> Room<S> {
             return;
         };
         if kept.turn.drops.is_none() {
-            let outcome = kept.given_up();
-            self.end(now, kept, outcome, log);
+            let ending = Some(kept.given_up());
+            self.keep_or_end(now, kept, ending, log);
         }
     }
 }
 
 impl<S: Read + Write + OpenStream + Drop> Room<S> {
-    /// Sends what a connection can take of its replies. If it has taken all, it goes on, or ends. If there is a rest to be read, it is
-    /// kept until its stream can take more.
-    fn send<W: Write>(&mut self, now: Duration, mut kept: Kept<S>, log: &mut W) {
-        if kept.has_output() {
-            if let Err(fault) = kept.send(now) {
-                return self.end(now, kept, Err(fault), log);
-            }
-        }
-        if kept.sends() && kept.pace.is_over() {
-            let fault = ServeFault::Write { requests: 0 };
-            return self.end(now, kept, Err(fault), log);
-        }
-        if kept.sends() {
-            return self.keep(kept, log);
-        }
-        if kept.turn.last {
-            let outcome = kept.turn.outcome;
-            return self.end(now, kept, outcome, log);
-        }
-        kept.replied(now);
-        self.keep(kept, log);
-    }
-
-    /// The first `end` bytes of a connection's input were answered.
+    /// The first `end` bytes of a connection's input were answered: begins to send the replies.
     pub(crate) fn answered<W: Write>(
         &mut self,
         now: Duration,
@@ -237,105 +205,24 @@ impl<S: Read + Write + OpenStream + Drop> Room<S> {
         log: &mut W,
     ) {
         kept.answered(now, end, outcome);
-        self.send(now, kept, log);
+        let ending = kept.send_replies(now);
+        self.keep_or_end(now, kept, ending, log);
     }
 
-    /// The next part of a content was added to a connection's output, and this is left of it, or it couldn't be read.
-    pub(crate) fn parted<W: Write>(
-        &mut self,
-        now: Duration,
-        mut kept: Kept<S>,
-        outcome: Result<Option<Unsent>, ServeFault>,
-        log: &mut W,
-    ) {
-        match outcome {
-            Ok(unsent) => {
-                kept.leave(unsent);
-                self.send(now, kept, log);
-            }
-            Err(fault) => self.end(now, kept, Err(fault), log),
+    /// Gives the next connection of this round its turn, if there is one. Returns what is to be done then.
+    fn give_turn<W: Write>(&mut self, now: Duration, log: &mut W) -> Option<Found<S>>
+        ensures { (found : Found S) → result ≡ Some found → (stream : S) → found ≢ New stream }
+    {
+        self.round = self.round.checked_sub(1)?;
+        let key = self.places.ends(List::Ready).first?;
+        let mut kept = self.places.take(key)?;
+        match kept.take_turn(now, self.is_full()) {
+            Next::Asks(end) => return Some(Found::Asks(kept, end)),
+            Next::Reads(unsent) => return Some(Found::Reads(kept, unsent)),
+            Next::Rests(ending) => self.keep_or_end(now, kept, ending, log),
+            Next::Closes => drop(kept),
         }
-    }
-
-    /// Keeps a new connection, unless it couldn't be served.
-    pub(crate) fn opened<W: Write>(
-        &mut self,
-        kept: Kept<S>,
-        outcome: Result<Served, ServeFault>,
-        log: &mut W,
-    ) {
-        match outcome {
-            Ok(_) => self.keep_first(kept, log),
-            Err(fault) => self.end(kept.turn.since, kept, Err(fault), log),
-        }
-    }
-
-    /// Searches the input of a connection for a request. If there is none, more is waited for.
-    fn search<W: Write>(
-        &mut self,
-        now: Duration,
-        mut kept: Kept<S>,
-        log: &mut W,
-    ) -> Option<(Kept<S>, usize)> {
-        if let Some(end) = kept.asked() {
-            kept.pace = kept.pace.writes();
-            return Some((kept, end));
-        }
-        kept.begin_read(now);
-        if kept.pace.is_over() {
-            let fault = ServeFault::Read { requests: 0 };
-            self.end(now, kept, Err(fault), log);
-        } else {
-            self.keep(kept, log);
-        }
-        None
-    }
-
-    /// Reads once from a connection. If all hold too much, one that has begun a request is ended.
-    fn receive<W: Write>(
-        &mut self,
-        now: Duration,
-        mut kept: Kept<S>,
-        log: &mut W,
-    ) -> Option<(Kept<S>, usize)> {
-        if self.is_full() && kept.input.len() > 0 {
-            self.end(now, kept, Err(ServeFault::Memory), log);
-            return None;
-        }
-        match kept.receive(now) {
-            Ok(true) => self.search(now, kept, log),
-            Ok(false) => {
-                self.keep(kept, log);
-                None
-            }
-            Err(fault) => {
-                self.end(now, kept, Err(fault), log);
-                None
-            }
-        }
-    }
-
-    /// Gives a connection its turn: a read, or a write. No request is looked for while replies wait.
-    fn turn<W: Write>(
-        &mut self,
-        now: Duration,
-        mut kept: Kept<S>,
-        log: &mut W,
-    ) -> Option<(Kept<S>, usize)> {
-        if let Some(left) = kept.turn.drops {
-            if kept.drop_piece(now, left) {
-                self.keep(kept, log);
-            }
-            return None;
-        }
-        if kept.sends() {
-            self.send(now, kept, log);
-            return None;
-        }
-        if kept.turn.searches {
-            return self.search(now, kept, log);
-        }
-        self.receive(now, kept, log)
+        Some(Found::Nothing)
     }
 
     /// What is to be done next: the turns of a round, then the connections that come, and then a wait for the next round.
@@ -353,14 +240,8 @@ impl<S: Read + Write + OpenStream + Drop> Room<S> {
         if stops {
             self.end_stopped(now, log);
         }
-        if let Some(kept) = self.take_turn() {
-            if let Some(unsent) = kept.due() {
-                return Found::Reads(kept, unsent);
-            }
-            return match self.turn(now, kept, log) {
-                Some((kept, end)) => Found::Asks(kept, end),
-                None => Found::Nothing,
-            };
+        if let Some(found) = self.give_turn(now, log) {
+            return found;
         }
         if accepts && !stops && self.may_accept(now) {
             return self.accept(now, listener, log);

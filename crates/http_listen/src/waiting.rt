@@ -25,7 +25,7 @@ impl<S> Room<S> {
 
     /// How long the connections are waited for at most.
     fn longest(&self, now: Duration, accepts: bool) -> Duration {
-        if self.places.count_of(List::Ready) > 0 {
+        if self.places.ends(List::Ready).count > 0 {
             return Duration::ZERO;
         }
         let look = Duration::from_nanos(self.deadlines.left(nanoseconds_of(now)));
@@ -96,8 +96,8 @@ impl<S: OpenStream + Drop> Room<S> {
         listener: &mut L,
         log: &mut W,
     ) {
-        for _ in 0..self.places.count_of(List::Unwatched) {
-            let Some(key) = self.places.first(List::Unwatched) else {
+        for _ in 0..self.places.ends(List::Unwatched).count {
+            let Some(key) = self.places.ends(List::Unwatched).first else {
                 return;
             };
             if !self.places.watch(key, listener) {
@@ -118,17 +118,18 @@ impl<S: OpenStream + Drop> Room<S> {
         self.watch_all(now, listener, log);
         let longest = self.longest(now, accepts);
         let outcome = listener.wait(longest, &mut self.places);
-        self.round = self.places.count_of(List::Ready);
+        self.round = self.places.ends(List::Ready).count;
         self.accepts = MAX_ACCEPTS;
         match outcome {
             Ok(comes) => {
                 self.failed_waits = 0;
                 self.comes = self.comes || comes;
             }
-            Err(e)
-                if e.kind() == ErrorKind::Interrupted && !fails_too_often(&mut self.failed_waits) =>
-                return true,
-            Err(_) => return self.end_any(now, log),
+            Err(error) => {
+                let passes = error.kind() == ErrorKind::Interrupted
+                    && !fails_too_often(&mut self.failed_waits);
+                return passes || self.end_any(now, log);
+            }
         }
         if self.deadlines.left(nanoseconds_of(now)) == 0 {
             self.end_late(now, log);

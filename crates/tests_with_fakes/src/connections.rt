@@ -7,7 +7,7 @@ mod costs;
 mod faults;
 mod fields;
 
-use crate::streams::take_from;
+use crate::streams::{Gives, Takes, take_from};
 use http_serve::{
     Buffers, Content, ContentFault, ContentRange, Handler, Reply, Request, ServeFault, Served,
     Status, serve_with,
@@ -132,8 +132,8 @@ struct OneByOne<'a> {
     failed: usize,
 }
 
-impl Read for OneByOne<'_> {
-    fn read(&mut self, buf: &mut [u8]) -> io::Result<usize> {
+impl Gives for OneByOne<'_> {
+    fn give(&mut self, buf: &mut [u8]) -> io::Result<usize> {
         if self.rest.is_empty() {
             self.failed = self.failed.saturating_add(1);
             return Err(ErrorKind::ConnectionReset.into());
@@ -148,14 +148,10 @@ struct Counter<'a> {
     got: &'a Cell<usize>,
 }
 
-impl Write for Counter<'_> {
-    fn write(&mut self, buf: &[u8]) -> io::Result<usize> {
+impl Takes for Counter<'_> {
+    fn take(&mut self, buf: &[u8]) -> io::Result<usize> {
         self.got.set(self.got.get().saturating_add(buf.len()));
         Ok(buf.len())
-    }
-
-    fn flush(&mut self) -> io::Result<()> {
-        Ok(())
     }
 }
 

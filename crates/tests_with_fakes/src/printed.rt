@@ -1,4 +1,5 @@
 //! What is written of an archive by writers that fail. What is written by others is shown by the script of `map_runs`.
+use crate::streams::{FakeStream, Takes};
 use crate::wanted::same;
 use archive_commands::show;
 use std::alloc::{AllocError, Global};
@@ -51,8 +52,8 @@ struct Slow {
     has_failed: bool,
 }
 
-impl Write for Slow {
-    fn write(&mut self, buf: &[u8]) -> io::Result<usize> {
+impl Takes for Slow {
+    fn take(&mut self, buf: &[u8]) -> io::Result<usize> {
         if self.writes_left == 0 {
             self.has_failed = true;
             return Err(io::Error::from(ErrorKind::BrokenPipe));
@@ -65,23 +66,22 @@ impl Write for Slow {
         self.held.extend_from_slice(part)?;
         Ok(part.len())
     }
-
-    fn flush(&mut self) -> io::Result<()> {
-        Ok(())
-    }
 }
 
 /// Whether an archive is shown whole by so many writes. `None` if another text is written than the whole one or a part of it, or if a
 /// writer that failed is no fault.
 fn is_shown(alloc: Global, whole: &[u8], writes_left: u8) -> Option<bool> {
-    let mut out = Slow {
-        held: Vec::new(alloc),
-        writes_left,
-        has_failed: false,
+    let mut out = FakeStream {
+        inner: Slow {
+            held: Vec::new(alloc),
+            writes_left,
+            has_failed: false,
+        },
     };
     let is_shown = show(&SOUND, &mut out).is_ok();
-    let is_whole = out.held.len() == whole.len();
-    if is_shown == out.has_failed || is_shown != is_whole || !whole.starts_with(&out.held) {
+    let slow = &out.inner;
+    let is_whole = slow.held.len() == whole.len();
+    if is_shown == slow.has_failed || is_shown != is_whole || !whole.starts_with(&slow.held) {
         return None;
     }
     Some(is_shown)

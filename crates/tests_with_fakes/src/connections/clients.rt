@@ -1,12 +1,11 @@
 //! A client that waits for its replies, and the bound on reads.
 use super::{A, B, Counter, OneByOne, TWO, serve};
-use crate::streams::take_from;
+use crate::streams::{FakeStream, Gives, take_from};
 use crate::wanted::same;
 use http_serve::{End, MAX_READS, ServeFault, Served};
 use std::alloc::Global;
 use std::cell::Cell;
-use std::io;
-use std::io::{ErrorKind, Read};
+use std::io::{self, ErrorKind};
 
 /// A client that sends its next bytes only once it has got so many bytes of replies.
 #[derive(Clone, Copy)]
@@ -15,8 +14,8 @@ struct Client<'a> {
     got: &'a Cell<usize>,
 }
 
-impl Read for Client<'_> {
-    fn read(&mut self, buf: &mut [u8]) -> io::Result<usize> {
+impl Gives for Client<'_> {
+    fn give(&mut self, buf: &mut [u8]) -> io::Result<usize> {
         let steps = self.steps;
         let [(text, wants), rest @ ..] = steps else {
             return Ok(0);
@@ -54,10 +53,14 @@ const STEPS: [(&str, usize); 14] = [
 /// What is told to a client that takes these steps, and how many it leaves.
 fn waited(alloc: Global, steps: &[(&str, usize)]) -> Result<(Served, usize), ServeFault> {
     let got = Cell::new(0);
-    let mut client = Client { steps, got: &got };
-    let mut writer = Counter { got: &got };
+    let mut client = FakeStream {
+        inner: Client { steps, got: &got },
+    };
+    let mut writer = FakeStream {
+        inner: Counter { got: &got },
+    };
     let served = serve(alloc, &mut client, &mut writer, MAX_READS)?;
-    Ok((served, client.steps.len()))
+    Ok((served, client.inner.steps.len()))
 }
 
 const SIX: Served = Served {
@@ -76,13 +79,15 @@ const TURNS: [(u64, u64); 5] = [(0, 0), (27, 0), (28, 1), (78, 1), (81, 2)];
 /// What so many reads come to, how many bytes are left, and how many reads fail.
 fn turned(alloc: Global, turns: u64) -> Result<(Served, u64, usize), ServeFault> {
     let mut out = Vec::new(alloc);
-    let mut reader = OneByOne {
-        rest: TWO.as_bytes(),
-        failed: 0,
+    let mut reader = FakeStream {
+        inner: OneByOne {
+            rest: TWO.as_bytes(),
+            failed: 0,
+        },
     };
     let served = serve(alloc, &mut reader, &mut out, turns);
     drop(out);
-    Ok((served?, reader.rest.len() as u64, reader.failed))
+    Ok((served?, reader.inner.rest.len() as u64, reader.inner.failed))
 }
 
 /// Behind how many reads it is first otherwise, if it is.

@@ -1,10 +1,10 @@
 //! What bytes cost that come in small pieces.
 use super::{OneByOne, serve};
-use crate::streams::take_from;
+use crate::streams::{FakeStream, Gives, take_from};
 use crate::wanted::same;
 use http_serve::{MAX_READS, READ_SPACE};
 use std::alloc::{AllocError, Global};
-use std::io::{self, Read};
+use std::io;
 use std::time::CpuClock;
 
 /// A text, one that is repeated behind it, and one behind them: a head.
@@ -37,8 +37,8 @@ struct Watching<'a> {
     moved: usize,
 }
 
-impl Read for Watching<'_> {
-    fn read(&mut self, buf: &mut [u8]) -> io::Result<usize> {
+impl Gives for Watching<'_> {
+    fn give(&mut self, buf: &mut [u8]) -> io::Result<usize> {
         let room = buf.len();
         if room != self.room {
             self.moved = self.moved.saturating_add(READ_SPACE.saturating_sub(room));
@@ -69,17 +69,19 @@ fn push_requests(bytes: &mut Vec<u8>, count: usize) -> Result<(), AllocError> {
 
 /// How many of these bytes are moved, which come in pieces of this size. `None` if they aren't served.
 fn moved_among(alloc: Global, bytes: &[u8], size: usize) -> Option<usize> {
-    let mut reader = Watching {
-        rest: bytes,
-        size,
-        room: READ_SPACE,
-        moved: 0,
+    let mut reader = FakeStream {
+        inner: Watching {
+            rest: bytes,
+            size,
+            room: READ_SPACE,
+            moved: 0,
+        },
     };
     let mut out = Vec::new(alloc);
     let served = serve(alloc, &mut reader, &mut out, MAX_READS);
     drop(out);
     if served.is_ok() {
-        Some(reader.moved)
+        Some(reader.inner.moved)
     } else {
         None
     }
@@ -124,9 +126,11 @@ const FORMS: [Form; 3] = [
 /// Serves so many connections of one head each, whose bytes come one by one.
 fn serve_heads(alloc: Global, head: &[u8], count: u64) {
     for _ in 0..count {
-        let mut reader = OneByOne {
-            rest: head,
-            failed: 0,
+        let mut reader = FakeStream {
+            inner: OneByOne {
+                rest: head,
+                failed: 0,
+            },
         };
         let mut out = Vec::new(alloc);
         let _ = serve(alloc, &mut reader, &mut out, MAX_READS);

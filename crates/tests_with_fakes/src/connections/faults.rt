@@ -1,6 +1,6 @@
 //! Writes and allocations that fail.
 use super::{A, Counter, TWO, serve};
-use crate::streams::Narrow;
+use crate::streams::{FakeStream, Narrow};
 use crate::wanted::same;
 use http_serve::{End, MAX_READS, ServeFault, Served};
 use std::alloc::Global;
@@ -13,13 +13,20 @@ const WHOLE: &str =
 
 /// Whether a write that fails, or takes nothing, behind so many bytes is the only one that does, and leaves these bytes up to there.
 fn leaves_prefix(alloc: Global, room: usize, fails: bool) -> bool {
-    let mut writer = Narrow::new(alloc, room, fails);
+    let mut writer = FakeStream {
+        inner: Narrow {
+            room,
+            fails,
+            failed: 0,
+            taken: Vec::new(alloc),
+        },
+    };
     let mut reader = "GET /a HTTP/1.1\r\nhost: a\r\n\r\n\r\n".as_bytes();
     let fault = serve(alloc, &mut reader, &mut writer, MAX_READS);
     let requests = u64::from(room >= A.len());
     fault == Err(ServeFault::Write { requests })
-        && WHOLE.as_bytes().get(..room) == Some(writer.taken.as_slice())
-        && writer.failed == 1
+        && WHOLE.as_bytes().get(..room) == Some(writer.inner.taken.as_slice())
+        && writer.inner.failed == 1
 }
 
 /// Behind how many bytes it is first otherwise, if it is.
@@ -43,7 +50,9 @@ fn a_write_that_fails_leaves_a_prefix(rt: HostRuntime) {
 fn answered(alloc: Global) -> (Result<Served, ServeFault>, usize, usize) {
     let got = Cell::new(0);
     let mut reader = TWO.as_bytes();
-    let mut writer = Counter { got: &got };
+    let mut writer = FakeStream {
+        inner: Counter { got: &got },
+    };
     let told = serve(alloc, &mut reader, &mut writer, MAX_READS);
     (told, reader.len(), got.get())
 }

@@ -1,7 +1,6 @@
 //! Disks in files of the system, by their paths.
 use super::steps::Step::{Begins, Count, Fills, ReadsNot, Syncs};
 use super::steps::{Step, other_step};
-use super::variant_of;
 use crate::wanted::same;
 use file_disk::{FileDisk, FileFault, Unknown, Zeros};
 use sector_disk::Sectors;
@@ -106,18 +105,17 @@ fn holds(rt: &HostRuntime, path: &str, text: &str) -> bool {
     }
 }
 
-/// How the texts of faults of this variant begin.
-fn start_of(fault: &FileFault) -> &'static str {
+/// The name of a fault's variant, and how the texts of its faults begin.
+fn words_of(fault: &FileFault) -> (&'static str, &'static str) {
     match fault {
-        FileFault::Open(_) => "the file can't be opened: ",
-        FileFault::Create(_) => "the file can't be made: ",
-        FileFault::Grow(_) => "the file can't be filled: ",
+        FileFault::Open(_) => ("Open", "the file can't be opened: "),
+        FileFault::Create(_) => ("Create", "the file can't be made: "),
+        FileFault::Grow(_) => ("Grow", "the file can't be filled: "),
     }
 }
 
-/// Whether a fault's text begins as that of its variant, and goes on.
-fn is_told(alloc: Global, fault: &FileFault) -> bool {
-    let start = start_of(fault);
+/// Whether a fault's text begins so, and goes on.
+fn is_told(alloc: Global, fault: &FileFault, start: &str) -> bool {
     match format!(in alloc; "{fault}") {
         Ok(text) => text.starts_with(start) && text.len() > start.len(),
         Err(_) => false,
@@ -127,7 +125,10 @@ fn is_told(alloc: Global, fault: &FileFault) -> bool {
 /// Whether there is a fault, which is of this variant and tells so.
 fn is_fault(alloc: Global, fault: Option<FileFault>, variant: &str) -> bool {
     match fault {
-        Some(fault) => variant_of(&fault) == variant && is_told(alloc, &fault),
+        Some(fault) => {
+            let (name, start) = words_of(&fault);
+            name == variant && is_told(alloc, &fault, start)
+        }
         None => false,
     }
 }
@@ -143,11 +144,6 @@ fn makes_not(rt: &HostRuntime, path: &str, count: u64, variant: &str) -> bool {
     is_fault(rt.alloc(), made.err(), variant)
 }
 
-/// Whether there is a file, if that can be found out.
-fn exists(rt: &HostRuntime, path: &str) -> Option<bool> {
-    fs::exists(rt, path).ok()
-}
-
 /// Whether an act has its expected outcome.
 fn is_so(rt: &HostRuntime, path: &str, act: Act) -> bool {
     match act {
@@ -159,7 +155,7 @@ fn is_so(rt: &HostRuntime, path: &str, act: Act) -> bool {
         }
         Act::OpensNot(variant) => opens_not(rt, path, variant),
         Act::MakesNot(count, variant, is_left) => {
-            makes_not(rt, path, count, variant) && exists(rt, path) == Some(is_left)
+            makes_not(rt, path, count, variant) && fs::exists(rt, path).ok() == Some(is_left)
         }
         Act::Keeps => keeps(rt, path),
     }

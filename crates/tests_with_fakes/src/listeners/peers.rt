@@ -88,15 +88,6 @@ fn sends(peer: &TcpStream, text: &str, ends: bool) -> bool {
     writer.write_all(text.as_bytes()).is_ok() && (!ends || peer.shutdown(Shutdown::Write).is_ok())
 }
 
-impl Counter<'_> {
-    /// The peer that it was given asks once more, and sends nothing behind that.
-    fn ask_again(&self) {
-        if let Some(peer) = self.asker {
-            sends(peer, GET, true);
-        }
-    }
-}
-
 /// `0`, `1`, `2`, and then `many`.
 fn number_of(before: u64) -> &'static [u8] {
     match before {
@@ -125,8 +116,8 @@ impl Handler for Counter<'_> {
 
     fn answer(&mut self, _request: &Request<'_>) -> Reply {
         let before = self.answers;
-        if before == 1 {
-            self.ask_again();
+        if let (1, Some(peer)) = (before, self.asker) {
+            sends(peer, GET, true);
         }
         self.answers = before.saturating_add(1);
         reply_of(before)
@@ -209,22 +200,6 @@ fn connects(
     }
 }
 
-/// Whether the peers of a row connect.
-fn connects_all(
-    rt: &HostRuntime,
-    row: &Row,
-    address: SocketAddr,
-    streams: &mut Vec<TcpStream>,
-) -> bool {
-    for (sent, _) in row.peers {
-        let ends = !row.asks_again || !streams.is_empty();
-        if !connects(rt, address, sent, ends, streams) {
-            return false;
-        }
-    }
-    true
-}
-
 /// Whether the peers of a row connect to a listener.
 fn connects_to(
     rt: &HostRuntime,
@@ -232,10 +207,16 @@ fn connects_to(
     listener: &TcpListener,
     streams: &mut Vec<TcpStream>,
 ) -> bool {
-    match listener.local_addr() {
-        Ok(address) => connects_all(rt, row, address, streams),
-        Err(_) => false,
+    let Ok(address) = listener.local_addr() else {
+        return false;
+    };
+    for (sent, _) in row.peers {
+        let ends = !row.asks_again || !streams.is_empty();
+        if !connects(rt, address, sent, ends, streams) {
+            return false;
+        }
     }
+    true
 }
 
 /// Whether the peers of a row connect, and are served to the end.

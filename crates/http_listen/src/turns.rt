@@ -1,0 +1,98 @@
+//! The turn of a connection: a read, or a write.
+
+use crate::kept::{Ending, Kept};
+use crate::rests::Unsent;
+use http_serve::ServeFault;
+use std::io::{Read, Write};
+use std::time::Duration;
+
+/// What follows the turn of a connection.
+#[derive(Clone, Copy)]
+pub(crate) enum Next {
+    /// The first bytes of its input are to be answered.
+    Asks(usize),
+    /// The next part of a content is to be read.
+    Reads(Unsent),
+    /// It is kept up to its next turn, or ends, if it came to an end.
+    Rests(Ending),
+    /// It has ended before, and its stream is closed.
+    Closes,
+}
+
+impl<S: Write> Kept<S> {
+    /// Sends what the stream can take of the replies. If it has taken all, the connection goes on, or ends. If there is a rest to be read,
+    /// it waits until the stream can take more. Returns what the connection came to, if it ends.
+    pub(crate) fn send_replies(&mut self, now: Duration) -> Ending {
+        if self.has_output() {
+            if let Err(fault) = self.send(now) {
+                return Some(Err(fault));
+            }
+        }
+        if self.sends() {
+            return if self.pace.is_over() {
+                Some(Err(ServeFault::Write { requests: 0 }))
+            } else {
+                None
+            };
+        }
+        if self.turn.last {
+            return Some(self.turn.outcome);
+        }
+        self.replied(now);
+        None
+    }
+
+    /// The next part of a content was added to the output, and this is left of it, or it couldn't be read. Begins to send it.
+    pub(crate) fn send_part(
+        &mut self,
+        now: Duration,
+        outcome: Result<Option<Unsent>, ServeFault>,
+    ) -> Ending {
+        match outcome {
+            Ok(unsent) => {
+                self.turn.unsent = unsent;
+                self.send_replies(now)
+            }
+            Err(fault) => Some(Err(fault)),
+        }
+    }
+}
+
+impl<S> Kept<S> {
+    /// Searches the input for a request. If there is none, more is waited for.
+    pub(crate) fn search(&mut self, now: Duration) -> Next {
+        if let Some(end) = self.asked() {
+            self.pace = self.pace.writes();
+            return Next::Asks(end);
+        }
+        self.begin_read(now);
+        if self.pace.is_over() {
+            Next::Rests(Some(Err(ServeFault::Read { requests: 0 })))
+        } else {
+            Next::Rests(None)
+        }
+    }
+}
+
+impl<S: Read + Write> Kept<S> {
+    /// Has its turn: a read, or a write. No request is looked for while replies wait, or the rest of one.
+    pub(crate) fn take_turn(&mut self, now: Duration, is_full: bool) -> Next {
+        if self.has_output() {
+            return Next::Rests(self.send_replies(now));
+        }
+        if let Some(unsent) = self.turn.unsent {
+            return Next::Reads(unsent);
+        }
+        if let Some(left) = self.turn.drops {
+            return if self.drop_piece(now, left) {
+                Next::Rests(None)
+            } else {
+                Next::Closes
+            };
+        }
+        if self.turn.searches {
+            return self.search(now);
+        }
+        self.receive(now, is_full)
+    }
+}
