@@ -8,19 +8,8 @@
 mod tile;
 
 use pmtiles::{Archive, Bytes, DirectoryEntry, tile_of, verify};
-use std::fs;
+use std::{fs, io, str};
 use tile::print_tile;
-
-/// Prints the tiles of an entry: the least id, how many tiles share the content, and how long it is.
-fn print_entry(rt: &HostRuntime, entry: DirectoryEntry) -> anyhow::Result<()> {
-    if let Some(at) = tile_of(entry.id) {
-        println!(rt;
-            "tile {}/{}/{}: id {}, run {}, {} bytes",
-            at.z, at.x, at.y, entry.id, entry.run, entry.length
-        )?;
-    }
-    Ok(())
-}
 
 /// Prints the header's zooms, the counts of the sound archive, and its metadata.
 fn print_header<B: Bytes + Drop>(rt: &HostRuntime, archive: &mut Archive<B>) -> anyhow::Result<()> {
@@ -28,23 +17,23 @@ fn print_header<B: Bytes + Drop>(rt: &HostRuntime, archive: &mut Archive<B>) -> 
     let report = verify(rt.alloc(), archive)?;
     let metadata = archive.metadata()?;
     println!(rt;
-        "zooms {} to {}: {report}",
-        header.min_zoom, header.max_zoom
-    )?;
-    println!(rt;
-        "metadata: {}",
-        String::from_utf8_lossy(rt.alloc(), &metadata)?
+        "zooms {} to {}: {report}\nmetadata: {}",
+        header.min_zoom,
+        header.max_zoom,
+        str::from_utf8(&metadata)?
     )?;
     Ok(())
 }
 
-/// Prints the entries of the archive, one a line.
-fn print_entries<B: Bytes + Drop>(
-    rt: &HostRuntime,
-    archive: &mut Archive<B>,
-) -> anyhow::Result<()> {
-    for entry in &archive.list()? {
-        print_entry(rt, *entry)?;
+/// Prints the tiles of entries, one a line: the least id, how many tiles share the content, and how long it is.
+fn print_entries(rt: &HostRuntime, entries: &[DirectoryEntry]) -> io::Result<()> {
+    for entry in entries {
+        if let Some(at) = tile_of(entry.id) {
+            println!(rt;
+                "tile {}/{}/{}: id {}, run {}, {} bytes",
+                at.z, at.x, at.y, entry.id, entry.run, entry.length
+            )?;
+        }
     }
     Ok(())
 }
@@ -72,6 +61,6 @@ fn main(rt: HostRuntime) -> anyhow::Result<()> {
         Err((_, fault)) => anyhow::bail!("{path}: {fault}"),
     };
     print_header(&rt, &mut archive)?;
-    print_entries(&rt, &mut archive)?;
+    print_entries(&rt, &archive.list()?)?;
     print_content(&rt, &mut archive, id.parse()?)
 }

@@ -1,31 +1,31 @@
 //! Prints a vector tile.
 use mvt::{Layer, TagValue, TileFeature, read_tile};
-use std::alloc::{AllocError, Global};
+use std::io;
 
-/// A tag as `key=value`, a floating point number as its bytes.
-fn tag_text(alloc: Global, key: &str, value: TagValue<'_>) -> Result<String, AllocError> {
+/// Prints a tag as `key=value`, a floating point number as its bytes.
+fn print_tag(rt: &HostRuntime, key: &str, value: TagValue<'_>) -> io::Result<()> {
+    print!(rt; " {key}=")?;
     match value {
-        TagValue::Text(text) => format!(in alloc; " {key}={text}"),
-        TagValue::Natural(number) => format!(in alloc; " {key}={number}"),
-        TagValue::Negative(number) => format!(in alloc; " {key}={number}"),
-        TagValue::Truth(is) => format!(in alloc; " {key}={is}"),
-        TagValue::Float(bytes) => format!(in alloc; " {key}={bytes:?}"),
-        TagValue::Double(bytes) => format!(in alloc; " {key}={bytes:?}"),
+        TagValue::Text(text) => rt.print(text),
+        TagValue::Natural(number) => rt.print(number),
+        TagValue::Negative(number) => rt.print(number),
+        TagValue::Truth(is) => rt.print(is),
+        TagValue::Float(bytes) => print!(rt; "{bytes:?}"),
+        TagValue::Double(bytes) => print!(rt; "{bytes:?}"),
     }
 }
 
 /// Prints a feature: its shape in units of the tile, and its tags.
-fn print_feature(rt: &HostRuntime, feature: &TileFeature<'_>) -> anyhow::Result<()> {
+fn print_feature(rt: &HostRuntime, feature: &TileFeature<'_>) -> io::Result<()> {
     print!(rt; "  {:?}", feature.shape)?;
     for (key, value) in &feature.tags {
-        print!(rt; "{}", tag_text(rt.alloc(), key, *value)?)?;
+        print_tag(rt, key, *value)?;
     }
-    println!(rt)?;
-    Ok(())
+    println!(rt)
 }
 
 /// Prints a layer: its name, its extent and its features.
-fn print_layer(rt: &HostRuntime, layer: &Layer<'_>) -> anyhow::Result<()> {
+fn print_layer(rt: &HostRuntime, layer: &Layer<'_>) -> io::Result<()> {
     println!(rt;
         "{}: extent {}, {} features",
         layer.name,

@@ -33,7 +33,9 @@ fn copy_into<D: Sectors>(
         watched: None,
     };
     let mut into = FileDisk::new(file, bytes, Zeros);
-    match copy_disk(rt.alloc(), disk, &mut into) {
+    let copied = copy_disk(rt.alloc(), disk, &mut into);
+    drop(into);
+    match copied {
         Ok(last) => Ok(last),
         Err(CopyFault::Store(fault)) => Err(CommandFault::Store(fault)),
         Err(CopyFault::Moved) => Err(CommandFault::Busy),

@@ -17,12 +17,11 @@ use std::os::unix::fs::{OpenOptionsExt, PermissionsExt};
 fn copy_into<D: Sectors>(
     disk: &mut D,
     archive: ArchivePlace,
-    file: File,
+    file: &mut File,
 ) -> Result<(), CommandFault>
     requires on_disk { archive.first + sectors_of archive.len ≤ D.sectors disk.old }
 {
-    let mut file = file;
-    match copy_archive(disk, archive, &mut file) {
+    match copy_archive(disk, archive, file) {
         Ok(()) => {}
         Err(CopyFault::Device) => return Err(CommandFault::Store(StoreFault::Device)),
         Err(CopyFault::Write) => return Err(CommandFault::Output(None)),
@@ -96,11 +95,13 @@ fn write_beside<D: Sectors>(
     let Ok(part) = format!(in rt.alloc(); "{goal}.part") else {
         return Err(CommandFault::Store(StoreFault::Memory));
     };
-    let file = match new_file(rt, part.as_str(), permissions) {
+    let mut file = match new_file(rt, part.as_str(), permissions) {
         Ok(file) => file,
         Err(error) => return Err(CommandFault::Output(Some(error))),
     };
-    match copy_into(disk, archive, file) {
+    let copied = copy_into(disk, archive, &mut file);
+    drop(file);
+    match copied {
         Ok(()) => rename(rt, part.as_str(), goal),
         Err(fault) => {
             let _ = fs::remove_file(rt, part.as_str());

@@ -4,7 +4,8 @@ use generations::StoreFault;
 use http_serve::ServeFault;
 use map_server::FileFault;
 use std::cell::Cell;
-use std::{fmt, io};
+use std::fmt;
+use std::io::{self, ErrorKind};
 
 /// What the system said, where it is known.
 pub(crate) type Cause = Option<io::Error>;
@@ -35,19 +36,19 @@ pub(crate) enum CommandFault {
 }
 
 impl CommandFault {
-    /// Why no disk was made, of which a call's error was noted here.
-    pub(crate) fn of_format(fault: FileFault, cause: &Cell<Cause>) -> CommandFault {
-        match fault {
-            FileFault::File(error) => CommandFault::File(Some(error)),
-            FileFault::Store(fault) => CommandFault::of_disk(fault, cause),
+    /// Why a file can't be read.
+    pub(crate) fn of_file(error: io::Error) -> CommandFault {
+        match error.kind() {
+            ErrorKind::OutOfMemory => CommandFault::Store(StoreFault::Memory),
+            _ => CommandFault::File(Some(error)),
         }
     }
 
-    /// The fault of a disk, whose file noted this as a call of it failed.
-    pub(crate) fn of_disk(fault: StoreFault, cause: &Cell<Cause>) -> CommandFault {
+    /// Why no disk was made.
+    pub(crate) fn of_format(fault: FileFault) -> CommandFault {
         match fault {
-            StoreFault::Device => CommandFault::Device(cause.get()),
-            _ => CommandFault::Store(fault),
+            FileFault::File(error) => CommandFault::File(Some(error)),
+            FileFault::Store(fault) => CommandFault::Store(fault),
         }
     }
 
@@ -57,11 +58,19 @@ impl CommandFault {
             CommandFault::File(_) | CommandFault::Output(_) => "File",
             CommandFault::NoArchive => "NoArchive",
             CommandFault::Busy => "Busy",
-            CommandFault::Store(fault) => store_fault_name(*fault),
-            CommandFault::Connection(fault) => serve_fault_name(*fault),
+            CommandFault::Store(StoreFault::NotFormatted) => "NotFormatted",
+            CommandFault::Store(StoreFault::TooSmall) => "TooSmall",
+            CommandFault::Store(StoreFault::Damaged(_)) => "Damaged",
+            CommandFault::Store(StoreFault::Memory)
+            | CommandFault::Connection(ServeFault::Memory) => "Memory",
+            CommandFault::Store(StoreFault::Device)
+            | CommandFault::Connection(ServeFault::Content { .. })
+            | CommandFault::Device(_)
+            | CommandFault::Told => "Device",
+            CommandFault::Connection(ServeFault::Read { .. }) => "Read",
+            CommandFault::Connection(ServeFault::Write { .. } | ServeFault::Rest { .. })
+            | CommandFault::Write(_) => "Write",
             CommandFault::Listen { .. } => "Listen",
-            CommandFault::Write(_) => "Write",
-            CommandFault::Device(_) | CommandFault::Told => "Device",
         }
     }
 
@@ -75,6 +84,17 @@ impl CommandFault {
             | CommandFault::Write(cause) => *cause,
             _ => None,
         }
+    }
+}
+
+/// What a command over a disk came to, of whose file the last error was noted here.
+pub(crate) fn with_cause(
+    outcome: Result<(), CommandFault>,
+    noted: &Cell<Cause>,
+) -> Result<(), CommandFault> {
+    match outcome {
+        Err(CommandFault::Store(StoreFault::Device)) => Err(CommandFault::Device(noted.get())),
+        _ => outcome,
     }
 }
 
@@ -112,26 +132,5 @@ impl fmt::Display for Report<'_> {
             Some(cause) => write!(f, ": {cause}"),
             None => Ok(()),
         }
-    }
-}
-
-/// The name of what ended a connection.
-fn serve_fault_name(fault: ServeFault) -> &'static str {
-    match fault {
-        ServeFault::Memory => "Memory",
-        ServeFault::Read { .. } => "Read",
-        ServeFault::Write { .. } | ServeFault::Rest { .. } => "Write",
-        ServeFault::Content { .. } => "Device",
-    }
-}
-
-/// The name of why a disk isn't ready.
-fn store_fault_name(fault: StoreFault) -> &'static str {
-    match fault {
-        StoreFault::NotFormatted => "NotFormatted",
-        StoreFault::TooSmall => "TooSmall",
-        StoreFault::Damaged(_) => "Damaged",
-        StoreFault::Device => "Device",
-        StoreFault::Memory => "Memory",
     }
 }

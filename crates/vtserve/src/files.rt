@@ -1,7 +1,7 @@
 //! The commands over a disk in a file.
 
 use crate::boxed::BoxedDisk;
-use crate::fault::{Cause, CommandFault};
+use crate::fault::{Cause, CommandFault, with_cause};
 use crate::looks::Looks;
 use crate::noted::Noted;
 use crate::place::{OpenPath, identity_of};
@@ -12,6 +12,8 @@ use crate::watching::{Watch, Watched};
 use file_disk::{FileDisk, NewFile, Start, SystemFile, Zeros};
 use generations::StoreFault;
 use map_server::{formatted_file, new_disk_file, opened_service};
+use sector_disk::Sectors;
+use std::alloc::AllocError;
 use std::cell::Cell;
 use std::fs::{File, Metadata, OpenOptions, TryLockError};
 use std::io::{self, ErrorKind};
@@ -25,11 +27,11 @@ const STREAMS: i32 = 3;
 
 /// Creates a disk file of this many sectors with the empty map, and prints a line.
 pub(crate) fn format_file(rt: &HostRuntime, path: &str, sectors: u64) -> Result<(), CommandFault> {
-    let cause: Cell<Cause> = Cell::new(None);
     let NewFile { file, bytes } = match new_disk_file(rt, path, sectors) {
         Ok(new) => new,
-        Err(fault) => return Err(CommandFault::of_format(fault, &cause)),
+        Err(fault) => return Err(CommandFault::of_format(fault)),
     };
+    let cause: Cell<Cause> = Cell::new(None);
     let file = Noted {
         file: SystemFile::new(file),
         cause: &cause,
@@ -37,8 +39,8 @@ pub(crate) fn format_file(rt: &HostRuntime, path: &str, sectors: u64) -> Result<
     };
     // The file is closed before the line is printed: where standard output was closed, the file may have its descriptor.
     match formatted_file(rt, path, file, bytes, Zeros) {
-        Ok(_) => {}
-        Err(fault) => return Err(CommandFault::of_format(fault, &cause)),
+        Ok(disk) => drop(disk),
+        Err(fault) => return with_cause(Err(CommandFault::of_format(fault)), &cause),
     }
     print_number(rt, "formatted ", sectors, " sectors")
 }
@@ -143,6 +145,24 @@ pub(crate) fn shared_disk(rt: &HostRuntime, path: &str) -> Result<(ReadFile, u32
     }
 }
 
+/// Serves these paths of the map on a disk.
+fn serve_disk<D: Sectors + Drop>(
+    rt: &HostRuntime,
+    disk: D,
+    access: Access,
+    peers: Peers,
+    looks: &Looks<'_>,
+) -> Result<(), CommandFault> {
+    match opened_service(rt.alloc(), disk, access) {
+        Ok(mut map) => {
+            let served = serve(rt, &mut map, peers, looks);
+            drop(map.into_service().into_disk());
+            served
+        }
+        Err((_, fault)) => Err(CommandFault::Store(fault)),
+    }
+}
+
 /// Serves these paths of the map on the disk in a file, whatever the file had. While a port is served, the first write or sync of the
 /// file that fails is told of.
 pub(crate) fn serve_file<S: Start>(
@@ -164,11 +184,11 @@ pub(crate) fn serve_file<S: Start>(
         cause: &cause,
         watched,
     };
-    let Ok(disk) = BoxedDisk::new(rt.alloc(), FileDisk::new(file, place.bytes, start)) else {
-        return Err(CommandFault::Store(StoreFault::Memory));
-    };
-    match opened_service(rt.alloc(), disk, access) {
-        Ok(map) => serve(rt, map, peers, &Looks::new(watched)),
-        Err((_, fault)) => Err(CommandFault::of_disk(fault, &cause)),
+    match BoxedDisk::new(rt.alloc(), FileDisk::new(file, place.bytes, start)) {
+        Ok(disk) => with_cause(
+            serve_disk(rt, disk, access, peers, &Looks::new(watched)),
+            &cause,
+        ),
+        Err(AllocError) => Err(CommandFault::Store(StoreFault::Memory)),
     }
 }

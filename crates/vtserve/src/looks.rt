@@ -35,7 +35,7 @@ impl<'a> Looks<'a> {
     /// Whether a write or a sync has failed, or the file was lost.
     pub(crate) fn has_failed(&self) -> bool {
         match self.watched {
-            Some(watched) => watched.watch.get() == Watch::Failed,
+            Some(watched) => matches!(watched.watch.get(), Watch::Failed),
             None => false,
         }
     }
@@ -52,14 +52,10 @@ impl<'a> Looks<'a> {
 
     /// Looks at the place if the last look was a while ago. A file that was lost is told of, if no failure was before.
     pub(crate) fn look(&self) {
-        let Some(watched) = self.watched else {
-            return;
-        };
-        if !self.is_due(watched.place.rt) {
-            return;
-        }
-        if let Some(loss) = watched.place.loss() {
-            watched.tell(loss);
+        if let Some(watched) = self.watched {
+            if self.is_due(watched.place.rt) {
+                let _ = watched.is_lost();
+            }
         }
     }
 }

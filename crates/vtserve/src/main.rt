@@ -31,17 +31,16 @@ use listening::listening_of;
 use looks::Looks;
 use map_server::fresh_service;
 use serving::{Peers, serve};
-use std::alloc::AllocError;
 use std::fmt::Display;
-use std::io::ErrorKind;
+use std::io;
 use std::process::ExitCode;
 use tasks::{Task, copy_file, done_with_file};
 use tile_routes::Access;
 
-/// Prints a fault's name.
-fn refused(rt: &impl Eprint, name: impl Display + Drop) -> anyhow::Result<ExitCode> {
-    eprintln!(rt; "vtserve: {name}")?;
-    Ok(ExitCode::from(1))
+/// Prints why a command failed, as far as standard error can be written. The status of the command.
+fn refused(rt: &HostRuntime, why: impl Display + Drop) -> ExitCode {
+    let _ = eprintln!(rt; "vtserve: {why}");
+    ExitCode::FAILURE
 }
 
 /// How much is told of a fault.
@@ -54,12 +53,7 @@ pub(crate) enum Told {
 }
 
 /// Prints the name of a fault of the file at a path.
-fn refused_file(
-    rt: &impl Eprint,
-    name: impl Display + Drop,
-    path: &str,
-    told: Told,
-) -> anyhow::Result<ExitCode> {
+fn refused_file(rt: &HostRuntime, name: impl Display + Drop, path: &str, told: Told) -> ExitCode {
     match told {
         Told::Name => refused(rt, name),
         Told::Cause => refused(rt, format_args!("{name}: {path}")),
@@ -72,10 +66,10 @@ fn ended(
     outcome: Result<(), CommandFault>,
     paths: Paths<'_>,
     told: Told,
-) -> anyhow::Result<ExitCode> {
+) -> ExitCode {
     match outcome {
-        Ok(()) => Ok(ExitCode::SUCCESS),
-        Err(CommandFault::Told) => Ok(ExitCode::from(1)),
+        Ok(()) => ExitCode::SUCCESS,
+        Err(CommandFault::Told) => ExitCode::FAILURE,
         Err(fault) => match told {
             Told::Name => refused(rt, fault.name()),
             Told::Cause => refused(rt, Report { fault, paths }),
@@ -86,99 +80,83 @@ fn ended(
 /// Serves one connection on standard input and output, over the empty map on a disk in memory.
 fn demo(rt: &HostRuntime, sectors: u64, access: Access) -> Result<(), CommandFault> {
     match fresh_service(rt.alloc(), sectors, access) {
-        Ok(map) => serve(rt, map, Peers::Streams, &Looks::new(None)),
+        Ok(mut map) => {
+            let served = serve(rt, &mut map, Peers::Streams, &Looks::new(None));
+            drop(map.into_service().into_disk());
+            served
+        }
         Err(fault) => Err(CommandFault::Store(fault)),
     }
 }
 
-/// Which paths the words of a command ask for.
-fn access_in(words: &ArgMatches<'_>) -> Access {
-    if words.get_flag("ADMIN") {
-        Access::Admin
-    } else {
-        Access::Map
-    }
-}
-
-/// How much the words of a command ask to be told of a fault.
-fn told_in(words: &ArgMatches<'_>) -> Told {
-    if words.get_flag("VERBOSE") {
-        Told::Cause
-    } else {
-        Told::Name
-    }
-}
-
 /// Does what the command line asks.
-fn run(rt: &HostRuntime, matches: &ArgMatches<'_>) -> anyhow::Result<ExitCode> {
+fn run(rt: &HostRuntime, matches: &ArgMatches<'_>) -> ExitCode {
     let Some((name, words)) = matches.subcommand() else {
-        return Ok(ExitCode::from(2));
+        return ExitCode::from(2);
     };
     let paths = Paths {
         path: words.get_str("FILE").unwrap_or(""),
         goal: words.get_str("OUTPUT").unwrap_or(""),
     };
     let sectors = words.get_one::<u64>("N").unwrap_or(0);
-    let told = told_in(words);
+    let access = if words.get_flag("ADMIN") {
+        Access::Admin
+    } else {
+        Access::Map
+    };
+    let told = if words.get_flag("VERBOSE") {
+        Told::Cause
+    } else {
+        Told::Name
+    };
     let outcome = match name {
         "copy" => copy_file(rt, paths, Unknown),
-        "demo" => demo(rt, sectors, access_in(words)),
+        "demo" => demo(rt, sectors, access),
         "export" => done_with_file(rt, paths, Task::Export, Unknown),
         "format" => format_file(rt, paths.path, sectors),
-        "pipe" => serve_file(rt, paths.path, access_in(words), Peers::Streams, Unknown),
+        "pipe" => serve_file(rt, paths.path, access, Peers::Streams, Unknown),
         "serve" => match listening_of(words) {
-            Some(asked) => serve_file(
-                rt,
-                paths.path,
-                access_in(words),
-                Peers::Port(asked),
-                Unknown,
-            ),
-            None => return Ok(ExitCode::from(2)),
+            Some(asked) => serve_file(rt, paths.path, access, Peers::Port(asked), Unknown),
+            None => return ExitCode::from(2),
         },
         "show" => return show_file(rt, paths.path, told),
         "upgrade" => done_with_file(rt, paths, Task::Upgrade, Unknown),
         "verify" => return verify_file(rt, paths.path, told, Unknown),
-        _ => return Ok(ExitCode::from(2)),
+        _ => return ExitCode::from(2),
     };
     ended(rt, outcome, paths, told)
 }
 
-/// The words of the command line. One that isn't UTF-8 is taken for a path that leads to no file.
-fn command_words(rt: &HostRuntime) -> Result<Vec<String>, CommandFault> {
-    let words = match std::env::args(rt) {
-        Ok(words) => words,
-        Err(error) if error.kind() == ErrorKind::OutOfMemory => {
-            return Err(CommandFault::Store(StoreFault::Memory));
-        }
-        Err(error) => return Err(CommandFault::File(Some(error))),
-    };
-    match words.collect(rt.alloc()) {
-        Ok(words) => Ok(words),
-        Err(AllocError) => Err(CommandFault::Store(StoreFault::Memory)),
-    }
+/// The words of the command line.
+fn command_words(rt: &HostRuntime) -> io::Result<Vec<String>> {
+    Ok(std::env::args(rt)?.collect(rt.alloc())?)
 }
 
 /// Prints what the parser of the command line says in place of a command: help, the version, or an error.
-fn unread(rt: &HostRuntime, error: &clap::Error) -> anyhow::Result<ExitCode> {
+fn unread(rt: &HostRuntime, error: &clap::Error) -> ExitCode {
     if error.kind() == OutOfMemory {
         return refused(rt, CommandFault::Store(StoreFault::Memory).name());
     }
-    error.print(rt)?;
-    Ok(ExitCode::from(error.exit_code() as u8))
+    match error.print(rt) {
+        Ok(()) => ExitCode::from(error.exit_code() as u8),
+        Err(error) => {
+            let _ = eprintln!(rt; "Error: {error}");
+            ExitCode::FAILURE
+        }
+    }
 }
 
-fn main(rt: HostRuntime) -> anyhow::Result<ExitCode> {
+fn main(rt: HostRuntime) -> ExitCode {
     let words = match command_words(&rt) {
         Ok(words) => words,
-        Err(fault) => return refused(&rt, fault.name()),
+        // A word that isn't UTF-8 is taken for a path that leads to no file.
+        Err(error) => return refused(&rt, CommandFault::of_file(error).name()),
     };
     let Ok(command) = command_line(rt.alloc()) else {
         return refused(&rt, CommandFault::Store(StoreFault::Memory).name());
     };
-    let matches = match command.try_get_matches_from(words.as_slice()) {
-        Ok(matches) => matches,
-        Err(error) => return unread(&rt, &error),
-    };
-    run(&rt, &matches)
+    match command.try_get_matches_from(words.as_slice()) {
+        Ok(matches) => run(&rt, &matches),
+        Err(error) => unread(&rt, &error),
+    }
 }

@@ -17,12 +17,12 @@ pub(crate) fn open_regular(
         return Err(ErrorKind::InvalidInput.into());
     }
     let file = how.open(rt, path)?;
-    let metadata = file.metadata()?;
-    // Another file may have been given the name meanwhile.
-    if !metadata.is_file() {
-        return Err(ErrorKind::InvalidInput.into());
+    match file.metadata() {
+        Ok(metadata) if metadata.is_file() => Ok((file, metadata)),
+        // Another file was given the name meanwhile.
+        Ok(_) => Err(ErrorKind::InvalidInput.into()),
+        Err(error) => Err(error),
     }
-    Ok((file, metadata))
 }
 
 /// An open file of so many bytes, for reading it in sectors: the last one is filled up with zeros.

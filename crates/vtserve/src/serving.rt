@@ -15,19 +15,8 @@ pub(crate) enum Peers {
     Port(Listening),
 }
 
-/// Serves one connection on standard input and output.
-fn serve_streams<D: Sectors + Drop>(
-    rt: &HostRuntime,
-    map: &mut MapReplies<D>,
-) -> Result<(), CommandFault> {
-    match serve_map(rt.alloc(), &mut rt.stdin(), &mut rt.stdout(), map) {
-        Ok(_) => Ok(()),
-        Err(fault) => Err(CommandFault::Connection(fault)),
-    }
-}
-
-/// Serves a map that is lent, over a disk file that is watched meanwhile.
-fn serve_peers<D: Sectors + Drop>(
+/// Serves a map, over a disk file that is watched meanwhile.
+pub(crate) fn serve<D: Sectors + Drop>(
     rt: &HostRuntime,
     map: &mut MapReplies<D>,
     peers: Peers,
@@ -36,21 +25,11 @@ fn serve_peers<D: Sectors + Drop>(
     match peers {
         Peers::Streams => {
             looks.begin();
-            serve_streams(rt, map)
+            match serve_map(rt.alloc(), &mut rt.stdin(), &mut rt.stdout(), map) {
+                Ok(_) => Ok(()),
+                Err(fault) => Err(CommandFault::Connection(fault)),
+            }
         }
         Peers::Port(asked) => serve_connections(rt, asked, map, looks),
     }
-}
-
-/// Serves a map, over a disk file that is watched meanwhile.
-pub(crate) fn serve<D: Sectors + Drop>(
-    rt: &HostRuntime,
-    map: MapReplies<D>,
-    peers: Peers,
-    looks: &Looks<'_>,
-) -> Result<(), CommandFault> {
-    let mut map = map;
-    let served = serve_peers(rt, &mut map, peers, looks);
-    drop(map);
-    served
 }

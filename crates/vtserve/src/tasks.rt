@@ -2,7 +2,7 @@
 
 use crate::copying::copy_beside;
 use crate::exporting::export;
-use crate::fault::{Cause, CommandFault, Paths};
+use crate::fault::{Cause, CommandFault, Paths, with_cause};
 use crate::files::{OpenedFile, opened_file, shared_disk};
 use crate::noted::Noted;
 use crate::printing::print_number;
@@ -49,10 +49,8 @@ pub(crate) fn done_with_file<S: Start>(
         Task::Export => export(rt, &mut disk, place.identity, paths.goal),
         Task::Upgrade => upgrade(rt, &mut disk),
     };
-    match outcome {
-        Err(CommandFault::Store(fault)) => Err(CommandFault::of_disk(fault, &cause)),
-        _ => outcome,
-    }
+    drop(disk);
+    with_cause(outcome, &cause)
 }
 
 /// Copies the disk in a file, which another process may serve meanwhile, into a file that doesn't exist, and says how many edits it has.
@@ -69,8 +67,8 @@ pub(crate) fn copy_file<S: Start>(
         cause: &cause,
         watched: None,
     };
-    match copy_beside(rt, &mut FileDisk::new(file, bytes, start), paths.goal, mode) {
-        Err(CommandFault::Store(fault)) => Err(CommandFault::of_disk(fault, &cause)),
-        outcome => outcome,
-    }
+    let mut disk = FileDisk::new(file, bytes, start);
+    let outcome = copy_beside(rt, &mut disk, paths.goal, mode);
+    drop(disk);
+    with_cause(outcome, &cause)
 }

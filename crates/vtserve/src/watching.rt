@@ -9,7 +9,7 @@ use std::io;
 use std::time::Duration;
 
 /// What is known of a disk file.
-#[derive(Clone, Copy, PartialEq, Eq)]
+#[derive(Clone, Copy)]
 pub(crate) enum Watch {
     /// Nothing: the command itself tells of a failure.
     Off,
@@ -30,7 +30,7 @@ pub(crate) struct Watched<'a> {
 impl Watched<'_> {
     /// Tells of a failure. Only the first one is told of.
     pub(crate) fn tell(&self, what: impl Display + Drop) {
-        if self.watch.get() == Watch::On {
+        if matches!(self.watch.get(), Watch::On) {
             self.watch.set(Watch::Failed);
             let _ = eprintln!(self.place.rt; "vtserve: Device: {what}");
         }
@@ -39,7 +39,7 @@ impl Watched<'_> {
     /// Whether the file has failed, or was removed, replaced or cut since it was opened. The first time that is told of. A file that
     /// was put back remains lost.
     pub(crate) fn is_lost(&self) -> bool {
-        if self.watch.get() == Watch::Failed {
+        if matches!(self.watch.get(), Watch::Failed) {
             return true;
         }
         let Some(loss) = self.place.loss() else {
