@@ -1,7 +1,7 @@
 //! What a line says.
+use crate::answers::Answer;
 use hilbert_id::TileAt;
 use script_bytes::{number_in, parted, short};
-use std::alloc::{AllocError, Global};
 
 /// A line: its first word, what stands behind it, and the numbers in that, 0 where there are fewer.
 #[derive(Clone, Copy)]
@@ -39,7 +39,7 @@ pub(crate) fn line_in(text: &str) -> Line<'_> {
     }
 }
 
-/// The answer to a line whose word is unknown, or whose bytes can't be made out.
-pub(crate) fn unknown(alloc: Global, line: Line<'_>) -> Result<String, AllocError> {
-    format!(in alloc; "? {} {}", line.word, line.rest)
+/// Answers a line whose word is unknown, or whose bytes can't be made out.
+pub(crate) fn unknown(answer: &mut Answer, line: Line<'_>) {
+    answer.say(format_args!("? {} {}", line.word, line.rest));
 }

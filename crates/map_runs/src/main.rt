@@ -93,12 +93,13 @@
 //! | `digits TEXT`, `written N N` | the number that digits write; two numbers in digits behind texts |
 #![tactic(auto)]
 
+mod answers;
 mod lines;
 mod maps;
 mod reads;
 mod script;
-mod texts;
 
+use answers::Answer;
 use script::Script;
 use std::io;
 
@@ -110,7 +111,9 @@ fn answer_line(rt: &HostRuntime, script: &mut Script, line: &str) -> io::Result<
         }
         return Ok(());
     }
-    let text = script.answer(rt.alloc(), line)?;
+    let mut answer = Answer::new(rt.alloc());
+    script.answer(&mut answer, line);
+    let text = answer.finish()?;
     println!(rt; "{text}")
 }
 

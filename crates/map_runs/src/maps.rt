@@ -8,6 +8,7 @@ mod numbers;
 mod random;
 mod texts;
 
+use crate::answers::Answer;
 use crate::lines::{Line, unknown};
 use box_index::BoxIndex;
 use cached_map::CachedMap;
@@ -37,43 +38,42 @@ impl Maps {
         })
     }
 
-    /// Of a line that begins anew with the map, or with what is as dear, or of one that is unknown.
-    fn other_answer(&mut self, alloc: Global, line: Line<'_>) -> Result<String, AllocError> {
+    /// Answers a line that begins anew with the map, or with what is as dear, or one that is unknown.
+    fn begin_anew(&mut self, answer: &mut Answer, line: Line<'_>) {
+        let alloc = answer.alloc;
         match line.word {
-            "map" => drop(mem::replace(&mut self.map, map::empty_map(alloc, line.numbers[0])?)),
+            "map" => match map::empty_map(alloc, line.numbers[0]) {
+                Ok(map) => drop(mem::replace(&mut self.map, map)),
+                Err(_) => answer.refuse(),
+            },
             "numbers" => drop(mem::replace(&mut self.numbers, NumberMap::new(alloc))),
             "boxes" => drop(mem::replace(&mut self.boxes, BoxIndex::new(alloc))),
-            "caches" => drop(mem::replace(&mut self.caches, Caches::new(alloc)?)),
-            _ => return unknown(alloc, line),
+            "caches" => match Caches::new(alloc) {
+                Ok(caches) => drop(mem::replace(&mut self.caches, caches)),
+                Err(_) => answer.refuse(),
+            },
+            _ => return unknown(answer, line),
         }
-        String::from_str(alloc, "new")
+        answer.say("new");
     }
 
-    /// What a line comes to.
-    pub(crate) fn answer(&mut self, alloc: Global, line: Line<'_>) -> Result<String, AllocError> {
-        if let Some(told) = features::answer(alloc, &mut self.map, line) {
-            return told;
+    /// Answers a line.
+    pub(crate) fn answer(&mut self, answer: &mut Answer, line: Line<'_>) {
+        let is_answered = features::answer(answer, &mut self.map, line)
+            || map::answer(answer, &mut self.map, line)
+            || numbers::answer(answer, &mut self.numbers, line)
+            || boxes::answer(answer, &mut self.boxes, line)
+            || self.caches.answer(answer, line);
+        if !is_answered {
+            self.begin_anew(answer, line);
         }
-        if let Some(told) = map::answer(alloc, &mut self.map, line) {
-            return told;
-        }
-        if let Some(told) = numbers::answer(alloc, &mut self.numbers, line) {
-            return told;
-        }
-        if let Some(told) = boxes::answer(alloc, &mut self.boxes, line) {
-            return told;
-        }
-        if let Some(told) = self.caches.answer(alloc, line) {
-            return told;
-        }
-        self.other_answer(alloc, line)
     }
 }
 
-/// Whether there are at most so many blocks.
-fn blocks_text(alloc: Global, count: usize, most: u64) -> Result<String, AllocError> {
+/// Answers whether there are at most so many blocks.
+fn blocks(answer: &mut Answer, count: usize, most: u64) {
     if count as u64 <= most {
-        return format!(in alloc; "at most {most} blocks");
+        return answer.say(format_args!("at most {most} blocks"));
     }
-    format!(in alloc; "{count} blocks")
+    answer.say(format_args!("{count} blocks"));
 }

@@ -6,64 +6,60 @@ mod inputs;
 mod messages;
 mod numbers;
 
+use crate::answers::Answer;
 use crate::lines::{Line, unknown};
-use crate::texts::{debug_text, read_text};
 use edit_text::decode_change;
 pub(crate) use inputs::Inputs;
 use mvt_layer::read_tile;
 use pb_wire::get_varint;
 use pm_directory::read_directory;
+use pm_metadata::is_metadata;
 use script_bytes::{number_in, parted};
-use std::alloc::{AllocError, Global};
 
-/// Of a line about bytes.
-fn bytes_answer(alloc: Global, line: Line<'_>, bytes: &[u8]) -> Result<String, AllocError> {
+/// Answers a line about bytes.
+fn answer_bytes(answer: &mut Answer, line: Line<'_>, bytes: &[u8]) {
     match line.word {
-        "varint" => debug_text(alloc, get_varint(bytes)),
-        "fields" => messages::fields(alloc, bytes),
-        "tile" => read_text(alloc, read_tile(alloc, bytes)),
-        "change" => messages::counted_text(alloc, decode_change(alloc, bytes)),
-        "edit" => messages::edit(alloc, bytes),
-        "header" => archives::header(alloc, bytes),
-        "directory" => read_text(alloc, read_directory(alloc, bytes)),
-        "metadata" => archives::metadata(alloc, bytes),
-        "list" => archives::list(alloc, bytes),
-        "verify" => archives::judged(alloc, bytes),
-        "show" => archives::shown(alloc, bytes),
-        "rangeof" => numbers::range(alloc, bytes),
-        _ => unknown(alloc, line),
+        "varint" => answer.debug(get_varint(bytes)),
+        "fields" => messages::fields(answer, bytes),
+        "tile" => answer.read(read_tile(answer.alloc, bytes)),
+        "change" => messages::counted(answer, decode_change(answer.alloc, bytes)),
+        "edit" => messages::edit(answer, bytes),
+        "header" => archives::header(answer, bytes),
+        "directory" => answer.read(read_directory(answer.alloc, bytes)),
+        "metadata" => answer.made(is_metadata(answer.alloc, bytes)),
+        "list" => archives::list(answer, bytes),
+        "verify" => archives::judged(answer, bytes),
+        "show" => archives::shown(answer, bytes),
+        "rangeof" => numbers::range(answer, bytes),
+        _ => unknown(answer, line),
     }
 }
 
-/// Of a line that gives bytes a name, or is about ids in bytes.
-fn named_answer(alloc: Global, inputs: &mut Inputs, line: Line<'_>) -> Result<String, AllocError> {
+/// Answers a line that gives bytes a name, or is about ids in bytes.
+fn answer_named(answer: &mut Answer, inputs: &mut Inputs, line: Line<'_>) {
     let (name, text) = parted(line.rest);
-    let Some(bytes) = inputs.input(alloc, text) else {
-        return unknown(alloc, line);
+    let Some(bytes) = inputs.input(answer.alloc, text) else {
+        return unknown(answer, line);
     };
     match line.word {
-        "keep" => inputs.keep(alloc, name, bytes),
-        "find" => archives::found(alloc, number_in(name), &bytes),
-        "contents" => archives::contents(alloc, name, &bytes),
-        _ => archives::looks(alloc, name, &bytes),
+        "keep" => inputs.keep(answer, name, bytes),
+        "find" => archives::found(answer, number_in(name), &bytes),
+        "contents" => archives::contents(answer, name, &bytes),
+        _ => archives::looks(answer, name, &bytes),
     }
 }
 
-/// What a line comes to.
-pub(crate) fn answer(
-    alloc: Global,
-    inputs: &mut Inputs,
-    line: Line<'_>,
-) -> Result<String, AllocError> {
-    if let Some(told) = numbers::answer(alloc, line) {
-        return told;
+/// Answers a line.
+pub(crate) fn answer(answer: &mut Answer, inputs: &mut Inputs, line: Line<'_>) {
+    if numbers::answer(answer, line) {
+        return;
     }
     match line.word {
-        "build" | "even" | "apart" | "evenjudged" => builds::answer(alloc, line),
-        "keep" | "find" | "contents" | "looks" => named_answer(alloc, inputs, line),
-        _ => match inputs.input(alloc, line.rest) {
-            Some(bytes) => bytes_answer(alloc, line, &bytes),
-            None => unknown(alloc, line),
+        "build" | "even" | "apart" | "evenjudged" => builds::answer(answer, line),
+        "keep" | "find" | "contents" | "looks" => answer_named(answer, inputs, line),
+        _ => match inputs.input(answer.alloc, line.rest) {
+            Some(bytes) => answer_bytes(answer, line, &bytes),
+            None => unknown(answer, line),
         },
     }
 }

@@ -1,8 +1,8 @@
 //! The parts of a script, and what their lines work on.
+use crate::answers::Answer;
 use crate::lines::line_in;
 use crate::maps::Maps;
 use crate::reads::{self, Inputs};
-use script_bytes::clipped;
 use std::alloc::{AllocError, Global};
 
 /// Whose commands lines are.
@@ -39,16 +39,15 @@ impl Script {
         true
     }
 
-    /// What a line comes to. A remark is repeated.
-    pub(crate) fn answer(&mut self, alloc: Global, text: &str) -> Result<String, AllocError> {
+    /// Answers a line. A remark is repeated.
+    pub(crate) fn answer(&mut self, answer: &mut Answer, text: &str) {
         if text.is_empty() || text.starts_with('#') {
-            return String::from_str(alloc, text);
+            return answer.say(text);
         }
         let line = line_in(text);
-        let told = match self.part {
-            Part::Maps => self.maps.answer(alloc, line),
-            Part::Reads => reads::answer(alloc, &mut self.inputs, line),
-        };
-        clipped(alloc, told?)
+        match self.part {
+            Part::Maps => self.maps.answer(answer, line),
+            Part::Reads => reads::answer(answer, &mut self.inputs, line),
+        }
     }
 }

@@ -1,34 +1,42 @@
 //! What a publication of a map writes into an area.
+use crate::answers::Answer;
 use area_content::{AreaContent, content_of};
 use feature_store::Store;
 use map_metadata::metadata_text;
 use pm_metadata::is_metadata;
-use std::alloc::{AllocError, Global};
 
 /// One above the most sectors of an area.
 const AREA_END: u64 = 1 << 23;
 
 /// How long snapshot and archive are, how many sectors they take, and the bytes of these.
-fn told(alloc: Global, content: &AreaContent) -> Result<String, AllocError> {
-    let mut bytes = Vec::new(alloc);
-    for index in 0..content.sectors() {
-        bytes.extend_from_slice(&content.sector(index))?;
-    }
-    let text = hex::encode(alloc, bytes.as_slice())?;
+fn tell(answer: &mut Answer, content: &AreaContent) {
     let snapshot = content.snapshot_len();
     let archive = content.archive_len();
     let sectors = content.sectors();
-    format!(in alloc; "{snapshot} {archive} {sectors} {text}")
+    answer.say(format_args!("{snapshot} {archive} {sectors} "));
+    for index in 0..content.sectors() {
+        answer.hex(&content.sector(index));
+    }
+}
+
+/// The same of a map with this metadata.
+fn tell_content(answer: &mut Answer, store: &Store, metadata: &[u8], free: u64) {
+    let Ok(is_object) = is_metadata(answer.alloc, metadata) else {
+        return answer.refuse();
+    };
+    if free >= AREA_END || !is_object {
+        return answer.say("no area");
+    }
+    match content_of(answer.alloc, store, metadata, free) {
+        Ok(content) => tell(answer, &content),
+        Err(fault) => answer.say(fault),
+    }
 }
 
 /// The content for an area of so many sectors.
-pub(crate) fn area(alloc: Global, store: &Store, free: u64) -> Result<String, AllocError> {
-    let metadata = metadata_text(alloc, store)?;
-    if free >= AREA_END || !is_metadata(alloc, metadata.as_bytes())? {
-        return String::from_str(alloc, "no area");
-    }
-    match content_of(alloc, store, metadata.as_bytes(), free) {
-        Ok(content) => told(alloc, &content),
-        Err(fault) => fault.to_string(alloc),
+pub(crate) fn area(answer: &mut Answer, store: &Store, free: u64) {
+    match metadata_text(answer.alloc, store) {
+        Ok(metadata) => tell_content(answer, store, metadata.as_bytes(), free),
+        Err(_) => answer.refuse(),
     }
 }

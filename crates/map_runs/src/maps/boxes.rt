@@ -1,10 +1,10 @@
 //! Lines over an index of boxes.
-use super::blocks_text;
+use super::blocks;
+use crate::answers::Answer;
 use crate::lines::{Line, byte};
 use box_index::{BoxIndex, IndexEntry, Span};
 use feature_model::WorldBox;
 use script_bytes::short;
-use std::alloc::{AllocError, Global};
 
 /// The box of these columns and rows.
 pub(crate) fn bounds_of(x0: u64, x1: u64, y0: u64, y1: u64) -> WorldBox {
@@ -48,46 +48,42 @@ fn nth(place: u32, across: u64, down: u64) -> IndexEntry {
     }
 }
 
-fn add(alloc: Global, index: &mut BoxIndex, entry: IndexEntry) -> Result<String, AllocError> {
-    index.room()?;
+fn add(answer: &mut Answer, index: &mut BoxIndex, entry: IndexEntry) {
+    if index.room().is_err() {
+        return answer.refuse();
+    }
     index.insert(entry);
-    String::from_str(alloc, "added")
+    answer.say("added");
 }
 
-fn take(alloc: Global, index: &mut BoxIndex, entry: IndexEntry) -> Result<String, AllocError> {
+fn take(answer: &mut Answer, index: &mut BoxIndex, entry: IndexEntry) {
     let found = if index.remove(&entry) {
         "taken"
     } else {
         "not there"
     };
-    String::from_str(alloc, found)
+    answer.say(found);
 }
 
-fn query(alloc: Global, index: &BoxIndex, numbers: [u64; 8]) -> Result<String, AllocError> {
+fn query(answer: &mut Answer, index: &BoxIndex, numbers: [u64; 8]) {
     let [x0, x1, y0, y1, zoom, ..] = numbers;
-    let ids = index.query(alloc, &bounds_of(x0, x1, y0, y1), byte(zoom))?;
-    format!(in alloc; "{ids:?}")
+    answer.made(index.query(answer.alloc, &bounds_of(x0, x1, y0, y1), byte(zoom)));
 }
 
 /// Adds so many entries.
-fn scatter(
-    alloc: Global,
-    index: &mut BoxIndex,
-    [count, across, down, ..]: [u64; 8],
-) -> Result<String, AllocError> {
+fn scatter(answer: &mut Answer, index: &mut BoxIndex, [count, across, down, ..]: [u64; 8]) {
     for place in 0..short(count) {
-        index.room()?;
+        if index.room().is_err() {
+            return answer.refuse();
+        }
         index.insert(nth(place, across, down));
     }
-    String::from_str(alloc, "added")
+    answer.say("added");
 }
 
 /// Takes out so many of such entries but one in so many: how many were there.
-fn gather(
-    alloc: Global,
-    index: &mut BoxIndex,
-    [count, across, down, one_in, ..]: [u64; 8],
-) -> Result<String, AllocError> {
+fn gather(answer: &mut Answer, index: &mut BoxIndex, numbers: [u64; 8]) {
+    let [count, across, down, one_in, ..] = numbers;
     let mut taken = 0u64;
     for place in 0..short(count) {
         let is_due = u64::from(place).checked_rem(one_in) != Some(0);
@@ -95,33 +91,31 @@ fn gather(
             taken = taken.wrapping_add(1);
         }
     }
-    format!(in alloc; "{taken} taken")
+    answer.say(format_args!("{taken} taken"));
 }
 
 /// Whether there are at most so many blocks, by what an index prints of itself: no contract counts them.
-fn blocks(alloc: Global, index: &BoxIndex, most: u64) -> Result<String, AllocError> {
-    let text = format!(in alloc; "{index:?}")?;
-    let count = match text.as_str().split_once(", spare: ") {
+fn index_blocks(answer: &mut Answer, index: &BoxIndex, most: u64) {
+    answer.debug(index);
+    let count = match answer.text.as_str().split_once(", spare: ") {
         Some((blocks, _)) => blocks.matches("Block {").count(),
         None => 0,
     };
-    blocks_text(alloc, count, most)
+    answer.text.clear();
+    blocks(answer, count, most);
 }
 
-/// What a line over an index comes to.
-pub(crate) fn answer(
-    alloc: Global,
-    index: &mut BoxIndex,
-    line: Line<'_>,
-) -> Option<Result<String, AllocError>> {
+/// Answers a line over an index. Returns whether it is one.
+pub(crate) fn answer(answer: &mut Answer, index: &mut BoxIndex, line: Line<'_>) -> bool {
     let numbers = line.numbers;
     match line.word {
-        "add" => Some(add(alloc, index, entry_of(numbers))),
-        "take" => Some(take(alloc, index, entry_of(numbers))),
-        "query" => Some(query(alloc, index, numbers)),
-        "scatter" => Some(scatter(alloc, index, numbers)),
-        "gather" => Some(gather(alloc, index, numbers)),
-        "boxblocks" => Some(blocks(alloc, index, numbers[0])),
-        _ => None,
+        "add" => add(answer, index, entry_of(numbers)),
+        "take" => take(answer, index, entry_of(numbers)),
+        "query" => query(answer, index, numbers),
+        "scatter" => scatter(answer, index, numbers),
+        "gather" => gather(answer, index, numbers),
+        "boxblocks" => index_blocks(answer, index, numbers[0]),
+        _ => return false,
     }
+    true
 }

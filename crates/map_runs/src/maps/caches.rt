@@ -1,5 +1,6 @@
 //! Lines over the newest edits of the world's cells, and over tiles that are kept.
 use super::boxes::bounds_of;
+use crate::answers::Answer;
 use crate::lines::{Line, byte, tile_at};
 use hilbert_id::TileAt;
 use std::alloc::{AllocError, Global};
@@ -22,61 +23,56 @@ impl Caches {
     }
 
     /// Notes that an edit touched a box.
-    fn mark(&mut self, alloc: Global, numbers: [u64; 8]) -> Result<String, AllocError> {
+    fn mark(&mut self, answer: &mut Answer, numbers: [u64; 8]) {
         let [x0, x1, y0, y1, number, ..] = numbers;
         self.grid.mark(&bounds_of(x0, x1, y0, y1), number);
-        String::from_str(alloc, "marked")
+        answer.say("marked");
     }
 
     /// Keeps a tile of three bytes: this one, 1 and 2.
-    fn hold(
-        &mut self,
-        alloc: Global,
-        at: TileAt,
-        number: u64,
-        first: u64,
-    ) -> Result<String, AllocError> {
-        let bytes = RcSlice::from_slice(alloc, &[byte(first), 1, 2])?;
+    fn hold(&mut self, answer: &mut Answer, at: TileAt, number: u64, first: u64) {
+        let Ok(bytes) = RcSlice::from_slice(answer.alloc, &[byte(first), 1, 2]) else {
+            return answer.refuse();
+        };
         let tile = CachedTile {
             origin: Origin::Cut,
             number,
             bytes,
         };
-        self.cache.keep(at, tile)?;
-        String::from_str(alloc, "held")
+        match self.cache.keep(at, tile) {
+            Ok(()) => answer.say("held"),
+            Err(_) => answer.refuse(),
+        }
     }
 
     /// The tile that is kept for a place, if it is as new as this number.
-    fn held(&mut self, alloc: Global, at: TileAt, newest: u64) -> Result<String, AllocError> {
+    fn held(&mut self, answer: &mut Answer, at: TileAt, newest: u64) {
         self.cache.promote(at);
         match self.cache.peek(at, newest, false) {
-            Some(bytes) => hex::encode(alloc, bytes.as_slice()),
-            None => String::from_str(alloc, "none"),
+            Some(bytes) => answer.hex(bytes.as_slice()),
+            None => answer.say("none"),
         }
     }
 
-    fn tile_answer(&mut self, alloc: Global, line: Line<'_>) -> Result<String, AllocError> {
+    fn answer_tile(&mut self, answer: &mut Answer, line: Line<'_>) {
         let Some(at) = tile_at(line.numbers) else {
-            return String::from_str(alloc, "no tile");
+            return answer.say("no tile");
         };
         let [_, _, _, fourth, fifth, ..] = line.numbers;
         match line.word {
-            "hold" => self.hold(alloc, at, fourth, fifth),
-            "held" => self.held(alloc, at, fourth),
-            _ => format!(in alloc; "{}", self.grid.newest(at)),
+            "hold" => self.hold(answer, at, fourth, fifth),
+            "held" => self.held(answer, at, fourth),
+            _ => answer.say(self.grid.newest(at)),
         }
     }
 
-    /// What a line over these comes to.
-    pub(crate) fn answer(
-        &mut self,
-        alloc: Global,
-        line: Line<'_>,
-    ) -> Option<Result<String, AllocError>> {
+    /// Answers a line over these. Returns whether it is one.
+    pub(crate) fn answer(&mut self, answer: &mut Answer, line: Line<'_>) -> bool {
         match line.word {
-            "mark" => Some(self.mark(alloc, line.numbers)),
-            "hold" | "held" | "touched" => Some(self.tile_answer(alloc, line)),
-            _ => None,
+            "mark" => self.mark(answer, line.numbers),
+            "hold" | "held" | "touched" => self.answer_tile(answer, line),
+            _ => return false,
         }
+        true
     }
 }

@@ -4,7 +4,8 @@ ghost use Rattle.feature_model.specs.Limits.{FeatureFits, IsAllowed};
 ghost use Rattle.edit_text.specs.Views.{feature_view};
 
 use super::map::put;
-use super::texts::{batch_text, deleted, made_text, record};
+use super::texts::{batch_text, deleted, record};
+use crate::answers::Answer;
 use crate::lines::Line;
 use cached_map::CachedMap;
 use edit_json::{batch_from_json, checked_from_json, feature_from_json, feature_to_json};
@@ -12,17 +13,8 @@ use edit_text::{FeatureText, StoredFeature, encode_change};
 use feature_model::{Change, EditFault, Feature, MAX_ZOOM, Seen, check};
 use script_bytes::{expanded, parted};
 use serde_json::Value;
-use std::alloc::{AllocError, Global};
+use std::alloc::Global;
 use tile_cutter::{bounding_box, check_reach, cover_count, tiles_met};
-
-/// The JSON value of a text, in which `<COUNT:TEXT>` stands for that text so many times. `None` if it is no JSON.
-fn value_in(alloc: Global, text: &str) -> Result<Option<Value>, AllocError> {
-    let text = expanded(alloc, text)?;
-    match Value::from_str(alloc, text.as_str()) {
-        Ok(value) => Ok(Some(value)),
-        Err(_) => Ok(None),
-    }
-}
 
 /// The feature as the text of this number, or the limit that it breaks.
 fn stored(alloc: Global, id: u64, feature: &Feature) -> Result<StoredFeature, EditFault>
@@ -33,147 +25,126 @@ fn stored(alloc: Global, id: u64, feature: &Feature) -> Result<StoredFeature, Ed
 }
 
 /// A feature that is kept as its text, as JSON.
-pub(crate) fn kept(alloc: Global, feature: FeatureText<'_>) -> Result<String, AllocError>
+pub(crate) fn kept(answer: &mut Answer, feature: FeatureText<'_>)
     requires { FeatureFits (feature_view feature) }
 {
-    let value = feature_to_json(alloc, feature)?;
-    let text = value.to_string(alloc);
-    drop(value);
-    text
+    match feature_to_json(answer.alloc, feature) {
+        Ok(value) => answer.made_text(value.to_string(answer.alloc)),
+        Err(_) => answer.refuse(),
+    }
 }
 
 /// A feature as JSON, by way of its text, or the limit that it breaks.
-fn shown(alloc: Global, id: u64, feature: &Feature) -> Result<String, AllocError> {
-    match stored(alloc, id, feature) {
-        Ok(stored) => kept(alloc, stored.view()),
-        Err(fault) => fault.to_string(alloc),
+fn shown(answer: &mut Answer, id: u64, feature: &Feature) {
+    match stored(answer.alloc, id, feature) {
+        Ok(stored) => kept(answer, stored.view()),
+        Err(fault) => answer.say(fault),
     }
 }
 
 /// The text of an edit of a JSON value.
-fn changes(alloc: Global, value: &Value) -> Result<String, AllocError> {
-    match batch_from_json(alloc, value) {
-        Ok(changes) => batch_text(alloc, changes),
-        Err(fault) => fault.to_string(alloc),
-    }
-}
-
-/// What an author saw of a number, as JSON.
-fn seen_text(alloc: Global, seen: &Seen) -> Result<String, AllocError> {
-    match &seen.feature {
-        Some(feature) => shown(alloc, seen.id, feature),
-        None => String::from_str(alloc, "null"),
+fn changes(answer: &mut Answer, value: &Value) {
+    match batch_from_json(answer.alloc, value) {
+        Ok(changes) => batch_text(answer, changes),
+        Err(fault) => answer.say(fault),
     }
 }
 
 /// The text of an edit of these changes, and what its author saw of each number.
-fn checked_text(alloc: Global, changes: Vec<Change>, seen: &[Seen]) -> Result<String, AllocError> {
-    let mut told = batch_text(alloc, changes)?;
+fn checked_text(answer: &mut Answer, changes: Vec<Change>, seen: &[Seen]) {
+    batch_text(answer, changes);
     for one in seen {
-        told.push(' ')?;
-        told.push_str(seen_text(alloc, one)?.as_str())?;
+        answer.say(' ');
+        match &one.feature {
+            Some(feature) => shown(answer, one.id, feature),
+            None => answer.say("null"),
+        }
     }
-    Ok(told)
 }
 
 /// The same of a JSON value.
-fn checked(alloc: Global, value: &Value) -> Result<String, AllocError> {
-    match checked_from_json(alloc, value) {
-        Ok((changes, seen)) => checked_text(alloc, changes, &seen),
-        Err(fault) => fault.to_string(alloc),
+fn checked(answer: &mut Answer, value: &Value) {
+    match checked_from_json(answer.alloc, value) {
+        Ok((changes, seen)) => checked_text(answer, changes, &seen),
+        Err(fault) => answer.say(fault),
     }
 }
 
 /// The text that gives a number a feature.
-fn put_text(alloc: Global, id: u64, feature: Feature) -> Result<String, AllocError> {
+fn put_text(answer: &mut Answer, id: u64, feature: Feature) {
     if let Err(fault) = check(id, &feature) {
-        return fault.to_string(alloc);
+        return answer.say(fault);
     }
     let change = Change::Put { id, feature };
-    let text = encode_change(alloc, &change);
-    drop(change);
-    made_text(alloc, text)
+    answer.made_bytes(encode_change(answer.alloc, &change));
 }
 
 /// How many tiles a feature covers, and whether these are too many.
-fn reach_of(alloc: Global, feature: &Feature) -> Result<String, AllocError> {
+fn reach_of(answer: &mut Answer, feature: &Feature) {
     if feature.maxzoom > MAX_ZOOM {
-        return EditFault::Zoom.to_string(alloc);
+        return answer.say(EditFault::Zoom);
     }
-    let count = cover_count(feature);
-    match check_reach(feature) {
-        Ok(()) => format!(in alloc; "{count}"),
-        Err(fault) => format!(in alloc; "{count}: {fault}"),
+    answer.say(cover_count(feature));
+    if let Err(fault) = check_reach(feature) {
+        answer.say(format_args!(": {fault}"));
     }
 }
 
 /// The columns and rows of a zoom that a feature covers.
-fn covered(alloc: Global, zoom: u64, feature: &Feature) -> Result<String, AllocError> {
+fn covered(answer: &mut Answer, zoom: u64, feature: &Feature) {
     if zoom > u64::from(MAX_ZOOM) {
-        return EditFault::Zoom.to_string(alloc);
+        return answer.say(EditFault::Zoom);
     }
-    let stored = match stored(alloc, 0, feature) {
-        Ok(stored) => stored,
-        Err(fault) => return fault.to_string(alloc),
-    };
-    let range = tiles_met(bounding_box(stored.view()), zoom as u8);
-    format!(in alloc;
-        "{} to {}, {} to {}",
-        range.x0, range.x1, range.y0, range.y1
-    )
+    match stored(answer.alloc, 0, feature) {
+        Ok(stored) => {
+            let range = tiles_met(bounding_box(stored.view()), zoom as u8);
+            answer.say(format_args!("{} to {}, {} to {}", range.x0, range.x1, range.y0, range.y1));
+        }
+        Err(fault) => answer.say(fault),
+    }
 }
 
-/// What a line about the feature of a JSON value comes to.
-fn feature_answer(
-    alloc: Global,
-    map: &mut CachedMap,
-    line: Line<'_>,
-    value: &Value,
-) -> Result<String, AllocError> {
-    let feature = match feature_from_json(alloc, value) {
+/// Answers a line about the feature of a JSON value.
+fn answer_feature(answer: &mut Answer, map: &mut CachedMap, line: Line<'_>, value: &Value) {
+    let feature = match feature_from_json(answer.alloc, value) {
         Ok(feature) => feature,
-        Err(fault) => return fault.to_string(alloc),
+        Err(fault) => return answer.say(fault),
     };
     let number = line.numbers[0];
     match line.word {
-        "json" => shown(alloc, 0, &feature),
-        "text" => put_text(alloc, number, feature),
-        "reach" => reach_of(alloc, &feature),
-        "covers" => covered(alloc, number, &feature),
-        _ => put(alloc, map, number, feature),
+        "json" => shown(answer, 0, &feature),
+        "text" => put_text(answer, number, feature),
+        "reach" => reach_of(answer, &feature),
+        "covers" => covered(answer, number, &feature),
+        _ => put(answer, map, number, feature),
     }
 }
 
-/// What a line about JSON comes to, which stands behind a number in some.
-fn json_answer(alloc: Global, map: &mut CachedMap, line: Line<'_>) -> Result<String, AllocError> {
-    let json = match line.word {
-        "text" | "covers" | "put" => parted(line.rest).1,
-        _ => line.rest,
+/// Answers a line about a text of JSON, in which `<COUNT:TEXT>` stands for that text so many times.
+fn answer_json(answer: &mut Answer, map: &mut CachedMap, line: Line<'_>, json: &str) {
+    let Ok(text) = expanded(answer.alloc, json) else {
+        return answer.refuse();
     };
-    let Some(value) = value_in(alloc, json)? else {
-        return String::from_str(alloc, "Json");
+    let value = Value::from_str(answer.alloc, text.as_str());
+    drop(text);
+    let Ok(value) = value else {
+        return answer.say("Json");
     };
-    let text = match line.word {
-        "changes" => changes(alloc, &value),
-        "checked" => checked(alloc, &value),
-        _ => feature_answer(alloc, map, line, &value),
-    };
-    drop(value);
-    text
-}
-
-/// What a line about JSON, or about the texts of edits, comes to.
-pub(crate) fn answer(
-    alloc: Global,
-    map: &mut CachedMap,
-    line: Line<'_>,
-) -> Option<Result<String, AllocError>> {
     match line.word {
-        "json" | "changes" | "checked" | "text" | "reach" | "covers" | "put" => {
-            Some(json_answer(alloc, map, line))
-        }
-        "deleted" => Some(deleted(alloc, line.numbers[0])),
-        "record" => Some(record(alloc, line.rest)),
-        _ => None,
+        "changes" => changes(answer, &value),
+        "checked" => checked(answer, &value),
+        _ => answer_feature(answer, map, line, &value),
     }
+}
+
+/// Answers a line about JSON, which stands behind a number in some, or about the texts of edits. Returns whether it is one.
+pub(crate) fn answer(answer: &mut Answer, map: &mut CachedMap, line: Line<'_>) -> bool {
+    match line.word {
+        "json" | "changes" | "checked" | "reach" => answer_json(answer, map, line, line.rest),
+        "text" | "covers" | "put" => answer_json(answer, map, line, parted(line.rest).1),
+        "deleted" => deleted(answer, line.numbers[0]),
+        "record" => record(answer, line.rest),
+        _ => return false,
+    }
+    true
 }

@@ -8,6 +8,7 @@ ghost use Rattle.feature_model.specs.declared.limits.TheConstants.{MAX_EDIT_BYTE
 use super::areas::area;
 use super::features::kept;
 use super::random::make_random;
+use crate::answers::Answer;
 use crate::lines::{Line, tile_at};
 use cached_map::CachedMap;
 use edit_text::{decode, encode_change};
@@ -32,239 +33,261 @@ pub(crate) fn empty_map(alloc: Global, last: u64) -> Result<CachedMap, AllocErro
 }
 
 /// What is told of the edit of this number.
-pub(crate) fn edited(alloc: Global, number: u64, map: &CachedMap) -> Result<String, AllocError> {
+pub(crate) fn edited(answer: &mut Answer, number: u64, map: &CachedMap) {
     let count = map.store().len();
-    format!(in alloc; "edit {number}: {count} features")
+    answer.say(format_args!("edit {number}: {count} features"));
 }
 
 /// Gives a number a feature.
-pub(crate) fn put(
-    alloc: Global,
-    map: &mut CachedMap,
-    id: u64,
-    feature: Feature,
-) -> Result<String, AllocError> {
+pub(crate) fn put(answer: &mut Answer, map: &mut CachedMap, id: u64, feature: Feature) {
     if let Err(fault) = check(id, &feature) {
-        return fault.to_string(alloc);
+        return answer.say(fault);
     }
     let change = Change::Put { id, feature };
-    let _text = encode_change(alloc, &change)?;
-    let mut changes = Vec::new(alloc);
-    changes.push(change)?;
-    make(alloc, map, Edit { changes })
+    let Ok(_text) = encode_change(answer.alloc, &change) else {
+        return answer.refuse();
+    };
+    let mut changes = Vec::new(answer.alloc);
+    match changes.push(change) {
+        Ok(()) => make(answer, map, Edit { changes }),
+        Err(_) => answer.refuse(),
+    }
 }
 
 /// Takes the feature of a number away.
-pub(crate) fn delete(alloc: Global, map: &mut CachedMap, id: u64) -> Result<String, AllocError> {
+pub(crate) fn delete(answer: &mut Answer, map: &mut CachedMap, id: u64) {
     let Some(number) = map.last().checked_add(1) else {
-        return String::from_str(alloc, "numbers spent");
+        return answer.say("numbers spent");
     };
     let found = map.remove(id, number);
-    let count = map.store().len();
-    format!(in alloc; "edit {number}: {count} features, was there {found}")
+    edited(answer, number, map);
+    answer.say(format_args!(", was there {found}"));
 }
 
 /// Makes the changes of an edit together.
-fn make(alloc: Global, map: &mut CachedMap, edit: Edit) -> Result<String, AllocError>
+fn make(answer: &mut Answer, map: &mut CachedMap, edit: Edit)
     requires changes { All IsChange (edit_data edit) }
     requires text { length (spelled_changes (edit_data edit)) ≤ MAX_EDIT_BYTES }
 {
     let Some(number) = map.last().checked_add(1) else {
-        return String::from_str(alloc, "numbers spent");
+        return answer.say("numbers spent");
     };
     if map.store().len() > MOST {
-        return String::from_str(alloc, "too many features");
+        return answer.say("too many features");
     }
-    let changes = map.prepare(&edit.changes)?;
+    let Ok(changes) = map.prepare(&edit.changes) else {
+        return answer.refuse();
+    };
     map.make_edit(changes, number);
-    edited(alloc, number, map)
+    edited(answer, number, map);
 }
 
-fn make_text(alloc: Global, map: &mut CachedMap, text: &str) -> Result<String, AllocError> {
-    let Ok(bytes) = hex::decode(alloc, text) else {
-        return String::from_str(alloc, "no hex");
+fn make_text(answer: &mut Answer, map: &mut CachedMap, text: &str) {
+    let Ok(bytes) = hex::decode(answer.alloc, text) else {
+        return answer.say("no hex");
     };
-    match decode(alloc, &bytes) {
-        Ok((edit, _)) => make(alloc, map, edit),
-        Err(fault) => format!(in alloc; "{fault:?}"),
+    match decode(answer.alloc, &bytes) {
+        Ok((edit, _)) => make(answer, map, edit),
+        Err(fault) => answer.debug(fault),
     }
 }
 
 /// The feature of a number.
-fn look(alloc: Global, store: &Store, id: u64) -> Result<String, AllocError> {
+fn look(answer: &mut Answer, store: &Store, id: u64) {
     match store.get(id) {
-        Some(feature) => kept(alloc, feature),
-        None => String::from_str(alloc, "none"),
+        Some(feature) => kept(answer, feature),
+        None => answer.say("none"),
+    }
+}
+
+/// A tile that isn't kept, or whose bytes are too old: it is made.
+fn made(answer: &mut Answer, map: &mut CachedMap, at: TileAt) {
+    match map.make(at) {
+        Ok(Some(bytes)) => {
+            answer.say("made ");
+            answer.hex(bytes.as_slice());
+        }
+        Ok(None) => answer.say("nothing"),
+        Err(_) => answer.refuse(),
     }
 }
 
 /// A tile: as it is kept, or made.
-fn tile(alloc: Global, map: &mut CachedMap, at: TileAt) -> Result<String, AllocError> {
-    let (word, bytes) = match map.kept(at, false)? {
-        Some(bytes) => ("kept", Some(bytes)),
-        None => ("made", map.make(at)?),
-    };
-    match bytes {
-        Some(bytes) => {
-            let text = hex::encode(alloc, bytes.as_slice())?;
-            format!(in alloc; "{word} {text}")
+fn tile(answer: &mut Answer, map: &mut CachedMap, at: TileAt) {
+    match map.kept(at, false) {
+        Ok(Some(bytes)) => {
+            answer.say("kept ");
+            answer.hex(bytes.as_slice());
         }
-        None => String::from_str(alloc, "nothing"),
+        Ok(None) => made(answer, map, at),
+        Err(_) => answer.refuse(),
     }
 }
 
 /// A tile that is cut anew, kept or not: no bytes where it shows nothing.
-fn anew(alloc: Global, store: &Store, at: TileAt) -> Result<String, AllocError> {
-    match store.tile(at)? {
-        Some(bytes) => hex::encode(alloc, bytes.as_slice()),
-        None => Ok(String::new(alloc)),
+fn anew(answer: &mut Answer, store: &Store, at: TileAt) {
+    match store.tile(at) {
+        Ok(Some(bytes)) => answer.hex(&bytes),
+        Ok(None) => {}
+        Err(_) => answer.refuse(),
     }
 }
 
 /// A layer's name, version, extent, and the numbers of its features.
-type Listed<'a> = (&'a str, u32, u32, Vec<u64>);
-
-fn listed<'a>(alloc: Global, layer: &Layer<'a>) -> Result<Listed<'a>, AllocError> {
-    let mut ids = Vec::new(alloc);
+fn list_layer(answer: &mut Answer, layer: &Layer<'_>) {
+    let Layer {
+        name,
+        version,
+        extent,
+        ..
+    } = layer;
+    answer.item();
+    answer.say(format_args!("({name:?}, {version}, {extent}, ["));
     for feature in &layer.features {
-        ids.push(feature.id.unwrap_or(0))?;
+        answer.item();
+        answer.say(feature.id.unwrap_or(0));
     }
-    Ok((layer.name, layer.version, layer.extent, ids))
+    answer.say("])");
 }
 
-fn all_listed(alloc: Global, layers: &[Layer<'_>]) -> Result<String, AllocError> {
-    let mut all = Vec::new(alloc);
+fn list_layers(answer: &mut Answer, layers: &[Layer<'_>]) {
+    answer.say('[');
     for layer in layers {
-        all.push(listed(alloc, layer)?)?;
+        list_layer(answer, layer);
     }
-    format!(in alloc; "{all:?}")
+    answer.say(']');
 }
 
 /// The layers that a tile's bytes have, none where it shows nothing.
-fn layers(alloc: Global, store: &Store, at: TileAt) -> Result<String, AllocError> {
-    let bytes = store.tile(at)?.unwrap_or(Vec::new(alloc));
-    match read_tile(alloc, &bytes) {
-        Ok(layers) => all_listed(alloc, &layers),
-        Err(fault) => format!(in alloc; "{fault:?}"),
+fn layers(answer: &mut Answer, store: &Store, at: TileAt) {
+    let Ok(tile) = store.tile(at) else {
+        return answer.refuse();
+    };
+    let bytes = tile.unwrap_or(Vec::new(answer.alloc));
+    match read_tile(answer.alloc, &bytes) {
+        Ok(layers) => list_layers(answer, &layers),
+        Err(fault) => answer.debug(fault),
     }
 }
 
-/// Adds the tiles to come, each with its id.
-fn push_tiles(
-    alloc: Global,
-    all: &mut Vec<(u64, String)>,
-    tiles: &mut Tiles<'_>,
-) -> Result<(), AllocError> {
+/// The tiles to come, each with its id.
+fn list_tiles(answer: &mut Answer, tiles: &mut Tiles<'_>) {
+    answer.say('[');
     for _ in 0..u64::MAX {
-        let Some((id, bytes)) = tiles.next()? else {
-            break;
-        };
-        all.push((id, hex::encode(alloc, bytes.as_slice())?))?;
+        match tiles.next() {
+            Ok(Some((id, bytes))) => {
+                answer.item();
+                answer.say(format_args!("({id}, \""));
+                answer.hex(&bytes);
+                answer.say("\")");
+            }
+            Ok(None) => break,
+            Err(_) => return answer.refuse(),
+        }
     }
-    Ok(())
+    answer.say(']');
 }
 
 /// All tiles, each with its id.
-fn tiles(alloc: Global, store: &Store) -> Result<String, AllocError> {
-    let mut all = Vec::new(alloc);
-    let mut tiles = store.tiles()?;
-    let pushed = push_tiles(alloc, &mut all, &mut tiles);
-    drop(tiles);
-    pushed?;
-    format!(in alloc; "{all:?}")
+fn tiles(answer: &mut Answer, store: &Store) {
+    match store.tiles() {
+        Ok(mut tiles) => list_tiles(answer, &mut tiles),
+        Err(_) => answer.refuse(),
+    }
 }
 
 /// The snapshot of the map that is read back from a map's snapshot.
-fn snapshot(alloc: Global, store: &Store) -> Result<String, AllocError> {
-    let text = store.snapshot_text()?;
+fn snapshot(answer: &mut Answer, store: &Store) {
+    let Ok(text) = store.snapshot_text() else {
+        return answer.refuse();
+    };
     if text.len() > MOST_BYTES {
-        return String::from_str(alloc, "too many bytes");
+        return answer.say("too many bytes");
     }
-    match Store::from_snapshot(alloc, &text) {
-        Ok(same) => hex::encode(alloc, same.snapshot_text()?.as_slice()),
-        Err(fault) => fault.to_string(alloc),
+    match Store::from_snapshot(answer.alloc, &text) {
+        Ok(same) => answer.made_bytes(same.snapshot_text()),
+        Err(fault) => answer.say(fault),
     }
 }
 
-/// Takes the map of a snapshot in the map's place. Its last edit keeps the number.
-fn restore(alloc: Global, map: &mut CachedMap, text: &str) -> Result<String, AllocError> {
-    let Ok(bytes) = hex::decode(alloc, text) else {
-        return String::from_str(alloc, "no hex");
+/// Takes a map in the map's place. Its last edit keeps the number.
+fn replace(answer: &mut Answer, map: &mut CachedMap, store: Store) {
+    let count = store.len();
+    match CachedMap::new(answer.alloc, store, map.last()) {
+        Ok(restored) => {
+            drop(mem::replace(map, restored));
+            answer.say(format_args!("{count} features"));
+        }
+        Err(_) => answer.refuse(),
+    }
+}
+
+/// The same of the map of a snapshot.
+fn restore(answer: &mut Answer, map: &mut CachedMap, text: &str) {
+    let Ok(bytes) = hex::decode(answer.alloc, text) else {
+        return answer.say("no hex");
     };
     if bytes.len() > MOST_BYTES {
-        return String::from_str(alloc, "too many bytes");
+        return answer.say("too many bytes");
     }
-    match Store::from_snapshot(alloc, &bytes) {
-        Ok(store) => {
-            let count = store.len();
-            let restored = CachedMap::new(alloc, store, map.last())?;
-            drop(mem::replace(map, restored));
-            format!(in alloc; "{count} features")
-        }
-        Err(fault) => fault.to_string(alloc),
+    match Store::from_snapshot(answer.alloc, &bytes) {
+        Ok(store) => replace(answer, map, store),
+        Err(fault) => answer.say(fault),
     }
 }
 
-/// What a line about a tile comes to.
-fn tile_answer(alloc: Global, map: &mut CachedMap, line: Line<'_>) -> Result<String, AllocError> {
+/// Answers a line about a tile.
+fn answer_tile(answer: &mut Answer, map: &mut CachedMap, line: Line<'_>) {
     let Some(at) = tile_at(line.numbers) else {
-        return String::from_str(alloc, "no tile");
+        return answer.say("no tile");
     };
     match line.word {
-        "tile" => tile(alloc, map, at),
-        "anew" => anew(alloc, map.store(), at),
-        "layers" => layers(alloc, map.store(), at),
-        _ => format!(in alloc; "{}", map.newest(at)),
+        "tile" => tile(answer, map, at),
+        "anew" => anew(answer, map.store(), at),
+        "layers" => layers(answer, map.store(), at),
+        _ => answer.say(map.newest(at)),
     }
 }
 
 /// The tiles of a square, each as a line `tile` answers it: its zoom, its first column and row, and how many of these it has. The answer
 /// is how many are cached, and a digest: 31 times that of the tiles before, column by column, plus the hash of the answer, modulo 2^64.
-fn square(
-    alloc: Global,
-    map: &mut CachedMap,
-    [zoom, column, row, side, ..]: [u64; 8],
-) -> Result<String, AllocError> {
+fn square(answer: &mut Answer, map: &mut CachedMap, [zoom, column, row, side, ..]: [u64; 8]) {
     let mut cached = 0u64;
     let mut sum = 0u64;
     for across in 0..side {
         for down in 0..side {
             let x = column.wrapping_add(across);
             let y = row.wrapping_add(down);
-            let line = Line {
-                word: "tile",
-                rest: "",
-                numbers: [zoom, x, y, 0, 0, 0, 0, 0],
-            };
-            let answer = tile_answer(alloc, map, line)?;
-            if answer.as_str().starts_with("kept") {
+            match tile_at([zoom, x, y, 0, 0, 0, 0, 0]) {
+                Some(at) => tile(answer, map, at),
+                None => answer.say("no tile"),
+            }
+            if answer.text.starts_with("kept") {
                 cached = cached.wrapping_add(1);
             }
-            let hash = digest(answer.as_str().as_bytes());
+            let hash = digest(answer.text.as_bytes());
             sum = sum.wrapping_mul(31).wrapping_add(hash);
+            answer.text.clear();
         }
     }
-    format!(in alloc; "{cached} cached, digest {sum}")
+    answer.say(format_args!("{cached} cached, digest {sum}"));
 }
 
-/// What a line over a map comes to.
-pub(crate) fn answer(
-    alloc: Global,
-    map: &mut CachedMap,
-    line: Line<'_>,
-) -> Option<Result<String, AllocError>> {
+/// Answers a line over a map. Returns whether it is one.
+pub(crate) fn answer(answer: &mut Answer, map: &mut CachedMap, line: Line<'_>) -> bool {
     match line.word {
-        "delete" => Some(delete(alloc, map, line.numbers[0])),
-        "make" => Some(make_text(alloc, map, line.rest)),
-        "random" => Some(make_random(alloc, map, line.numbers)),
-        "restore" => Some(restore(alloc, map, line.rest)),
-        "tile" | "anew" | "layers" | "newest" => Some(tile_answer(alloc, map, line)),
-        "square" => Some(square(alloc, map, line.numbers)),
-        "look" => Some(look(alloc, map.store(), line.numbers[0])),
-        "tiles" => Some(tiles(alloc, map.store())),
-        "snapshot" => Some(snapshot(alloc, map.store())),
-        "metadata" => Some(metadata_text(alloc, map.store())),
-        "area" => Some(area(alloc, map.store(), line.numbers[0])),
-        _ => None,
+        "delete" => delete(answer, map, line.numbers[0]),
+        "make" => make_text(answer, map, line.rest),
+        "random" => make_random(answer, map, line.numbers),
+        "restore" => restore(answer, map, line.rest),
+        "tile" | "anew" | "layers" | "newest" => answer_tile(answer, map, line),
+        "square" => square(answer, map, line.numbers),
+        "look" => look(answer, map.store(), line.numbers[0]),
+        "tiles" => tiles(answer, map.store()),
+        "snapshot" => snapshot(answer, map.store()),
+        "metadata" => answer.made_text(metadata_text(answer.alloc, map.store())),
+        "area" => area(answer, map.store(), line.numbers[0]),
+        _ => return false,
     }
+    true
 }

@@ -1,5 +1,6 @@
 //! Edits of a map that look random. `bench/model/map_random.py` draws the same numbers in the same order.
 use super::map::{delete, edited, put};
+use crate::answers::Answer;
 use crate::lines::byte;
 use cached_map::CachedMap;
 use feature_model::{EditValue, Feature, Geometry, Tag, World};
@@ -98,38 +99,33 @@ fn any_feature(alloc: Global, chance: &mut Chance) -> Result<Feature, AllocError
 }
 
 /// Makes an edit of an id below `ids`, and answers as the lines `put` and `delete` do. One in `one_in` edits is a deletion.
-fn edit(
-    alloc: Global,
-    map: &mut CachedMap,
-    chance: &mut Chance,
-    ids: u64,
-    one_in: u64,
-) -> Result<String, AllocError> {
+fn edit(answer: &mut Answer, map: &mut CachedMap, chance: &mut Chance, ids: u64, one_in: u64) {
     let id = chance.below(ids);
     if chance.below(one_in) == 0 {
-        return delete(alloc, map, id);
+        return delete(answer, map, id);
     }
-    put(alloc, map, id, any_feature(alloc, chance)?)
+    match any_feature(answer.alloc, chance) {
+        Ok(feature) => put(answer, map, id, feature),
+        Err(_) => answer.refuse(),
+    }
 }
 
 /// Makes edits: their count, `ids`, the first state of the generator, and `one_in`. It answers with the last edit, how many deletions
 /// found a feature, and a digest: of the counts of features after each edit, 31 times that of those before, plus the count, modulo 2^64.
-pub(crate) fn make_random(
-    alloc: Global,
-    map: &mut CachedMap,
-    [count, ids, state, one_in, ..]: [u64; 8],
-) -> Result<String, AllocError> {
+pub(crate) fn make_random(answer: &mut Answer, map: &mut CachedMap, numbers: [u64; 8]) {
+    let [count, ids, state, one_in, ..] = numbers;
     let mut chance = Chance { state };
     let mut taken = 0u64;
     let mut digest = 0u64;
     for _ in 0..count {
-        let answer = edit(alloc, map, &mut chance, ids, one_in)?;
-        if answer.as_str().ends_with("true") {
+        edit(answer, map, &mut chance, ids, one_in);
+        if answer.text.ends_with("true") {
             taken = taken.wrapping_add(1);
         }
+        answer.text.clear();
         let features = map.store().len() as u64;
         digest = digest.wrapping_mul(31).wrapping_add(features);
     }
-    let last = edited(alloc, map.last(), map)?;
-    format!(in alloc; "{last}, {taken} taken, digest {digest}")
+    edited(answer, map.last(), map);
+    answer.say(format_args!(", {taken} taken, digest {digest}"));
 }

@@ -1,149 +1,109 @@
 //! Lines about the bytes of archives.
-use crate::texts::{debug_text, read_text, shown_text};
+use crate::answers::Answer;
 use archive_commands::{ShowFault, Verdict, show, verify};
 use pm_archive::{Archive, ArchiveFault, Lookup};
 use pm_directory::{DirectoryEntry, find, read_directory};
 use pm_header::{HEADER_BYTES, Header};
-use pm_metadata::is_metadata;
 use script_bytes::number_in;
-use std::alloc::{AllocError, Global};
 
 /// A header, and whether it is encoded as it was decoded from these bytes.
-fn header_text(alloc: Global, header: &Header, bytes: &[u8]) -> Result<String, AllocError> {
-    let is_same = bytes.get(..HEADER_BYTES) == Some(header.to_bytes().as_slice());
-    let written = if is_same { "the same" } else { "otherwise" };
-    format!(in alloc; "{header:?}, written {written}")
-}
-
-pub(crate) fn header(alloc: Global, bytes: &[u8]) -> Result<String, AllocError> {
+pub(crate) fn header(answer: &mut Answer, bytes: &[u8]) {
     match Header::from_bytes(bytes) {
-        Ok(header) => header_text(alloc, &header, bytes),
-        Err(fault) => debug_text(alloc, fault),
+        Ok(header) => {
+            let is_same = bytes.get(..HEADER_BYTES) == Some(header.to_bytes().as_slice());
+            let written = if is_same { "the same" } else { "otherwise" };
+            answer.say(format_args!("{header:?}, written {written}"));
+        }
+        Err(fault) => answer.debug(fault),
     }
 }
 
 /// The entry of a directory that leads to an id.
-pub(crate) fn found(alloc: Global, id: u64, bytes: &[u8]) -> Result<String, AllocError> {
-    match read_directory(alloc, bytes) {
-        Ok(entries) => {
-            let entry = find(&entries, id);
-            drop(entries);
-            debug_text(alloc, entry)
-        }
-        Err(fault) => debug_text(alloc, fault),
+pub(crate) fn found(answer: &mut Answer, id: u64, bytes: &[u8]) {
+    match read_directory(answer.alloc, bytes) {
+        Ok(entries) => answer.debug(find(&entries, id)),
+        Err(fault) => answer.debug(fault),
     }
-}
-
-pub(crate) fn metadata(alloc: Global, bytes: &[u8]) -> Result<String, AllocError> {
-    shown_text(alloc, is_metadata(alloc, bytes)?)
 }
 
 /// The tile entries of all directories.
-pub(crate) fn list(alloc: Global, bytes: &[u8]) -> Result<String, AllocError> {
-    match Archive::open(alloc, bytes) {
-        Ok(mut archive) => {
-            let listed = archive.list();
-            drop(archive);
-            list_text(alloc, listed)
-        }
-        Err((_, fault)) => shown_text(alloc, fault),
+pub(crate) fn list(answer: &mut Answer, bytes: &[u8]) {
+    match Archive::open(answer.alloc, bytes) {
+        Ok(mut archive) => list_entries(answer, archive.list()),
+        Err((_, fault)) => answer.say(fault),
     }
 }
 
-fn list_text(
-    alloc: Global,
-    listed: Result<Vec<DirectoryEntry>, ArchiveFault>,
-) -> Result<String, AllocError> {
+fn list_entries(answer: &mut Answer, listed: Result<Vec<DirectoryEntry>, ArchiveFault>) {
     match listed {
-        Ok(entries) => debug_text(alloc, entries),
-        Err(fault) => shown_text(alloc, fault),
+        Ok(entries) => answer.debug(entries),
+        Err(fault) => answer.say(fault),
     }
 }
 
-/// Adds the text for the content of an id to the others.
-fn add_content(
-    alloc: Global,
-    told: &mut Vec<String>,
-    found: Result<Option<Vec<u8>>, ArchiveFault>,
-) -> Result<(), AllocError> {
-    let text = match found {
-        Ok(Some(content)) => hex::encode(alloc, content.as_slice()),
-        Ok(None) => String::from_str(alloc, "none"),
-        Err(fault) => shown_text(alloc, fault),
-    };
-    told.push(text?)?;
-    Ok(())
-}
-
-/// Adds the contents of an archive for these ids.
-fn add_contents(
-    alloc: Global,
-    told: &mut Vec<String>,
-    archive: &mut Archive<&[u8]>,
-    ids: &str,
-) -> Result<(), AllocError> {
-    for id in ids.split(',') {
-        let found = archive.tile(number_in(id));
-        add_content(alloc, told, found)?;
+/// The content of an id behind those of others.
+fn list_content(answer: &mut Answer, found: Result<Option<Vec<u8>>, ArchiveFault>) {
+    answer.item();
+    answer.say('"');
+    match found {
+        Ok(Some(content)) => answer.hex(&content),
+        Ok(None) => answer.say("none"),
+        Err(fault) => answer.say(fault),
     }
-    Ok(())
+    answer.say('"');
 }
 
 /// The contents of an archive for these ids.
-pub(crate) fn contents(alloc: Global, ids: &str, bytes: &[u8]) -> Result<String, AllocError> {
-    match Archive::open(alloc, bytes) {
-        Ok(mut archive) => {
-            let mut told = Vec::new(alloc);
-            let added = add_contents(alloc, &mut told, &mut archive, ids);
-            drop(archive);
-            added?;
-            debug_text(alloc, told)
-        }
-        Err((_, fault)) => shown_text(alloc, fault),
+fn list_contents(answer: &mut Answer, archive: &mut Archive<&[u8]>, ids: &str) {
+    answer.say('[');
+    for id in ids.split(',') {
+        list_content(answer, archive.tile(number_in(id)));
+    }
+    answer.say(']');
+}
+
+/// The same of the bytes of an archive.
+pub(crate) fn contents(answer: &mut Answer, ids: &str, bytes: &[u8]) {
+    match Archive::open(answer.alloc, bytes) {
+        Ok(mut archive) => list_contents(answer, &mut archive, ids),
+        Err((_, fault)) => answer.say(fault),
     }
 }
 
 /// The contents that one look-up finds for these ids in turn.
-pub(crate) fn looks(alloc: Global, ids: &str, bytes: &[u8]) -> Result<String, AllocError> {
+pub(crate) fn looks(answer: &mut Answer, ids: &str, bytes: &[u8]) {
     let mut source = bytes;
-    let mut lookup = match Lookup::open(alloc, &mut source) {
+    let mut lookup = match Lookup::open(answer.alloc, &mut source) {
         Ok(lookup) => lookup,
-        Err(fault) => return fault.to_string(alloc),
+        Err(fault) => return answer.say(fault),
     };
-    let mut told = Vec::new(alloc);
+    answer.say('[');
     for id in ids.split(',') {
-        let found = lookup.tile(&mut source, number_in(id));
-        add_content(alloc, &mut told, found)?;
+        list_content(answer, lookup.tile(&mut source, number_in(id)));
     }
-    format!(in alloc; "{told:?}")
+    answer.say(']');
 }
 
 /// The line of `verify`, after the status of its program.
-pub(crate) fn judged(alloc: Global, bytes: &[u8]) -> Result<String, AllocError> {
-    let verdict = Verdict::of(verify(alloc, bytes));
+pub(crate) fn judged(answer: &mut Answer, bytes: &[u8]) {
+    let verdict = Verdict::of(verify(answer.alloc, bytes));
     let status = verdict.status();
-    format!(in alloc; "{status} {verdict}")
+    answer.say(format_args!("{status} {verdict}"));
 }
 
 /// The text that `show` writes, or the name of its fault.
-pub(crate) fn shown(alloc: Global, bytes: &[u8]) -> Result<String, AllocError> {
-    let mut out = Vec::new(alloc);
+pub(crate) fn shown(answer: &mut Answer, bytes: &[u8]) {
+    let mut out = Vec::new(answer.alloc);
     let outcome = show(bytes, &mut out);
-    let text = show_text(alloc, outcome, &out);
-    drop(out);
-    text
+    tell_shown(answer, outcome, &out);
 }
 
-fn show_text(
-    alloc: Global,
-    outcome: Result<(), ShowFault>,
-    written: &[u8],
-) -> Result<String, AllocError> {
+fn tell_shown(answer: &mut Answer, outcome: Result<(), ShowFault>, written: &[u8]) {
     match outcome {
-        Ok(()) => debug_text(alloc, String::from_utf8_lossy(alloc, written)?),
+        Ok(()) => answer.made(String::from_utf8_lossy(answer.alloc, written)),
         Err(fault) => {
             let len = written.len();
-            format!(in alloc; "{fault}, {len} bytes written")
+            answer.say(format_args!("{fault}, {len} bytes written"));
         }
     }
 }

@@ -1,7 +1,7 @@
 //! Lines about archives that are built.
 use super::inputs::place;
+use crate::answers::Answer;
 use crate::lines::Line;
-use crate::texts::shown_text;
 use archive_commands::{Verdict, verify};
 use pm_build::{ArchiveBuilder, BuildFault, BuiltArchive};
 use pm_metadata::is_metadata;
@@ -30,47 +30,48 @@ fn add_all(builder: &mut ArchiveBuilder, tiles: &[Tile]) -> Result<bool, BuildFa
 }
 
 /// What is told of an archive's bytes: these, or the line of `verify`.
-fn bytes_text(alloc: Global, word: &str, bytes: &[u8]) -> Result<String, AllocError> {
+fn tell_bytes(answer: &mut Answer, word: &str, bytes: &[u8]) {
     match word {
-        "evenjudged" => shown_text(alloc, Verdict::of(verify(alloc, bytes))),
-        _ => hex::encode(alloc, bytes),
+        "evenjudged" => answer.say(Verdict::of(verify(answer.alloc, bytes))),
+        _ => answer.hex(bytes),
     }
 }
 
 /// The same of an archive in two parts.
-fn archive_text(alloc: Global, word: &str, archive: BuiltArchive) -> Result<String, AllocError> {
+fn tell_archive(answer: &mut Answer, word: &str, archive: BuiltArchive) {
     let BuiltArchive {
         mut front,
         contents,
     } = archive;
     let joined = front.extend_from_slice(&contents);
     drop(contents);
-    let text = match joined {
-        Ok(()) => bytes_text(alloc, word, &front),
-        Err(fault) => Err(fault),
-    };
-    drop(front);
-    text
+    match joined {
+        Ok(()) => tell_bytes(answer, word, &front),
+        Err(_) => answer.refuse(),
+    }
 }
 
 /// The same of the archive of what a builder has.
-fn finished(alloc: Global, word: &str, builder: ArchiveBuilder) -> Result<String, AllocError> {
-    if builder.is_empty() || !is_metadata(alloc, METADATA)? {
-        return String::from_str(alloc, NO_TILES);
+fn finish(answer: &mut Answer, word: &str, builder: ArchiveBuilder) {
+    let Ok(is_object) = is_metadata(answer.alloc, METADATA) else {
+        return answer.refuse();
+    };
+    if builder.is_empty() || !is_object {
+        return answer.say(NO_TILES);
     }
     match builder.finish(METADATA) {
-        Ok(archive) => archive_text(alloc, word, archive),
-        Err(fault) => Err(fault),
+        Ok(archive) => tell_archive(answer, word, archive),
+        Err(_) => answer.refuse(),
     }
 }
 
 /// The same of the archive of tiles.
-fn built(alloc: Global, word: &str, tiles: &[Tile]) -> Result<String, AllocError> {
-    let mut builder = ArchiveBuilder::new(alloc);
+fn build(answer: &mut Answer, word: &str, tiles: &[Tile]) {
+    let mut builder = ArchiveBuilder::new(answer.alloc);
     match add_all(&mut builder, tiles) {
-        Ok(true) => finished(alloc, word, builder),
-        Ok(false) => String::from_str(alloc, NO_TILES),
-        Err(fault) => shown_text(alloc, fault),
+        Ok(true) => finish(answer, word, builder),
+        Ok(false) => answer.say(NO_TILES),
+        Err(fault) => answer.say(fault),
     }
 }
 
@@ -124,12 +125,10 @@ fn add_tiles(alloc: Global, tiles: &mut Vec<Tile>, line: Line<'_>) -> Result<(),
 }
 
 /// What is told of the archive of the tiles that a line is about.
-pub(crate) fn answer(alloc: Global, line: Line<'_>) -> Result<String, AllocError> {
-    let mut tiles = Vec::new(alloc);
-    let text = match add_tiles(alloc, &mut tiles, line) {
-        Ok(()) => built(alloc, line.word, &tiles),
-        Err(fault) => Err(fault),
-    };
-    drop(tiles);
-    text
+pub(crate) fn answer(answer: &mut Answer, line: Line<'_>) {
+    let mut tiles = Vec::new(answer.alloc);
+    match add_tiles(answer.alloc, &mut tiles, line) {
+        Ok(()) => build(answer, line.word, &tiles),
+        Err(_) => answer.refuse(),
+    }
 }

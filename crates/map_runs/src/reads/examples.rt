@@ -1,4 +1,5 @@
 //! The standard's examples of shapes, encoded (Mapbox Vector Tile 2.1, 4.3.5).
+use crate::answers::Answer;
 use geometry_commands::{Pt, encode_lines, encode_points, encode_rings};
 use std::alloc::{AllocError, Global};
 
@@ -26,12 +27,12 @@ fn ring(alloc: Global) -> Result<Vec<u32>, AllocError> {
 }
 
 /// The integers of the example of this kind; none of another.
-pub(crate) fn example(alloc: Global, kind: &str) -> Result<String, AllocError> {
-    let integers = match kind {
-        "points" => points(alloc)?,
-        "line" => line(alloc)?,
-        "ring" => ring(alloc)?,
-        _ => Vec::new(alloc),
-    };
-    format!(in alloc; "{integers:?}")
+pub(crate) fn example(answer: &mut Answer, kind: &str) {
+    let alloc = answer.alloc;
+    answer.made(match kind {
+        "points" => points(alloc),
+        "line" => line(alloc),
+        "ring" => ring(alloc),
+        _ => Ok(Vec::new(alloc)),
+    });
 }

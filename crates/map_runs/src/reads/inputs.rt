@@ -1,6 +1,7 @@
 //! The bytes that a line is about.
+use crate::answers::Answer;
 use script_bytes::{expanded, number_in};
-use std::alloc::{AllocError, Global};
+use std::alloc::Global;
 
 /// Bytes that lines gave names.
 #[derive(Drop)]
@@ -46,15 +47,14 @@ impl Inputs {
     }
 
     /// Gives bytes a name.
-    pub(crate) fn keep(
-        &mut self,
-        alloc: Global,
-        name: &str,
-        bytes: Vec<u8>,
-    ) -> Result<String, AllocError> {
-        let told = format!(in alloc; "{} bytes", bytes.len())?;
-        self.held.push((String::from_str(alloc, name)?, bytes))?;
-        Ok(told)
+    pub(crate) fn keep(&mut self, answer: &mut Answer, name: &str, bytes: Vec<u8>) {
+        answer.say(format_args!("{} bytes", bytes.len()));
+        let Ok(name) = String::from_str(answer.alloc, name) else {
+            return answer.refuse();
+        };
+        if self.held.push((name, bytes)).is_err() {
+            answer.refuse();
+        }
     }
 
     /// The bytes that last got a name.

@@ -1,13 +1,12 @@
 //! Lines about numbers: of shapes, signed ones, ids of tiles, and those that texts write.
 use super::examples::example;
+use crate::answers::Answer;
 use crate::lines::{Line, tile_at};
-use crate::texts::{read_text, shown_text};
 use geometry_commands::{ShapeKind, decode, encode_lines, encode_rings};
 use hilbert_id::{id_of, tile_of};
 use http_values::{are_digits, byte_range, digits_number, push_number, push_text};
 use pb_wire::{put_varint, unzigzag, zigzag};
 use script_bytes::{number_in, parted, short};
-use std::alloc::{AllocError, Global};
 
 fn kind_in(word: &str) -> ShapeKind {
     match word {
@@ -19,94 +18,99 @@ fn kind_in(word: &str) -> ShapeKind {
 }
 
 /// The shape of a kind that integers spell.
-fn shape(alloc: Global, rest: &str) -> Result<String, AllocError> {
+fn shape(answer: &mut Answer, rest: &str) {
     let (kind, others) = parted(rest);
-    let mut integers = Vec::new(alloc);
+    let mut integers = Vec::new(answer.alloc);
     for word in others.split_whitespace() {
-        integers.push(short(number_in(word)))?;
+        if integers.push(short(number_in(word))).is_err() {
+            answer.refuse();
+        }
     }
-    let shape = decode(alloc, kind_in(kind), &integers);
-    drop(integers);
-    read_text(alloc, shape)
+    answer.read(decode(answer.alloc, kind_in(kind), &integers));
 }
 
 /// The integers of no lines, and of no rings.
-fn nothing(alloc: Global) -> Result<String, AllocError> {
-    let lines = encode_lines(alloc, &[])?;
-    let rings = encode_rings(alloc, &[])?;
-    format!(in alloc; "{lines:?} {rings:?}")
+fn nothing(answer: &mut Answer) {
+    answer.made(encode_lines(answer.alloc, &[]));
+    answer.say(' ');
+    answer.made(encode_rings(answer.alloc, &[]));
 }
 
 /// Numbers as they are spelled one behind the other.
-fn spell(alloc: Global, rest: &str) -> Result<String, AllocError> {
-    let mut out = Vec::new(alloc);
+fn spell(answer: &mut Answer, rest: &str) {
+    let mut out = Vec::new(answer.alloc);
     for word in rest.split_whitespace() {
-        put_varint(&mut out, number_in(word))?;
+        if put_varint(&mut out, number_in(word)).is_err() {
+            answer.refuse();
+        }
     }
-    hex::encode(alloc, out.as_slice())
+    answer.hex(&out);
 }
 
 /// The tile of a zoom, a column and a row, and its id.
-fn id(alloc: Global, numbers: [u64; 8]) -> Result<String, AllocError> {
+fn id(answer: &mut Answer, numbers: [u64; 8]) {
     match tile_at(numbers) {
-        Some(at) => shown_text(alloc, id_of(at)),
-        None => String::from_str(alloc, "no tile"),
+        Some(at) => answer.say(id_of(at)),
+        None => answer.say("no tile"),
     }
 }
 
 /// The tile of an id.
-fn tile(alloc: Global, id: u64) -> Result<String, AllocError> {
+fn tile(answer: &mut Answer, id: u64) {
     match tile_of(id) {
-        Some(at) => format!(in alloc; "{}/{}/{}", at.z, at.x, at.y),
-        None => String::from_str(alloc, "no tile"),
+        Some(at) => answer.say(format_args!("{}/{}/{}", at.z, at.x, at.y)),
+        None => answer.say("no tile"),
     }
 }
 
-pub(crate) fn range(alloc: Global, value: &[u8]) -> Result<String, AllocError> {
+pub(crate) fn range(answer: &mut Answer, value: &[u8]) {
     match byte_range(value) {
-        Some(range) => format!(in alloc; "{} to {}", range.first, range.last),
-        None => String::from_str(alloc, "none"),
+        Some(range) => answer.say(format_args!("{} to {}", range.first, range.last)),
+        None => answer.say("none"),
     }
 }
 
 /// The number that digits write.
-fn digits(alloc: Global, text: &str) -> Result<String, AllocError> {
+fn digits(answer: &mut Answer, text: &str) {
     let digits = text.as_bytes();
     if digits.len() == 0 || !are_digits(digits) {
-        return String::from_str(alloc, "no digits");
+        return answer.say("no digits");
     }
     match digits_number(digits) {
-        Some(number) => shown_text(alloc, number),
-        None => String::from_str(alloc, "too great"),
+        Some(number) => answer.say(number),
+        None => answer.say("too great"),
     }
 }
 
 /// Two numbers in digits behind texts.
-fn written(alloc: Global, first: u64, second: u64) -> Result<String, AllocError> {
-    let mut out = Vec::with_capacity(alloc, 64)?;
+fn written(answer: &mut Answer, first: u64, second: u64) {
+    let Ok(mut out) = Vec::with_capacity(answer.alloc, 64) else {
+        return answer.refuse();
+    };
     push_text(&mut out, b"of ");
     push_number(&mut out, first);
     push_text(&mut out, b", ");
     push_number(&mut out, second);
     push_text(&mut out, b".");
-    String::from_utf8_lossy(alloc, &out)
+    answer.made_text(String::from_utf8_lossy(answer.alloc, &out));
 }
 
-/// What a line about numbers comes to.
-pub(crate) fn answer(alloc: Global, line: Line<'_>) -> Option<Result<String, AllocError>> {
+/// Answers a line about numbers. Returns whether it is one.
+pub(crate) fn answer(answer: &mut Answer, line: Line<'_>) -> bool {
     let [first, second, ..] = line.numbers;
     match line.word {
-        "shape" => Some(shape(alloc, line.rest)),
-        "example" => Some(example(alloc, line.rest)),
-        "nothing" => Some(nothing(alloc)),
-        "spell" => Some(spell(alloc, line.rest)),
-        "zigzag" => Some(shown_text(alloc, zigzag(line.rest.parse::<i64>().unwrap_or(0)))),
-        "unzigzag" => Some(shown_text(alloc, unzigzag(first))),
-        "id" => Some(id(alloc, line.numbers)),
-        "place" => Some(tile(alloc, first)),
-        "range" => Some(range(alloc, line.rest.as_bytes())),
-        "digits" => Some(digits(alloc, line.rest)),
-        "written" => Some(written(alloc, first, second)),
-        _ => None,
+        "shape" => shape(answer, line.rest),
+        "example" => example(answer, line.rest),
+        "nothing" => nothing(answer),
+        "spell" => spell(answer, line.rest),
+        "zigzag" => answer.say(zigzag(line.rest.parse::<i64>().unwrap_or(0))),
+        "unzigzag" => answer.say(unzigzag(first)),
+        "id" => id(answer, line.numbers),
+        "place" => tile(answer, first),
+        "range" => range(answer, line.rest.as_bytes()),
+        "digits" => digits(answer, line.rest),
+        "written" => written(answer, first, second),
+        _ => return false,
     }
+    true
 }
