@@ -9,16 +9,6 @@ pub(crate) struct Operands {
     pub(crate) bytes: Vec<u8>,
 }
 
-/// The verb of a word. `None` if the table doesn't have the word.
-pub(crate) fn verb_in<V: Copy>(verbs: &[(&'static str, V)], text: &str) -> Option<V> {
-    for (word, verb) in verbs {
-        if *word == text {
-            return Some(*verb);
-        }
-    }
-    None
-}
-
 /// These numbers, and the bytes that a text spells. `None` if it spells none.
 fn with_bytes(
     alloc: Global,

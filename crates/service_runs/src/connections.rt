@@ -37,18 +37,21 @@ mod streams;
 mod talks;
 mod texts;
 
+use crate::answers::Answer;
 use http_serve::MAX_READS;
-use lines::{Line, line_in};
-use peers::{About, Gathered, Room, gather, serve_peers};
+use lines::{failing_in, narrowness_in, number_in, turns_in};
+use peers::{Gathered, Room, gather, room_in, serve_peers};
+use script_bytes::parted;
 use sector_disk::MemoryDisk;
 use stands::{Stand, begin, begin_first, open_again, overwrite, upgrade, zeros};
 use std::alloc::{AllocError, Global};
 use streams::{Pieces, WIDE};
 use talks::{Bounds, talks};
 use texts::bytes_of;
+use tile_routes::Access;
 
 /// The state of a script: a disk or what answers over it, and what lines before said of connections and of the peers that are served next.
-#[derive(Drop)]
+/// It ends by `end` alone.
 pub(crate) struct Trial {
     stand: Stand,
     bounds: Bounds,
@@ -69,15 +72,24 @@ impl Trial {
     }
 }
 
-/// Serves a connection, where a map is open.
-fn connected(
-    alloc: Global,
-    stand: &mut Stand,
-    (open, sizes, text): (bool, &str, &str),
-    bounds: Bounds,
-) -> Result<String, AllocError> {
-    let Some(bytes) = bytes_of(alloc, text)? else {
-        return String::from_str(alloc, "no bytes");
+impl Trial {
+    /// Lets the stand go, and what was gathered.
+    pub(crate) fn end(self) {
+        let Trial {
+            stand,
+            bounds: _,
+            gathered,
+        } = self;
+        stand.end();
+        drop(gathered);
+    }
+}
+
+/// Serves a connection, where a map is open. Its bytes end with its input, unless it stays open.
+fn connect(alloc: Global, trial: &mut Trial, open: bool, line: &str, answer: &mut Answer) {
+    let (sizes, text) = parted(line);
+    let Some(bytes) = bytes_of(alloc, text, answer) else {
+        return answer.say("no bytes");
     };
     let given = Pieces {
         rest: &bytes,
@@ -85,92 +97,86 @@ fn connected(
         open,
         failed: 0,
     };
-    match stand {
-        Stand::Open(map) => talks(alloc, map, sizes, given, bounds),
-        Stand::Closed(_) => String::from_str(alloc, "closed"),
+    match &mut trial.stand {
+        Stand::Open(map) => talks(alloc, map, sizes, given, trial.bounds, answer),
+        Stand::Closed(_) => answer.say("closed"),
     }
 }
 
-/// Gathers what a line says of peers: the line, if that can be.
-fn gathered_of(
-    alloc: Global,
-    gathered: &mut Gathered,
-    about: About<'_>,
-    text: &str,
-) -> Result<String, AllocError> {
-    if gather(alloc, gathered, about)? {
-        String::from_str(alloc, text)
-    } else {
-        String::from_str(alloc, "no bytes")
+/// Serves the peers that were gathered, where a map is open. They are gone then.
+fn listen(alloc: Global, trial: &mut Trial, room: Room, answer: &mut Answer) {
+    match &mut trial.stand {
+        Stand::Open(map) => serve_peers(alloc, map, &trial.gathered, room, answer),
+        Stand::Closed(_) => answer.say("closed"),
     }
+    trial.gathered.clear();
 }
 
-/// Serves peers, where a map is open, and adds what that came to.
-fn push_served(
+/// Answers a line that is about the disk. `None` if it isn't, or doesn't fit.
+fn answer_disk(
     alloc: Global,
     stand: &mut Stand,
-    peers: &Gathered,
-    room: Room,
-    text: &mut String,
-) -> Result<(), AllocError> {
-    match stand {
-        Stand::Open(map) => serve_peers(alloc, map, peers, room, text),
-        Stand::Closed(_) => text.push_str("closed"),
+    word: &str,
+    rest: &str,
+    answer: &mut Answer,
+) -> Option<()> {
+    match (word, number_in(rest)) {
+        ("disk", Some(sectors)) => begin(alloc, stand, sectors, answer),
+        ("first", Some(sectors)) => begin_first(alloc, stand, sectors, answer),
+        ("zeros", Some(sectors)) => zeros(alloc, stand, sectors, answer),
+        ("upgrade", _) if rest.is_empty() => upgrade(alloc, stand, answer),
+        ("sector", _) => {
+            let (at, first) = parted(rest);
+            overwrite(
+                alloc,
+                stand,
+                number_in(at)?,
+                first.parse::<u8>().ok()?,
+                answer,
+            );
+        }
+        ("again", _) => open_again(alloc, stand, Access::Map, failing_in(rest)?, answer),
+        ("admin", _) => open_again(alloc, stand, Access::Admin, failing_in(rest)?, answer),
+        _ => return None,
     }
+    Some(())
 }
 
-/// Serves the peers that were gathered. They are gone then.
-fn listened(
-    alloc: Global,
-    stand: &mut Stand,
-    gathered: &mut Gathered,
-    room: Room,
-) -> Result<String, AllocError> {
-    let mut text = String::new(alloc);
-    let told = push_served(alloc, stand, gathered, room, &mut text);
-    gathered.clear();
-    told?;
-    Ok(text)
-}
-
-/// What a line is answered.
-fn answered(
+/// Answers a line of this word. `None` if there is no such line, or it doesn't fit.
+fn answer_word(
     alloc: Global,
     trial: &mut Trial,
-    line: Line<'_>,
-    text: &str,
-) -> Result<String, AllocError> {
-    match line {
-        Line::Disk(sectors) => begin(alloc, &mut trial.stand, sectors),
-        Line::First(sectors) => begin_first(alloc, &mut trial.stand, sectors),
-        Line::Upgrade => upgrade(alloc, &mut trial.stand),
-        Line::Zeros(sectors) => zeros(alloc, &mut trial.stand, sectors),
-        Line::Sector(at, first) => overwrite(alloc, &mut trial.stand, at, first),
-        Line::Again(access, failing) => open_again(alloc, &mut trial.stand, access, failing),
-        Line::Writer(next) => {
-            trial.bounds.narrowness = next;
-            String::from_str(alloc, "writer")
+    word: &str,
+    rest: &str,
+    answer: &mut Answer,
+) -> Option<()> {
+    match word {
+        "writer" => {
+            trial.bounds.narrowness = narrowness_in(rest)?;
+            answer.say(word);
         }
-        Line::Turns(next) => {
-            trial.bounds.turns = next;
-            String::from_str(alloc, "turns")
+        "turns" => {
+            trial.bounds.turns = turns_in(rest)?;
+            answer.say(word);
         }
-        Line::Connection { open, sizes, text } => {
-            connected(alloc, &mut trial.stand, (open, sizes, text), trial.bounds)
-        }
-        Line::Peers(about) => gathered_of(alloc, &mut trial.gathered, about, text),
-        Line::Serve(room) => listened(alloc, &mut trial.stand, &mut trial.gathered, room),
+        "ask" => connect(alloc, trial, false, rest, answer),
+        "wait" => connect(alloc, trial, true, rest, answer),
+        "serve" => listen(alloc, trial, room_in(rest)?, answer),
+        _ => return answer_disk(alloc, &mut trial.stand, word, rest, answer),
     }
+    Some(())
 }
 
-/// The answer to a line of text. `None` if it asks for nothing.
-pub(crate) fn answer_to(
-    alloc: Global,
-    trial: &mut Trial,
-    text: &str,
-) -> Result<Option<String>, AllocError> {
-    match line_in(text) {
-        Some(line) => Ok(Some(answered(alloc, trial, line, text)?)),
-        None => Ok(None),
+/// Answers a line of text.
+pub(crate) fn answer_to(alloc: Global, trial: &mut Trial, text: &str, answer: &mut Answer) {
+    let (word, rest) = parted(text);
+    match gather(alloc, &mut trial.gathered, word, rest, answer) {
+        Some(true) => answer.say(text),
+        Some(false) => answer.say("no bytes"),
+        None => {
+            if answer_word(alloc, trial, word, rest, answer).is_none() {
+                answer.reject();
+            }
+        }
     }
 }

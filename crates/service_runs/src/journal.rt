@@ -34,44 +34,22 @@ mod disks;
 mod generation;
 mod rings;
 mod trial;
-mod verbs;
 
-use crate::commands::{Operands, operands_in, verb_in};
+use crate::answers::Answer;
+use crate::commands::operands_in;
 use script_bytes::parted;
-use std::alloc::{AllocError, Global};
+use std::alloc::Global;
 pub(crate) use trial::Trial;
-use verbs::{VERBS, Verb};
 
-/// The answer to a command. `None` if its numbers don't fit.
-fn answered(
-    alloc: Global,
-    trial: &mut Trial,
-    verb: Verb,
-    operands: &Operands,
-) -> Result<Option<String>, AllocError> {
-    match verb {
-        Verb::Disk(verb) => disks::answered(alloc, trial, verb, operands),
-        Verb::Generation(verb) => generation::answered(alloc, trial, verb, operands),
-        Verb::Ring(verb) => rings::answered(alloc, trial, verb, operands),
-    }
-}
-
-/// The answer to a line of text. `None` if it is no command, or its numbers don't fit.
-pub(crate) fn answer_to(
-    alloc: Global,
-    trial: &mut Trial,
-    text: &str,
-) -> Result<Option<String>, AllocError> {
+/// Answers a line of text.
+pub(crate) fn answer_to(alloc: Global, trial: &mut Trial, text: &str, answer: &mut Answer) {
     let (word, rest) = parted(text);
-    let Some(verb) = verb_in(&VERBS, word) else {
-        return Ok(None);
-    };
-    match operands_in(alloc, rest)? {
-        Some(operands) => {
-            let answer = answered(alloc, trial, verb, &operands);
-            drop(operands);
-            answer
+    if let Some(operands) = answer.fitting(operands_in(alloc, rest)) {
+        let is_command = disks::answer_to(alloc, trial, word, &operands, answer)
+            || generation::answer_to(trial, word, &operands, answer)
+            || rings::answer_to(alloc, trial, word, &operands, answer);
+        if !is_command {
+            answer.reject();
         }
-        None => Ok(None),
     }
 }

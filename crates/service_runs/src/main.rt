@@ -13,17 +13,29 @@ mod journal;
 mod sectors;
 mod service;
 
+use answers::Answer;
 use std::alloc::{AllocError, Global};
 use std::{io, mem};
 
-/// The part of the script whose commands follow, with its state.
-#[derive(Drop)]
+/// The part of the script whose commands follow, with its state. It ends by `end` alone.
 enum Part {
     /// No part was begun, or one that isn't known.
     Unknown,
     Journal(journal::Trial),
     Service(service::Trial),
     Connections(connections::Trial),
+}
+
+impl Part {
+    /// Lets its state go. Of a service its disk goes: how the other parts go is proved where services are.
+    fn end(self) {
+        match self {
+            Part::Unknown => {}
+            Part::Journal(trial) => drop(trial),
+            Part::Service(trial) => trial.end(),
+            Part::Connections(trial) => trial.end(),
+        }
+    }
 }
 
 /// The part of this name in its first state. `Unknown` if there is no such part.
@@ -36,32 +48,38 @@ fn part_of(alloc: Global, name: &str) -> Result<Part, AllocError> {
     }
 }
 
-/// Begins the part of this name, and drops the one before.
+/// Begins the part of this name, and ends the one before.
 fn begin(rt: &HostRuntime, part: &mut Part, name: &str) -> io::Result<()> {
     let next = part_of(rt.alloc(), name)?;
-    let is_known = !matches!(next, Part::Unknown);
-    drop(mem::replace(part, next));
+    let is_known = !matches!(&next, Part::Unknown);
+    mem::replace(part, next).end();
     if is_known {
         return Ok(());
     }
     println!(rt; "no part {name}")
 }
 
-/// The answer to a command of the part. `None` if it has no such command, or it doesn't fit.
-fn answer_to(alloc: Global, part: &mut Part, text: &str) -> Result<Option<String>, AllocError> {
+/// Answers a command of the part.
+fn answer_to(alloc: Global, part: &mut Part, text: &str, answer: &mut Answer) {
     match part {
-        Part::Unknown => Ok(None),
-        Part::Journal(trial) => journal::answer_to(alloc, trial, text),
-        Part::Service(trial) => service::answer_to(alloc, trial, text),
-        Part::Connections(trial) => connections::answer_to(alloc, trial, text),
+        Part::Unknown => answer.reject(),
+        Part::Journal(trial) => journal::answer_to(alloc, trial, text, answer),
+        Part::Service(trial) => service::answer_to(alloc, trial, text, answer),
+        Part::Connections(trial) => connections::answer_to(alloc, trial, text, answer),
+    }
+}
+
+fn print(rt: &HostRuntime, answer: &Answer, text: &str) -> io::Result<()> {
+    match answer.told()? {
+        Some(told) => println!(rt; "{told}"),
+        None => println!(rt; "? {text}"),
     }
 }
 
 fn answer_command(rt: &HostRuntime, part: &mut Part, text: &str) -> io::Result<()> {
-    match answer_to(rt.alloc(), part, text)? {
-        Some(answer) => println!(rt; "{answer}"),
-        None => println!(rt; "? {text}"),
-    }
+    let mut answer = Answer::new(rt.alloc());
+    answer_to(rt.alloc(), part, text, &mut answer);
+    print(rt, &answer, text)
 }
 
 fn answer_line(rt: &HostRuntime, part: &mut Part, text: &str) -> io::Result<()> {
@@ -85,6 +103,6 @@ fn answer_lines(rt: &HostRuntime, part: &mut Part) -> io::Result<()> {
 fn main(rt: HostRuntime) -> io::Result<()> {
     let mut part = Part::Unknown;
     let answered = answer_lines(&rt, &mut part);
-    drop(part);
+    part.end();
     answered
 }

@@ -1,6 +1,7 @@
 //! Sectors of a disk.
-use script_bytes::{push_number, used_part};
-use sector_disk::{SECTOR_BYTES, Sectors};
+use crate::answers::Answer;
+use script_bytes::{choices_of, used_part};
+use sector_disk::{MemoryDisk, SECTOR_BYTES, Sectors};
 use std::alloc::{AllocError, Global};
 
 /// A sector of a disk. It is zeros if the disk has no such sector, or can't read it.
@@ -12,16 +13,21 @@ pub(crate) fn sector_at<D: Sectors>(disk: &mut D, at: u64) -> [u8; SECTOR_BYTES]
     sector
 }
 
-/// The numbers of the sectors that are not all zeros.
-pub(crate) fn used_sectors<D: Sectors>(
-    alloc: Global,
-    disk: &mut D,
-) -> Result<Option<String>, AllocError> {
-    let mut text = String::new(alloc);
+/// Tells the numbers of the sectors that are not all zeros.
+pub(crate) fn tell_used_sectors<D: Sectors>(disk: &mut D, answer: &mut Answer) {
     for at in 0..disk.count() {
         if !used_part(&sector_at(disk, at)).is_empty() {
-            push_number(&mut text, at)?;
+            answer.add_number(at);
         }
     }
-    Ok(Some(text))
+}
+
+/// The disk that a crash leaves of one, by the choices that numbers make.
+pub(crate) fn crashed(
+    alloc: Global,
+    disk: &MemoryDisk,
+    numbers: &[u64],
+) -> Result<MemoryDisk, AllocError> {
+    let choices = choices_of(alloc, numbers)?;
+    disk.crash(&choices)
 }

@@ -25,63 +25,43 @@
 //! | `archive`, `archive AT N` | reads the published archive, or N bytes of it |
 //! | `verify` | verifies the published archive |
 //! | `metadata`, `version` | prints the metadata of the map; the version of the disk |
-mod answers;
+mod brief;
 mod calls;
 mod disks;
 mod events;
 mod exports;
 mod features;
 mod sessions;
-mod verbs;
 
-use crate::commands::{Operands, operands_in, verb_in};
-use calls::run_answered;
+use crate::answers::Answer;
+use crate::commands::{Operands, operands_in};
+use calls::run;
 use script_bytes::parted;
 pub(crate) use sessions::Trial;
 use std::alloc::{AllocError, Global};
-use verbs::{VERBS, Verb};
 
-/// The answer to a command. `None` if it does not fit or no service is open.
-fn answered(
+/// Answers a command. Returns false if it is none, does not fit, or asks for a service and none is open.
+fn answer_command(
     alloc: Global,
     trial: &mut Trial,
-    verb: Verb,
+    word: &str,
     operands: &Operands,
-) -> Result<Option<String>, AllocError> {
-    match verb {
-        Verb::Disk(verb) => disks::answered(alloc, trial, verb, operands),
-        Verb::Session(verb) => sessions::answered(alloc, trial, verb, operands),
-        Verb::Call(verb) => calls::answered(alloc, trial, verb, &operands.numbers),
-    }
+    answer: &mut Answer,
+) -> bool {
+    disks::answer_to(alloc, trial, word, operands, answer)
+        || sessions::answer_to(alloc, trial, word, &operands.numbers, answer)
+        || calls::answer_to(alloc, trial, word, &operands.numbers, answer)
 }
 
-/// The answer to a command with its numbers and bytes. `None` if they can't be parsed or don't fit, or no service is open.
-fn command_answered(
-    alloc: Global,
-    trial: &mut Trial,
-    verb: Verb,
-    text: &str,
-) -> Result<Option<String>, AllocError> {
-    match operands_in(alloc, text)? {
-        Some(operands) => {
-            let answer = answered(alloc, trial, verb, &operands);
-            drop(operands);
-            answer
-        }
-        None => Ok(None),
-    }
-}
-
-/// The answer to a line of text, which is a run of events if it has no other command. `None` if it can't be parsed or does not fit, or no
-/// service is open.
-pub(crate) fn answer_to(
-    alloc: Global,
-    trial: &mut Trial,
-    text: &str,
-) -> Result<Option<String>, AllocError> {
+/// Answers a line of text, which is a run of events if it is no other command.
+pub(crate) fn answer_to(alloc: Global, trial: &mut Trial, text: &str, answer: &mut Answer) {
     let (word, rest) = parted(text);
-    match verb_in(&VERBS, word) {
-        Some(verb) => command_answered(alloc, trial, verb, rest),
-        None => run_answered(alloc, trial, text),
+    let is_command = match operands_in(alloc, rest) {
+        Ok(Some(operands)) => answer_command(alloc, trial, word, &operands, answer),
+        Ok(None) => false,
+        Err(AllocError) => return answer.refuse(),
+    };
+    if !is_command {
+        run(alloc, trial, text, answer);
     }
 }

@@ -8,7 +8,7 @@ mod serving;
 
 pub(crate) use gathered::{Gathered, Room};
 use http_listen::Change;
-pub(crate) use lines::{About, about_in, gather, room_in};
+pub(crate) use lines::{gather, room_in};
 pub(crate) use serving::serve_peers;
 use std::alloc::{AllocError, Global};
 use std::cell::{Cell, RefCell};
@@ -34,7 +34,7 @@ impl Clock for Watch<'_> {
 
 /// What a peer does.
 #[derive(Clone, Copy)]
-enum Does {
+pub(crate) enum Does {
     /// It sends these of the bytes that all peers send.
     Sends { from: usize, to: usize },
     /// It ends its side.
@@ -82,6 +82,46 @@ impl Plan {
     }
 }
 
+/// What a peer has come to.
+#[derive(Clone, Copy)]
+struct Course {
+    /// When the last byte came.
+    last: u64,
+    /// Whether its stream was read before it was set up, or its bytes were dropped before the server had ended its side.
+    is_early: bool,
+    /// How many acts were read, and how many bytes of the next one.
+    read: usize,
+    part: usize,
+    /// Whether small replies go out at once, its calls return at once, and the server has ended its side.
+    no_delay: bool,
+    at_once: bool,
+    shut: bool,
+    /// How many of its bytes without end were read.
+    dropped: usize,
+    /// The key by which its stream is watched, and whether that is so for sending too.
+    key: Option<usize>,
+    sends: bool,
+    /// How many acts were reported, and whether it is to be reported when it takes bytes again.
+    reported: usize,
+    blocked: bool,
+}
+
+/// Before a peer connects.
+const BEGUN: Course = Course {
+    last: 0,
+    is_early: false,
+    read: 0,
+    part: 0,
+    no_delay: false,
+    at_once: false,
+    shut: false,
+    dropped: 0,
+    key: None,
+    sends: false,
+    reported: 0,
+    blocked: false,
+};
+
 /// A peer.
 #[derive(Drop)]
 struct Peer<'a> {
@@ -89,28 +129,11 @@ struct Peer<'a> {
     acts: &'a [Act],
     /// What all peers send.
     bytes: &'a [u8],
-    /// What it has got, and when the last byte came.
+    /// What it has got.
     got: RefCell<Vec<u8>>,
-    last: Cell<u64>,
-    /// Whether its stream was read before it was set up, or its bytes were dropped before the server had ended its side.
-    is_early: Cell<bool>,
-    /// How many acts were read, and how many bytes of the next one.
-    read: Cell<usize>,
-    part: Cell<usize>,
-    /// Whether small replies go out at once, its calls return at once, and the server has ended its side.
-    no_delay: Cell<bool>,
-    at_once: Cell<bool>,
-    shut: Cell<bool>,
-    /// How many of its bytes without end were read.
-    dropped: Cell<usize>,
+    course: Cell<Course>,
     /// How many more calls of its stream a signal interrupts.
     signals: Cell<u64>,
-    /// The key by which its stream is watched, and whether that is so for sending too.
-    key: Cell<Option<usize>>,
-    sends: Cell<bool>,
-    /// How many acts were reported, and whether it is to be reported when it takes bytes again.
-    reported: Cell<usize>,
-    blocked: Cell<bool>,
 }
 
 /// Whether a signal interrupts a call, of which this many are interrupted.
@@ -136,25 +159,14 @@ impl<'a> Peer<'a> {
             acts: acts.get(plan.first..plan.behind).unwrap_or(&[]),
             bytes,
             got: RefCell::new(Vec::new(alloc)),
-            last: Cell::new(0),
-            is_early: Cell::new(false),
-            read: Cell::new(0),
-            part: Cell::new(0),
-            no_delay: Cell::new(false),
-            at_once: Cell::new(false),
-            shut: Cell::new(false),
-            dropped: Cell::new(0),
+            course: Cell::new(BEGUN),
             signals: Cell::new(2),
-            key: Cell::new(None),
-            sends: Cell::new(false),
-            reported: Cell::new(0),
-            blocked: Cell::new(false),
         }
     }
 
-    /// What it has done by now that wasn't read.
-    fn done(&self, now: u64) -> Option<Does> {
-        match self.acts.get(self.read.get()) {
+    /// What its act of this number does, if it has come by now.
+    fn done(&self, number: usize, now: u64) -> Option<Does> {
+        match self.acts.get(number) {
             Some(act) if act.at <= now => Some(act.does),
             _ => None,
         }
@@ -194,12 +206,14 @@ impl<'a> Peer<'a> {
     /// What its stream has become ready for since that was reported.
     fn change(&self, now: u64) -> Option<Change> {
         let (count, ends) = self.come(now);
-        let reads = count > self.reported.get();
-        let writes = self.sends.get() && self.blocked.get() && self.space(now) > 0;
-        self.reported.set(count);
+        let mut course = self.course.get();
+        let reads = count > course.reported;
+        let writes = course.sends && course.blocked && self.space(now) > 0;
+        course.reported = count;
         if writes {
-            self.blocked.set(false);
+            course.blocked = false;
         }
+        self.course.set(course);
         let change = Change {
             reads,
             writes,
@@ -210,52 +224,51 @@ impl<'a> Peer<'a> {
 
     /// When there may be another change, after this time.
     fn next(&self, now: u64) -> u64 {
-        let act = match self.acts.get(self.reported.get()) {
+        let course = self.course.get();
+        let act = match self.acts.get(course.reported) {
             Some(act) => act.at,
             None => u64::MAX,
         };
-        if self.sends.get() && self.blocked.get() {
+        if course.sends && course.blocked {
             act.min((now / 100).saturating_add(1).saturating_mul(100))
         } else {
             act
         }
     }
 
-    /// Its present act was read whole. If more bytes have come, that is reported again. Of the end `Change::ends` has told.
-    fn next_act(&self, now: u64) {
-        self.part.set(0);
-        self.read.set(self.read.get().saturating_add(1));
-        match self.done(now) {
-            None | Some(Does::Ends) => {}
-            Some(_) => self.reported.set(self.read.get()),
-        }
-    }
-
-    /// It was early if this isn't so.
-    fn expect(&self, right: bool) {
-        if !right {
-            self.is_early.set(true);
-        }
-    }
-
-    /// Bytes that it sends are read.
+    /// Bytes that it sends are read. If its present act was read whole and more bytes have come, that is reported again. Of the end
+    /// `Change::ends` has told.
     fn give_bytes(&self, now: u64, from: usize, to: usize, buf: &mut [u8]) -> usize
         ensures { result ≤ length buf.new }
     {
-        let begun = from.saturating_add(self.part.get());
+        let mut course = self.course.get();
+        let begun = from.saturating_add(course.part);
         let rest = self.bytes.get(begun..to).unwrap_or(&[]);
         let count = give(rest, buf);
         if count < rest.len() {
-            self.part.set(self.part.get().saturating_add(count));
+            course.part = course.part.saturating_add(count);
         } else {
-            self.next_act(now);
+            course.part = 0;
+            course.read = course.read.saturating_add(1);
+            match self.done(course.read, now) {
+                None | Some(Does::Ends) => {}
+                Some(_) => course.reported = course.read,
+            }
         }
+        self.course.set(course);
         count
     }
 
+    /// Bytes that it sends without end are dropped. That is early before the server has ended its side.
+    fn drop_bytes(&self, count: usize) {
+        let mut course = self.course.get();
+        course.is_early = course.is_early || !course.shut;
+        course.dropped = course.dropped.saturating_add(count);
+        self.course.set(course);
+    }
+
     /// It gets bytes.
-    fn take(&self, now: u64, bytes: &[u8]) -> Result<(), AllocError> {
-        self.last.set(now);
+    fn take(&self, bytes: &[u8]) -> Result<(), AllocError> {
         match self.got.try_borrow_mut() {
             Ok(mut got) => got.extend_from_slice(bytes),
             Err(_) => Err(AllocError),
@@ -273,20 +286,20 @@ struct Stream<'a> {
 impl Read for Stream<'_> {
     fn read(&mut self, buf: &mut [u8]) -> io::Result<usize> {
         let peer = self.peer;
-        let is_set = peer.no_delay.get() && peer.at_once.get();
-        peer.expect(is_set || peer.plan.is_stubborn);
+        let mut course = peer.course.get();
+        let is_set = course.no_delay && course.at_once;
+        course.is_early = course.is_early || !(is_set || peer.plan.is_stubborn);
+        peer.course.set(course);
         if is_interrupted(&peer.signals) {
             return Err(ErrorKind::Interrupted.into());
         }
         let now = self.watch.now.get();
-        match peer.done(now) {
+        match peer.done(course.read, now) {
             None => Err(ErrorKind::WouldBlock.into()),
             Some(Does::Ends) => Ok(0),
             Some(Does::Sends { from, to }) => Ok(peer.give_bytes(now, from, to, buf)),
             Some(Does::Floods) => {
-                peer.expect(peer.shut.get());
-                let dropped = peer.dropped.get().saturating_add(buf.len());
-                peer.dropped.set(dropped);
+                peer.drop_bytes(buf.len());
                 Ok(buf.len())
             }
         }
@@ -301,11 +314,16 @@ impl Write for Stream<'_> {
         }
         let now = self.watch.now.get();
         let count = peer.space(now).min(buf.len());
-        peer.blocked.set(count < buf.len());
+        let mut course = peer.course.get();
+        course.blocked = count < buf.len();
+        if count > 0 {
+            course.last = now;
+        }
+        peer.course.set(course);
         if count == 0 {
             return Err(ErrorKind::WouldBlock.into());
         }
-        peer.take(now, &buf[..count])?;
+        peer.take(&buf[..count])?;
         peer.signals.set(1);
         Ok(count)
     }
@@ -316,26 +334,32 @@ impl Write for Stream<'_> {
 }
 
 impl Stream<'_> {
-    /// Sets something of a stream, unless it is stubborn.
-    fn set(&self, what: &Cell<bool>, value: bool) -> io::Result<()> {
+    /// Something of a stream is set, unless it is stubborn.
+    fn set(&self, course: Course) -> io::Result<()> {
         if self.peer.plan.is_stubborn {
             return Err(ErrorKind::PermissionDenied.into());
         }
-        what.set(value);
+        self.peer.course.set(course);
         Ok(())
     }
 }
 
 impl OpenStream for Stream<'_> {
     fn shutdown(&self, how: Shutdown) -> io::Result<()> {
-        self.set(&self.peer.shut, how == Shutdown::Write)
+        let mut course = self.peer.course.get();
+        course.shut = how == Shutdown::Write;
+        self.set(course)
     }
 
     fn set_nodelay(&self, nodelay: bool) -> io::Result<()> {
-        self.set(&self.peer.no_delay, nodelay)
+        let mut course = self.peer.course.get();
+        course.no_delay = nodelay;
+        self.set(course)
     }
 
     fn set_nonblocking(&self, nonblocking: bool) -> io::Result<()> {
-        self.set(&self.peer.at_once, nonblocking)
+        let mut course = self.peer.course.get();
+        course.at_once = nonblocking;
+        self.set(course)
     }
 }

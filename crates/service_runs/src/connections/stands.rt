@@ -1,5 +1,6 @@
 //! A disk, and what answers over it while it is open.
 use super::lines::Failing;
+use crate::answers::Answer;
 use generations::{FIRST_VERSION, StoreFault, format_version};
 use map_replies::MapReplies;
 use map_server::{fresh_service, opened_service};
@@ -12,8 +13,7 @@ use tile_service::Service;
 /// What answers.
 pub(crate) type Map = MapReplies<FaultyDisk<MemoryDisk>>;
 
-/// A disk, or what answers over it.
-#[derive(Drop)]
+/// A disk, or what answers over it. It ends by `end` alone.
 pub(crate) enum Stand {
     Closed(MemoryDisk),
     Open(Map),
@@ -22,6 +22,16 @@ pub(crate) enum Stand {
 /// The disk below.
 fn disk_of(map: Map) -> MemoryDisk {
     map.into_service().into_disk().into_disk()
+}
+
+impl Stand {
+    /// Lets the disk go, and what answers over it.
+    pub(crate) fn end(self) {
+        drop(match self {
+            Stand::Closed(disk) => disk,
+            Stand::Open(map) => disk_of(map),
+        });
+    }
 }
 
 /// Takes the disk out.
@@ -44,52 +54,35 @@ fn counted(alloc: Global, disk: MemoryDisk) -> (u64, MemoryDisk) {
     }
 }
 
-/// The disk that couldn't be opened. It is lost only where memory ran out.
-fn handed_back(disk: Option<FaultyDisk<MemoryDisk>>) -> Result<Stand, AllocError> {
-    match disk {
-        Some(disk) => Ok(Stand::Closed(disk.into_disk())),
-        None => Err(AllocError),
-    }
-}
-
-/// What answers over a disk of which some calls fail, or the disk and why it can't be opened.
-fn opened(
-    alloc: Global,
-    disk: MemoryDisk,
-    access: Access,
-    failing: FailingCalls,
-) -> Result<(Stand, Option<StoreFault>), AllocError> {
-    match opened_service(alloc, FaultyDisk::new(disk, failing), access) {
-        Ok(map) => Ok((Stand::Open(map), None)),
-        Err((disk, fault)) => Ok((handed_back(disk)?, Some(fault))),
-    }
-}
-
-/// What is told of an opening.
-fn told(alloc: Global, fault: Option<StoreFault>) -> Result<String, AllocError> {
-    match fault {
-        None => String::from_str(alloc, "open"),
-        Some(fault) => format!(in alloc; "{fault:?}"),
-    }
-}
-
-/// Puts another stand in the place of one, which is dropped.
+/// Puts another stand in the place of one, which ends.
 fn replace(stand: &mut Stand, next: Stand) {
-    drop(mem::replace(stand, next));
+    mem::replace(stand, next).end();
 }
 
-/// Opens this disk in the place of what was there.
+/// Opens this disk in the place of what was there, so that these calls behind its opening fail.
 fn open(
     alloc: Global,
     stand: &mut Stand,
     disk: MemoryDisk,
     access: Access,
     failing: Failing,
-) -> Result<String, AllocError> {
+    answer: &mut Answer,
+) {
     let (calls, disk) = counted(alloc, disk);
-    let (next, fault) = opened(alloc, disk, access, failing.behind(calls))?;
-    replace(stand, next);
-    told(alloc, fault)
+    match opened_service(alloc, FaultyDisk::new(disk, failing.behind(calls)), access) {
+        Ok(map) => {
+            replace(stand, Stand::Open(map));
+            answer.say("open");
+        }
+        Err((disk, fault)) => match disk {
+            Some(disk) => {
+                replace(stand, Stand::Closed(disk.into_disk()));
+                answer.show(fault);
+            }
+            // (it is lost only where memory ran out)
+            None => answer.refuse(),
+        },
+    }
 }
 
 /// Opens the disk, so that these paths are served, and these calls behind its opening fail.
@@ -98,15 +91,19 @@ pub(crate) fn open_again(
     stand: &mut Stand,
     access: Access,
     failing: Failing,
-) -> Result<String, AllocError> {
-    let disk = taken(alloc, stand)?;
-    open(alloc, stand, disk, access, failing)
+    answer: &mut Answer,
+) {
+    if let Some(disk) = answer.granted(taken(alloc, stand)) {
+        open(alloc, stand, disk, access, failing, answer);
+    }
 }
 
 /// A disk of zeros.
-pub(crate) fn zeros(alloc: Global, stand: &mut Stand, sectors: u64) -> Result<String, AllocError> {
-    replace(stand, Stand::Closed(MemoryDisk::new(alloc, sectors)?));
-    String::from_str(alloc, "closed")
+pub(crate) fn zeros(alloc: Global, stand: &mut Stand, sectors: u64, answer: &mut Answer) {
+    if let Some(disk) = answer.granted(MemoryDisk::new(alloc, sectors)) {
+        replace(stand, Stand::Closed(disk));
+        answer.say("closed");
+    }
 }
 
 /// A disk of so many sectors that holds the empty map.
@@ -114,15 +111,6 @@ fn fresh_disk(alloc: Global, sectors: u64) -> Result<MemoryDisk, StoreFault> {
     match fresh_service(alloc, sectors, Access::Map) {
         Ok(map) => Ok(map.into_service().into_disk()),
         Err(fault) => Err(fault),
-    }
-}
-
-/// Makes a disk of so many sectors that holds the empty map, and opens it.
-pub(crate) fn begin(alloc: Global, stand: &mut Stand, sectors: u64) -> Result<String, AllocError> {
-    drop(taken(alloc, stand)?);
-    match fresh_disk(alloc, sectors) {
-        Ok(disk) => open(alloc, stand, disk, Access::Map, Failing::None),
-        Err(fault) => told(alloc, Some(fault)),
     }
 }
 
@@ -138,26 +126,40 @@ fn first_disk(alloc: Global, sectors: u64) -> Result<MemoryDisk, StoreFault> {
     }
 }
 
-/// Makes a disk of so many sectors that holds the empty map in the first version of the format, and opens it.
-pub(crate) fn begin_first(
+/// Opens a disk that was made, if it was.
+fn open_made(
     alloc: Global,
     stand: &mut Stand,
-    sectors: u64,
-) -> Result<String, AllocError> {
-    match first_disk(alloc, sectors) {
-        Ok(disk) => open(alloc, stand, disk, Access::Map, Failing::None),
-        Err(fault) => told(alloc, Some(fault)),
+    made: Result<MemoryDisk, StoreFault>,
+    answer: &mut Answer,
+) {
+    match made {
+        Ok(disk) => open(alloc, stand, disk, Access::Map, Failing::None, answer),
+        Err(fault) => answer.show(fault),
     }
 }
 
+/// Makes a disk of so many sectors that holds the empty map, and opens it.
+pub(crate) fn begin(alloc: Global, stand: &mut Stand, sectors: u64, answer: &mut Answer) {
+    if let Some(disk) = answer.granted(taken(alloc, stand)) {
+        drop(disk);
+        open_made(alloc, stand, fresh_disk(alloc, sectors), answer);
+    }
+}
+
+/// Makes a disk of so many sectors that holds the empty map in the first version of the format, and opens it.
+pub(crate) fn begin_first(alloc: Global, stand: &mut Stand, sectors: u64, answer: &mut Answer) {
+    open_made(alloc, stand, first_disk(alloc, sectors), answer);
+}
+
 /// Closes the disk, and upgrades it.
-pub(crate) fn upgrade(alloc: Global, stand: &mut Stand) -> Result<String, AllocError> {
-    let mut disk = taken(alloc, stand)?;
-    let outcome = Service::upgrade(&mut disk);
-    replace(stand, Stand::Closed(disk));
-    match outcome {
-        Ok(()) => String::from_str(alloc, "upgraded"),
-        Err(fault) => told(alloc, Some(fault)),
+pub(crate) fn upgrade(alloc: Global, stand: &mut Stand, answer: &mut Answer) {
+    if let Some(mut disk) = answer.granted(taken(alloc, stand)) {
+        match Service::upgrade(&mut disk) {
+            Ok(()) => answer.say("upgraded"),
+            Err(fault) => answer.show(fault),
+        }
+        replace(stand, Stand::Closed(disk));
     }
 }
 
@@ -169,14 +171,10 @@ fn write(disk: &mut MemoryDisk, at: u64, first: u8) -> bool {
 }
 
 /// Closes the disk, and writes a sector of zeros behind this byte.
-pub(crate) fn overwrite(
-    alloc: Global,
-    stand: &mut Stand,
-    at: u64,
-    first: u8,
-) -> Result<String, AllocError> {
-    let mut disk = taken(alloc, stand)?;
-    let written = write(&mut disk, at, first);
-    replace(stand, Stand::Closed(disk));
-    String::from_str(alloc, if written { "closed" } else { "not written" })
+pub(crate) fn overwrite(alloc: Global, stand: &mut Stand, at: u64, first: u8, answer: &mut Answer) {
+    if let Some(mut disk) = answer.granted(taken(alloc, stand)) {
+        let is_written = write(&mut disk, at, first);
+        replace(stand, Stand::Closed(disk));
+        answer.say(if is_written { "closed" } else { "not written" });
+    }
 }

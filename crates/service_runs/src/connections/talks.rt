@@ -1,10 +1,11 @@
 //! Connections, and what is told of them.
 use super::stands::Map;
 use super::streams::{Narrow, Narrowness, Pieces};
-use super::texts::push_text;
+use super::texts::tell_bytes;
+use crate::answers::Answer;
 use http_serve::{ServeFault, Served};
 use map_replies::serve_map_turns;
-use std::alloc::{AllocError, Global};
+use std::alloc::Global;
 
 /// What a connection came to.
 #[derive(Drop)]
@@ -36,85 +37,62 @@ fn talk(alloc: Global, map: &mut Map, pieces: Pieces<'_>, bounds: Bounds) -> Out
     }
 }
 
-/// Adds what a connection came to.
-fn push_outcome(text: &mut String, outcome: &Outcome) -> Result<(), AllocError> {
+/// Tells what a connection came to.
+fn tell_outcome(outcome: &Outcome, answer: &mut Answer) {
     let Outcome {
         result,
         reply,
         read,
         failed,
     } = outcome;
-    write!(text, "{result:?}, {read} read, {failed} failed: ")?;
-    push_text(text, reply)
+    write!(answer, "{result:?}, {read} read, {failed} failed: ");
+    tell_bytes(reply, answer);
 }
 
-/// Adds what a connection came to in pieces of another size.
-fn push_other(
-    text: &mut String,
-    size: usize,
-    outcome: &Outcome,
-    first: &Outcome,
-) -> Result<(), AllocError> {
+/// Tells what a connection came to in pieces of another size.
+fn tell_other(size: usize, outcome: &Outcome, first: &Outcome, answer: &mut Answer) {
+    write!(answer, " | {size}: ");
     if outcome.reply == first.reply && outcome.result == first.result {
         let Outcome { read, failed, .. } = outcome;
-        return write!(text, " | {size}: same, {read} read, {failed} failed");
+        write!(answer, "same, {read} read, {failed} failed");
+    } else {
+        tell_outcome(outcome, answer);
     }
-    write!(text, " | {size}: ")?;
-    push_outcome(text, outcome)
 }
 
 /// The sizes of pieces, if these are some.
-fn sizes_in(alloc: Global, text: &str) -> Result<Option<Vec<usize>>, AllocError> {
+fn sizes_in(alloc: Global, text: &str, answer: &mut Answer) -> Option<Vec<usize>> {
     let mut sizes = Vec::new(alloc);
+    let mut are_some = true;
     for word in text.split(',') {
         match word.parse::<usize>() {
-            Ok(size) if size > 0 => sizes.push(size)?,
-            _ => return Ok(None),
+            Ok(size) if size > 0 => answer.note(sizes.push(size)),
+            _ => are_some = false,
         }
     }
-    Ok(Some(sizes))
+    are_some.then_some(sizes)
 }
 
-/// Serves a connection of the same bytes for each of these sizes, and adds what they came to beside the first one.
-fn push_others(
+/// Serves a connection of the same bytes for each of these sizes, and tells what they came to.
+fn tell_talks(
     alloc: Global,
     map: &mut Map,
     sizes: &[usize],
     given: Pieces<'_>,
     bounds: Bounds,
-    first: &Outcome,
-    text: &mut String,
-) -> Result<(), AllocError> {
-    for size in sizes {
-        let size = *size;
-        let other = talk(alloc, map, Pieces { size, ..given }, bounds);
-        let pushed = push_other(text, size, &other, first);
-        drop(other);
-        pushed?;
-    }
-    Ok(())
-}
-
-/// The same of all sizes.
-fn push_talks(
-    alloc: Global,
-    map: &mut Map,
-    sizes: &[usize],
-    given: Pieces<'_>,
-    bounds: Bounds,
-    text: &mut String,
-) -> Result<(), AllocError> {
+    answer: &mut Answer,
+) {
     let Some((size, others)) = sizes.split_first() else {
-        return Ok(());
+        return;
     };
     let size = *size;
     let first = talk(alloc, map, Pieces { size, ..given }, bounds);
-    let pushed = match push_outcome(text, &first) {
-        Ok(()) => push_others(alloc, map, others, given, bounds, &first, text),
-        Err(fault) => Err(fault),
-    };
-    drop(first);
-    pushed
+    tell_outcome(&first, answer);
+    for size in others {
+        let size = *size;
+        let other = talk(alloc, map, Pieces { size, ..given }, bounds);
+        tell_other(size, &other, &first, answer);
+    }
 }
 
 /// Serves a connection of the same bytes for each size of the pieces, and tells what they came to.
@@ -124,13 +102,10 @@ pub(crate) fn talks(
     sizes: &str,
     given: Pieces<'_>,
     bounds: Bounds,
-) -> Result<String, AllocError> {
-    let Some(sizes) = sizes_in(alloc, sizes)? else {
-        return String::from_str(alloc, "no sizes");
-    };
-    let mut text = String::new(alloc);
-    let pushed = push_talks(alloc, map, &sizes, given, bounds, &mut text);
-    drop(sizes);
-    pushed?;
-    Ok(text)
+    answer: &mut Answer,
+) {
+    match sizes_in(alloc, sizes, answer) {
+        Some(sizes) => tell_talks(alloc, map, &sizes, given, bounds, answer),
+        None => answer.say("no sizes"),
+    }
 }

@@ -1,6 +1,7 @@
 //! Bytes as the texts of a script, both ways.
+use crate::answers::Answer;
 use script_bytes::digest;
-use std::alloc::{AllocError, Global};
+use std::alloc::Global;
 
 /// A reply with more bytes than these is told by its front, its length and a hash.
 const MAX_TOLD: usize = 2_000;
@@ -33,89 +34,84 @@ fn digit_of(byte: u8) -> Option<u8> {
 }
 
 /// Adds a byte, and begins anew.
-fn add(bytes: &mut Vec<u8>, byte: u8) -> Result<Spelling, AllocError> {
-    bytes.push(byte)?;
-    Ok(Spelling::Plain)
+fn add(bytes: &mut Vec<u8>, byte: u8, answer: &mut Answer) -> Spelling {
+    answer.note(bytes.push(byte));
+    Spelling::Plain
 }
 
 /// Goes on with a byte of a text.
-fn spell(bytes: &mut Vec<u8>, spelling: Spelling, byte: u8) -> Result<Spelling, AllocError> {
+fn spell(bytes: &mut Vec<u8>, spelling: Spelling, byte: u8, answer: &mut Answer) -> Spelling {
     match (spelling, byte, digit_of(byte)) {
-        (Spelling::Plain, b'\\', _) => Ok(Spelling::Escape),
-        (Spelling::Plain, _, _) => add(bytes, byte),
-        (Spelling::Escape, b'r', _) => add(bytes, b'\r'),
-        (Spelling::Escape, b'n', _) => add(bytes, b'\n'),
-        (Spelling::Escape, b't', _) => add(bytes, b'\t'),
-        (Spelling::Escape, b'x', _) => Ok(Spelling::High),
-        (Spelling::High, _, Some(high)) => Ok(Spelling::Low(high)),
-        (Spelling::Low(high), _, Some(low)) => add(bytes, high.wrapping_mul(16).wrapping_add(low)),
-        _ => Ok(Spelling::Fault),
+        (Spelling::Plain, b'\\', _) => Spelling::Escape,
+        (Spelling::Plain, _, _) => add(bytes, byte, answer),
+        (Spelling::Escape, b'r', _) => add(bytes, b'\r', answer),
+        (Spelling::Escape, b'n', _) => add(bytes, b'\n', answer),
+        (Spelling::Escape, b't', _) => add(bytes, b'\t', answer),
+        (Spelling::Escape, b'x', _) => Spelling::High,
+        (Spelling::High, _, Some(high)) => Spelling::Low(high),
+        (Spelling::Low(high), _, Some(low)) => {
+            add(bytes, high.wrapping_mul(16).wrapping_add(low), answer)
+        }
+        _ => Spelling::Fault,
     }
 }
 
 /// Adds the bytes of a text without repetitions, and says whether it spells some.
-fn add_plain(bytes: &mut Vec<u8>, text: &str) -> Result<bool, AllocError> {
+fn add_plain(bytes: &mut Vec<u8>, text: &str, answer: &mut Answer) -> bool {
     let mut spelling = Spelling::Plain;
     for byte in text.as_bytes() {
-        spelling = spell(bytes, spelling, *byte)?;
+        spelling = spell(bytes, spelling, *byte, answer);
     }
-    Ok(matches!(spelling, Spelling::Plain))
-}
-
-/// Adds the bytes of a text so often.
-fn add_often(bytes: &mut Vec<u8>, text: &str, count: u32) -> Result<bool, AllocError> {
-    for _ in 0..count {
-        if !add_plain(bytes, text)? {
-            return Ok(false);
-        }
-    }
-    Ok(true)
+    matches!(spelling, Spelling::Plain)
 }
 
 /// Adds what stands behind the beginning of a repetition: `COUNT(TEXT)`, and a text without repetitions.
-fn add_repetition(bytes: &mut Vec<u8>, text: &str) -> Result<bool, AllocError> {
+fn add_repetition(bytes: &mut Vec<u8>, text: &str, answer: &mut Answer) -> bool {
     let Some((count, behind)) = text.split_once('(') else {
-        return Ok(false);
+        return false;
     };
     let (Ok(count), Some((repeated, rest))) = (count.parse::<u32>(), behind.split_once(')')) else {
-        return Ok(false);
+        return false;
     };
-    Ok(add_often(bytes, repeated, count)? && add_plain(bytes, rest)?)
+    let mut spelled = true;
+    for _ in 0..count {
+        spelled = spelled && add_plain(bytes, repeated, answer);
+    }
+    spelled && add_plain(bytes, rest, answer)
 }
 
 /// The bytes that a text spells, if it spells some: `\r`, `\n` and `\t`, `\x` with two digits in base 16, `\*COUNT(TEXT)` for a text
 /// that is there so often, and else the character itself.
-pub(crate) fn bytes_of(alloc: Global, text: &str) -> Result<Option<Vec<u8>>, AllocError> {
+pub(crate) fn bytes_of(alloc: Global, text: &str, answer: &mut Answer) -> Option<Vec<u8>> {
     let mut bytes = Vec::new(alloc);
     let mut parts = text.split("\\*");
-    let mut spelled = add_plain(&mut bytes, parts.next().unwrap_or(""))?;
+    let mut spelled = add_plain(&mut bytes, parts.next().unwrap_or(""), answer);
     for part in parts {
-        spelled = spelled && add_repetition(&mut bytes, part)?;
+        spelled = spelled && add_repetition(&mut bytes, part, answer);
     }
-    Ok(spelled.then_some(bytes))
+    spelled.then_some(bytes)
 }
 
-/// Adds a byte to a text.
-fn push_byte(text: &mut String, byte: u8) -> Result<(), AllocError> {
+/// Tells a byte.
+fn tell_byte(byte: u8, answer: &mut Answer) {
     match byte {
-        b'\r' => text.push_str("\\r"),
-        b'\n' => text.push_str("\\n"),
-        b'\t' => text.push_str("\\t"),
-        b'\\' => text.push_str("\\x5c"),
-        b' '..=b'~' => text.push(char::from(byte)),
-        _ => write!(text, "\\x{byte:02x}"),
+        b'\r' => answer.say("\\r"),
+        b'\n' => answer.say("\\n"),
+        b'\t' => answer.say("\\t"),
+        b'\\' => answer.say("\\x5c"),
+        b' '..=b'~' => answer.push(char::from(byte)),
+        _ => write!(answer, "\\x{byte:02x}"),
     }
 }
 
-/// Adds the text of bytes. Of many bytes it has the first ones, and then how many there are and their hash.
-pub(crate) fn push_text(text: &mut String, bytes: &[u8]) -> Result<(), AllocError> {
+/// Tells bytes. Of many it tells the first ones, and then how many there are and their hash.
+pub(crate) fn tell_bytes(bytes: &[u8], answer: &mut Answer) {
     let many = bytes.len() > MAX_TOLD;
     let told = if many { FRONT } else { MAX_TOLD };
     for byte in bytes.iter().take(told) {
-        push_byte(text, *byte)?;
+        tell_byte(*byte, answer);
     }
     if many {
-        write!(text, " .. {} bytes, {:016x}", bytes.len(), digest(bytes))?;
+        write!(answer, " .. {} bytes, {:016x}", bytes.len(), digest(bytes));
     }
-    Ok(())
 }

@@ -1,90 +1,80 @@
 //! Commands on the sectors of a disk.
 use super::trial::Trial;
-use super::verbs::DiskVerb;
-use crate::answers::{debug_text, fixed_text, outcome_text};
+use crate::answers::Answer;
 use crate::commands::Operands;
-use crate::sectors::used_sectors;
-use script_bytes::{choices_of, sector_of, spelled, used_part};
+use crate::sectors::{crashed, tell_used_sectors};
+use script_bytes::{sector_of, spelled, used_part};
 use sector_disk::{FailingCalls, MemoryDisk, SECTOR_BYTES, Sectors};
-use std::alloc::{AllocError, Global};
+use std::alloc::Global;
 use std::mem;
 
-fn make(alloc: Global, trial: &mut Trial, sectors: u64) -> Result<Option<String>, AllocError> {
-    trial.replace(MemoryDisk::new(alloc, sectors)?);
-    fixed_text(alloc, "made")
-}
-
-fn write(
-    alloc: Global,
-    trial: &mut Trial,
-    at: u64,
-    bytes: &[u8],
-) -> Result<Option<String>, AllocError> {
-    match sector_of(bytes) {
-        Some(sector) if at < trial.disk.count() => {
-            let outcome = trial.disk.write(at, &sector);
-            outcome_text(alloc, outcome, 1)
-        }
-        _ => fixed_text(alloc, "no sector"),
+fn make(alloc: Global, trial: &mut Trial, sectors: u64, answer: &mut Answer) {
+    if let Some(disk) = answer.granted(MemoryDisk::new(alloc, sectors)) {
+        trial.replace(disk);
+        answer.say("made");
     }
 }
 
-fn sector(alloc: Global, trial: &mut Trial, at: u64) -> Result<Option<String>, AllocError> {
+fn write(trial: &mut Trial, at: u64, bytes: &[u8], answer: &mut Answer) {
+    match sector_of(bytes) {
+        Some(sector) if at < trial.disk.count() => {
+            answer.show_calls(trial.disk.write(at, &sector), 1);
+        }
+        _ => answer.say("no sector"),
+    }
+}
+
+fn sector(alloc: Global, trial: &mut Trial, at: u64, answer: &mut Answer) {
     if at >= trial.disk.count() {
-        return fixed_text(alloc, "no sector");
+        return answer.say("no sector");
     }
     let mut sector = [0; SECTOR_BYTES];
     match trial.disk.read(at, &mut sector) {
-        Ok(()) => Ok(Some(spelled(alloc, used_part(&sector))?)),
-        Err(fault) => outcome_text(alloc, fault, 1),
+        Ok(()) => answer.add(spelled(alloc, used_part(&sector))),
+        Err(fault) => answer.show_calls(fault, 1),
     }
 }
 
-fn fail(
-    alloc: Global,
-    trial: &mut Trial,
-    failing: FailingCalls,
-) -> Result<Option<String>, AllocError> {
-    trial.set_failing(alloc, failing)?;
-    debug_text(alloc, failing)
+fn fail(alloc: Global, trial: &mut Trial, failing: FailingCalls, answer: &mut Answer) {
+    answer.note(trial.set_failing(alloc, failing));
+    answer.show(failing);
 }
 
-fn stop(alloc: Global, trial: &mut Trial) -> Result<Option<String>, AllocError> {
-    let stopped = trial.take(alloc)?;
-    drop(mem::replace(&mut trial.stopped, stopped));
-    fixed_text(alloc, "stopped")
-}
-
-fn crash(alloc: Global, trial: &mut Trial, numbers: &[u64]) -> Result<Option<String>, AllocError> {
-    let choices = choices_of(alloc, numbers)?;
-    match trial.stopped.crash(&choices) {
-        Ok(left) => {
-            trial.replace(left);
-            fixed_text(alloc, "crashed")
-        }
-        Err(fault) => Err(fault),
+fn stop(alloc: Global, trial: &mut Trial, answer: &mut Answer) {
+    if let Some(disk) = answer.granted(trial.take(alloc)) {
+        drop(mem::replace(&mut trial.stopped, disk));
+        answer.say("stopped");
     }
 }
 
-/// The answer to a command on sectors. `None` if its numbers don't fit.
-pub(crate) fn answered(
+fn crash(alloc: Global, trial: &mut Trial, numbers: &[u64], answer: &mut Answer) {
+    if let Some(disk) = answer.granted(crashed(alloc, &trial.stopped, numbers)) {
+        trial.replace(disk);
+        answer.say("crashed");
+    }
+}
+
+/// Answers a command on sectors. Returns false if it is none, or its numbers don't fit.
+pub(crate) fn answer_to(
     alloc: Global,
     trial: &mut Trial,
-    verb: DiskVerb,
+    word: &str,
     operands: &Operands,
-) -> Result<Option<String>, AllocError> {
-    match (verb, operands.numbers.as_slice()) {
-        (DiskVerb::Disk, [sectors]) => make(alloc, trial, *sectors),
-        (DiskVerb::Write, [at]) => write(alloc, trial, *at, &operands.bytes),
-        (DiskVerb::Sync, []) => outcome_text(alloc, trial.disk.sync(), 1),
-        (DiskVerb::Sector, [at]) => sector(alloc, trial, *at),
-        (DiskVerb::Sectors, []) => used_sectors(alloc, &mut trial.disk),
-        (DiskVerb::FailFrom, [call]) => fail(alloc, trial, FailingCalls::AllFrom(*call)),
-        (DiskVerb::FailNotMade, [call]) => fail(alloc, trial, FailingCalls::OneNotMade(*call)),
-        (DiskVerb::FailMade, [call]) => fail(alloc, trial, FailingCalls::OneMade(*call)),
-        (DiskVerb::FailNone, []) => fail(alloc, trial, FailingCalls::OneNotMade(0)),
-        (DiskVerb::Stop, []) => stop(alloc, trial),
-        (DiskVerb::Crash, numbers) => crash(alloc, trial, numbers),
-        _ => Ok(None),
+    answer: &mut Answer,
+) -> bool {
+    match (word, operands.numbers.as_slice()) {
+        ("disk", [sectors]) => make(alloc, trial, *sectors, answer),
+        ("write", [at]) => write(trial, *at, &operands.bytes, answer),
+        ("sync", []) => answer.show_calls(trial.disk.sync(), 1),
+        ("sector", [at]) => sector(alloc, trial, *at, answer),
+        ("sectors", []) => tell_used_sectors(&mut trial.disk, answer),
+        ("fail_from", [call]) => fail(alloc, trial, FailingCalls::AllFrom(*call), answer),
+        ("fail_not_made", [call]) => fail(alloc, trial, FailingCalls::OneNotMade(*call), answer),
+        ("fail_made", [call]) => fail(alloc, trial, FailingCalls::OneMade(*call), answer),
+        ("fail_none", []) => fail(alloc, trial, FailingCalls::OneNotMade(0), answer),
+        ("stop", []) => stop(alloc, trial, answer),
+        ("crash", numbers) => crash(alloc, trial, numbers, answer),
+        _ => return false,
     }
+    true
 }

@@ -1,102 +1,75 @@
 //! Commands on the generations of a disk.
 use super::trial::Trial;
-use super::verbs::GenerationVerb;
-use crate::answers::{debug_text, fixed_text, outcome_text};
+use crate::answers::Answer;
 use crate::commands::Operands;
 use generations::{
-    FIRST_VERSION, JOURNAL_START, LAST_VERSION, Layout, Root, format, format_version, install,
-    read_root, upgrade, write_area,
+    FIRST_VERSION, JOURNAL_START, LAST_VERSION, Layout, Root, StoreFault, format, format_version,
+    install, read_root, upgrade, write_area,
 };
 use script_bytes::sector_of;
 use sector_disk::Sectors;
-use std::alloc::{AllocError, Global};
 
-fn layout(alloc: Global, sectors: u64) -> Result<Option<String>, AllocError> {
-    debug_text(alloc, Layout::of(sectors))
+/// Formats or upgrades a disk, as a command asks for. `None` if it doesn't, or there is no such version.
+fn formatted<D: Sectors>(
+    disk: &mut D,
+    word: &str,
+    numbers: &[u64],
+) -> Option<Result<(), StoreFault>> {
+    match (word, numbers) {
+        ("format", []) => Some(format(disk)),
+        ("format_version", [1]) => Some(format_version(disk, FIRST_VERSION)),
+        ("format_version", [2]) => Some(format_version(disk, LAST_VERSION)),
+        ("upgrade", []) => Some(upgrade(disk)),
+        _ => None,
+    }
 }
 
-fn format_disk(alloc: Global, trial: &mut Trial) -> Result<Option<String>, AllocError> {
-    let before = trial.disk.calls();
-    let outcome = format(&mut trial.disk);
-    outcome_text(alloc, outcome, trial.disk.calls().saturating_sub(before))
-}
-
-fn format_disk_in(
-    alloc: Global,
-    trial: &mut Trial,
-    version: u64,
-) -> Result<Option<String>, AllocError> {
-    let before = trial.disk.calls();
-    let outcome = match version {
-        1 => format_version(&mut trial.disk, FIRST_VERSION),
-        2 => format_version(&mut trial.disk, LAST_VERSION),
-        _ => return fixed_text(alloc, "no version"),
-    };
-    outcome_text(alloc, outcome, trial.disk.calls().saturating_sub(before))
-}
-
-fn upgrade_disk(alloc: Global, trial: &mut Trial) -> Result<Option<String>, AllocError> {
-    let before = trial.disk.calls();
-    let outcome = upgrade(&mut trial.disk);
-    outcome_text(alloc, outcome, trial.disk.calls().saturating_sub(before))
-}
-
-fn root(alloc: Global, trial: &mut Trial) -> Result<Option<String>, AllocError> {
+fn root(trial: &mut Trial, answer: &mut Answer) {
     let before = trial.disk.calls();
     let outcome = read_root(&mut trial.disk);
-    outcome_text(alloc, outcome, trial.disk.calls().saturating_sub(before))
+    answer.show_calls(outcome, trial.disk.calls().saturating_sub(before));
 }
 
-fn area(
-    alloc: Global,
-    trial: &mut Trial,
-    [generation, index]: [u64; 2],
-    bytes: &[u8],
-) -> Result<Option<String>, AllocError> {
+fn area(trial: &mut Trial, generation: u64, index: u64, bytes: &[u8], answer: &mut Answer) {
     let sectors = trial.disk.count();
     let (Some(sector), Some(layout)) = (sector_of(bytes), Layout::of(sectors)) else {
-        return fixed_text(alloc, "no sector");
+        return answer.say("no sector");
     };
     if index >= layout.area || layout.sectors > sectors {
-        return fixed_text(alloc, "no sector");
+        return answer.say("no sector");
     }
     let outcome = write_area(&mut trial.disk, layout, generation, index, &sector);
-    outcome_text(alloc, outcome, 1)
+    answer.show_calls(outcome, 1);
 }
 
-fn install_root(
-    alloc: Global,
-    trial: &mut Trial,
-    root: Root,
-) -> Result<Option<String>, AllocError> {
+fn install_root(trial: &mut Trial, root: Root, answer: &mut Answer) {
     if trial.disk.count() < JOURNAL_START {
-        return fixed_text(alloc, "no sector");
+        return answer.say("no sector");
     }
     let before = trial.disk.calls();
     let outcome = install(&mut trial.disk, root);
-    outcome_text(alloc, outcome, trial.disk.calls().saturating_sub(before))
+    answer.show_calls(outcome, trial.disk.calls().saturating_sub(before));
 }
 
-/// The answer to a command on generations. `None` if its numbers don't fit.
-pub(crate) fn answered(
-    alloc: Global,
+/// Answers a command on generations. Returns false if it is none, or its numbers don't fit.
+pub(crate) fn answer_to(
     trial: &mut Trial,
-    verb: GenerationVerb,
+    word: &str,
     operands: &Operands,
-) -> Result<Option<String>, AllocError> {
-    match (verb, operands.numbers.as_slice()) {
-        (GenerationVerb::Layout, [sectors]) => layout(alloc, *sectors),
-        (GenerationVerb::Format, []) => format_disk(alloc, trial),
-        (GenerationVerb::FormatVersion, [version]) => format_disk_in(alloc, trial, *version),
-        (GenerationVerb::Upgrade, []) => upgrade_disk(alloc, trial),
-        (GenerationVerb::Root, []) => root(alloc, trial),
-        (GenerationVerb::Area, [generation, index]) => area(
-            alloc,
-            trial,
-            [*generation, *index],
-            &operands.bytes,
-        ),
-        (GenerationVerb::Install, [generation, edits, journal_at, snapshot_len, archive_len]) => {
+    answer: &mut Answer,
+) -> bool {
+    let numbers = operands.numbers.as_slice();
+    let before = trial.disk.calls();
+    if let Some(outcome) = formatted(&mut trial.disk, word, numbers) {
+        answer.show_calls(outcome, trial.disk.calls().saturating_sub(before));
+        return true;
+    }
+    match (word, numbers) {
+        ("layout", [sectors]) => answer.show(Layout::of(*sectors)),
+        ("format_version", [_]) => answer.say("no version"),
+        ("root", []) => root(trial, answer),
+        ("area", [generation, index]) => area(trial, *generation, *index, &operands.bytes, answer),
+        ("install", [generation, edits, journal_at, snapshot_len, archive_len]) => {
             let root = Root {
                 generation: *generation,
                 edits: *edits,
@@ -104,8 +77,9 @@ pub(crate) fn answered(
                 snapshot_len: *snapshot_len,
                 archive_len: *archive_len,
             };
-            install_root(alloc, trial, root)
+            install_root(trial, root, answer);
         }
-        _ => Ok(None),
+        _ => return false,
     }
+    true
 }

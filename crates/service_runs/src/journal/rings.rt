@@ -4,8 +4,7 @@ ghost use Rattle.edit_journal.specs.Records.{IsRecordLength};
 ghost use Rattle.edit_journal.specs.Releases.{IsBehind, MayTake};
 
 use super::trial::Trial;
-use super::verbs::RingVerb;
-use crate::answers::{debug_text, fixed_text, outcome_text};
+use crate::answers::Answer;
 use crate::commands::Operands;
 use crate::sectors::sector_at;
 use edit_journal::{
@@ -14,57 +13,45 @@ use edit_journal::{
 };
 use script_bytes::spelled_briefly;
 use sector_disk::{SECTOR_BYTES, Sectors};
-use std::alloc::{AllocError, Global};
-
-/// The text of a journal and its records, each its version and its text, and how many calls found them.
-fn journal_text(
-    alloc: Global,
-    journal: Journal,
-    records: &[Record],
-    calls: u64,
-) -> Result<String, AllocError> {
-    let mut text = format!(in alloc; "used {} last {}:", journal.used, journal.last)?;
-    for record in records {
-        push_record(alloc, &mut text, record)?;
-    }
-    write!(text, " in {calls}")?;
-    Ok(text)
-}
-
-fn push_record(alloc: Global, text: &mut String, record: &Record) -> Result<(), AllocError> {
-    let spelled = spelled_briefly(alloc, &record.text)?;
-    write!(text, " {}={spelled}", record.version)
-}
+use std::alloc::Global;
 
 /// A number as a version; one that is too large as the largest.
 fn version_in(number: u64) -> u32 {
     u32::try_from(number).unwrap_or(u32::MAX)
 }
 
+/// Tells of a journal and its records, of each its version and its text.
+fn tell_journal(alloc: Global, journal: Journal, records: &[Record], answer: &mut Answer) {
+    write!(answer, "used {} last {}:", journal.used, journal.last);
+    for Record { version, text } in records {
+        write!(answer, " {version}=");
+        answer.add(spelled_briefly(alloc, text));
+    }
+}
+
 /// Recovers the journal of a ring, if the disk has that.
 fn ring(
     alloc: Global,
     trial: &mut Trial,
-    [first, places]: [u64; 2],
-    start: JournalPosition,
+    [first, places, place, edits]: [u64; 4],
     version: u32,
-) -> Result<Option<String>, AllocError> {
+    answer: &mut Answer,
+) {
     let sectors = trial.disk.count();
-    if places > sectors || first > sectors - places || start.place >= places {
-        return fixed_text(alloc, "no ring");
+    if places > sectors || first > sectors - places || place >= places {
+        return answer.say("no ring");
     }
+    let start = JournalPosition { place, edits };
     let before = trial.disk.calls();
     let outcome = Journal::recover(alloc, &mut trial.disk, first, places, start, version);
     let calls = trial.disk.calls().saturating_sub(before);
     match outcome {
         Ok((journal, records)) => {
             trial.journal = journal;
-            match journal_text(alloc, journal, &records, calls) {
-                Ok(text) => Ok(Some(text)),
-                Err(fault) => Err(fault),
-            }
+            tell_journal(alloc, journal, &records, answer);
+            write!(answer, " in {calls}");
         }
-        Err(fault) => outcome_text(alloc, fault, calls),
+        Err(fault) => answer.show_calls(fault, calls),
     }
 }
 
@@ -79,34 +66,29 @@ fn is_record(version: u32, text: &[u8]) -> bool
     !text.is_empty() && text.len() <= most as usize
 }
 
-fn append(
-    alloc: Global,
-    trial: &mut Trial,
-    version: u32,
-    text: &[u8],
-) -> Result<Option<String>, AllocError> {
+fn append(trial: &mut Trial, version: u32, text: &[u8], answer: &mut Answer) {
     let journal = &mut trial.journal;
     let sectors = trial.disk.count();
     if journal.places > sectors || journal.first > sectors - journal.places {
-        return fixed_text(alloc, "no ring");
+        return answer.say("no ring");
     }
     if !is_record(version, text) {
-        return fixed_text(alloc, "no text");
+        return answer.say("no text");
     }
     let before = trial.disk.calls();
     let outcome = journal.append(&mut trial.disk, version, text);
-    outcome_text(alloc, outcome, trial.disk.calls().saturating_sub(before))
+    answer.show_calls(outcome, trial.disk.calls().saturating_sub(before));
 }
 
-fn next(alloc: Global, journal: Journal) -> Result<Option<String>, AllocError> {
+fn next(journal: Journal, answer: &mut Answer) {
     let free = journal.free();
     let start = journal.next();
-    Ok(Some(format!(in alloc; "free {free} {start:?}")?))
+    write!(answer, "free {free} {start:?}");
 }
 
-fn mark(alloc: Global, trial: &mut Trial) -> Result<Option<String>, AllocError> {
+fn mark(trial: &mut Trial, answer: &mut Answer) {
     trial.mark = trial.journal.next();
-    debug_text(alloc, trial.mark)
+    answer.show(trial.mark);
 }
 
 /// Whether `records` records can take `places` places.
@@ -137,34 +119,25 @@ fn is_behind(journal: &Journal, start: JournalPosition, behind: u64) -> bool
 }
 
 /// Releases the places before the mark, if there are `behind` of them.
-fn release(alloc: Global, trial: &mut Trial, behind: u64) -> Result<Option<String>, AllocError> {
+fn release(trial: &mut Trial, behind: u64, answer: &mut Answer) {
     if !is_behind(&trial.journal, trial.mark, behind) {
-        return fixed_text(alloc, "no such places");
+        return answer.say("no such places");
     }
     trial.journal.release(trial.mark);
-    next(alloc, trial.journal)
+    next(trial.journal, answer);
 }
 
-fn head(
-    alloc: Global,
-    trial: &mut Trial,
-    [at, number]: [u64; 2],
-) -> Result<Option<String>, AllocError> {
+fn head(trial: &mut Trial, at: u64, number: u64, answer: &mut Answer) {
     let sector = sector_at(&mut trial.disk, at);
     let version = head_version(&sector, number, LAST_RECORD_VERSION);
     let first = head_in(&sector, FIRST_RECORD_VERSION, number);
     let last = head_in(&sector, LAST_RECORD_VERSION, number);
-    Ok(Some(format!(in alloc; "{version:?} {first:?} {last:?}")?))
+    write!(answer, "{version:?} {first:?} {last:?}");
 }
 
-fn head_up_to(
-    alloc: Global,
-    trial: &mut Trial,
-    [at, number]: [u64; 2],
-    most: u32,
-) -> Result<Option<String>, AllocError> {
+fn head_up_to(trial: &mut Trial, at: u64, number: u64, most: u32, answer: &mut Answer) {
     let sector = sector_at(&mut trial.disk, at);
-    debug_text(alloc, head_version(&sector, number, most))
+    answer.show(head_version(&sector, number, most));
 }
 
 /// Whether a sector is this part of the record whose head another one is, if that is one.
@@ -179,61 +152,52 @@ fn has_part(
     Some(head.has_part(sector, part))
 }
 
-fn part(
-    alloc: Global,
-    trial: &mut Trial,
-    [head_at, number, at]: [u64; 3],
-    part: u16,
-) -> Result<Option<String>, AllocError> {
+fn part(trial: &mut Trial, [head_at, number, at, part]: [u64; 4], answer: &mut Answer) {
     let first = sector_at(&mut trial.disk, head_at);
     let sector = sector_at(&mut trial.disk, at);
-    debug_text(alloc, has_part(&first, number, &sector, part))
+    let part = u16::try_from(part).unwrap_or(u16::MAX);
+    answer.show(has_part(&first, number, &sector, part));
 }
 
-/// The answer to a command on a journal. `None` if its numbers don't fit.
-pub(crate) fn answered(
+/// Answers a command on a journal. Returns false if it is none, or its numbers don't fit.
+pub(crate) fn answer_to(
     alloc: Global,
     trial: &mut Trial,
-    verb: RingVerb,
+    word: &str,
     operands: &Operands,
-) -> Result<Option<String>, AllocError> {
-    match (verb, operands.numbers.as_slice()) {
-        (RingVerb::Ring, [first, places, place, edits]) => {
-            let start = JournalPosition {
-                place: *place,
-                edits: *edits,
-            };
-            ring(alloc, trial, [*first, *places], start, LAST_RECORD_VERSION)
-        }
-        (RingVerb::Ring, [first, places, place, edits, version]) => {
-            let start = JournalPosition {
-                place: *place,
-                edits: *edits,
-            };
-            ring(alloc, trial, [*first, *places], start, version_in(*version))
-        }
-        (RingVerb::Append, []) => append(alloc, trial, FIRST_RECORD_VERSION, &operands.bytes),
-        (RingVerb::Append, [version]) => append(
-            alloc,
-            trial,
-            version_in(*version),
-            &operands.bytes,
-        ),
-        (RingVerb::Next, []) => next(alloc, trial.journal),
-        (RingVerb::Mark, []) => mark(alloc, trial),
-        (RingVerb::Release, [behind]) => release(alloc, trial, *behind),
-        (RingVerb::Head, [at, number]) => head(alloc, trial, [*at, *number]),
-        (RingVerb::Head, [at, number, most]) => {
-            head_up_to(alloc, trial, [*at, *number], version_in(*most))
-        }
-        (RingVerb::HasPart, [head_at, number, at, index]) => {
-            part(
+    answer: &mut Answer,
+) -> bool {
+    let bytes = operands.bytes.as_slice();
+    match (word, operands.numbers.as_slice()) {
+        ("ring", [first, places, place, edits]) => {
+            ring(
                 alloc,
                 trial,
-                [*head_at, *number, *at],
-                u16::try_from(*index).unwrap_or(u16::MAX),
-            )
+                [*first, *places, *place, *edits],
+                LAST_RECORD_VERSION,
+                answer,
+            );
         }
-        _ => Ok(None),
+        ("ring", [first, places, place, edits, version]) => {
+            ring(
+                alloc,
+                trial,
+                [*first, *places, *place, *edits],
+                version_in(*version),
+                answer,
+            );
+        }
+        ("append", []) => append(trial, FIRST_RECORD_VERSION, bytes, answer),
+        ("append", [version]) => append(trial, version_in(*version), bytes, answer),
+        ("next", []) => next(trial.journal, answer),
+        ("mark", []) => mark(trial, answer),
+        ("release", [behind]) => release(trial, *behind, answer),
+        ("head", [at, number]) => head(trial, *at, *number, answer),
+        ("head", [at, number, most]) => head_up_to(trial, *at, *number, version_in(*most), answer),
+        ("has_part", [head_at, number, at, part_at]) => {
+            part(trial, [*head_at, *number, *at, *part_at], answer);
+        }
+        _ => return false,
     }
+    true
 }

@@ -1,33 +1,33 @@
 //! Commands on the sectors of a closed disk.
-use super::exports::exported;
+use super::exports::export;
 use super::sessions::{ServedDisk, Trial};
-use super::verbs::DiskVerb;
-use crate::answers::{debug_text, fixed_text, value_text, with_calls};
+use crate::answers::Answer;
 use crate::commands::Operands;
-use crate::sectors::{sector_at, used_sectors};
-use generations::{FIRST_VERSION, LAST_VERSION, format_version};
+use crate::sectors::{sector_at, tell_used_sectors};
+use generations::{FIRST_VERSION, format_version};
 use script_bytes::{sector_of, spelled, used_part};
 use sector_disk::{MemoryDisk, Sectors};
-use std::alloc::{AllocError, Global};
+use std::alloc::Global;
 use tile_service::Service;
 
-fn write(
-    alloc: Global,
-    disk: &mut MemoryDisk,
-    at: u64,
-    bytes: &[u8],
-) -> Result<Option<String>, AllocError> {
+/// Writes a sector. Returns false if the disk has no such sector, or these aren't its bytes.
+fn write(disk: &mut MemoryDisk, at: u64, bytes: &[u8], answer: &mut Answer) -> bool {
     match sector_of(bytes) {
-        Some(sector) if at < disk.count() => debug_text(alloc, disk.write(at, &sector)),
-        _ => Ok(None),
+        Some(sector) if at < disk.count() => {
+            answer.show(disk.write(at, &sector));
+            true
+        }
+        _ => false,
     }
 }
 
-fn sector(alloc: Global, disk: &mut MemoryDisk, at: u64) -> Result<Option<String>, AllocError> {
+/// Tells a sector. Returns false if the disk has no such sector.
+fn sector(alloc: Global, disk: &mut MemoryDisk, at: u64, answer: &mut Answer) -> bool {
     if at >= disk.count() {
-        return Ok(None);
+        return false;
     }
-    Ok(Some(spelled(alloc, used_part(&sector_at(disk, at)))?))
+    answer.add(spelled(alloc, used_part(&sector_at(disk, at))));
+    true
 }
 
 /// What is done with a disk as a whole.
@@ -43,94 +43,69 @@ enum Work {
     Export(Option<u64>),
 }
 
-/// Does the work on a disk, and prints the outcome.
-fn worked(alloc: Global, disk: &mut ServedDisk, work: Work) -> Result<String, AllocError> {
+/// Does the work on a disk, and tells the outcome.
+fn do_work(alloc: Global, disk: &mut ServedDisk, work: Work, answer: &mut Answer) {
     match work {
-        Work::Format => value_text(alloc, Service::format(disk)),
-        Work::FormatFirst => value_text(alloc, format_version(disk, FIRST_VERSION)),
-        Work::Upgrade => value_text(alloc, Service::upgrade(disk)),
-        Work::Export(room) => exported(alloc, disk, room),
+        Work::Format => answer.show(Service::format(disk)),
+        Work::FormatFirst => answer.show(format_version(disk, FIRST_VERSION)),
+        Work::Upgrade => answer.show(Service::upgrade(disk)),
+        Work::Export(room) => export(alloc, disk, room, answer),
     }
 }
 
-/// Does the work on the disk with its failing calls, and prints the outcome with the number of calls.
-fn work_answered(
+/// Does the work on the disk with its failing calls, and tells the outcome with the number of calls.
+fn work_on(alloc: Global, trial: &mut Trial, work: Work, answer: &mut Answer) {
+    if let Some(mut disk) = answer.granted(trial.take_disk(alloc)) {
+        do_work(alloc, &mut disk, work, answer);
+        let calls = disk.calls();
+        trial.replace(disk.into_disk());
+        write!(answer, " in {calls}");
+    }
+}
+
+fn make(alloc: Global, trial: &mut Trial, sectors: u64, answer: &mut Answer) {
+    if let Some(disk) = answer.granted(MemoryDisk::new(alloc, sectors)) {
+        trial.begin(disk);
+        answer.say("made");
+    }
+}
+
+/// Answers a command on a closed disk. Returns false if it is none, its operands don't fit or the disk is open.
+fn answer_closed(
     alloc: Global,
     trial: &mut Trial,
-    work: Work,
-) -> Result<Option<String>, AllocError> {
-    let mut disk = trial.take_disk(alloc)?;
-    let outcome = worked(alloc, &mut disk, work);
-    let calls = disk.calls();
-    trial.replace(disk.into_disk());
-    with_calls(alloc, outcome, calls)
-}
-
-/// Exports the archive of a closed disk. `None` if the disk is open.
-fn export(
-    alloc: Global,
-    trial: &mut Trial,
-    room: Option<u64>,
-) -> Result<Option<String>, AllocError> {
-    if trial.closed_disk().is_none() {
-        return Ok(None);
-    }
-    work_answered(alloc, trial, Work::Export(room))
-}
-
-/// Formats the disk in a version. `None` if there is no such version.
-fn format_in(alloc: Global, trial: &mut Trial, version: u64) -> Result<Option<String>, AllocError> {
-    if version == u64::from(FIRST_VERSION) {
-        return work_answered(alloc, trial, Work::FormatFirst);
-    }
-    if version == u64::from(LAST_VERSION) {
-        return work_answered(alloc, trial, Work::Format);
-    }
-    Ok(None)
-}
-
-fn make(alloc: Global, trial: &mut Trial, sectors: u64) -> Result<Option<String>, AllocError> {
-    match MemoryDisk::new(alloc, sectors) {
-        Ok(disk) => {
-            trial.begin(disk);
-            fixed_text(alloc, "made")
-        }
-        Err(fault) => Err(fault),
-    }
-}
-
-/// The answer to a command on a closed disk. `None` if its numbers don't fit.
-fn closed_answered(
-    alloc: Global,
-    disk: &mut MemoryDisk,
-    verb: DiskVerb,
+    word: &str,
     operands: &Operands,
-) -> Result<Option<String>, AllocError> {
-    match (verb, operands.numbers.as_slice()) {
-        (DiskVerb::Write, [at]) => write(alloc, disk, *at, &operands.bytes),
-        (DiskVerb::Sector, [at]) => sector(alloc, disk, *at),
-        (DiskVerb::Sectors, []) => used_sectors(alloc, disk),
-        _ => Ok(None),
+    answer: &mut Answer,
+) -> bool {
+    let Some(disk) = trial.closed_disk() else {
+        return false;
+    };
+    match (word, operands.numbers.as_slice()) {
+        ("write", [at]) => return write(disk, *at, &operands.bytes, answer),
+        ("sector", [at]) => return sector(alloc, disk, *at, answer),
+        ("sectors", []) => tell_used_sectors(disk, answer),
+        ("export", []) => work_on(alloc, trial, Work::Export(None), answer),
+        ("export", [room]) => work_on(alloc, trial, Work::Export(Some(*room)), answer),
+        _ => return false,
     }
+    true
 }
 
-/// The answer to a command on a disk. `None` if its numbers don't fit or the disk is open.
-pub(crate) fn answered(
+/// Answers a command on a disk. Returns false if it is none, or its operands don't fit.
+pub(crate) fn answer_to(
     alloc: Global,
     trial: &mut Trial,
-    verb: DiskVerb,
+    word: &str,
     operands: &Operands,
-) -> Result<Option<String>, AllocError> {
-    match (verb, operands.numbers.as_slice()) {
-        (DiskVerb::Disk, [sectors]) => make(alloc, trial, *sectors),
-        (DiskVerb::Format, []) => work_answered(alloc, trial, Work::Format),
-        (DiskVerb::FormatVersion, [version]) => format_in(alloc, trial, *version),
-        (DiskVerb::Upgrade, []) => work_answered(alloc, trial, Work::Upgrade),
-        (DiskVerb::Export, []) => export(alloc, trial, None),
-        (DiskVerb::Export, [room]) => export(alloc, trial, Some(*room)),
-        _ => match trial.closed_disk() {
-            Some(disk) => closed_answered(alloc, disk, verb, operands),
-            None => Ok(None),
-        },
+    answer: &mut Answer,
+) -> bool {
+    match (word, operands.numbers.as_slice()) {
+        ("disk", [sectors]) => make(alloc, trial, *sectors, answer),
+        ("format", []) | ("format_version", [2]) => work_on(alloc, trial, Work::Format, answer),
+        ("format_version", [1]) => work_on(alloc, trial, Work::FormatFirst, answer),
+        ("upgrade", []) => work_on(alloc, trial, Work::Upgrade, answer),
+        _ => return answer_closed(alloc, trial, word, operands, answer),
     }
+    true
 }

@@ -1,23 +1,18 @@
-//! Events as words of a line.
+//! Events as words of a line. Where memory is refused, that is noted in the answer.
 use super::features::{feature_in, pair_in, zoom_in};
+use crate::answers::Answer;
 use feature_model::Change;
 use hilbert_id::TileAt;
 use script_bytes::parted;
-use std::alloc::{AllocError, Global};
+use std::alloc::Global;
 use tile_service::Event;
 
 /// Parses the number and the feature of a put.
-fn put_change_in(alloc: Global, text: &str) -> Result<Option<Change>, AllocError> {
-    let Some((number, words)) = text.split_once(' ') else {
-        return Ok(None);
-    };
-    let Ok(id) = number.parse::<u64>() else {
-        return Ok(None);
-    };
-    match feature_in(alloc, words)? {
-        Some(feature) => Ok(Some(Change::Put { id, feature })),
-        None => Ok(None),
-    }
+fn put_in(alloc: Global, text: &str, answer: &mut Answer) -> Option<Change> {
+    let (number, words) = text.split_once(' ')?;
+    let id = number.parse::<u64>().ok()?;
+    let feature = feature_in(alloc, words, answer)?;
+    Some(Change::Put { id, feature })
 }
 
 /// Parses the number of a delete.
@@ -27,45 +22,40 @@ fn delete_in(text: &str) -> Option<Change> {
 }
 
 /// Parses a change. `None` if the text is none.
-fn change_in(alloc: Global, text: &str) -> Result<Option<Change>, AllocError> {
+fn change_in(alloc: Global, text: &str, answer: &mut Answer) -> Option<Change> {
     let (word, rest) = parted(text);
     match word {
-        "put" => put_change_in(alloc, rest),
-        "delete" => Ok(delete_in(rest)),
-        _ => Ok(None),
+        "put" => put_in(alloc, rest, answer),
+        "delete" => delete_in(rest),
+        _ => None,
     }
 }
 
-/// Adds the changes of a batch, with ` & ` between them. No text is a batch of none. Returns false at a text that is no change.
-fn add_changes(alloc: Global, changes: &mut Vec<Change>, text: &str) -> Result<bool, AllocError> {
+/// Adds the changes of a batch, with ` & ` between them. No text is a batch of none.
+fn add_changes(alloc: Global, changes: &mut Vec<Change>, text: &str, answer: &mut Answer) {
     if text.is_empty() {
-        return Ok(true);
+        return;
     }
     for change in text.split(" & ") {
-        match change_in(alloc, change)? {
-            Some(change) => changes.push(change)?,
-            None => return Ok(false),
+        match change_in(alloc, change, answer) {
+            Some(change) => answer.note(changes.push(change)),
+            None => answer.reject(),
         }
     }
-    Ok(true)
+}
+
+/// Parses a batch.
+fn batch_in(alloc: Global, text: &str, answer: &mut Answer) -> Event {
+    let mut changes = Vec::new(alloc);
+    add_changes(alloc, &mut changes, text, answer);
+    Event::Batch { changes }
 }
 
 /// Parses the event of one change. `None` if the text is none.
-fn single_in(alloc: Global, text: &str) -> Result<Option<Event>, AllocError> {
-    match change_in(alloc, text)? {
-        Some(Change::Put { id, feature }) => Ok(Some(Event::Put { id, feature })),
-        Some(Change::Delete { id }) => Ok(Some(Event::Delete { id })),
-        None => Ok(None),
-    }
-}
-
-/// Parses a batch. `None` if the text is none.
-fn batch_in(alloc: Global, text: &str) -> Result<Option<Event>, AllocError> {
-    let mut changes = Vec::new(alloc);
-    match add_changes(alloc, &mut changes, text) {
-        Ok(true) => Ok(Some(Event::Batch { changes })),
-        Ok(false) => Ok(None),
-        Err(fault) => Err(fault),
+fn single_in(alloc: Global, text: &str, answer: &mut Answer) -> Option<Event> {
+    match change_in(alloc, text, answer)? {
+        Change::Put { id, feature } => Some(Event::Put { id, feature }),
+        Change::Delete { id } => Some(Event::Delete { id }),
     }
 }
 
@@ -83,34 +73,29 @@ fn look_in(text: &str) -> Option<Event> {
 }
 
 /// Parses an event. `None` if the text is none.
-fn event_in(alloc: Global, text: &str) -> Result<Option<Event>, AllocError> {
+fn event_in(alloc: Global, text: &str, answer: &mut Answer) -> Option<Event> {
     let (word, rest) = parted(text);
     match word {
-        "put" | "delete" => single_in(alloc, text),
-        "batch" => batch_in(alloc, rest),
-        "tile" => Ok(tile_in(rest)),
-        "look" => Ok(look_in(rest)),
-        "begin" => Ok(Some(Event::Begin)),
-        "step" => Ok(Some(Event::Step)),
-        "cancel" => Ok(Some(Event::Cancel)),
-        _ => Ok(None),
+        "put" | "delete" => single_in(alloc, text, answer),
+        "batch" => Some(batch_in(alloc, rest, answer)),
+        "tile" => tile_in(rest),
+        "look" => look_in(rest),
+        "begin" => Some(Event::Begin),
+        "step" => Some(Event::Step),
+        "cancel" => Some(Event::Cancel),
+        _ => None,
     }
 }
 
-/// Adds a run of events; `nothing` is a run of none. Returns false at a text that is no event.
-pub(crate) fn add_events(
-    alloc: Global,
-    events: &mut Vec<Event>,
-    line: &str,
-) -> Result<bool, AllocError> {
+/// Adds a run of events; `nothing` is a run of none. A line that has anything else is rejected.
+pub(crate) fn add_events(alloc: Global, events: &mut Vec<Event>, line: &str, answer: &mut Answer) {
     if line == "nothing" {
-        return Ok(true);
+        return;
     }
     for text in line.split("; ") {
-        match event_in(alloc, text)? {
-            Some(event) => events.push(event)?,
-            None => return Ok(false),
+        match event_in(alloc, text, answer) {
+            Some(event) => answer.note(events.push(event)),
+            None => answer.reject(),
         }
     }
-    Ok(true)
 }

@@ -2,37 +2,28 @@
 ghost use Rattle.std.specs.Prelude.{◌≤◌, ◌+◌};
 ghost use Rattle.generations.specs.Areas.{sectors_of};
 
+use crate::answers::Answer;
 use archive_export::{ArchivePlace, CopyFault, copy_archive, find_archive};
 use script_bytes::spelled_briefly;
 use sector_disk::Sectors;
-use std::alloc::{AllocError, Global};
+use std::alloc::Global;
 
 /// The most bytes that a writer has room for.
 const MAX_ROOM: u64 = 1_048_576;
 
-/// The outcome of a copy, and the bytes that were written.
-fn copied_text(
-    alloc: Global,
-    outcome: Result<(), CopyFault>,
-    bytes: &[u8],
-) -> Result<String, AllocError> {
-    let written = spelled_briefly(alloc, bytes)?;
-    format!(in alloc; "{outcome:?} {written}")
+/// Tells the outcome of a copy, and the bytes that were written.
+fn tell_copy(alloc: Global, outcome: Result<(), CopyFault>, bytes: &[u8], answer: &mut Answer) {
+    write!(answer, "{outcome:?} ");
+    answer.add(spelled_briefly(alloc, bytes));
 }
 
 /// Copies an archive to a vector.
-fn copied<D: Sectors>(
-    alloc: Global,
-    disk: &mut D,
-    archive: ArchivePlace,
-) -> Result<String, AllocError>
+fn copy<D: Sectors>(alloc: Global, disk: &mut D, archive: ArchivePlace, answer: &mut Answer)
     requires on_disk { archive.first + sectors_of archive.len ≤ D.sectors disk.old }
 {
     let mut bytes = Vec::new(alloc);
     let outcome = copy_archive(disk, archive, &mut bytes);
-    let text = copied_text(alloc, outcome, &bytes);
-    drop(bytes);
-    text
+    tell_copy(alloc, outcome, &bytes, answer);
 }
 
 /// Copies an archive to a writer with room for as many bytes as there are. The outcome, and how many were written.
@@ -50,30 +41,31 @@ fn copied_to<D: Sectors>(
 }
 
 /// Copies an archive to a writer with room for `room` bytes.
-fn copied_into<D: Sectors>(
+fn copy_into<D: Sectors>(
     alloc: Global,
     disk: &mut D,
     archive: ArchivePlace,
     room: u64,
-) -> Result<String, AllocError>
+    answer: &mut Answer,
+)
     requires on_disk { archive.first + sectors_of archive.len ≤ D.sectors disk.old }
 {
-    let mut bytes = vec![in alloc; 0; room.min(MAX_ROOM) as usize]?;
-    let (outcome, written) = copied_to(disk, archive, &mut bytes);
-    let text = copied_text(alloc, outcome, bytes.get(..written).unwrap_or(&[]));
-    drop(bytes);
-    text
+    if let Some(mut bytes) = answer.granted(vec![in alloc; 0u8; room.min(MAX_ROOM) as usize]) {
+        let (outcome, written) = copied_to(disk, archive, &mut bytes);
+        tell_copy(alloc, outcome, bytes.get(..written).unwrap_or(&[]), answer);
+    }
 }
 
 /// Finds the archive of a disk and copies it.
-pub(crate) fn exported<D: Sectors>(
+pub(crate) fn export<D: Sectors>(
     alloc: Global,
     disk: &mut D,
     room: Option<u64>,
-) -> Result<String, AllocError> {
+    answer: &mut Answer,
+) {
     match (find_archive(disk), room) {
-        (Ok(archive), Some(room)) => copied_into(alloc, disk, archive, room),
-        (Ok(archive), None) => copied(alloc, disk, archive),
-        (Err(fault), _) => format!(in alloc; "Err({fault:?})"),
+        (Ok(archive), Some(room)) => copy_into(alloc, disk, archive, room, answer),
+        (Ok(archive), None) => copy(alloc, disk, archive, answer),
+        (Err(fault), _) => write!(answer, "Err({fault:?})"),
     }
 }

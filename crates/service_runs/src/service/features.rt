@@ -2,8 +2,9 @@
 //!
 //! `p 0 2 points 0,0 5,5 t='x*3 n=-7 b=true` is a feature of layer `p` on zooms 0 to 2 with two points and three tags: `t` is the text `xxx`,
 //! `n` a number and `b` a truth value. `/` separates lines, and the rings of a polygon; `|` separates polygons.
+use crate::answers::Answer;
 use feature_model::{EditValue, Feature, Geometry, Tag, World};
-use std::alloc::{AllocError, Global};
+use std::alloc::Global;
 use std::mem;
 
 /// What the words of a feature have added so far.
@@ -19,24 +20,25 @@ struct Parts {
 }
 
 /// Ends the last ring, and begins another one.
-fn end_ring(alloc: Global, parts: &mut Parts) -> Result<(), AllocError> {
+fn end_ring(alloc: Global, parts: &mut Parts, answer: &mut Answer) {
     let ring = mem::replace(&mut parts.ring, Vec::new(alloc));
-    parts.rings.push(ring)?;
-    Ok(())
+    answer.note(parts.rings.push(ring));
 }
 
 /// Ends the last polygon with its last ring, and begins another one.
-fn end_polygon(alloc: Global, parts: &mut Parts) -> Result<(), AllocError> {
-    end_ring(alloc, parts)?;
+fn end_polygon(alloc: Global, parts: &mut Parts, answer: &mut Answer) {
+    end_ring(alloc, parts, answer);
     let rings = mem::replace(&mut parts.rings, Vec::new(alloc));
-    parts.polygons.push(rings)?;
-    Ok(())
+    answer.note(parts.polygons.push(rings));
 }
 
 /// Two numbers with this character between them.
 pub(crate) fn pair_in(text: &str, between: char) -> Option<(u32, u32)> {
     let (x, y) = text.split_once(between)?;
-    Some((x.parse::<u32>().ok()?, y.parse::<u32>().ok()?))
+    match (x.parse::<u32>(), y.parse::<u32>()) {
+        (Ok(x), Ok(y)) => Some((x, y)),
+        _ => None,
+    }
 }
 
 /// A zoom, and what stands behind it.
@@ -46,16 +48,14 @@ pub(crate) fn zoom_in(text: &str) -> Option<(u8, &str)> {
 }
 
 /// Letters, repeated by the count after `*`.
-fn letters_in(alloc: Global, word: &str) -> Result<Option<String>, AllocError> {
+fn letters_in(alloc: Global, word: &str, answer: &mut Answer) -> Option<String> {
     let (letters, count) = word.split_once('*').unwrap_or((word, "1"));
-    let Ok(count) = count.parse::<u16>() else {
-        return Ok(None);
-    };
+    let count = count.parse::<u16>().ok()?;
     let mut text = String::new(alloc);
     for _ in 0..count {
-        text.push_str(letters)?;
+        answer.note(text.push_str(letters));
     }
-    Ok(Some(text))
+    Some(text)
 }
 
 fn number_in(word: &str) -> Option<EditValue> {
@@ -65,70 +65,59 @@ fn number_in(word: &str) -> Option<EditValue> {
     word.parse::<u64>().ok().map(EditValue::Natural)
 }
 
-fn value_in(alloc: Global, word: &str) -> Result<Option<EditValue>, AllocError> {
+fn value_in(alloc: Global, word: &str, answer: &mut Answer) -> Option<EditValue> {
     if let Some(letters) = word.strip_prefix('\'') {
-        return Ok(letters_in(alloc, letters)?.map(EditValue::Text));
+        return letters_in(alloc, letters, answer).map(EditValue::Text);
     }
     match word {
-        "true" => Ok(Some(EditValue::Truth(true))),
-        "false" => Ok(Some(EditValue::Truth(false))),
-        _ => Ok(number_in(word)),
+        "true" => Some(EditValue::Truth(true)),
+        "false" => Some(EditValue::Truth(false)),
+        _ => number_in(word),
     }
 }
 
-/// Appends a tag. Returns whether the word is a value.
-fn add_tag(alloc: Global, tags: &mut Vec<Tag>, key: &str, word: &str) -> Result<bool, AllocError> {
-    let Some(value) = value_in(alloc, word)? else {
-        return Ok(false);
+/// Appends a tag, if the word is a value.
+fn add_tag(alloc: Global, tags: &mut Vec<Tag>, key: &str, word: &str, answer: &mut Answer) {
+    let Some(value) = value_in(alloc, word, answer) else {
+        return answer.reject();
     };
-    let key = String::from_str(alloc, key)?;
-    tags.push(Tag { key, value })?;
-    Ok(true)
+    if let Some(key) = answer.granted(String::from_str(alloc, key)) {
+        answer.note(tags.push(Tag { key, value }));
+    }
 }
 
-/// Adds a separator or a point. Returns whether the word is one.
-fn add_shape(alloc: Global, parts: &mut Parts, word: &str) -> Result<bool, AllocError> {
+/// Adds a point or a separator, if the word is one.
+fn add_shape(alloc: Global, parts: &mut Parts, word: &str, answer: &mut Answer) {
     if let Some((x, y)) = pair_in(word, ',') {
-        parts.ring.push(World { x, y })?;
-        return Ok(true);
+        return answer.note(parts.ring.push(World { x, y }));
     }
     match word {
-        "/" => end_ring(alloc, parts)?,
-        "|" => end_polygon(alloc, parts)?,
-        _ => return Ok(false),
+        "/" => end_ring(alloc, parts, answer),
+        "|" => end_polygon(alloc, parts, answer),
+        _ => answer.reject(),
     }
-    Ok(true)
 }
 
-/// Adds a point, a separator or a tag. Returns whether the word is one.
-fn add_word(alloc: Global, parts: &mut Parts, word: &str) -> Result<bool, AllocError> {
+/// Adds a point, a separator or a tag, if the word is one.
+fn add_word(alloc: Global, parts: &mut Parts, word: &str, answer: &mut Answer) {
     match word.split_once('=') {
-        Some((key, value)) => add_tag(alloc, &mut parts.tags, key, value),
-        None => add_shape(alloc, parts, word),
+        Some((key, value)) => add_tag(alloc, &mut parts.tags, key, value, answer),
+        None => add_shape(alloc, parts, word, answer),
     }
 }
 
 /// Takes the geometry of this kind. Points and lines are those of the last polygon. `None` if there is no such kind.
 fn take_geometry(
     alloc: Global,
-    parts: &mut Parts,
+    polygons: &mut Vec<Vec<Vec<World>>>,
     kind: &str,
-) -> Result<Option<Geometry>, AllocError> {
-    if kind == "points" {
-        let points = mem::replace(&mut parts.ring, Vec::new(alloc));
-        return Ok(Some(Geometry::Points(points)));
+) -> Option<Geometry> {
+    match kind {
+        "points" => polygons.pop()?.pop().map(Geometry::Points),
+        "lines" => polygons.pop().map(Geometry::Lines),
+        "polygons" => Some(Geometry::Polygons(mem::replace(polygons, Vec::new(alloc)))),
+        _ => None,
     }
-    if kind == "lines" {
-        end_ring(alloc, parts)?;
-        let lines = mem::replace(&mut parts.rings, Vec::new(alloc));
-        return Ok(Some(Geometry::Lines(lines)));
-    }
-    if kind == "polygons" {
-        end_polygon(alloc, parts)?;
-        let polygons = mem::replace(&mut parts.polygons, Vec::new(alloc));
-        return Ok(Some(Geometry::Polygons(polygons)));
-    }
-    Ok(None)
 }
 
 /// What a feature begins with, and the remaining words.
@@ -156,62 +145,38 @@ fn front_in(text: &str) -> Option<Front<'_>> {
     })
 }
 
-/// Adds points, separators and tags. Returns false at a word that is none.
-fn add_words(alloc: Global, parts: &mut Parts, words: &str) -> Result<bool, AllocError> {
-    for word in words.split_whitespace() {
-        if !add_word(alloc, parts, word)? {
-            return Ok(false);
-        }
-    }
-    Ok(true)
-}
-
-/// Makes a feature of its geometry, and takes the tags.
-fn with_layer(
-    alloc: Global,
-    front: Front<'_>,
-    geometry: Geometry,
-    parts: &mut Parts,
-) -> Result<Option<Feature>, AllocError> {
-    match String::from_str(alloc, front.layer) {
-        Ok(layer) => Ok(Some(Feature {
-            layer,
-            minzoom: front.minzoom,
-            maxzoom: front.maxzoom,
-            geometry,
-            tags: mem::replace(&mut parts.tags, Vec::new(alloc)),
-        })),
-        Err(fault) => Err(fault),
-    }
-}
-
-/// Parses points and tags, and makes a feature. `None` if a word is neither, or the kind is unknown.
-fn feature_of(
+/// Takes the geometry and the tags of a feature. `None` if there is no geometry of its kind.
+fn take_feature(
     alloc: Global,
     front: Front<'_>,
     parts: &mut Parts,
-) -> Result<Option<Feature>, AllocError> {
-    if !add_words(alloc, parts, front.words)? {
-        return Ok(None);
-    }
-    match take_geometry(alloc, parts, front.kind)? {
-        Some(geometry) => with_layer(alloc, front, geometry, parts),
-        None => Ok(None),
-    }
+    answer: &mut Answer,
+) -> Option<Feature> {
+    let layer = answer.granted(String::from_str(alloc, front.layer))?;
+    let geometry = take_geometry(alloc, &mut parts.polygons, front.kind)?;
+    Some(Feature {
+        layer,
+        minzoom: front.minzoom,
+        maxzoom: front.maxzoom,
+        geometry,
+        tags: mem::replace(&mut parts.tags, Vec::new(alloc)),
+    })
 }
 
-/// Parses a feature. `None` if the text is none.
-pub(crate) fn feature_in(alloc: Global, text: &str) -> Result<Option<Feature>, AllocError> {
-    let Some(front) = front_in(text) else {
-        return Ok(None);
-    };
+/// Parses a feature. `None` if the text doesn't begin as one, or has no kind of geometry. Words that are no part of it are rejected.
+pub(crate) fn feature_in(alloc: Global, text: &str, answer: &mut Answer) -> Option<Feature> {
+    let front = front_in(text)?;
     let mut parts = Parts {
         ring: Vec::new(alloc),
         rings: Vec::new(alloc),
         polygons: Vec::new(alloc),
         tags: Vec::new(alloc),
     };
-    let feature = feature_of(alloc, front, &mut parts);
+    for word in front.words.split_whitespace() {
+        add_word(alloc, &mut parts, word, answer);
+    }
+    end_polygon(alloc, &mut parts, answer);
+    let feature = take_feature(alloc, front, &mut parts, answer);
     drop(parts);
     feature
 }

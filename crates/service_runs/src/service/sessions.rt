@@ -1,8 +1,6 @@
 //! A disk, and its service while it is open.
-use super::verbs::SessionVerb;
-use crate::answers::{debug_text, fixed_text, outcome_text, with_calls};
-use crate::commands::Operands;
-use script_bytes::choices_of;
+use crate::answers::Answer;
+use crate::sectors::crashed;
 use sector_disk::{FailingCalls, FaultyDisk, MemoryDisk};
 use std::alloc::{AllocError, Global};
 use std::mem;
@@ -17,8 +15,8 @@ pub(crate) type Served = Service<ServedDisk>;
 /// No call fails.
 const NONE: FailingCalls = FailingCalls::OneNotMade(0);
 
-/// The state of a script: a closed disk or an open service, the disk that was stopped last, and the failing calls of the next session.
-#[derive(Drop)]
+/// The state of a script: a closed disk or an open service, the disk that was stopped last, and the failing calls of the next session. It ends
+/// by `end` alone.
 pub(crate) struct Trial {
     /// The closed disk. While a service is open it has no sectors.
     disk: MemoryDisk,
@@ -64,6 +62,19 @@ impl Trial {
         calls
     }
 
+    /// Lets the disks go, and the service by way of its disk.
+    pub(crate) fn end(self) {
+        let Trial {
+            disk,
+            service,
+            stopped,
+            failing: _,
+        } = self;
+        end_service(service);
+        drop(disk);
+        drop(stopped);
+    }
+
     /// Replaces the closed disk.
     pub(crate) fn replace(&mut self, disk: MemoryDisk) {
         drop(mem::replace(&mut self.disk, disk));
@@ -84,71 +95,77 @@ impl Trial {
     }
 }
 
-/// Opens the disk. At a fault the session stays closed, and the text is that of the fault with the number of calls.
-fn open(alloc: Global, trial: &mut Trial) -> Result<Option<String>, AllocError> {
-    match Service::open(alloc, trial.take_disk(alloc)?) {
+/// Lets a service go by way of its disk.
+fn end_service(service: Option<Served>) {
+    if let Some(service) = service {
+        drop(service.into_disk());
+    }
+}
+
+/// Opens the disk. At a fault the session stays closed, and the fault is told with the number of calls.
+fn open(alloc: Global, trial: &mut Trial, answer: &mut Answer) {
+    let Some(disk) = answer.granted(trial.take_disk(alloc)) else {
+        return;
+    };
+    match Service::open(alloc, disk) {
         Ok(service) => {
-            drop(mem::replace(&mut trial.service, Some(service)));
-            fixed_text(alloc, "open")
+            end_service(mem::replace(&mut trial.service, Some(service)));
+            answer.say("open");
         }
         Err((disk, fault)) => {
             let calls = disk.calls();
             trial.replace(disk.into_disk());
-            outcome_text(alloc, fault, calls)
+            answer.show_calls(fault, calls);
         }
     }
 }
 
-fn stop(alloc: Global, trial: &mut Trial) -> Result<Option<String>, AllocError> {
+fn stop(alloc: Global, trial: &mut Trial, answer: &mut Answer) {
     let calls = trial.close();
-    let empty = MemoryDisk::new(alloc, 0)?;
-    mem::swap(&mut trial.disk, &mut trial.stopped);
-    trial.replace(empty);
-    with_calls(alloc, String::from_str(alloc, "stopped"), calls)
-}
-
-fn resume(alloc: Global, trial: &mut Trial) -> Result<Option<String>, AllocError> {
-    let empty = MemoryDisk::new(alloc, 0)?;
-    let disk = mem::replace(&mut trial.stopped, empty);
-    trial.begin(disk);
-    fixed_text(alloc, "resumed")
-}
-
-fn crash(alloc: Global, trial: &mut Trial, numbers: &[u64]) -> Result<Option<String>, AllocError> {
-    let choices = choices_of(alloc, numbers)?;
-    match trial.stopped.crash(&choices) {
-        Ok(left) => {
-            trial.begin(left);
-            fixed_text(alloc, "crashed")
-        }
-        Err(fault) => Err(fault),
+    if let Some(empty) = answer.granted(MemoryDisk::new(alloc, 0)) {
+        mem::swap(&mut trial.disk, &mut trial.stopped);
+        trial.replace(empty);
+        write!(answer, "stopped in {calls}");
     }
 }
 
-fn fail(
-    alloc: Global,
-    trial: &mut Trial,
-    failing: FailingCalls,
-) -> Result<Option<String>, AllocError> {
+fn resume(alloc: Global, trial: &mut Trial, answer: &mut Answer) {
+    if let Some(empty) = answer.granted(MemoryDisk::new(alloc, 0)) {
+        let disk = mem::replace(&mut trial.stopped, empty);
+        trial.begin(disk);
+        answer.say("resumed");
+    }
+}
+
+fn crash(alloc: Global, trial: &mut Trial, numbers: &[u64], answer: &mut Answer) {
+    if let Some(disk) = answer.granted(crashed(alloc, &trial.stopped, numbers)) {
+        trial.begin(disk);
+        answer.say("crashed");
+    }
+}
+
+fn fail(trial: &mut Trial, failing: FailingCalls, answer: &mut Answer) {
     trial.failing = failing;
-    debug_text(alloc, failing)
+    answer.show(failing);
 }
 
-/// The answer to a command on a session. `None` if its numbers don't fit.
-pub(crate) fn answered(
+/// Answers a command on a session. Returns false if it is none, or its numbers don't fit.
+pub(crate) fn answer_to(
     alloc: Global,
     trial: &mut Trial,
-    verb: SessionVerb,
-    operands: &Operands,
-) -> Result<Option<String>, AllocError> {
-    match (verb, operands.numbers.as_slice()) {
-        (SessionVerb::FailFrom, [call]) => fail(alloc, trial, FailingCalls::AllFrom(*call)),
-        (SessionVerb::FailNotMade, [call]) => fail(alloc, trial, FailingCalls::OneNotMade(*call)),
-        (SessionVerb::FailMade, [call]) => fail(alloc, trial, FailingCalls::OneMade(*call)),
-        (SessionVerb::Open, []) => open(alloc, trial),
-        (SessionVerb::Stop, []) => stop(alloc, trial),
-        (SessionVerb::Resume, []) => resume(alloc, trial),
-        (SessionVerb::Crash, numbers) => crash(alloc, trial, numbers),
-        _ => Ok(None),
+    word: &str,
+    numbers: &[u64],
+    answer: &mut Answer,
+) -> bool {
+    match (word, numbers) {
+        ("fail_from", [call]) => fail(trial, FailingCalls::AllFrom(*call), answer),
+        ("fail_not_made", [call]) => fail(trial, FailingCalls::OneNotMade(*call), answer),
+        ("fail_made", [call]) => fail(trial, FailingCalls::OneMade(*call), answer),
+        ("open", []) => open(alloc, trial, answer),
+        ("stop", []) => stop(alloc, trial, answer),
+        ("resume", []) => resume(alloc, trial, answer),
+        ("crash", numbers) => crash(alloc, trial, numbers, answer),
+        _ => return false,
     }
+    true
 }

@@ -1,6 +1,7 @@
 //! What the lines of a script say of the peers that are served next.
 use super::listener::Accepts;
 use super::{Act, Does, Peer, Plan};
+use crate::answers::Answer;
 use std::alloc::{AllocError, Global};
 
 /// What bounds a listener.
@@ -41,25 +42,24 @@ impl Gathered {
     }
 
     /// Another peer. What is said next is said of it.
-    pub(crate) fn add(&mut self, plan: Plan) -> Result<(), AllocError> {
+    pub(crate) fn add(&mut self, plan: Plan, answer: &mut Answer) {
         let first = self.acts.len();
-        self.plans.push(Plan {
+        let plan = Plan {
             first,
             behind: first,
             ..plan
-        })?;
-        Ok(())
+        };
+        answer.note(self.plans.push(plan));
     }
 
     /// So many more peers like the last one.
-    pub(crate) fn add_more(&mut self, count: u64) -> Result<(), AllocError> {
+    pub(crate) fn add_more(&mut self, count: u64, answer: &mut Answer) {
         if let Some(plan) = self.plans.last() {
             let plan = *plan;
             for _ in 0..count {
-                self.plans.push(plan)?;
+                answer.note(self.plans.push(plan));
             }
         }
-        Ok(())
     }
 
     /// Nothing of the last peer's stream can be set.
@@ -77,36 +77,24 @@ impl Gathered {
     }
 
     /// The last peer does something at a time.
-    fn act(&mut self, at: u64, does: Does) -> Result<(), AllocError> {
-        self.acts.push(Act { at, does })?;
+    pub(crate) fn act(&mut self, at: u64, does: Does, answer: &mut Answer) {
+        answer.note(self.acts.push(Act { at, does }));
         if let Some(plan) = self.plans.last_mut() {
             plan.behind = self.acts.len();
         }
-        Ok(())
     }
 
     /// It sends these bytes.
-    pub(crate) fn send(&mut self, at: u64, bytes: &[u8]) -> Result<(), AllocError> {
+    pub(crate) fn send(&mut self, at: u64, bytes: &[u8], answer: &mut Answer) {
         let from = self.bytes.len();
-        self.bytes.extend_from_slice(bytes)?;
+        answer.note(self.bytes.extend_from_slice(bytes));
         let to = self.bytes.len();
-        self.act(at, Does::Sends { from, to })
-    }
-
-    /// It ends its side.
-    pub(crate) fn end(&mut self, at: u64) -> Result<(), AllocError> {
-        self.act(at, Does::Ends)
-    }
-
-    /// It sends bytes without end.
-    pub(crate) fn flood(&mut self, at: u64) -> Result<(), AllocError> {
-        self.act(at, Does::Floods)
+        self.act(at, Does::Sends { from, to }, answer);
     }
 
     /// So many accepts fail with this error of Linux: 0 if they don't, -1 if it is none of the system.
-    pub(crate) fn accept(&mut self, count: usize, error: i32) -> Result<(), AllocError> {
-        self.accepts.push(Accepts { count, error })?;
-        Ok(())
+    pub(crate) fn accept(&mut self, count: usize, error: i32, answer: &mut Answer) {
+        answer.note(self.accepts.push(Accepts { count, error }));
     }
 
     /// How the first accepts end.

@@ -78,7 +78,7 @@ impl<'a> Listener<'a> {
         let mut any = false;
         let mut next = u64::MAX;
         for peer in self.peers {
-            let Some(key) = peer.key.get() else {
+            let Some(key) = peer.course.get().key else {
                 continue;
             };
             if let Some(change) = peer.change(now) {
@@ -138,10 +138,12 @@ impl<'a> Waits for Listener<'a> {
         if peer.plan.is_unwatched {
             return Err(ErrorKind::StorageFull.into());
         }
-        peer.key.set(Some(key));
-        peer.sends.set(sends);
-        peer.reported.set(peer.read.get());
-        peer.blocked.set(true);
+        let mut course = peer.course.get();
+        course.key = Some(key);
+        course.sends = sends;
+        course.reported = course.read;
+        course.blocked = true;
+        peer.course.set(course);
         Ok(())
     }
 
