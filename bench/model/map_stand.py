@@ -457,7 +457,7 @@ class Stand:
         elif word == "caches":
             self.caches = Caches()
         else:
-            return f"? {word} {rest}"
+            return None
         return "new"
 
     def command(self, word, rest):
@@ -482,6 +482,7 @@ class Stand:
             return line
         word, _, rest = line.partition(" ")
         try:
-            return clipped(self.command(word, rest))
+            told = self.command(word, rest)
+            return f"? {line}" if told is None else clipped(told)
         except features.Fault as fault:
             return str(fault)

@@ -364,7 +364,7 @@ class Stand:
             return self.about_a_name(word, rest)
         if word in BYTES:
             return BYTES[word](self.input(rest))
-        return f"? {word} {rest}"
+        return None
 
     def answer(self, line):
         """What is printed of a line."""
@@ -372,6 +372,7 @@ class Stand:
             return line
         word, _, rest = line.partition(" ")
         try:
-            return clipped(self.command(word, rest))
+            told = self.command(word, rest)
+            return f"? {line}" if told is None else clipped(told)
         except archives.Fault as fault:
             return str(fault)

@@ -1,7 +1,6 @@
 //! What a line says.
-use crate::answers::Answer;
 use hilbert_id::TileAt;
-use script_bytes::{number_in, parted, short};
+use script_bytes::{Answer, number_in, parted, short};
 
 /// A line: its first word, what stands behind it, and the numbers in that, 0 where there are fewer.
 #[derive(Clone, Copy)]
@@ -37,9 +36,4 @@ pub(crate) fn line_in(text: &str) -> Line<'_> {
         rest,
         numbers: numbers_in(rest),
     }
-}
-
-/// Answers a line whose word is unknown, or whose bytes can't be made out.
-pub(crate) fn unknown(answer: &mut Answer, line: Line<'_>) {
-    answer.say(format_args!("? {} {}", line.word, line.rest));
 }

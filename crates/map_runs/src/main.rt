@@ -93,15 +93,24 @@
 //! | `digits TEXT`, `written N N` | the number that digits write; two numbers in digits behind texts |
 #![tactic(auto)]
 
-mod answers;
 mod lines;
 mod maps;
 mod reads;
 mod script;
 
-use answers::Answer;
 use script::Script;
+use script_bytes::{Answer, clipped};
 use std::io;
+
+fn print(rt: &HostRuntime, answer: &Answer, line: &str) -> io::Result<()> {
+    match answer.told()? {
+        Some(told) => {
+            let text = clipped(rt.alloc(), told)?;
+            println!(rt; "{text}")
+        }
+        None => println!(rt; "? {line}"),
+    }
+}
 
 /// Answers a line. One that says whose commands follow has no answer.
 fn answer_line(rt: &HostRuntime, script: &mut Script, line: &str) -> io::Result<()> {
@@ -113,8 +122,7 @@ fn answer_line(rt: &HostRuntime, script: &mut Script, line: &str) -> io::Result<
     }
     let mut answer = Answer::new(rt.alloc());
     script.answer(&mut answer, line);
-    let text = answer.finish()?;
-    println!(rt; "{text}")
+    print(rt, &answer, line)
 }
 
 /// Answers each line. The script is lent, so that no way out of the loop has it to drop.

@@ -8,12 +8,12 @@ mod numbers;
 mod random;
 mod texts;
 
-use crate::answers::Answer;
-use crate::lines::{Line, unknown};
+use crate::lines::Line;
 use box_index::BoxIndex;
 use cached_map::CachedMap;
 use caches::Caches;
 use number_map::NumberMap;
+use script_bytes::Answer;
 use std::alloc::{AllocError, Global};
 use std::mem;
 
@@ -40,7 +40,7 @@ impl Maps {
 
     /// Answers a line that begins anew with the map, or with what is as dear, or one that is unknown.
     fn begin_anew(&mut self, answer: &mut Answer, line: Line<'_>) {
-        let alloc = answer.alloc;
+        let alloc = answer.alloc();
         match line.word {
             "map" => match map::empty_map(alloc, line.numbers[0]) {
                 Ok(map) => drop(mem::replace(&mut self.map, map)),
@@ -52,7 +52,7 @@ impl Maps {
                 Ok(caches) => drop(mem::replace(&mut self.caches, caches)),
                 Err(_) => answer.refuse(),
             },
-            _ => return unknown(answer, line),
+            _ => return answer.reject(),
         }
         answer.say("new");
     }
@@ -73,7 +73,7 @@ impl Maps {
 /// Answers whether there are at most so many blocks.
 fn blocks(answer: &mut Answer, count: usize, most: u64) {
     if count as u64 <= most {
-        return answer.say(format_args!("at most {most} blocks"));
+        return write!(answer, "at most {most} blocks");
     }
-    answer.say(format_args!("{count} blocks"));
+    write!(answer, "{count} blocks");
 }

@@ -6,40 +6,39 @@ mod inputs;
 mod messages;
 mod numbers;
 
-use crate::answers::Answer;
-use crate::lines::{Line, unknown};
+use crate::lines::Line;
 use edit_text::decode_change;
 pub(crate) use inputs::Inputs;
 use mvt_layer::read_tile;
 use pb_wire::get_varint;
 use pm_directory::read_directory;
 use pm_metadata::is_metadata;
-use script_bytes::{number_in, parted};
+use script_bytes::{Answer, number_in, parted};
 
 /// Answers a line about bytes.
 fn answer_bytes(answer: &mut Answer, line: Line<'_>, bytes: &[u8]) {
     match line.word {
-        "varint" => answer.debug(get_varint(bytes)),
+        "varint" => answer.show(&get_varint(bytes)),
         "fields" => messages::fields(answer, bytes),
-        "tile" => answer.read(read_tile(answer.alloc, bytes)),
-        "change" => messages::counted(answer, decode_change(answer.alloc, bytes)),
+        "tile" => answer.show_read(&read_tile(answer.alloc(), bytes)),
+        "change" => messages::counted(answer, &decode_change(answer.alloc(), bytes)),
         "edit" => messages::edit(answer, bytes),
         "header" => archives::header(answer, bytes),
-        "directory" => answer.read(read_directory(answer.alloc, bytes)),
-        "metadata" => answer.made(is_metadata(answer.alloc, bytes)),
+        "directory" => answer.show_read(&read_directory(answer.alloc(), bytes)),
+        "metadata" => answer.show_made(&is_metadata(answer.alloc(), bytes)),
         "list" => archives::list(answer, bytes),
         "verify" => archives::judged(answer, bytes),
         "show" => archives::shown(answer, bytes),
         "rangeof" => numbers::range(answer, bytes),
-        _ => unknown(answer, line),
+        _ => answer.reject(),
     }
 }
 
 /// Answers a line that gives bytes a name, or is about ids in bytes.
 fn answer_named(answer: &mut Answer, inputs: &mut Inputs, line: Line<'_>) {
     let (name, text) = parted(line.rest);
-    let Some(bytes) = inputs.input(answer.alloc, text) else {
-        return unknown(answer, line);
+    let Some(bytes) = inputs.input(answer.alloc(), text) else {
+        return answer.reject();
     };
     match line.word {
         "keep" => inputs.keep(answer, name, bytes),
@@ -57,9 +56,9 @@ pub(crate) fn answer(answer: &mut Answer, inputs: &mut Inputs, line: Line<'_>) {
     match line.word {
         "build" | "even" | "apart" | "evenjudged" => builds::answer(answer, line),
         "keep" | "find" | "contents" | "looks" => answer_named(answer, inputs, line),
-        _ => match inputs.input(answer.alloc, line.rest) {
+        _ => match inputs.input(answer.alloc(), line.rest) {
             Some(bytes) => answer_bytes(answer, line, &bytes),
-            None => unknown(answer, line),
+            None => answer.reject(),
         },
     }
 }

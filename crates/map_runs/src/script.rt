@@ -1,8 +1,8 @@
 //! The parts of a script, and what their lines work on.
-use crate::answers::Answer;
 use crate::lines::line_in;
 use crate::maps::Maps;
 use crate::reads::{self, Inputs};
+use script_bytes::Answer;
 use std::alloc::{AllocError, Global};
 
 /// Whose commands lines are.

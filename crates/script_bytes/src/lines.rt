@@ -63,12 +63,12 @@ fn digest(bytes: &[u8]) -> u64 {
 }
 
 /// An answer as it is written: a long one by its first bytes, its length, and a number that all its bytes make.
-pub fn clipped(alloc: Global, text: String) -> Result<String, AllocError> {
+pub fn clipped(alloc: Global, text: &str) -> Result<String, AllocError> {
     let len = text.len();
     if len <= WHOLE {
-        return Ok(text);
+        return String::from_str(alloc, text);
     }
-    let digest = digest(text.as_str().as_bytes());
-    let front = text.as_str().get(..100).unwrap_or("");
+    let digest = digest(text.as_bytes());
+    let front = text.get(..100).unwrap_or("");
     format!(in alloc; "{front}.. {len} bytes, digest {digest}")
 }

@@ -14,7 +14,7 @@ pub fn numbers_in(alloc: Global, text: &str) -> Result<Option<Vec<u64>>, AllocEr
 }
 
 /// Appends a number to a text, with a space between two of them.
-pub fn push_number(text: &mut String, number: u64) -> Result<(), AllocError> {
+pub(crate) fn push_number(text: &mut String, number: u64) -> Result<(), AllocError> {
     if text.is_empty() {
         write!(text, "{number}")
     } else {

@@ -37,11 +37,10 @@ mod streams;
 mod talks;
 mod texts;
 
-use crate::answers::Answer;
 use http_serve::MAX_READS;
 use lines::{failing_in, narrowness_in, number_in, turns_in};
 use peers::{Gathered, Room, gather, room_in, serve_peers};
-use script_bytes::parted;
+use script_bytes::{Answer, parted};
 use sector_disk::MemoryDisk;
 use stands::{Stand, begin, begin_first, open_again, overwrite, upgrade, zeros};
 use std::alloc::{AllocError, Global};

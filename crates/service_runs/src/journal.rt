@@ -35,9 +35,8 @@ mod generation;
 mod rings;
 mod trial;
 
-use crate::answers::Answer;
 use crate::commands::operands_in;
-use script_bytes::parted;
+use script_bytes::{Answer, parted};
 use std::alloc::Global;
 pub(crate) use trial::Trial;
 

@@ -6,14 +6,13 @@
 //! The head of each part's module lists its commands.
 #![tactic(auto)]
 
-mod answers;
 mod commands;
 mod connections;
 mod journal;
 mod sectors;
 mod service;
 
-use answers::Answer;
+use script_bytes::Answer;
 use std::alloc::{AllocError, Global};
 use std::{io, mem};
 

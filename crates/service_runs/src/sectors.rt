@@ -1,6 +1,5 @@
 //! Sectors of a disk.
-use crate::answers::Answer;
-use script_bytes::{choices_of, used_part};
+use script_bytes::{Answer, choices_of, used_part};
 use sector_disk::{MemoryDisk, SECTOR_BYTES, Sectors};
 use std::alloc::{AllocError, Global};
 

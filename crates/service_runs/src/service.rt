@@ -33,10 +33,9 @@ mod exports;
 mod features;
 mod sessions;
 
-use crate::answers::Answer;
 use crate::commands::{Operands, operands_in};
 use calls::run;
-use script_bytes::parted;
+use script_bytes::{Answer, parted};
 pub(crate) use sessions::Trial;
 use std::alloc::{AllocError, Global};
 

@@ -1,10 +1,9 @@
 //! Lines over an index of boxes.
 use super::blocks;
-use crate::answers::Answer;
 use crate::lines::{Line, byte};
 use box_index::{BoxIndex, IndexEntry, Span};
 use feature_model::WorldBox;
-use script_bytes::short;
+use script_bytes::{Answer, short};
 
 /// The box of these columns and rows.
 pub(crate) fn bounds_of(x0: u64, x1: u64, y0: u64, y1: u64) -> WorldBox {
@@ -67,7 +66,7 @@ fn take(answer: &mut Answer, index: &mut BoxIndex, entry: IndexEntry) {
 
 fn query(answer: &mut Answer, index: &BoxIndex, numbers: [u64; 8]) {
     let [x0, x1, y0, y1, zoom, ..] = numbers;
-    answer.made(index.query(answer.alloc, &bounds_of(x0, x1, y0, y1), byte(zoom)));
+    answer.show_made(&index.query(answer.alloc(), &bounds_of(x0, x1, y0, y1), byte(zoom)));
 }
 
 /// Adds so many entries.
@@ -91,17 +90,17 @@ fn gather(answer: &mut Answer, index: &mut BoxIndex, numbers: [u64; 8]) {
             taken = taken.wrapping_add(1);
         }
     }
-    answer.say(format_args!("{taken} taken"));
+    write!(answer, "{taken} taken");
 }
 
 /// Whether there are at most so many blocks, by what an index prints of itself: no contract counts them.
 fn index_blocks(answer: &mut Answer, index: &BoxIndex, most: u64) {
-    answer.debug(index);
-    let count = match answer.text.as_str().split_once(", spare: ") {
+    answer.show(&index);
+    let count = match answer.text().split_once(", spare: ") {
         Some((blocks, _)) => blocks.matches("Block {").count(),
         None => 0,
     };
-    answer.text.clear();
+    answer.clear();
     blocks(answer, count, most);
 }
 

@@ -1,8 +1,8 @@
 //! Lines over the newest edits of the world's cells, and over tiles that are kept.
 use super::boxes::bounds_of;
-use crate::answers::Answer;
 use crate::lines::{Line, byte, tile_at};
 use hilbert_id::TileAt;
+use script_bytes::Answer;
 use std::alloc::{AllocError, Global};
 use std::rc::RcSlice;
 use tile_cache::{CachedTile, Origin, TileCache, TouchGrid};
@@ -31,7 +31,7 @@ impl Caches {
 
     /// Keeps a tile of three bytes: this one, 1 and 2.
     fn hold(&mut self, answer: &mut Answer, at: TileAt, number: u64, first: u64) {
-        let Ok(bytes) = RcSlice::from_slice(answer.alloc, &[byte(first), 1, 2]) else {
+        let Ok(bytes) = RcSlice::from_slice(answer.alloc(), &[byte(first), 1, 2]) else {
             return answer.refuse();
         };
         let tile = CachedTile {
@@ -62,7 +62,7 @@ impl Caches {
         match line.word {
             "hold" => self.hold(answer, at, fourth, fifth),
             "held" => self.held(answer, at, fourth),
-            _ => answer.say(self.grid.newest(at)),
+            _ => answer.tell(&self.grid.newest(at)),
         }
     }
 

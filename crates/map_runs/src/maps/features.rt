@@ -5,13 +5,12 @@ ghost use Rattle.edit_text.specs.Views.{feature_view};
 
 use super::map::put;
 use super::texts::{batch_text, deleted, record};
-use crate::answers::Answer;
 use crate::lines::Line;
 use cached_map::CachedMap;
 use edit_json::{batch_from_json, checked_from_json, feature_from_json, feature_to_json};
 use edit_text::{FeatureText, StoredFeature, encode_change};
 use feature_model::{Change, EditFault, Feature, MAX_ZOOM, Seen, check};
-use script_bytes::{expanded, parted};
+use script_bytes::{Answer, expanded, parted};
 use serde_json::Value;
 use std::alloc::Global;
 use tile_cutter::{bounding_box, check_reach, cover_count, tiles_met};
@@ -28,25 +27,25 @@ fn stored(alloc: Global, id: u64, feature: &Feature) -> Result<StoredFeature, Ed
 pub(crate) fn kept(answer: &mut Answer, feature: FeatureText<'_>)
     requires { FeatureFits (feature_view feature) }
 {
-    match feature_to_json(answer.alloc, feature) {
-        Ok(value) => answer.made_text(value.to_string(answer.alloc)),
+    match feature_to_json(answer.alloc(), feature) {
+        Ok(value) => answer.add(value.to_string(answer.alloc())),
         Err(_) => answer.refuse(),
     }
 }
 
 /// A feature as JSON, by way of its text, or the limit that it breaks.
 fn shown(answer: &mut Answer, id: u64, feature: &Feature) {
-    match stored(answer.alloc, id, feature) {
+    match stored(answer.alloc(), id, feature) {
         Ok(stored) => kept(answer, stored.view()),
-        Err(fault) => answer.say(fault),
+        Err(fault) => answer.tell(&fault),
     }
 }
 
 /// The text of an edit of a JSON value.
 fn changes(answer: &mut Answer, value: &Value) {
-    match batch_from_json(answer.alloc, value) {
+    match batch_from_json(answer.alloc(), value) {
         Ok(changes) => batch_text(answer, changes),
-        Err(fault) => answer.say(fault),
+        Err(fault) => answer.tell(&fault),
     }
 }
 
@@ -54,7 +53,7 @@ fn changes(answer: &mut Answer, value: &Value) {
 fn checked_text(answer: &mut Answer, changes: Vec<Change>, seen: &[Seen]) {
     batch_text(answer, changes);
     for one in seen {
-        answer.say(' ');
+        answer.push(' ');
         match &one.feature {
             Some(feature) => shown(answer, one.id, feature),
             None => answer.say("null"),
@@ -64,51 +63,55 @@ fn checked_text(answer: &mut Answer, changes: Vec<Change>, seen: &[Seen]) {
 
 /// The same of a JSON value.
 fn checked(answer: &mut Answer, value: &Value) {
-    match checked_from_json(answer.alloc, value) {
+    match checked_from_json(answer.alloc(), value) {
         Ok((changes, seen)) => checked_text(answer, changes, &seen),
-        Err(fault) => answer.say(fault),
+        Err(fault) => answer.tell(&fault),
     }
 }
 
 /// The text that gives a number a feature.
 fn put_text(answer: &mut Answer, id: u64, feature: Feature) {
     if let Err(fault) = check(id, &feature) {
-        return answer.say(fault);
+        return answer.tell(&fault);
     }
     let change = Change::Put { id, feature };
-    answer.made_bytes(encode_change(answer.alloc, &change));
+    answer.made_bytes(encode_change(answer.alloc(), &change));
 }
 
 /// How many tiles a feature covers, and whether these are too many.
 fn reach_of(answer: &mut Answer, feature: &Feature) {
     if feature.maxzoom > MAX_ZOOM {
-        return answer.say(EditFault::Zoom);
+        return answer.tell(&EditFault::Zoom);
     }
-    answer.say(cover_count(feature));
+    answer.tell(&cover_count(feature));
     if let Err(fault) = check_reach(feature) {
-        answer.say(format_args!(": {fault}"));
+        write!(answer, ": {fault}");
     }
 }
 
 /// The columns and rows of a zoom that a feature covers.
 fn covered(answer: &mut Answer, zoom: u64, feature: &Feature) {
     if zoom > u64::from(MAX_ZOOM) {
-        return answer.say(EditFault::Zoom);
+        return answer.tell(&EditFault::Zoom);
     }
-    match stored(answer.alloc, 0, feature) {
+    match stored(answer.alloc(), 0, feature) {
         Ok(stored) => {
             let range = tiles_met(bounding_box(stored.view()), zoom as u8);
-            answer.say(format_args!("{} to {}, {} to {}", range.x0, range.x1, range.y0, range.y1));
+            write!(
+                answer,
+                "{} to {}, {} to {}",
+                range.x0, range.x1, range.y0, range.y1
+            );
         }
-        Err(fault) => answer.say(fault),
+        Err(fault) => answer.tell(&fault),
     }
 }
 
 /// Answers a line about the feature of a JSON value.
 fn answer_feature(answer: &mut Answer, map: &mut CachedMap, line: Line<'_>, value: &Value) {
-    let feature = match feature_from_json(answer.alloc, value) {
+    let feature = match feature_from_json(answer.alloc(), value) {
         Ok(feature) => feature,
-        Err(fault) => return answer.say(fault),
+        Err(fault) => return answer.tell(&fault),
     };
     let number = line.numbers[0];
     match line.word {
@@ -122,10 +125,10 @@ fn answer_feature(answer: &mut Answer, map: &mut CachedMap, line: Line<'_>, valu
 
 /// Answers a line about a text of JSON, in which `<COUNT:TEXT>` stands for that text so many times.
 fn answer_json(answer: &mut Answer, map: &mut CachedMap, line: Line<'_>, json: &str) {
-    let Ok(text) = expanded(answer.alloc, json) else {
+    let Ok(text) = expanded(answer.alloc(), json) else {
         return answer.refuse();
     };
-    let value = Value::from_str(answer.alloc, text.as_str());
+    let value = Value::from_str(answer.alloc(), text.as_str());
     drop(text);
     let Ok(value) = value else {
         return answer.say("Json");

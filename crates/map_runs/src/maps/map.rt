@@ -8,7 +8,6 @@ ghost use Rattle.feature_model.specs.declared.limits.TheConstants.{MAX_EDIT_BYTE
 use super::areas::area;
 use super::features::kept;
 use super::random::make_random;
-use crate::answers::Answer;
 use crate::lines::{Line, tile_at};
 use cached_map::CachedMap;
 use edit_text::{decode, encode_change};
@@ -17,7 +16,7 @@ use feature_store::{Store, Tiles};
 use hilbert_id::TileAt;
 use map_metadata::metadata_text;
 use mvt_layer::{Layer, read_tile};
-use script_bytes::digest;
+use script_bytes::{Answer, digest};
 use std::alloc::{AllocError, Global};
 use std::mem;
 
@@ -35,19 +34,19 @@ pub(crate) fn empty_map(alloc: Global, last: u64) -> Result<CachedMap, AllocErro
 /// What is told of the edit of this number.
 pub(crate) fn edited(answer: &mut Answer, number: u64, map: &CachedMap) {
     let count = map.store().len();
-    answer.say(format_args!("edit {number}: {count} features"));
+    write!(answer, "edit {number}: {count} features");
 }
 
 /// Gives a number a feature.
 pub(crate) fn put(answer: &mut Answer, map: &mut CachedMap, id: u64, feature: Feature) {
     if let Err(fault) = check(id, &feature) {
-        return answer.say(fault);
+        return answer.tell(&fault);
     }
     let change = Change::Put { id, feature };
-    let Ok(_text) = encode_change(answer.alloc, &change) else {
+    let Ok(_text) = encode_change(answer.alloc(), &change) else {
         return answer.refuse();
     };
-    let mut changes = Vec::new(answer.alloc);
+    let mut changes = Vec::new(answer.alloc());
     match changes.push(change) {
         Ok(()) => make(answer, map, Edit { changes }),
         Err(_) => answer.refuse(),
@@ -61,7 +60,7 @@ pub(crate) fn delete(answer: &mut Answer, map: &mut CachedMap, id: u64) {
     };
     let found = map.remove(id, number);
     edited(answer, number, map);
-    answer.say(format_args!(", was there {found}"));
+    write!(answer, ", was there {found}");
 }
 
 /// Makes the changes of an edit together.
@@ -83,12 +82,12 @@ fn make(answer: &mut Answer, map: &mut CachedMap, edit: Edit)
 }
 
 fn make_text(answer: &mut Answer, map: &mut CachedMap, text: &str) {
-    let Ok(bytes) = hex::decode(answer.alloc, text) else {
+    let Ok(bytes) = hex::decode(answer.alloc(), text) else {
         return answer.say("no hex");
     };
-    match decode(answer.alloc, &bytes) {
+    match decode(answer.alloc(), &bytes) {
         Ok((edit, _)) => make(answer, map, edit),
-        Err(fault) => answer.debug(fault),
+        Err(fault) => answer.show(&fault),
     }
 }
 
@@ -142,20 +141,20 @@ fn list_layer(answer: &mut Answer, layer: &Layer<'_>) {
         ..
     } = layer;
     answer.item();
-    answer.say(format_args!("({name:?}, {version}, {extent}, ["));
+    write!(answer, "({name:?}, {version}, {extent}, [");
     for feature in &layer.features {
         answer.item();
-        answer.say(feature.id.unwrap_or(0));
+        answer.tell(&feature.id.unwrap_or(0));
     }
     answer.say("])");
 }
 
 fn list_layers(answer: &mut Answer, layers: &[Layer<'_>]) {
-    answer.say('[');
+    answer.push('[');
     for layer in layers {
         list_layer(answer, layer);
     }
-    answer.say(']');
+    answer.push(']');
 }
 
 /// The layers that a tile's bytes have, none where it shows nothing.
@@ -163,21 +162,21 @@ fn layers(answer: &mut Answer, store: &Store, at: TileAt) {
     let Ok(tile) = store.tile(at) else {
         return answer.refuse();
     };
-    let bytes = tile.unwrap_or(Vec::new(answer.alloc));
-    match read_tile(answer.alloc, &bytes) {
+    let bytes = tile.unwrap_or(Vec::new(answer.alloc()));
+    match read_tile(answer.alloc(), &bytes) {
         Ok(layers) => list_layers(answer, &layers),
-        Err(fault) => answer.debug(fault),
+        Err(fault) => answer.show(&fault),
     }
 }
 
 /// The tiles to come, each with its id.
 fn list_tiles(answer: &mut Answer, tiles: &mut Tiles<'_>) {
-    answer.say('[');
+    answer.push('[');
     for _ in 0..u64::MAX {
         match tiles.next() {
             Ok(Some((id, bytes))) => {
                 answer.item();
-                answer.say(format_args!("({id}, \""));
+                write!(answer, "({id}, \"");
                 answer.hex(&bytes);
                 answer.say("\")");
             }
@@ -185,7 +184,7 @@ fn list_tiles(answer: &mut Answer, tiles: &mut Tiles<'_>) {
             Err(_) => return answer.refuse(),
         }
     }
-    answer.say(']');
+    answer.push(']');
 }
 
 /// All tiles, each with its id.
@@ -204,19 +203,19 @@ fn snapshot(answer: &mut Answer, store: &Store) {
     if text.len() > MOST_BYTES {
         return answer.say("too many bytes");
     }
-    match Store::from_snapshot(answer.alloc, &text) {
+    match Store::from_snapshot(answer.alloc(), &text) {
         Ok(same) => answer.made_bytes(same.snapshot_text()),
-        Err(fault) => answer.say(fault),
+        Err(fault) => answer.tell(&fault),
     }
 }
 
 /// Takes a map in the map's place. Its last edit keeps the number.
 fn replace(answer: &mut Answer, map: &mut CachedMap, store: Store) {
     let count = store.len();
-    match CachedMap::new(answer.alloc, store, map.last()) {
+    match CachedMap::new(answer.alloc(), store, map.last()) {
         Ok(restored) => {
             drop(mem::replace(map, restored));
-            answer.say(format_args!("{count} features"));
+            write!(answer, "{count} features");
         }
         Err(_) => answer.refuse(),
     }
@@ -224,15 +223,15 @@ fn replace(answer: &mut Answer, map: &mut CachedMap, store: Store) {
 
 /// The same of the map of a snapshot.
 fn restore(answer: &mut Answer, map: &mut CachedMap, text: &str) {
-    let Ok(bytes) = hex::decode(answer.alloc, text) else {
+    let Ok(bytes) = hex::decode(answer.alloc(), text) else {
         return answer.say("no hex");
     };
     if bytes.len() > MOST_BYTES {
         return answer.say("too many bytes");
     }
-    match Store::from_snapshot(answer.alloc, &bytes) {
+    match Store::from_snapshot(answer.alloc(), &bytes) {
         Ok(store) => replace(answer, map, store),
-        Err(fault) => answer.say(fault),
+        Err(fault) => answer.tell(&fault),
     }
 }
 
@@ -245,7 +244,7 @@ fn answer_tile(answer: &mut Answer, map: &mut CachedMap, line: Line<'_>) {
         "tile" => tile(answer, map, at),
         "anew" => anew(answer, map.store(), at),
         "layers" => layers(answer, map.store(), at),
-        _ => answer.say(map.newest(at)),
+        _ => answer.tell(&map.newest(at)),
     }
 }
 
@@ -262,15 +261,15 @@ fn square(answer: &mut Answer, map: &mut CachedMap, [zoom, column, row, side, ..
                 Some(at) => tile(answer, map, at),
                 None => answer.say("no tile"),
             }
-            if answer.text.starts_with("kept") {
+            if answer.text().starts_with("kept") {
                 cached = cached.wrapping_add(1);
             }
-            let hash = digest(answer.text.as_bytes());
+            let hash = digest(answer.text().as_bytes());
             sum = sum.wrapping_mul(31).wrapping_add(hash);
-            answer.text.clear();
+            answer.clear();
         }
     }
-    answer.say(format_args!("{cached} cached, digest {sum}"));
+    write!(answer, "{cached} cached, digest {sum}");
 }
 
 /// Answers a line over a map. Returns whether it is one.
@@ -285,7 +284,7 @@ pub(crate) fn answer(answer: &mut Answer, map: &mut CachedMap, line: Line<'_>) -
         "look" => look(answer, map.store(), line.numbers[0]),
         "tiles" => tiles(answer, map.store()),
         "snapshot" => snapshot(answer, map.store()),
-        "metadata" => answer.made_text(metadata_text(answer.alloc, map.store())),
+        "metadata" => answer.add(metadata_text(answer.alloc(), map.store())),
         "area" => area(answer, map.store(), line.numbers[0]),
         _ => return false,
     }

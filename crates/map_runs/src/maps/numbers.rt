@@ -1,8 +1,8 @@
 //! Lines over a map from numbers to numbers.
 use super::blocks;
-use crate::answers::Answer;
 use crate::lines::Line;
 use number_map::NumberMap;
+use script_bytes::Answer;
 
 /// How many entries there are, by two counts, whether each is found, and what they make together in their order: 31 times what those before
 /// an entry do, plus 7 times its number, plus its value, all modulo 2^64.
@@ -22,16 +22,17 @@ fn entries(answer: &mut Answer, map: &NumberMap<u64>) {
     }
     let len = map.len();
     let is_empty = map.is_empty();
-    answer.say(format_args!(
+    write!(
+        answer,
         "{count} entries, {len} by count, empty {is_empty}, {found}, digest {digest}"
-    ));
+    );
 }
 
 fn set(answer: &mut Answer, map: &mut NumberMap<u64>, number: u64, value: u64) {
     if map.room().is_err() {
         return answer.refuse();
     }
-    answer.debug(map.insert(number, value));
+    answer.show(&map.insert(number, value));
 }
 
 /// Gives so many numbers values from 0 up, in this order or from the last one down: each number is so much above the one before, from
@@ -58,7 +59,7 @@ fn thin(answer: &mut Answer, map: &mut NumberMap<u64>, [count, step, one_in, ..]
             taken = taken.wrapping_add(1);
         }
     }
-    answer.say(format_args!("{taken} taken"));
+    write!(answer, "{taken} taken");
 }
 
 /// Room that is made beforehand serves a number that is taken out, given a value, looked up and taken out again.
@@ -70,7 +71,7 @@ fn serve(answer: &mut Answer, map: &mut NumberMap<u64>, number: u64) {
     let before = map.insert(number, 1);
     let found = map.get(number).copied();
     let removed = map.remove(number);
-    answer.say(format_args!("{was_there} {before:?} {found:?} {removed:?}"));
+    write!(answer, "{was_there} {before:?} {found:?} {removed:?}");
 }
 
 /// Answers a line over a map from numbers. Returns whether it is one.
@@ -78,9 +79,9 @@ pub(crate) fn answer(answer: &mut Answer, map: &mut NumberMap<u64>, line: Line<'
     let [first, second, ..] = line.numbers;
     match line.word {
         "set" => set(answer, map, first, second),
-        "unset" => answer.debug(map.remove(first)),
-        "get" => answer.debug(map.get(first)),
-        "from" => answer.debug(map.first_from(first)),
+        "unset" => answer.show(&map.remove(first)),
+        "get" => answer.show(&map.get(first)),
+        "from" => answer.show(&map.first_from(first)),
         "fillup" | "filldown" => fill(answer, map, line),
         "thin" => thin(answer, map, line.numbers),
         "serve" => serve(answer, map, first),

@@ -1,10 +1,9 @@
 //! Edits of a map that look random. `bench/model/map_random.py` draws the same numbers in the same order.
 use super::map::{delete, edited, put};
-use crate::answers::Answer;
 use crate::lines::byte;
 use cached_map::CachedMap;
 use feature_model::{EditValue, Feature, Geometry, Tag, World};
-use script_bytes::short;
+use script_bytes::{Answer, short};
 use std::alloc::{AllocError, Global};
 
 /// How far the points of a line or a ring are apart, at most: of a feature whose first zoom is below 6, and of another one.
@@ -104,7 +103,7 @@ fn edit(answer: &mut Answer, map: &mut CachedMap, chance: &mut Chance, ids: u64,
     if chance.below(one_in) == 0 {
         return delete(answer, map, id);
     }
-    match any_feature(answer.alloc, chance) {
+    match any_feature(answer.alloc(), chance) {
         Ok(feature) => put(answer, map, id, feature),
         Err(_) => answer.refuse(),
     }
@@ -119,13 +118,13 @@ pub(crate) fn make_random(answer: &mut Answer, map: &mut CachedMap, numbers: [u6
     let mut digest = 0u64;
     for _ in 0..count {
         edit(answer, map, &mut chance, ids, one_in);
-        if answer.text.ends_with("true") {
+        if answer.text().ends_with("true") {
             taken = taken.wrapping_add(1);
         }
-        answer.text.clear();
+        answer.clear();
         let features = map.store().len() as u64;
         digest = digest.wrapping_mul(31).wrapping_add(features);
     }
     edited(answer, map.last(), map);
-    answer.say(format_args!(", {taken} taken, digest {digest}"));
+    write!(answer, ", {taken} taken, digest {digest}");
 }

@@ -1,11 +1,10 @@
 //! Lines about archives that are built.
 use super::inputs::place;
-use crate::answers::Answer;
 use crate::lines::Line;
 use archive_commands::{Verdict, verify};
 use pm_build::{ArchiveBuilder, BuildFault, BuiltArchive};
 use pm_metadata::is_metadata;
-use script_bytes::{number_in, parted};
+use script_bytes::{Answer, number_in, parted};
 use std::alloc::{AllocError, Global};
 
 /// The metadata of a map of one point.
@@ -32,7 +31,7 @@ fn add_all(builder: &mut ArchiveBuilder, tiles: &[Tile]) -> Result<bool, BuildFa
 /// What is told of an archive's bytes: these, or the line of `verify`.
 fn tell_bytes(answer: &mut Answer, word: &str, bytes: &[u8]) {
     match word {
-        "evenjudged" => answer.say(Verdict::of(verify(answer.alloc, bytes))),
+        "evenjudged" => answer.tell(&Verdict::of(verify(answer.alloc(), bytes))),
         _ => answer.hex(bytes),
     }
 }
@@ -53,7 +52,7 @@ fn tell_archive(answer: &mut Answer, word: &str, archive: BuiltArchive) {
 
 /// The same of the archive of what a builder has.
 fn finish(answer: &mut Answer, word: &str, builder: ArchiveBuilder) {
-    let Ok(is_object) = is_metadata(answer.alloc, METADATA) else {
+    let Ok(is_object) = is_metadata(answer.alloc(), METADATA) else {
         return answer.refuse();
     };
     if builder.is_empty() || !is_object {
@@ -67,11 +66,11 @@ fn finish(answer: &mut Answer, word: &str, builder: ArchiveBuilder) {
 
 /// The same of the archive of tiles.
 fn build(answer: &mut Answer, word: &str, tiles: &[Tile]) {
-    let mut builder = ArchiveBuilder::new(answer.alloc);
+    let mut builder = ArchiveBuilder::new(answer.alloc());
     match add_all(&mut builder, tiles) {
         Ok(true) => finish(answer, word, builder),
         Ok(false) => answer.say(NO_TILES),
-        Err(fault) => answer.say(fault),
+        Err(fault) => answer.tell(&fault),
     }
 }
 
@@ -126,8 +125,8 @@ fn add_tiles(alloc: Global, tiles: &mut Vec<Tile>, line: Line<'_>) -> Result<(),
 
 /// What is told of the archive of the tiles that a line is about.
 pub(crate) fn answer(answer: &mut Answer, line: Line<'_>) {
-    let mut tiles = Vec::new(answer.alloc);
-    match add_tiles(answer.alloc, &mut tiles, line) {
+    let mut tiles = Vec::new(answer.alloc());
+    match add_tiles(answer.alloc(), &mut tiles, line) {
         Ok(()) => build(answer, line.word, &tiles),
         Err(_) => answer.refuse(),
     }

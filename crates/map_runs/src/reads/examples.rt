@@ -1,6 +1,6 @@
 //! The standard's examples of shapes, encoded (Mapbox Vector Tile 2.1, 4.3.5).
-use crate::answers::Answer;
 use geometry_commands::{Pt, encode_lines, encode_points, encode_rings};
+use script_bytes::Answer;
 use std::alloc::{AllocError, Global};
 
 /// The points of the line.
@@ -28,11 +28,12 @@ fn ring(alloc: Global) -> Result<Vec<u32>, AllocError> {
 
 /// The integers of the example of this kind; none of another.
 pub(crate) fn example(answer: &mut Answer, kind: &str) {
-    let alloc = answer.alloc;
-    answer.made(match kind {
+    let alloc = answer.alloc();
+    let integers = match kind {
         "points" => points(alloc),
         "line" => line(alloc),
         "ring" => ring(alloc),
         _ => Ok(Vec::new(alloc)),
-    });
+    };
+    answer.show_made(&integers);
 }

@@ -1,6 +1,5 @@
 //! The bytes that a line is about.
-use crate::answers::Answer;
-use script_bytes::{expanded, number_in};
+use script_bytes::{Answer, expanded, number_in};
 use std::alloc::Global;
 
 /// Bytes that lines gave names.
@@ -48,8 +47,8 @@ impl Inputs {
 
     /// Gives bytes a name.
     pub(crate) fn keep(&mut self, answer: &mut Answer, name: &str, bytes: Vec<u8>) {
-        answer.say(format_args!("{} bytes", bytes.len()));
-        let Ok(name) = String::from_str(answer.alloc, name) else {
+        write!(answer, "{} bytes", bytes.len());
+        let Ok(name) = String::from_str(answer.alloc(), name) else {
             return answer.refuse();
         };
         if self.held.push((name, bytes)).is_err() {

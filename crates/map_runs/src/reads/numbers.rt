@@ -1,12 +1,11 @@
 //! Lines about numbers: of shapes, signed ones, ids of tiles, and those that texts write.
 use super::examples::example;
-use crate::answers::Answer;
 use crate::lines::{Line, tile_at};
 use geometry_commands::{ShapeKind, decode, encode_lines, encode_rings};
 use hilbert_id::{id_of, tile_of};
 use http_values::{are_digits, byte_range, digits_number, push_number, push_text};
 use pb_wire::{put_varint, unzigzag, zigzag};
-use script_bytes::{number_in, parted, short};
+use script_bytes::{Answer, number_in, parted, short};
 
 fn kind_in(word: &str) -> ShapeKind {
     match word {
@@ -20,25 +19,25 @@ fn kind_in(word: &str) -> ShapeKind {
 /// The shape of a kind that integers spell.
 fn shape(answer: &mut Answer, rest: &str) {
     let (kind, others) = parted(rest);
-    let mut integers = Vec::new(answer.alloc);
+    let mut integers = Vec::new(answer.alloc());
     for word in others.split_whitespace() {
         if integers.push(short(number_in(word))).is_err() {
             answer.refuse();
         }
     }
-    answer.read(decode(answer.alloc, kind_in(kind), &integers));
+    answer.show_read(&decode(answer.alloc(), kind_in(kind), &integers));
 }
 
 /// The integers of no lines, and of no rings.
 fn nothing(answer: &mut Answer) {
-    answer.made(encode_lines(answer.alloc, &[]));
-    answer.say(' ');
-    answer.made(encode_rings(answer.alloc, &[]));
+    answer.show_made(&encode_lines(answer.alloc(), &[]));
+    answer.push(' ');
+    answer.show_made(&encode_rings(answer.alloc(), &[]));
 }
 
 /// Numbers as they are spelled one behind the other.
 fn spell(answer: &mut Answer, rest: &str) {
-    let mut out = Vec::new(answer.alloc);
+    let mut out = Vec::new(answer.alloc());
     for word in rest.split_whitespace() {
         if put_varint(&mut out, number_in(word)).is_err() {
             answer.refuse();
@@ -50,7 +49,7 @@ fn spell(answer: &mut Answer, rest: &str) {
 /// The tile of a zoom, a column and a row, and its id.
 fn id(answer: &mut Answer, numbers: [u64; 8]) {
     match tile_at(numbers) {
-        Some(at) => answer.say(id_of(at)),
+        Some(at) => answer.tell(&id_of(at)),
         None => answer.say("no tile"),
     }
 }
@@ -58,14 +57,14 @@ fn id(answer: &mut Answer, numbers: [u64; 8]) {
 /// The tile of an id.
 fn tile(answer: &mut Answer, id: u64) {
     match tile_of(id) {
-        Some(at) => answer.say(format_args!("{}/{}/{}", at.z, at.x, at.y)),
+        Some(at) => write!(answer, "{}/{}/{}", at.z, at.x, at.y),
         None => answer.say("no tile"),
     }
 }
 
 pub(crate) fn range(answer: &mut Answer, value: &[u8]) {
     match byte_range(value) {
-        Some(range) => answer.say(format_args!("{} to {}", range.first, range.last)),
+        Some(range) => write!(answer, "{} to {}", range.first, range.last),
         None => answer.say("none"),
     }
 }
@@ -77,14 +76,14 @@ fn digits(answer: &mut Answer, text: &str) {
         return answer.say("no digits");
     }
     match digits_number(digits) {
-        Some(number) => answer.say(number),
+        Some(number) => answer.tell(&number),
         None => answer.say("too great"),
     }
 }
 
 /// Two numbers in digits behind texts.
 fn written(answer: &mut Answer, first: u64, second: u64) {
-    let Ok(mut out) = Vec::with_capacity(answer.alloc, 64) else {
+    let Ok(mut out) = Vec::with_capacity(answer.alloc(), 64) else {
         return answer.refuse();
     };
     push_text(&mut out, b"of ");
@@ -92,7 +91,7 @@ fn written(answer: &mut Answer, first: u64, second: u64) {
     push_text(&mut out, b", ");
     push_number(&mut out, second);
     push_text(&mut out, b".");
-    answer.made_text(String::from_utf8_lossy(answer.alloc, &out));
+    answer.add(String::from_utf8_lossy(answer.alloc(), &out));
 }
 
 /// Answers a line about numbers. Returns whether it is one.
@@ -103,8 +102,8 @@ pub(crate) fn answer(answer: &mut Answer, line: Line<'_>) -> bool {
         "example" => example(answer, line.rest),
         "nothing" => nothing(answer),
         "spell" => spell(answer, line.rest),
-        "zigzag" => answer.say(zigzag(line.rest.parse::<i64>().unwrap_or(0))),
-        "unzigzag" => answer.say(unzigzag(first)),
+        "zigzag" => answer.tell(&zigzag(line.rest.parse::<i64>().unwrap_or(0))),
+        "unzigzag" => answer.tell(&unzigzag(first)),
         "id" => id(answer, line.numbers),
         "place" => tile(answer, first),
         "range" => range(answer, line.rest.as_bytes()),

@@ -1,9 +1,9 @@
 //! A disk, and what answers over it while it is open.
 use super::lines::Failing;
-use crate::answers::Answer;
 use generations::{FIRST_VERSION, StoreFault, format_version};
 use map_replies::MapReplies;
 use map_server::{fresh_service, opened_service};
+use script_bytes::Answer;
 use sector_disk::{FailingCalls, FaultyDisk, MemoryDisk, SECTOR_BYTES, Sectors};
 use std::alloc::{AllocError, Global};
 use std::mem;
@@ -77,7 +77,7 @@ fn open(
         Err((disk, fault)) => match disk {
             Some(disk) => {
                 replace(stand, Stand::Closed(disk.into_disk()));
-                answer.show(fault);
+                answer.show(&fault);
             }
             // (it is lost only where memory ran out)
             None => answer.refuse(),
@@ -135,7 +135,7 @@ fn open_made(
 ) {
     match made {
         Ok(disk) => open(alloc, stand, disk, Access::Map, Failing::None, answer),
-        Err(fault) => answer.show(fault),
+        Err(fault) => answer.show(&fault),
     }
 }
 
@@ -157,7 +157,7 @@ pub(crate) fn upgrade(alloc: Global, stand: &mut Stand, answer: &mut Answer) {
     if let Some(mut disk) = answer.granted(taken(alloc, stand)) {
         match Service::upgrade(&mut disk) {
             Ok(()) => answer.say("upgraded"),
-            Err(fault) => answer.show(fault),
+            Err(fault) => answer.show(&fault),
         }
         replace(stand, Stand::Closed(disk));
     }

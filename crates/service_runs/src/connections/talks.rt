@@ -2,9 +2,9 @@
 use super::stands::Map;
 use super::streams::{Narrow, Narrowness, Pieces};
 use super::texts::tell_bytes;
-use crate::answers::Answer;
 use http_serve::{ServeFault, Served};
 use map_replies::serve_map_turns;
+use script_bytes::Answer;
 use std::alloc::Global;
 
 /// What a connection came to.

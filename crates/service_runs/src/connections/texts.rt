@@ -1,6 +1,5 @@
 //! Bytes as the texts of a script, both ways.
-use crate::answers::Answer;
-use script_bytes::digest;
+use script_bytes::{Answer, digest};
 use std::alloc::Global;
 
 /// A reply with more bytes than these is told by its front, its length and a hash.

@@ -1,9 +1,8 @@
 //! Commands on the sectors of a disk.
 use super::trial::Trial;
-use crate::answers::Answer;
 use crate::commands::Operands;
 use crate::sectors::{crashed, tell_used_sectors};
-use script_bytes::{sector_of, spelled, used_part};
+use script_bytes::{Answer, sector_of, spelled, used_part};
 use sector_disk::{FailingCalls, MemoryDisk, SECTOR_BYTES, Sectors};
 use std::alloc::Global;
 use std::mem;
@@ -18,7 +17,7 @@ fn make(alloc: Global, trial: &mut Trial, sectors: u64, answer: &mut Answer) {
 fn write(trial: &mut Trial, at: u64, bytes: &[u8], answer: &mut Answer) {
     match sector_of(bytes) {
         Some(sector) if at < trial.disk.count() => {
-            answer.show_calls(trial.disk.write(at, &sector), 1);
+            answer.show_calls(&trial.disk.write(at, &sector), 1);
         }
         _ => answer.say("no sector"),
     }
@@ -31,13 +30,13 @@ fn sector(alloc: Global, trial: &mut Trial, at: u64, answer: &mut Answer) {
     let mut sector = [0; SECTOR_BYTES];
     match trial.disk.read(at, &mut sector) {
         Ok(()) => answer.add(spelled(alloc, used_part(&sector))),
-        Err(fault) => answer.show_calls(fault, 1),
+        Err(fault) => answer.show_calls(&fault, 1),
     }
 }
 
 fn fail(alloc: Global, trial: &mut Trial, failing: FailingCalls, answer: &mut Answer) {
     answer.note(trial.set_failing(alloc, failing));
-    answer.show(failing);
+    answer.show(&failing);
 }
 
 fn stop(alloc: Global, trial: &mut Trial, answer: &mut Answer) {
@@ -65,7 +64,7 @@ pub(crate) fn answer_to(
     match (word, operands.numbers.as_slice()) {
         ("disk", [sectors]) => make(alloc, trial, *sectors, answer),
         ("write", [at]) => write(trial, *at, &operands.bytes, answer),
-        ("sync", []) => answer.show_calls(trial.disk.sync(), 1),
+        ("sync", []) => answer.show_calls(&trial.disk.sync(), 1),
         ("sector", [at]) => sector(alloc, trial, *at, answer),
         ("sectors", []) => tell_used_sectors(&mut trial.disk, answer),
         ("fail_from", [call]) => fail(alloc, trial, FailingCalls::AllFrom(*call), answer),

@@ -1,12 +1,11 @@
 //! Commands on the generations of a disk.
 use super::trial::Trial;
-use crate::answers::Answer;
 use crate::commands::Operands;
 use generations::{
     FIRST_VERSION, JOURNAL_START, LAST_VERSION, Layout, Root, StoreFault, format, format_version,
     install, read_root, upgrade, write_area,
 };
-use script_bytes::sector_of;
+use script_bytes::{Answer, sector_of};
 use sector_disk::Sectors;
 
 /// Formats or upgrades a disk, as a command asks for. `None` if it doesn't, or there is no such version.
@@ -27,7 +26,7 @@ fn formatted<D: Sectors>(
 fn root(trial: &mut Trial, answer: &mut Answer) {
     let before = trial.disk.calls();
     let outcome = read_root(&mut trial.disk);
-    answer.show_calls(outcome, trial.disk.calls().saturating_sub(before));
+    answer.show_calls(&outcome, trial.disk.calls().saturating_sub(before));
 }
 
 fn area(trial: &mut Trial, generation: u64, index: u64, bytes: &[u8], answer: &mut Answer) {
@@ -39,7 +38,7 @@ fn area(trial: &mut Trial, generation: u64, index: u64, bytes: &[u8], answer: &m
         return answer.say("no sector");
     }
     let outcome = write_area(&mut trial.disk, layout, generation, index, &sector);
-    answer.show_calls(outcome, 1);
+    answer.show_calls(&outcome, 1);
 }
 
 fn install_root(trial: &mut Trial, root: Root, answer: &mut Answer) {
@@ -48,7 +47,7 @@ fn install_root(trial: &mut Trial, root: Root, answer: &mut Answer) {
     }
     let before = trial.disk.calls();
     let outcome = install(&mut trial.disk, root);
-    answer.show_calls(outcome, trial.disk.calls().saturating_sub(before));
+    answer.show_calls(&outcome, trial.disk.calls().saturating_sub(before));
 }
 
 /// Answers a command on generations. Returns false if it is none, or its numbers don't fit.
@@ -61,11 +60,11 @@ pub(crate) fn answer_to(
     let numbers = operands.numbers.as_slice();
     let before = trial.disk.calls();
     if let Some(outcome) = formatted(&mut trial.disk, word, numbers) {
-        answer.show_calls(outcome, trial.disk.calls().saturating_sub(before));
+        answer.show_calls(&outcome, trial.disk.calls().saturating_sub(before));
         return true;
     }
     match (word, numbers) {
-        ("layout", [sectors]) => answer.show(Layout::of(*sectors)),
+        ("layout", [sectors]) => answer.show(&Layout::of(*sectors)),
         ("format_version", [_]) => answer.say("no version"),
         ("root", []) => root(trial, answer),
         ("area", [generation, index]) => area(trial, *generation, *index, &operands.bytes, answer),

@@ -4,14 +4,13 @@ ghost use Rattle.edit_journal.specs.Records.{IsRecordLength};
 ghost use Rattle.edit_journal.specs.Releases.{IsBehind, MayTake};
 
 use super::trial::Trial;
-use crate::answers::Answer;
 use crate::commands::Operands;
 use crate::sectors::sector_at;
 use edit_journal::{
     FIRST_RECORD_VERSION, Journal, JournalPosition, LAST_RECORD_VERSION, MAX_RECORD_BYTES, Record,
     head_in, head_version,
 };
-use script_bytes::spelled_briefly;
+use script_bytes::{Answer, spelled_briefly};
 use sector_disk::{SECTOR_BYTES, Sectors};
 use std::alloc::Global;
 
@@ -51,7 +50,7 @@ fn ring(
             tell_journal(alloc, journal, &records, answer);
             write!(answer, " in {calls}");
         }
-        Err(fault) => answer.show_calls(fault, calls),
+        Err(fault) => answer.show_calls(&fault, calls),
     }
 }
 
@@ -77,7 +76,7 @@ fn append(trial: &mut Trial, version: u32, text: &[u8], answer: &mut Answer) {
     }
     let before = trial.disk.calls();
     let outcome = journal.append(&mut trial.disk, version, text);
-    answer.show_calls(outcome, trial.disk.calls().saturating_sub(before));
+    answer.show_calls(&outcome, trial.disk.calls().saturating_sub(before));
 }
 
 fn next(journal: Journal, answer: &mut Answer) {
@@ -88,7 +87,7 @@ fn next(journal: Journal, answer: &mut Answer) {
 
 fn mark(trial: &mut Trial, answer: &mut Answer) {
     trial.mark = trial.journal.next();
-    answer.show(trial.mark);
+    answer.show(&trial.mark);
 }
 
 /// Whether `records` records can take `places` places.
@@ -137,7 +136,7 @@ fn head(trial: &mut Trial, at: u64, number: u64, answer: &mut Answer) {
 
 fn head_up_to(trial: &mut Trial, at: u64, number: u64, most: u32, answer: &mut Answer) {
     let sector = sector_at(&mut trial.disk, at);
-    answer.show(head_version(&sector, number, most));
+    answer.show(&head_version(&sector, number, most));
 }
 
 /// Whether a sector is this part of the record whose head another one is, if that is one.
@@ -156,7 +155,7 @@ fn part(trial: &mut Trial, [head_at, number, at, part]: [u64; 4], answer: &mut A
     let first = sector_at(&mut trial.disk, head_at);
     let sector = sector_at(&mut trial.disk, at);
     let part = u16::try_from(part).unwrap_or(u16::MAX);
-    answer.show(has_part(&first, number, &sector, part));
+    answer.show(&has_part(&first, number, &sector, part));
 }
 
 /// Answers a command on a journal. Returns false if it is none, or its numbers don't fit.

@@ -1,6 +1,5 @@
 //! Answers of a service, briefly.
-use crate::answers::Answer;
-use script_bytes::{digest, spelled_briefly};
+use script_bytes::{Answer, digest, spelled_briefly};
 use std::alloc::Global;
 
 /// The longest text that is told in full.

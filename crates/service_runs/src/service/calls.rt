@@ -2,9 +2,8 @@
 use super::brief::{tell_briefly, tell_events};
 use super::events::add_events;
 use super::sessions::{Served, Trial};
-use crate::answers::Answer;
 use pm_archive::Archive;
-use script_bytes::spelled_briefly;
+use script_bytes::{Answer, spelled_briefly};
 use std::alloc::Global;
 use tile_service::ServiceFault;
 
@@ -21,7 +20,7 @@ pub(crate) fn run(alloc: Global, trial: &mut Trial, line: &str, answer: &mut Ans
     if answer.is_fit() {
         match service.run(events) {
             Ok(of_events) => tell_events(alloc, &of_events, answer),
-            Err(fault) => answer.show(fault),
+            Err(fault) => answer.show(&fault),
         }
     }
 }
@@ -46,7 +45,7 @@ fn archive_part(
     let mut bytes = answer.granted(vec![in alloc; 0u8; count.min(MAX_READ) as usize])?;
     match read(service, at, &mut bytes) {
         Some(Ok(())) => return Some(bytes),
-        Some(Err(fault)) => answer.show(fault),
+        Some(Err(fault)) => answer.show(&fault),
         None => answer.reject(),
     }
     None
@@ -62,15 +61,15 @@ fn archive(alloc: Global, service: &mut Served, at: u64, count: u64, answer: &mu
 /// Tells the verdict on the bytes of an archive.
 fn verify(alloc: Global, bytes: &[u8], answer: &mut Answer) {
     match Archive::open(alloc, bytes) {
-        Ok(mut archive) => answer.show(pm_verify::verify(alloc, &mut archive)),
-        Err(fault) => answer.show(fault),
+        Ok(mut archive) => answer.show(&pm_verify::verify(alloc, &mut archive)),
+        Err(fault) => answer.show(&fault),
     }
 }
 
 fn metadata(service: &Served, answer: &mut Answer) {
     match service.metadata() {
         Ok(text) => tell_briefly(&text, answer),
-        Err(fault) => answer.show(fault),
+        Err(fault) => answer.show(&fault),
     }
 }
 
@@ -87,7 +86,7 @@ pub(crate) fn answer_to(
     };
     let len = service.archive_len();
     match (word, numbers) {
-        ("publish", []) => answer.show(service.publish()),
+        ("publish", []) => answer.show(&service.publish()),
         ("archive", []) => archive(alloc, service, 0, len, answer),
         ("archive", [at, count]) => archive(alloc, service, *at, *count, answer),
         ("verify", []) => {
@@ -96,7 +95,7 @@ pub(crate) fn answer_to(
             }
         }
         ("metadata", []) => metadata(service, answer),
-        ("version", []) => answer.show(service.version()),
+        ("version", []) => answer.show(&service.version()),
         _ => return false,
     }
     true

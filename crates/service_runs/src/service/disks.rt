@@ -1,11 +1,10 @@
 //! Commands on the sectors of a closed disk.
 use super::exports::export;
 use super::sessions::{ServedDisk, Trial};
-use crate::answers::Answer;
 use crate::commands::Operands;
 use crate::sectors::{sector_at, tell_used_sectors};
 use generations::{FIRST_VERSION, format_version};
-use script_bytes::{sector_of, spelled, used_part};
+use script_bytes::{Answer, sector_of, spelled, used_part};
 use sector_disk::{MemoryDisk, Sectors};
 use std::alloc::Global;
 use tile_service::Service;
@@ -14,7 +13,7 @@ use tile_service::Service;
 fn write(disk: &mut MemoryDisk, at: u64, bytes: &[u8], answer: &mut Answer) -> bool {
     match sector_of(bytes) {
         Some(sector) if at < disk.count() => {
-            answer.show(disk.write(at, &sector));
+            answer.show(&disk.write(at, &sector));
             true
         }
         _ => false,
@@ -46,9 +45,9 @@ enum Work {
 /// Does the work on a disk, and tells the outcome.
 fn do_work(alloc: Global, disk: &mut ServedDisk, work: Work, answer: &mut Answer) {
     match work {
-        Work::Format => answer.show(Service::format(disk)),
-        Work::FormatFirst => answer.show(format_version(disk, FIRST_VERSION)),
-        Work::Upgrade => answer.show(Service::upgrade(disk)),
+        Work::Format => answer.show(&Service::format(disk)),
+        Work::FormatFirst => answer.show(&format_version(disk, FIRST_VERSION)),
+        Work::Upgrade => answer.show(&Service::upgrade(disk)),
         Work::Export(room) => export(alloc, disk, room, answer),
     }
 }

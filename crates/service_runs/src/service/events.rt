@@ -1,9 +1,8 @@
 //! Events as words of a line. Where memory is refused, that is noted in the answer.
 use super::features::{feature_in, pair_in, zoom_in};
-use crate::answers::Answer;
 use feature_model::Change;
 use hilbert_id::TileAt;
-use script_bytes::parted;
+use script_bytes::{Answer, parted};
 use std::alloc::Global;
 use tile_service::Event;
 

@@ -2,9 +2,8 @@
 ghost use Rattle.std.specs.Prelude.{◌≤◌, ◌+◌};
 ghost use Rattle.generations.specs.Areas.{sectors_of};
 
-use crate::answers::Answer;
 use archive_export::{ArchivePlace, CopyFault, copy_archive, find_archive};
-use script_bytes::spelled_briefly;
+use script_bytes::{Answer, spelled_briefly};
 use sector_disk::Sectors;
 use std::alloc::Global;
 

@@ -2,8 +2,8 @@
 //!
 //! `p 0 2 points 0,0 5,5 t='x*3 n=-7 b=true` is a feature of layer `p` on zooms 0 to 2 with two points and three tags: `t` is the text `xxx`,
 //! `n` a number and `b` a truth value. `/` separates lines, and the rings of a polygon; `|` separates polygons.
-use crate::answers::Answer;
 use feature_model::{EditValue, Feature, Geometry, Tag, World};
+use script_bytes::Answer;
 use std::alloc::Global;
 use std::mem;
 

@@ -1,6 +1,6 @@
 //! A disk, and its service while it is open.
-use crate::answers::Answer;
 use crate::sectors::crashed;
+use script_bytes::Answer;
 use sector_disk::{FailingCalls, FaultyDisk, MemoryDisk};
 use std::alloc::{AllocError, Global};
 use std::mem;
@@ -115,7 +115,7 @@ fn open(alloc: Global, trial: &mut Trial, answer: &mut Answer) {
         Err((disk, fault)) => {
             let calls = disk.calls();
             trial.replace(disk.into_disk());
-            answer.show_calls(fault, calls);
+            answer.show_calls(&fault, calls);
         }
     }
 }
@@ -146,7 +146,7 @@ fn crash(alloc: Global, trial: &mut Trial, numbers: &[u64], answer: &mut Answer)
 
 fn fail(trial: &mut Trial, failing: FailingCalls, answer: &mut Answer) {
     trial.failing = failing;
-    answer.show(failing);
+    answer.show(&failing);
 }
 
 /// Answers a command on a session. Returns false if it is none, or its numbers don't fit.

@@ -1,7 +1,7 @@
 //! What the lines of a script say of the peers that are served next.
 use super::listener::Accepts;
 use super::{Act, Does, Peer, Plan};
-use crate::answers::Answer;
+use script_bytes::Answer;
 use std::alloc::{AllocError, Global};
 
 /// What bounds a listener.

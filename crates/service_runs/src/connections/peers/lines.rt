@@ -1,9 +1,8 @@
 //! Lines about the peers that are served next.
 use super::{Does, Gathered, Plan, Room};
-use crate::answers::Answer;
 use crate::connections::lines::number_in;
 use crate::connections::texts::bytes_of;
-use script_bytes::parted;
+use script_bytes::{Answer, parted};
 use std::alloc::Global;
 
 /// A size.

@@ -1,11 +1,11 @@
 //! Peers that are served, and what is told of them.
 use super::listener::{Accepts, Listener};
 use super::{Gathered, Peer, Room, Watch};
-use crate::answers::Answer;
 use crate::connections::stands::Map;
 use crate::connections::streams::{Narrow, Narrowness, WIDE};
 use crate::connections::texts::tell_bytes;
 use map_server::serve_map_on;
+use script_bytes::Answer;
 use std::alloc::Global;
 use std::cell::Cell;
 
