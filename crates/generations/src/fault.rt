@@ -7,20 +7,28 @@ use thiserror::Error;
 #[derive(Clone, Copy, Debug, Error)]
 pub enum StoreFault {
     /// The disk doesn't begin with the mark of a format.
-    #[error("the disk isn't formatted")]
     NotFormatted,
     /// The disk has fewer than `MIN_SECTORS` sectors.
-    #[error("the disk has too few sectors")]
     TooSmall,
     /// A part of the disk doesn't have its form.
-    #[error("the disk is damaged: {0}")]
     Damaged(What),
     /// A call of the disk failed.
-    #[error("a call of the disk failed")]
     Device,
     /// Out of memory. No call of this crate takes memory.
-    #[error("out of memory")]
     Memory,
+}
+
+impl fmt::Display for StoreFault {
+    fn fmt<W: fmt::Write>(&self, f: &mut fmt::Formatter<W>) -> fmt::Result {
+        let words = match self {
+            StoreFault::NotFormatted => "the disk isn't formatted",
+            StoreFault::TooSmall => "the disk has too few sectors",
+            StoreFault::Damaged(what) => return write!(f, "the disk is damaged: {what}"),
+            StoreFault::Device => "a call of the disk failed",
+            StoreFault::Memory => "out of memory",
+        };
+        f.write_str(words)
+    }
 }
 
 /// What doesn't have its form on a disk.

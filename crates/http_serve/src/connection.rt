@@ -23,6 +23,7 @@ use crate::writes::WriteFault;
 use crate::{Handler, Request};
 use http_requests::{Frame, NO_HEAD, Next, Rejection, START, find_next, is_head, path_of};
 use httparse::spans::Span;
+use std::fmt;
 use std::io::{Read, Write};
 use thiserror::Error;
 
@@ -52,32 +53,40 @@ pub struct Served {
 #[derive(Clone, Copy, Debug, PartialEq, Eq, Error)]
 pub enum ServeFault {
     /// Memory for the buffers ran out, before the first read.
-    #[error("out of memory before the first read")]
     Memory,
     /// A read failed.
-    #[error("a read failed after {requests} replies")]
     Read {
         requests: u64,
     },
     /// A write failed or took 0 bytes.
-    #[error("a write failed after {requests} replies")]
     Write {
         requests: u64,
     },
     /// The handler couldn't read a content after its first bytes.
-    #[error("a content could not be read after {requests} replies")]
     Content {
         requests: u64,
     },
     /// No fault of the peer: the next reply is written up to the byte `from` of its content, which has `length` bytes, and the rest is
     /// the caller's to read and write. `close` says whether the connection ends after it.
-    #[error("the rest of a content was left after {requests} replies")]
     Rest {
         requests: u64,
         close: bool,
         from: u64,
         length: u64,
     },
+}
+
+impl fmt::Display for ServeFault {
+    fn fmt<W: fmt::Write>(&self, f: &mut fmt::Formatter<W>) -> fmt::Result {
+        let (what, requests) = match self {
+            ServeFault::Memory => return f.write_str("out of memory before the first read"),
+            ServeFault::Read { requests } => ("a read failed", requests),
+            ServeFault::Write { requests } => ("a write failed", requests),
+            ServeFault::Content { requests } => ("a content could not be read", requests),
+            ServeFault::Rest { requests, .. } => ("the rest of a content was left", requests),
+        };
+        write!(f, "{what} after {requests} replies")
+    }
 }
 
 /// Why answering requests stops.

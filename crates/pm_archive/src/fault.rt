@@ -16,17 +16,6 @@ pub enum Section {
     Tiles,
 }
 
-impl fmt::Display for Section {
-    fn fmt<W: fmt::Write>(&self, f: &mut fmt::Formatter<W>) -> fmt::Result {
-        f.write_str(match self {
-            Section::Root => "root",
-            Section::Metadata => "metadata",
-            Section::Leaves => "leaves",
-            Section::Tiles => "tiles",
-        })
-    }
-}
-
 /// A count of an archive's header.
 #[derive(Clone, Copy, Debug, PartialEq, Eq)]
 pub enum Count {
@@ -38,59 +27,83 @@ pub enum Count {
     Contents,
 }
 
-impl fmt::Display for Count {
-    fn fmt<W: fmt::Write>(&self, f: &mut fmt::Formatter<W>) -> fmt::Result {
-        f.write_str(match self {
-            Count::Addressed => "addressed",
-            Count::Entries => "entries",
-            Count::Contents => "contents",
-        })
-    }
-}
-
 /// Why bytes aren't a sound archive, or why they couldn't be examined.
 #[derive(Clone, Copy, Debug, PartialEq, Eq, Error)]
 pub enum ArchiveFault {
     /// There are fewer than 127 bytes.
-    #[error("short header")]
     Short,
     /// The first seven bytes aren't `PMTiles`.
-    #[error("bad magic")]
     Magic,
     /// The version, the byte after these, isn't 3.
-    #[error("version: {0}")]
     Version(u8),
     /// A section isn't inside the file, or the root directory ends after byte 16,384.
-    #[error("section: {0}")]
     Section(Section),
     /// The directories are compressed, with this number of the header.
-    #[error("compressed directories: {0}")]
     Compressed(u8),
     /// The bytes at this offset of the file aren't a directory.
-    #[error("bad directory at: {0}")]
     Directory(u64),
     /// This id of a leaf directory isn't among those to which the entry that names it may lead.
-    #[error("order: {0}")]
     Order(u64),
     /// A leaf directory is more than three levels below the root.
-    #[error("leaf depth")]
     Depth,
     /// The entry of this id names bytes outside of its section.
-    #[error("place: {0}")]
     Place(u64),
     /// A count of the header is wrong.
-    #[error("count: {0}")]
     Count(Count),
     /// The content of this id, the least of its entry, isn't a vector tile.
-    #[error("bad tile: {0}")]
     Tile(u64),
     /// The metadata isn't a JSON object.
-    #[error("bad metadata")]
     Metadata,
     /// A read of the source failed. This says nothing of the bytes.
-    #[error("Read")]
     Read,
     /// An allocation failed. This says nothing of the bytes.
-    #[error("Memory")]
     Memory,
+}
+
+impl ArchiveFault {
+    /// What is wrong.
+    fn what(self) -> &'static str {
+        match self {
+            ArchiveFault::Short => "short header",
+            ArchiveFault::Magic => "bad magic",
+            ArchiveFault::Version(_) => "version: ",
+            ArchiveFault::Section(Section::Root) => "section: root",
+            ArchiveFault::Section(Section::Metadata) => "section: metadata",
+            ArchiveFault::Section(Section::Leaves) => "section: leaves",
+            ArchiveFault::Section(Section::Tiles) => "section: tiles",
+            ArchiveFault::Compressed(_) => "compressed directories: ",
+            ArchiveFault::Directory(_) => "bad directory at: ",
+            ArchiveFault::Order(_) => "order: ",
+            ArchiveFault::Depth => "leaf depth",
+            ArchiveFault::Place(_) => "place: ",
+            ArchiveFault::Count(Count::Addressed) => "count: addressed",
+            ArchiveFault::Count(Count::Entries) => "count: entries",
+            ArchiveFault::Count(Count::Contents) => "count: contents",
+            ArchiveFault::Tile(_) => "bad tile: ",
+            ArchiveFault::Metadata => "bad metadata",
+            ArchiveFault::Read => "Read",
+            ArchiveFault::Memory => "Memory",
+        }
+    }
+
+    /// The number that stands behind it.
+    fn number(self) -> Option<u64> {
+        match self {
+            ArchiveFault::Version(version) => Some(u64::from(version)),
+            ArchiveFault::Compressed(number) => Some(u64::from(number)),
+            ArchiveFault::Directory(offset) => Some(offset),
+            ArchiveFault::Order(id) | ArchiveFault::Place(id) | ArchiveFault::Tile(id) => Some(id),
+            _ => None,
+        }
+    }
+}
+
+impl fmt::Display for ArchiveFault {
+    fn fmt<W: fmt::Write>(&self, f: &mut fmt::Formatter<W>) -> fmt::Result {
+        f.write_str(self.what())?;
+        match self.number() {
+            Some(number) => write!(f, "{number}"),
+            None => Ok(()),
+        }
+    }
 }
