@@ -8,7 +8,7 @@ use hilbert_id::{TILE_IDS, tile_of};
 use pm_header::{CLUSTERED, HEADER_BYTES, Header, NOT_COMPRESSED, SectionSpan, VECTOR_TILES};
 
 /// The lengths of the sections in bytes.
-#[derive(Clone, Copy, PartialEq, Eq)]
+#[derive(Clone, Copy)]
 pub(crate) struct Lengths {
     pub(crate) root: u64,
     pub(crate) metadata: u64,
@@ -17,7 +17,7 @@ pub(crate) struct Lengths {
 }
 
 /// The numbers of tiles, of tile entries and of different contents.
-#[derive(Clone, Copy, PartialEq, Eq)]
+#[derive(Clone, Copy)]
 pub(crate) struct Counts {
     pub(crate) addressed: u64,
     pub(crate) entries: u64,

@@ -73,7 +73,7 @@ impl Target {
     pub fn method(self, name: &[u8]) -> Result<Method, RouteFault>
         ensures { result ≡ method_on name.now (asked_of self) }
     {
-        if self == Target::Nothing {
+        if matches!(self, Target::Nothing) {
             return Err(RouteFault::NotFound);
         }
         match Method::of(name) {

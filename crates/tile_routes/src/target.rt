@@ -10,7 +10,7 @@ use feature_model::MAX_ZOOM;
 use hilbert_id::TileAt;
 
 /// How a tile is written in its reply.
-#[derive(Clone, Copy, PartialEq, Eq)]
+#[derive(Clone, Copy)]
 pub enum TileFormat {
     /// The bytes of the tile (`.mvt`).
     Mvt,
@@ -19,7 +19,7 @@ pub enum TileFormat {
 }
 
 /// What GET and HEAD show at a path without parameters.
-#[derive(Clone, Copy, PartialEq, Eq)]
+#[derive(Clone, Copy)]
 pub enum View {
     /// `/map/metadata`: what the map has, as JSON.
     Metadata,
@@ -30,7 +30,7 @@ pub enum View {
 }
 
 /// What POST does at a path without parameters.
-#[derive(Clone, Copy, PartialEq, Eq)]
+#[derive(Clone, Copy)]
 pub enum Action {
     /// `/edits`: makes several changes of the map as one edit, all of them or none.
     Edits,
@@ -47,7 +47,7 @@ pub enum Action {
 }
 
 /// What a path asks for.
-#[derive(Clone, Copy, PartialEq, Eq)]
+#[derive(Clone, Copy)]
 pub enum Target {
     /// `/map/{z}/{x}/{y}.mvt` and `.hex`: a tile of a zoom up to `feature_model::MAX_ZOOM`.
     Tile(TileAt, TileFormat),

@@ -10,7 +10,7 @@ use sector_disk::Sectors;
 use tile_cache::LEVEL_CELLS;
 
 /// What a service tells of itself.
-#[derive(Clone, Copy, PartialEq, Eq)]
+#[derive(Clone, Copy)]
 pub struct Status {
     /// How many sectors the disk was formatted with.
     pub sectors: u64,
