@@ -1,3 +1,4 @@
+mod Exits
 mod Growing
 mod Opened
 mod Outside

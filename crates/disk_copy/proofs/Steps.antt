@@ -1,5 +1,5 @@
 -- Sectors that are copied one after the other.
-use Rattle.std.proofs.Common.{◌≡◌, ◌⊎◌, inl, inr, ⊎_elim, ℕ, ◌≤◌, ◌<◌, ◌+◌, refl, sym, ◌∙◌, ap, subst, arith}
+use Rattle.std.proofs.Common.{◌≡◌, ◌⊎◌, inl, inr, ⊎_elim, ℕ, zero, suc, ◌≤◌, ◌<◌, ◌+◌, ◌*◌, ◌%◌, refl, sym, ◌∙◌, ap, subst, arith}
 use Rattle.std.proofs.Common.{Result, Ok, Err}
 use Rattle.std.specs.Prelude.{OnOk}
 use Rattle.std.proofs.lemmas.Bool.{cases_eq, cases_lt}
@@ -7,8 +7,10 @@ use Rattle.sector_disk.specs.Disk.{History, Image, seen}
 use Rattle.sector_disk.specs.Disk.History.{wrote}
 use Rattle.sector_disk.proofs.History.{seen_same, seen_other}
 use Rattle.edit_journal.specs.Ring.{Ring, sector_at}
-use Rattle.generations.specs.Areas.{area_start, sectors_of}
+use Rattle.generations.specs.Areas.{area_start, area_sectors, journal_sectors, sectors_of}
+use Rattle.generations.specs.Sectors.{CanStand}
 use Rattle.generations.specs.Installs.{root_at}
+use Rattle.generations.specs.declared.sizes.TheConstants.{JOURNAL_START}
 use Rattle.generations.specs.declared.root.Root.{Root}
 use Rattle.disk_copy.specs.Copies.{IsIn, IsUsed, Copies, IsNamed, ring_in}
 
@@ -87,6 +89,20 @@ all_named n root used source a b c d e format live area journal =
     both (λ at. (IsIn 0 1 at ⊎ IsIn (root_at root.generation) 1 at)
     ⊎ IsIn (area_start n root.generation) (sectors_of root.snapshot_len + sectors_of root.archive_len) at)
     (IsUsed (ring_in n) root.journal_at used) source a d e rest journal
+
+below : (n journal area taken parity start count : ℕ) → parity < 2 → start ≡ JOURNAL_START + journal + parity * area → taken ≤ area
+    → JOURNAL_START + journal + 2 * area ≤ n → n ≤ count → start + taken ≤ count
+below n journal area taken zero start count lt is small fits on_disk = omega (arith, is, small, fits, on_disk)
+below n journal area taken (suc zero) start count lt is small fits on_disk = omega (arith, is, small, fits, on_disk)
+below n journal area taken (suc (suc k)) start count lt is small fits on_disk = absurd (omega (arith, lt))
+
+-- what stands in an area ends within the disk
+pub area_end : (n journal area start snapshot archive count : ℕ) (root : Root) → CanStand n root → journal ≡ journal_sectors n → area ≡ area_sectors n
+    → start ≡ area_start n root.generation → snapshot ≡ sectors_of root.snapshot_len → archive ≡ sectors_of root.archive_len
+    → JOURNAL_START + journal + 2 * area ≤ n → n ≤ count → start + (snapshot + archive) ≤ count
+area_end n journal area start snapshot archive count root can journal_is area_is start_is snapshot_is archive_is =
+    below n journal area (snapshot + archive) (root.generation % 2) start count (omega arith)
+    (rw (area_is, journal_is) start_is) (rw (snapshot_is, archive_is, area_is) can.area)
 
 -- the same by four calls, with what each of them read
 pub named_by_calls : (n : ℕ) (root : Root) (used : ℕ) (h one two three : History) (a b c d e : Image) (area taken : ℕ)

@@ -9,6 +9,10 @@ use Rattle.edit_journal.specs.Ring.{Ring, sector_at}
 use Rattle.edit_journal.specs.Appends.{IsFree, AsBefore, OldOrBody, ReadsAsBefore}
 use Rattle.edit_journal.proofs.Bodies.{write_reads, sync_reads}
 
+-- a text that isn't empty has a part
+pub some_parts : (bytes : ℕ) → 1 ≤ bytes → 1 ≤ parts_of bytes
+some_parts bytes some = omega (arith, some)
+
 -- a call that does nothing
 pub frame_start : (start : History) (ring : Ring) (place used : ℕ) → LeavesOnly start start (AsBefore ring place used start)
 frame_start start ring place used = started start (AsBefore ring place used start) (λ image may at taken. may at)

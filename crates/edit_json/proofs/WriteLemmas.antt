@@ -1,5 +1,5 @@
--- Members that are put in the order of their keys are stored in that order.
-use Rattle.std.proofs.Common.{◌≡◌, ℕ, List, [], ◌∷◌, ◌++◌, map, Less, Greater, nat_cmp, refl, sym, ap, subst, ◌∙◌}
+-- Members that are put in the order of their keys are stored in that order, and the values of a list in its own.
+use Rattle.std.proofs.Common.{Vec, Global, ◌≡◌, ℕ, List, [], ◌∷◌, ◌++◌, map, Less, Greater, nat_cmp, refl, sym, ap, subst, ◌∙◌}
 use Rattle.std.specs.Ordering.{ordering_reverse}
 use Rattle.std.specs.Cmp.Lexicographic.{slice_cmp}
 use Rattle.std.specs.List.{AllByRecursion}
@@ -7,7 +7,10 @@ use Rattle.std.specs.List.Sorted.{IsStrictlySortedBy}
 use Rattle.std.proofs.lemmas.Cmp.{nat_list_cmp_total}
 use Rattle.std.proofs.lemmas.List.{append-nil, append_assoc, map-append}
 use Rattle.std.proofs.lemmas.List.Elements.{All-head, All-tail}
-use Rattle.serde_json.specs.Data.{Data, Members, put, member}
+use Rattle.serde_json.specs.Data.{Data, Members, put, member, array}
+use Rattle.serde_json.specs.View.{view, items_of}
+use Rattle.serde_json.specs.declared.value.Value.{Value, Array}
+use Rattle.serde_json.proofs.Views.{view-Array}
 use Rattle.feature_model.specs.Data.{TagData}
 use Rattle.feature_model.specs.Limits.{keys_of, HasAscendingKeys, ValueFits, ValuesFit}
 use Rattle.edit_text.specs.declared.tags.TagText.{TagText}
@@ -54,3 +57,11 @@ module _ (ys : List TagText) (x : TagText) (rest left whole : List TagData) wher
       more ∙ ap (λ e. put x.key.now e before) value ∙ ap (put x.key.now (value_json (value_view x.value))) so_far
       ∙ put_last (map tag_view ys) (tag_view x) rest (subst HasAscendingKeys (sym (parts_are (map tag_view ys) rest left whole (tag_view x) first all)) order)
       ∙ ap tags_json (sym (map-append tag_view ys (x ∷ [])))
+
+-- A loop that pushed the value of each item made the list of them.
+pub list_over : {X : Type 0} (json : X → Data) (list : Vec Value Global) (left all : List X) → left ≡ []
+    → map view list.items ++ map json left ≡ map json all → view (Array list) ≡ array (items_of (map json all))
+list_over {X} json list left all none so_far =
+    view-Array list
+    ∙ ap (λ (ds : List Data). array (items_of ds))
+    (sym (append-nil (map view list.items)) ∙ ap (λ (xs : List X). map view list.items ++ map json xs) (sym none) ∙ so_far)

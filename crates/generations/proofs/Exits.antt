@@ -1,7 +1,8 @@
 -- What a function returns where a `?` passes a fault on.
-use Rattle.std.proofs.Common.{◌≡◌, ◌⊎◌, inl, inr, ℕ, Result, Err, IsErrAnd, ◌∙◌, sym, ap, subst}
-use Rattle.std.proofs.lemmas.Result.{err_from_is_err_and}
-use Rattle.sector_disk.specs.Disk.{Image}
+use Rattle.std.proofs.Common.{◌≡◌, ◌⊎◌, inl, inr, ℕ, Result, Err, IsErr, IsErrAnd, ◌∙◌, sym, ap, subst}
+use Rattle.std.proofs.lemmas.Result.{err_from_is_err_and, MatchResult-from_err}
+use Rattle.sector_disk.specs.Asked.{TellsFailure}
+use Rattle.sector_disk.specs.Disk.{Image, HasFailed}
 use Rattle.generations.specs.Disks.{IsFaultOf}
 use Rattle.generations.specs.Sectors.{IsFormat, IsBad, IsNoRoot}
 use Rattle.generations.specs.declared.fault.StoreFault.{StoreFault}
@@ -21,3 +22,8 @@ pub slot_fault : (count : ℕ) (image : Image) (n : ℕ) (fault : StoreFault) {B
 slot_fault count image n fault format there (inl device) told = inl device
 slot_fault count image n fault format there (inr root) (inl device) = inl device
 slot_fault count image n fault format there (inr root) (inr bad) = inr (subst (IsFaultOf count image) (sym root) (n, format, there bad))
+
+-- a call of the disk failed, after calls of which none did
+pub failed_after : {T E : Type 0} (result : Result T E) {old middle : ℕ} (new : ℕ) → IsErr result → middle ≡ old → HasFailed middle new
+    → TellsFailure result old new
+failed_after result new is same failed = MatchResult-from_err result _ _ is (λ fault. subst (λ (n : ℕ). HasFailed n new) same failed)

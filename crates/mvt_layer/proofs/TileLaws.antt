@@ -8,7 +8,7 @@ use Rattle.std.proofs.lemmas.Str.{is_utf8-from_IsUtf8, IsUtf8-from_is_utf8}
 use Rattle.std.proofs.lemmas.Bool.{eqb-true, eqb-false, ltb-false, le-ltb, ne_eqb}
 use Rattle.std.proofs.lemmas.List.{append-nil}
 use Rattle.reader.specs.Reading.{Read, ◌>>=◌, folded}
-use Rattle.reader.proofs.Steps.{done, same_value, then_ok, then_is, guard_ok, pass_ok}
+use Rattle.reader.proofs.Steps.{done, same_value, not_both, then_ok, then_is, guard_ok, pass_ok}
 use Rattle.pb_wire.specs.Message.{Value, FieldData, IsMessage}
 use Rattle.pb_wire.specs.Items.{items_of}
 use Rattle.pb_wire.proofs.MessageLaws.{items_message, message_items}
@@ -99,7 +99,7 @@ tag_value_says bytes v e =
     go : (last : Option FieldData) (fields : List FieldData) → IsMessage bytes fields → LastValue None (filter (λ f. is_known f.number) fields) last
         → meant last ≡ Ok v
         → SaysValue bytes v
-    go None fields message is e = absurd cc
+    go None fields message is e = absurd (not_both {Fault = TileFault} v _ (sym e))
     go (Some f) fields message is e = record { fields = fields; message = message; field = f; last = is; means = e }
 
 tag_value_reads : (bytes : List ℕ) (v : TagView) → SaysValue bytes v → tag_value_at bytes ≡ Ok v
@@ -149,8 +149,8 @@ module _ (keys : List (List ℕ)) (values : List TagView) where
     where
       go : (a : Option (List ℕ)) (b : Option TagView) → found_tag a b ≡ Ok t → (a ≡ Some t.0) × (b ≡ Some t.1)
       go (Some a) (Some b) h = let same = same_value {Fault = TileFault} (a, b) t h in (ap (λ (q : Tagged). Some q.0) same, ap (λ (q : Tagged). Some q.1) same)
-      go (Some a) None h = absurd cc
-      go None b h = absurd cc
+      go (Some a) None h = absurd (not_both {Fault = TileFault} t _ (sym h))
+      go None b h = absurd (not_both {Fault = TileFault} t _ (sym h))
 
   tag_reads : (used : List ℕ) (k v : ℕ) (t : Tagged) → has_number used k ≡ false → slice_get keys k ≡ Some t.0 → slice_get values v ≡ Some t.1
       → tag_at keys values used k v ≡ Ok t
@@ -161,7 +161,7 @@ module _ (keys : List (List ℕ)) (values : List TagView) where
       → (ts : List Tagged) × (all ≡ before ++ ts) × AreTags keys values used ns ts
   unfolding tags_at
   tags_say [] used before all e = ([], sym (same_value {Fault = TileFault} before all e) ∙ sym (append-nil before), refl)
-  tags_say (k ∷ []) used before all e = absurd cc
+  tags_say (k ∷ []) used before all e = absurd (not_both {Fault = TileFault} all _ (sym e))
   tags_say (k ∷ v ∷ ns) used before all e =
       let t = then_ok (tag_at keys values used k v) (λ t. tags_at keys values (used ++ k ∷ []) (before ++ t ∷ []) ns) all e in
       let says = tag_says used k v t.0 t.1 in
@@ -182,7 +182,7 @@ module _ (keys : List (List ℕ)) (values : List TagView) where
 
 shape_says : (r : Result ShapeView GeometryFault) (s : ShapeView) → shape_read r ≡ Ok s → r ≡ Ok s
 shape_says (Ok x) s e = ap (done {Fault = GeometryFault}) (same_value {Fault = TileFault} x s e)
-shape_says (Err d) s e = absurd cc
+shape_says (Err d) s e = absurd (not_both {Fault = TileFault} s _ (sym e))
 
 module _ (keys : List (List ℕ)) (values : List TagView) where
   feature_says : (bytes : List ℕ) (f : FeatureView) → feature_at keys values bytes ≡ Ok f → SaysFeature keys values bytes f
@@ -229,7 +229,7 @@ module _ (keys : List (List ℕ)) (values : List TagView) where
 -- ---- layers
 
 pub name_says : (last : Option (List ℕ)) (name : List ℕ) → name_at last ≡ Ok name → (last ≡ Some name) × IsUtf8 name
-name_says None name e = absurd cc
+name_says None name e = absurd (not_both {Fault = TileFault} name _ (sym e))
 name_says (Some part) name e =
     let t = text_says part name e in (ap (λ (k : List ℕ). Some k) (sym t.0), let G : List ℕ → Type 0 = λ k. IsUtf8 k in subst G (sym t.0) t.1)
 
@@ -303,52 +303,57 @@ each_of {X} read Says says parts xs e =
     let G : List X → Type 0 = λ k. Each Says parts k in
     subst G (sym p.1) p.2
 
+-- a step that was made, and the rest after it
+then_case : {A B P : Type 0} (first : Read TileFault A) (next : A → Read TileFault B) (y : B) → (first >>= next) ≡ Ok y
+    → ((x : A) → first ≡ Ok x → next x ≡ Ok y → P) → P
+then_case first next y e go = let one = then_ok first next y e in go one.0 one.1 one.2
+
 pub layer_says : (bytes : List ℕ) (l : LayerView) → layer_at bytes ≡ Ok l → SaysLayer bytes l
 unfolding layer_at
 layer_says bytes l e =
-    let raw_name = then_ok (last_bytes_in 1 bytes) _ l e in
-    let name = then_ok (name_at raw_name.0) _ l raw_name.2 in
-    let raw_version = then_ok (last_number_in 15 bytes) _ l name.2 in
-    let version = then_ok (version_at raw_version.0) _ l raw_version.2 in
-    let raw_extent = then_ok (last_number_in 5 bytes) _ l version.2 in
-    let extent = then_ok (extent_at raw_extent.0) _ l raw_extent.2 in
-    let raw_keys = then_ok (parts_in 3 bytes) _ l extent.2 in
-    let keys = then_ok (each_in text_at raw_keys.0) _ l raw_keys.2 in
-    let raw_values = then_ok (parts_in 4 bytes) _ l keys.2 in
-    let values = then_ok (each_in tag_value_at raw_values.0) _ l raw_values.2 in
-    let raw_features = then_ok (parts_in 2 bytes) _ l values.2 in
-    let features = then_ok (each_in (feature_at keys.0 values.0) raw_features.0) _ l raw_features.2 in
-    let whole = pass_whole 1 bytes_after None raw_name.0 bytes raw_name.1 in
-    let named = name_says raw_name.0 name.0 name.1 in
-    let versions = version_says raw_version.0 version.0 version.1 in
-    let extents = extent_says raw_extent.0 extent.0 extent.1 in
+    then_case (last_bytes_in 1 bytes) _ l e (λ raw_name raw_name_is e1.
+    then_case (name_at raw_name) _ l e1 (λ name name_is e2.
+    then_case (last_number_in 15 bytes) _ l e2 (λ raw_version raw_version_is e3.
+    then_case (version_at raw_version) _ l e3 (λ version version_is e4.
+    then_case (last_number_in 5 bytes) _ l e4 (λ raw_extent raw_extent_is e5.
+    then_case (extent_at raw_extent) _ l e5 (λ extent extent_is e6.
+    then_case (parts_in 3 bytes) _ l e6 (λ raw_keys raw_keys_are e7.
+    then_case (each_in text_at raw_keys) _ l e7 (λ keys keys_are e8.
+    then_case (parts_in 4 bytes) _ l e8 (λ raw_values raw_values_are e9.
+    then_case (each_in tag_value_at raw_values) _ l e9 (λ values values_are e10.
+    then_case (parts_in 2 bytes) _ l e10 (λ raw_features raw_features_are e11.
+    then_case (each_in (feature_at keys values) raw_features) _ l e11 (λ features features_are e12.
+    let whole = pass_whole 1 bytes_after None raw_name bytes raw_name_is in
+    let named = name_says raw_name name name_is in
+    let versions = version_says raw_version version version_is in
+    let extents = extent_says raw_extent extent extent_is in
     let F : LayerView → Type 0 = λ k. SaysLayer bytes k in
-    subst F (same_value {Fault = TileFault} (record { name = name.0; version = version.0; extent = extent.0; features = features.0 }) l features.2) (record {
+    subst F (same_value {Fault = TileFault} (record { name = name; version = version; extent = extent; features = features }) l e12) (record {
       fields = whole.0;
       message = fields_message bytes whole.0 whole.1;
-      name = bytes_says (values_of 1 whole.0) None (Some name.0) (sym (pass_at 1 bytes_after bytes whole.0 None whole.1)
-          ∙ (raw_name.1 ∙ ap (done {Fault = TileFault}) named.0));
+      name = bytes_says (values_of 1 whole.0) None (Some name) (sym (pass_at 1 bytes_after bytes whole.0 None whole.1)
+          ∙ (raw_name_is ∙ ap (done {Fault = TileFault}) named.0));
       name_text = named.1;
-      raw_version = raw_version.0;
-      raw_version_is = number_says (values_of 15 whole.0) None raw_version.0 (sym (pass_at 15 number_after bytes whole.0 None whole.1) ∙ raw_version.1);
+      raw_version = raw_version;
+      raw_version_is = number_says (values_of 15 whole.0) None raw_version (sym (pass_at 15 number_after bytes whole.0 None whole.1) ∙ raw_version_is);
       version = versions.0;
       version_known = versions.1;
-      raw_extent = raw_extent.0;
-      raw_extent_is = number_says (values_of 5 whole.0) None raw_extent.0 (sym (pass_at 5 number_after bytes whole.0 None whole.1) ∙ raw_extent.1);
+      raw_extent = raw_extent;
+      raw_extent_is = number_says (values_of 5 whole.0) None raw_extent (sym (pass_at 5 number_after bytes whole.0 None whole.1) ∙ raw_extent_is);
       extent = extents.0;
       extent_some = extents.1;
-      raw_keys = raw_keys.0;
-      raw_keys_are = parts_of 3 bytes whole.0 raw_keys.0 whole.1 raw_keys.1;
-      keys = keys.0;
-      keys_are = each_of text_at IsText text_says raw_keys.0 keys.0 keys.1;
-      raw_values = raw_values.0;
-      raw_values_are = parts_of 4 bytes whole.0 raw_values.0 whole.1 raw_values.1;
-      values = values.0;
-      values_are = each_of tag_value_at SaysValue tag_value_says raw_values.0 values.0 values.1;
-      raw_features = raw_features.0;
-      raw_features_are = parts_of 2 bytes whole.0 raw_features.0 whole.1 raw_features.1;
-      features = each_of (feature_at keys.0 values.0) (SaysFeature keys.0 values.0) (feature_says keys.0 values.0) raw_features.0 features.0 features.1;
-    })
+      raw_keys = raw_keys;
+      raw_keys_are = parts_of 3 bytes whole.0 raw_keys whole.1 raw_keys_are;
+      keys = keys;
+      keys_are = each_of text_at IsText text_says raw_keys keys keys_are;
+      raw_values = raw_values;
+      raw_values_are = parts_of 4 bytes whole.0 raw_values whole.1 raw_values_are;
+      values = values;
+      values_are = each_of tag_value_at SaysValue tag_value_says raw_values values values_are;
+      raw_features = raw_features;
+      raw_features_are = parts_of 2 bytes whole.0 raw_features whole.1 raw_features_are;
+      features = each_of (feature_at keys values) (SaysFeature keys values) (feature_says keys values) raw_features features features_are;
+    })))))))))))))
 
 layer_reads : (bytes : List ℕ) (l : LayerView) → SaysLayer bytes l → layer_at bytes ≡ Ok l
 unfolding layer_at

@@ -106,6 +106,20 @@ absent_from {K} spelled items entry found index next looked numbered last end =
     let pool = map spelled items in
     absent_by pool (spelled entry) found index next (has_entry pool (spelled entry)) refl looked numbered last (end ∙ sym (length-map items spelled))
 
+-- an entry whose number isn't the next one is held, and this is its index
+held_by : (pool : List (List ℕ)) (entry : List ℕ) (found : Option ℕ) (index next : ℕ) (has : Bool) → has_entry pool entry ≡ has
+    → found ≡ index_in pool entry → index ≡ unwrap_or found next → (index ≡ next → ⊥) → (index_of pool entry ≡ index) × (has_entry pool entry ≡ true)
+held_by pool entry found index next true is looked numbered other =
+    let there : found ≡ Some (index_of pool entry) = looked ∙ rw is refl in
+    (sym (numbered ∙ ap (λ (o : Option ℕ). unwrap_or o next) there), is)
+held_by pool entry found index next false is looked numbered other =
+    let none : found ≡ None = looked ∙ rw is refl in
+    absurd (other (numbered ∙ ap (λ (o : Option ℕ). unwrap_or o next) none))
+
+pub held_number : (pool : List (List ℕ)) (entry : List ℕ) (found : Option ℕ) (index next : ℕ)
+    → found ≡ index_in pool entry → index ≡ unwrap_or found next → (index ≡ next → ⊥) → (index_of pool entry ≡ index) × (has_entry pool entry ≡ true)
+held_number pool entry found index next = held_by pool entry found index next (has_entry pool entry) refl
+
 -- an entry that is added is the last
 pub placed_last : (pool : List (List ℕ)) (entry : List ℕ) → has_entry pool entry ≡ false → index_of (pool ++ entry ∷ []) entry ≡ length pool
 placed_last pool entry absent =

@@ -2,6 +2,7 @@
 use Rattle.std.proofs.Common.{◌≡◌, ℤ, pos, negsuc, true, false, ◌+◌, ◌*◌, ◌/◌, ◌%◌, ◌^◌, ◌<◌, [], ◌∷◌, length, Ok, refl, sym, ap, ◌∙◌, arith, ◌<ℤ◌}
 use Rattle.std.specs.Cmp.{Equal-is}
 use Rattle.std.specs.declared.cmp.Ordering.TheVariants.{Equal}
+use Rattle.std.proofs.lemmas.Bool.{false≢true}
 use Rattle.std.proofs.lemmas.Int.{ints}
 use Rattle.std.proofs.lemmas.Str.{is_utf8-from_IsUtf8}
 use Rattle.std.proofs.lemmas.Slice.Eq.{bytes_eq-Decides}
@@ -37,7 +38,7 @@ exact_value (values.Natural n) (values.Natural m) e = ap natural (exact_unsigned
 exact_value (values.Negative n) (values.Negative m) e = ap negative (exact_signed n m e)
 exact_value (values.Truth true) (values.Truth true) e = refl
 exact_value (values.Truth false) (values.Truth false) e = refl
-exact_value _ _ e = absurd (cc)
+exact_value p q e = absurd (false≢true ((Equal-is ((value_ord.ghosts).cmp p q)).1 e))
 
 pub value_apart : (v w : TagView) → CanWriteValue v → CanWriteValue w → value_written v ≡ value_written w → v ≡ w
 value_apart v w can_v can_w e =

@@ -1,6 +1,8 @@
 -- Sources that are unchanged, and faults that are passed on.
-use Rattle.std.proofs.Common.{◌≡◌, ℕ, List, Result, Err, refl, ap, ◌∙◌}
+use Rattle.std.proofs.Common.{◌≡◌, ℕ, List, Result, Err, refl, sym, ap, subst, ◌∙◌}
 use Rattle.byte_source.specs.Source.{Keeps}
+use Rattle.pm_header.specs.declared.header.Header.{Header}
+use Rattle.pm_archive.specs.Reading.{ArePlaced}
 use Rattle.pm_archive.specs.declared.fault.ArchiveFault.{ArchiveFault}
 
 -- a source from which nothing is read is unchanged
@@ -21,6 +23,11 @@ keeps_on on {a} {b} {c} first then = record {
   no_others = λ bytes held. first.no_others bytes (then.no_others bytes held);
   same_behind = on a b c first.same_behind then.same_behind;
 }
+
+-- sections that were inside of it still are
+pub placed_on : {S : Type 0} {count : S → ℕ} {holds : S → List ℕ → Type 0} {unchanged : S → S → Type 0} (h : Header)
+    → {a b : S} → Keeps count holds unchanged a b → ArePlaced (count a) h → ArePlaced (count b) h
+placed_on h keeps = subst (λ (n : ℕ). ArePlaced n h) (sym keeps.same_count)
 
 abbrev failing : (T : Type 0) → ArchiveFault → Result T ArchiveFault
 failing T d = Err d

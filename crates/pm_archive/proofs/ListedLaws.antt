@@ -1,12 +1,12 @@
 -- Listing, one entry after the other.
 use Rattle.std.proofs.Common.{◌≡◌, ◌≢◌, ℕ, zero, suc, ◌+◌, ◌-◌, ◌<◌, ◌≤◌, List, [], ◌∷◌, ◌++◌, Ok, Err, Some, slice_get, length, take, drop, get_or, nat_lt}
 use Rattle.std.proofs.Common.{true, refl, ◌∙◌}
-use Rattle.std.proofs.Common.{append_assoc, arith}
+use Rattle.std.proofs.Common.{append_assoc, arith, rules}
 use Rattle.std.proofs.lemmas.Bool.{lt-ltb}
 use Rattle.std.proofs.lemmas.List.{take_all, length-drop, drop_more}
 use Rattle.pm_directory.specs.declared.entry.DirectoryEntry.{DirectoryEntry}
 use Rattle.pm_header.specs.declared.header.Header.{Header}
-use Rattle.pm_archive.specs.Entries.{LiesInside, bound_of}
+use Rattle.pm_archive.specs.Entries.{LiesIn, LiesInside, bound_of}
 use Rattle.reader.specs.Reading.{Read, ◌>>=◌}
 use Rattle.reader.proofs.Steps.{unless_on}
 use Rattle.pm_archive.specs.Reading.{each_at, leaf_at, lists_at, tile_at}
@@ -73,6 +73,22 @@ first_lies h (x ∷ es) zero e lt before here = here
 first_lies h (x ∷ es) (suc j) e lt before here = before (omega arith)
 
 -- ---- one entry
+
+-- no number is below itself
+pub not_zero : 0 < 0 → ⊥
+not_zero none = omega (arith, none)
+
+-- a tile entry names no leaf directory
+pub tile_is_no_leaf : (e : DirectoryEntry) → 0 < e.run → e.run ≡ 0 → ⊥
+tile_is_no_leaf e tile leaf = omega (arith, tile, leaf)
+
+-- what a tile entry names is in the section of the tiles
+pub tile_lies : (h : Header) (e : DirectoryEntry) → 0 < e.run → LiesIn h.tiles e → LiesInside h (Some e)
+tile_lies h e tile lies = search rules
+
+-- what a leaf names is in that of the leaf directories
+pub leaf_lies : (h : Header) (e : DirectoryEntry) → e.run ≤ 0 → LiesIn h.leaves e → LiesInside h (Some e)
+leaf_lies h e leaf lies = search rules
 
 -- a tile entry
 pub lists_tile : (bytes : List ℕ) (h : Header) (more : ℕ) (e : DirectoryEntry) (bound : ℕ) → 0 < e.run → lists_at bytes h more e bound ≡ tile_at h e

@@ -1,5 +1,5 @@
 -- Fields that are written one after the other are each at their offset.
-use Rattle.std.proofs.Common.{◌≡◌, ℕ, ℤ, ◌<◌, ◌^◌, List, [], ◌∷◌, ◌++◌, refl, sym, ap, ◌∙◌, lit≤}
+use Rattle.std.proofs.Common.{◌≡◌, ℕ, ℤ, ◌<◌, ◌^◌, List, [], ◌∷◌, ◌++◌, to_z, of_z, refl, sym, ap, ◌∙◌, lit≤}
 use Rattle.std.specs.Int.{w32, w64, from_le_bytes, to_le_bytes, cast_signed, cast_unsigned}
 use Rattle.std.proofs.lemmas.Nat.{from_le_bytes-to_le_bytes_8, from_le_bytes-to_le_bytes_4}
 use Rattle.std.specs.Int.RustNames.{FitsSigned}
@@ -107,3 +107,19 @@ laid_out h fits = record { whole = lit≤ tt; magic_is = refl; version_is = refl
 
 pub is_laid_out : (h : Header) (bytes : List ℕ) → HeaderFits h → bytes ≡ header_bytes h → IsHeader bytes h
 is_laid_out h bytes fits e = rw e (laid_out h fits)
+
+-- ---- one field after another
+
+-- the bytes go on with a field
+pub on : {front before after : List ℕ} (field : List ℕ) → after ≡ before ++ field → before ≡ front → after ≡ front ++ field
+on field e so_far = e ∙ ap (λ (bs : List ℕ). bs ++ field) so_far
+
+-- with two numbers
+pub on_part : {front before after : List ℕ} (first second : List ℕ) → after ≡ before ++ first ++ second → before ≡ front → after ≡ front ++ first ++ second
+on_part first second e so_far = e ∙ ap (λ (bs : List ℕ). bs ++ first ++ second) so_far
+
+-- with a signed number
+pub on_4 : {front before after : List ℕ} (z : ℤ) → FitsSigned w32 z → after ≡ before ++ little_4 (to_z w32 (of_z w32 z)) → before ≡ front
+    → after ≡ front ++ little_4 z
+on_4 {front} z fits e so_far =
+    e ∙ ap (λ (bs : List ℕ). bs ++ little_4 (to_z w32 (of_z w32 z))) so_far ∙ ap (λ (x : ℤ). front ++ little_4 x) (to_z-of_z fits)

@@ -14,7 +14,7 @@ use Rattle.lru.proofs.CallerLemmas.{Contains-lookup_entry}
 use Rattle.tile_cache.specs.declared.cached_tiles.TileKey.{TileKey}
 use Rattle.tile_cache.specs.declared.cached_tiles.CachedTile.{CachedTile}
 use Rattle.tile_cache.specs.Entries.{bytes_of, IsFirstSmall, IsFront}
-use Rattle.tile_cache.specs.declared.cached_tiles.TheConstants.{MAX_CACHED_BYTES}
+use Rattle.tile_cache.specs.declared.cached_tiles.TheConstants.{MAX_CACHED_BYTES, MAX_CACHED_TILES, MAX_TILE_BYTES}
 use Rattle.tile_cache.specs.Kept.{TileView, CacheView, tile_view, is_place, kept_at, counts, fresh, bytes_in, IsSmall, KeepsSame, KeepsOthers, KeepsFewer}
 
 module _ {K V : Type 0} (test other : K → Bool) where
@@ -284,6 +284,9 @@ found_in es p o is = kept_in es p.z p.x p.y ∙ ap (option_map tile_view) (sym i
 pub count_seen : (es : List Entry) → length (seen es).kept ≡ length es
 count_seen es = length-map es (λ (e : Entry). (e.0, tile_view e.1))
 
+pub few_seen : (es : List Entry) → length es ≤ MAX_CACHED_TILES → length (seen es).kept ≤ MAX_CACHED_TILES
+few_seen es few = subst (λ n. n ≤ MAX_CACHED_TILES) (sym (count_seen es)) few
+
 pub bytes_seen : (es : List Entry) → bytes_in (seen es) ≡ bytes_of es
 bytes_seen [] = refl
 bytes_seen (e ∷ es) =
@@ -357,3 +360,11 @@ not_counted newest reads k is le = rw (le-leb newest k.number le, is) refl
 pub current : (newest : ℕ) (reads : Bool) (k : CachedTile) → counts reads k.origin ≡ true → newest ≤ k.number
     → Some (rc_slice_items k.bytes) ≡ fresh newest reads (Some (tile_view k))
 current newest reads k is le = rw (le-leb newest k.number le, is) refl
+
+-- ---- the bytes of a tile
+
+pub is_small : (n : ℕ) (bytes : List ℕ) → n ≤ MAX_TILE_BYTES → n ≡ length bytes → IsSmall bytes
+is_small n bytes few is = subst (λ k. k ≤ MAX_TILE_BYTES) is few
+
+pub too_large : (n : ℕ) (bytes : List ℕ) → MAX_TILE_BYTES < n → n ≡ length bytes → IsSmall bytes → ⊥
+too_large n bytes more is small = omega (arith, more, is, small)

@@ -1,7 +1,11 @@
 -- Lines and rings that are written one after the other.
 use Rattle.std.proofs.Common.{◌≡◌, ℕ, ◌+◌, ◌^◌, ◌<◌, ◌≤◌, suc, Bool, true, false, cond, List, [], ◌∷◌, ◌++◌, Option, Some, None, length, refl, sym}
-use Rattle.std.proofs.Common.{ap, subst, ◌∙◌, arith, append_assoc}
+use Rattle.std.proofs.Common.{ap, subst, ◌∙◌, arith, append_assoc, not, ℤ, pos, to_z, of_z, FitsSigned}
+use Rattle.std.specs.Int.{w128}
+use Rattle.std.proofs.Math.Facts.{to_z-of_z}
 use Rattle.std.specs.Prelude.{All, flat_map, option_to_list, is_some}
+use Rattle.std.specs.Ordering.{int_eq}
+use Rattle.std.proofs.lemmas.Bool.{false≢true}
 use Rattle.std.proofs.lemmas.List.{append-nil, length-append}
 use Rattle.std.proofs.lemmas.List.Elements.{All-nil, All-cons, All-append, All-push, All-head, All-tail}
 use Rattle.pb_wire.specs.Varint.{varint}
@@ -17,10 +21,11 @@ use Rattle.geometry_commands.specs.Shapes.{last_of, close_spelled, line_spelled,
 use Rattle.geometry_commands.proofs.Packing.{adds_none, adds_both, adds_line}
 use Rattle.tile_cutter.specs.declared.rings.Role.TheVariants.{Outer, Inner}
 use Rattle.tile_cutter.specs.declared.rings.Role.{Role}
-use Rattle.tile_cutter.specs.Cut.{Segment, is_kept, line_cut, tile_ring, meets_box, inner_rings, polygon_cut}
+use Rattle.tile_cutter.specs.Cut.{Segment, is_kept, is_ring, twice_area, line_cut, tile_ring, meets_box, inner_rings, polygon_cut}
 use Rattle.tile_cutter.specs.Passes.{other_than, repeats, longer, chain_after, chain_of, ended_by, wound, shown_ring, where_shown}
 use Rattle.tile_cutter.specs.Put.{IsClear}
 use Rattle.tile_cutter.specs.Range.{IsOfTile, IsDrawable}
+use Rattle.tile_cutter.proofs.Areas.{ring_by_area}
 use Rattle.tile_cutter.proofs.Chains.{HasChains, chains_begin, chains_keep, chains_go_on, chains_end, chains_of_tile}
 use Rattle.tile_cutter.proofs.Drawn.{line_drawable}
 use Rattle.tile_cutter.proofs.Passes.{stands_at}
@@ -236,6 +241,23 @@ shown_drawable column row Outer ps few of_tile = go (meets_box ps)
     go false = All-nil (IsDrawable true column row)
 shown_drawable column row Inner ps few of_tile = wound_drawable column row Inner ps few of_tile
 
+-- points without an area are no ring that is shown
+pub flat_hidden : (role : Role) (ps : List Pt) (area : ℤ) → FitsSigned w128 area → area ≡ twice_area ps → of_z w128 area ≡ 0 → None ≡ shown_ring role ps
+flat_hidden role ps area fits is zero =
+    let none : area ≡ pos 0 = sym (to_z-of_z fits) ∙ ap (to_z w128) zero in
+    go role (ring_by_area ps ∙ ap (λ a. not (int_eq a (pos 0))) (sym is ∙ none))
+  where
+    go : (r : Role) → is_ring ps ≡ false → None ≡ shown_ring r ps
+    go Outer flat = by (meets_box ps)
+      where
+        by : (b : Bool) → None ≡ cond b (wound Outer ps) None
+        by true = rw flat refl
+        by false = refl
+    go Inner flat = rw flat refl
+
+pub none_drawable : (column row : ℕ) (o : Option (List Pt)) → None ≡ o → All (IsDrawable true column row) (option_to_list o)
+none_drawable column row o none = subst (λ s. All (IsDrawable true column row) (option_to_list s)) none (All-nil (IsDrawable true column row))
+
 -- the rings of a polygon by its outer ring
 pub polygon_with : (zoom column row : ℕ) (polygon : List (List World)) (outer : List World) (inners : List (List World)) → polygon ≡ outer ∷ inners
     → is_some (shown_ring Outer (tile_ring zoom column row outer)) ≡ true
@@ -245,7 +267,7 @@ polygon_with zoom column row polygon outer inners polygon_is some =
   where
     go : (o : Option (List Pt)) → shown_ring Outer (tile_ring zoom column row outer) ≡ o → is_some o ≡ true
         → option_to_list o ++ inner_rings zoom column row inners ≡ polygon_cut zoom column row (outer ∷ inners)
-    go None is none = absurd cc
+    go None is none = absurd (false≢true none)
     go (Some ring) is some_ring = sym (polygon_shown zoom column row outer inners ring is)
 
 pub polygon_without : (zoom column row : ℕ) (polygon : List (List World)) (outer : List World) (inners : List (List World)) → polygon ≡ outer ∷ inners
@@ -257,7 +279,7 @@ polygon_without zoom column row polygon outer inners polygon_is none =
     go : (o : Option (List Pt)) → shown_ring Outer (tile_ring zoom column row outer) ≡ o → is_some o ≡ false
         → option_to_list o ≡ polygon_cut zoom column row (outer ∷ inners)
     go None is no_ring_is = sym (polygon_hidden zoom column row outer inners is)
-    go (Some ring) is some = absurd cc
+    go (Some ring) is some = absurd (false≢true (sym some))
 
 -- ---- the shape, where something is written
 

@@ -1,5 +1,5 @@
 -- What a tile shows can be written: from point to point no way is longer than 32 bits hold.
-use Rattle.std.proofs.Common.{◌≡◌, ℕ, ℤ, ◌^◌, ◌<◌, ◌≤◌, ◌-ℤ◌, suc, ◌==◌, Bool, true, false, cond, Vec, vec_len, Global, List, [], ◌∷◌, Some, length, refl}
+use Rattle.std.proofs.Common.{◌≡◌, ℕ, ℤ, ◌^◌, ◌<◌, ◌≤◌, ◌-ℤ◌, suc, ◌==◌, Bool, true, false, cond, Vec, vec_len, Global, List, [], ◌∷◌, length}
 use Rattle.std.proofs.Common.{arith}
 use Rattle.std.specs.Prelude.{All, filter}
 use Rattle.std.proofs.lemmas.Int.{ints}

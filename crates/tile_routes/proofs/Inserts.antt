@@ -1,7 +1,8 @@
 -- A router takes the paths of a table, one by one, none of which conflicts with those before it.
-use Rattle.std.proofs.Common.{◌≡◌, ℕ, ◌+◌, ◌<◌, List, [], ◌∷◌, Result, Ok, Err, map, length, drop, get_or, add-one, refl, ap, sym, subst, ◌∙◌}
+use Rattle.std.proofs.Common.{◌≡◌, ℕ, ◌+◌, ◌<◌, ◌≤◌, List, [], ◌∷◌, Result, Ok, Err, map, length, drop, get_or, add-one, refl, ap, sym, subst, ◌∙◌}
 use Rattle.std.specs.Borrow.{Bor}
 use Rattle.std.proofs.Math.Seq.{drop-cons}
+use Rattle.std.proofs.lemmas.List.{at_drop_all}
 use Rattle.matchit.specs.Route.{Scan, parse_route}
 use Rattle.matchit.specs.Rows.{RowsOf}
 use Rattle.matchit.specs.Router.{RouteOf, InsertsRead}
@@ -29,6 +30,10 @@ one_more rows i none old new all done below is so_far =
     let rest : drop i rows ≡ get_or rows i none ∷ drop (i + 1) rows = rw add-one (drop-cons rows i none below) in
     ap (with_routes (map row_path (drop (i + 1) rows))) (inserted (parse_route (get_or rows i none).0.now) (get_or rows i none).1 old new done is)
     ∙ sym (ap (λ (r : Rows). with_routes (map row_path r) old) rest) ∙ so_far
+
+-- once all paths are taken, these are the rows
+pub all_taken : (rows : Rows) (i : ℕ) (now all : RowsOf (RouteOf Route)) → length rows ≤ i → with_routes (map row_path (drop i rows)) now ≡ all → now ≡ all
+all_taken rows i now all past so_far = sym (at_drop_all (λ (r : Rows). with_routes (map row_path r) now) rows i past) ∙ so_far
 
 -- a path that fits is refused only for want of memory
 refused : (scan : Result Scan InsertError) (route : Route) (old new : RowsOf (RouteOf Route)) (fault : InsertError) → Fits scan old

@@ -1,13 +1,13 @@
 -- A sync of the disk: it leaves what is stored, and the service continues after it.
 use Rattle.std.specs.Prelude.{Option, IfSome}
-use Rattle.std.proofs.Common.{◌≡◌, ◌⊎◌, inr, ⊎_elim, ℕ, suc, None, Some, Result, Ok, Err, sym, ap, subst}
+use Rattle.std.proofs.Common.{◌≡◌, ◌⊎◌, inr, ⊎_elim, ℕ, List, suc, None, Some, Result, Ok, Err, sym, ap, subst}
 use Rattle.sector_disk.specs.Disk.{History, seen}
 use Rattle.sector_disk.specs.Disk.History.{synced}
 use Rattle.sector_disk.specs.Moments.{LeavesOnly}
 use Rattle.sector_disk.proofs.History.{started}
 use Rattle.feature_store.specs.Store.{snapshot}
 use Rattle.tile_service.specs.Publishing.{map_at}
-use Rattle.tile_service.specs.Service.{PublicationView, ServiceView, Publishes, IsUp, SyncsDisk, count_at}
+use Rattle.tile_service.specs.Service.{PublicationView, ServiceView, Publishes, IsUp, ShowsArchive, SyncsDisk, count_at}
 use Rattle.tile_service.specs.Stored.{Stored, Holds}
 use Rattle.tile_service.specs.declared.fault.ServiceFault.{ServiceFault}
 use Rattle.tile_service.proofs.Archive.Read.{up_moved}
@@ -22,6 +22,12 @@ module _ (old new : History) (syncs : (new ≡ old) ⊎ (new ≡ synced old)) wh
   -- each sector is read as before
   pub sync_seen : (at : ℕ) → seen new at ≡ seen old at
   sync_seen at = ⊎_elim (λ same. ap (λ (h : History). seen h at) same) (λ is. ap (λ (h : History). seen h at) is) syncs
+
+  -- the archive that a service shows is shown still
+  pub sync_shows : {D : Type 0} (service : ServiceView D) (archive : List ℕ) → ShowsArchive old service archive → ShowsArchive new service archive
+  sync_shows service archive shown = ⊎_elim
+      (λ same. subst (λ (h : History). ShowsArchive h service archive) (sym same) shown)
+      (λ is. subst (λ (h : History). ShowsArchive h service archive) (sym is) shown) syncs
 
   -- a publication under way is one still
   publishes_on : (n : ℕ) (stored : Stored) (p : Option PublicationView) → IfSome p (Publishes n stored old) → IfSome p (Publishes n stored new)

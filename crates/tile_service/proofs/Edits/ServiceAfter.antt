@@ -1,6 +1,6 @@
 -- The invariants of a service are preserved when its journal gets one more record, and when it gets none.
 use Rattle.std.specs.Prelude.{Option, None, Some, IfSome}
-use Rattle.std.proofs.Common.{◌≡◌, ℕ, ◌≤◌, ◌+◌, ◌-◌, ◌*◌, length, ◌∙◌, sym, subst, arith}
+use Rattle.std.proofs.Common.{◌≡◌, ◌≢◌, Bool, true, false, Err, refl, ap, ℕ, ◌<◌, ◌≤◌, ◌+◌, ◌-◌, ◌*◌, length, ◌∙◌, sym, subst, arith}
 use Rattle.sector_disk.specs.declared.disk.TheConstants.{SECTOR_BYTES}
 use Rattle.generations.specs.Areas.{area_sectors}
 use Rattle.generations.specs.declared.root.Root.{Root}
@@ -11,7 +11,16 @@ use Rattle.edit_journal.specs.declared.sizes.TheConstants.{PART_BYTES}
 use Rattle.edit_journal.proofs.Releases.{append_is_behind, append_counted}
 use Rattle.cached_map.specs.Cached.{CachedView}
 use Rattle.feature_store.specs.Store.{FeatureMap, snapshot}
-use Rattle.tile_service.specs.Service.{PublicationView, IsGoing, IsService}
+use Rattle.edit_journal.specs.Appends.{IsAppendFault}
+use Rattle.edit_journal.specs.declared.fault.JournalFault.{JournalFault}
+use Rattle.edit_journal.specs.declared.fault.JournalFault.TheVariants as journals
+use Rattle.edit_text.specs.Recorded.{RecordedEdit}
+use Rattle.std.proofs.lemmas.Bool.{false≢true}
+use Rattle.tile_service.specs.Inside.{service_view}
+use Rattle.tile_service.specs.Machine.{ServiceState, Call, Accepts, IsWanted, AnswersEdit, places_for, after_fault}
+use Rattle.tile_service.specs.Service.{PublicationView, IsGoing, IsService, Known, state_of, told_as}
+use Rattle.tile_service.specs.declared.fault.ServiceFault.TheVariants.{Device}
+use Rattle.tile_service.specs.declared.service.Service.TheInside.{Inside}
 
 -- the texts of a map take the bytes of an area and of this many places
 abbrev pub AreShort : FeatureMap → (area places : ℕ) → Type 0
@@ -68,3 +77,45 @@ refused_service {sectors} {now} {size} {version} {root} {old} {publication} new 
       last_is = is.last_is;
       going = is.going;
     })))
+
+-- ---- the numbers of an append
+
+-- its edit is later than the last one
+pub append_later : (last before number : ℕ) → last ≡ before → number ≡ before + 1 → last < number
+append_later last before number is told = omega (arith, is, told)
+
+-- it takes places that were free
+module _ (places places_then used used_then parts need : ℕ) where
+  pub append_room : used_then ≤ places_then → places_then ≡ places → used_then ≡ used + parts → parts ≡ need → need ≤ places - used
+  append_room room same used_is need_is = omega (arith, room, same, used_is, need_is)
+
+  pub append_free : places_then ≡ places → used_then ≡ used + parts → parts ≡ need → places_then - used_then ≡ places - used - need
+  append_free same used_is need_is = omega (arith, same, used_is, need_is)
+
+-- ---- a fault of an append
+
+abbrev is_device : JournalFault → Bool
+is_device journals.Device = true
+is_device fault = false
+
+other_fault : (fault : JournalFault) → is_device fault ≡ false → fault ≢ journals.Device
+other_fault fault other is = false≢true (sym other ∙ ap is_device is)
+
+-- the edit is refused for the fault that the journal returns
+pub append_refuses : {D : Type 0} (known : Known) (inside : Inside D) (t : ServiceState) (call : Call) (e : RecordedEdit) (before after : ℕ)
+    → inside.broken ≡ false → e.version ≡ inside.version → Accepts (state_of known (service_view inside)) call
+    → IsWanted inside.map.features call e.changes → (fault : JournalFault)
+    → IsAppendFault inside.journal (places_for e) before after fault → (fault ≢ journals.Device → t ≡ state_of known (service_view inside))
+    → (fault ≡ journals.Device → t ≡ after_fault (state_of known (service_view inside)) Device)
+    → AnswersEdit (state_of known (service_view inside)) call e (Err (told_as fault)) t
+append_refuses known inside t call e before after unbroken version accepts wanted journals.NumbersSpent is same broke =
+    (unbroken, (accepts, wanted, is.0), same (other_fault journals.NumbersSpent refl))
+append_refuses known inside t call e before after unbroken version accepts wanted (journals.Full need free) is same broke = (
+  unbroken,
+  (record { version_is = version; accepts = accepts; wanted = wanted; number = is.0 }, is.1, is.2, is.3),
+  same (other_fault (journals.Full need free) refl),
+)
+append_refuses known inside t call e before after unbroken version accepts wanted journals.Device is same broke =
+    (unbroken, (record { version_is = version; accepts = accepts; wanted = wanted; number = is.0 }, is.1), broke refl)
+append_refuses known inside t call e before after unbroken version accepts wanted journals.Memory is same broke = absurd is
+append_refuses known inside t call e before after unbroken version accepts wanted journals.Damaged is same broke = absurd is

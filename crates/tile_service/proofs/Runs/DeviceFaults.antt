@@ -1,6 +1,8 @@
 -- Where an answer is Device, a call of the disk has failed.
-use Rattle.std.proofs.Common.{◌≡◌, inl, inr, ℕ, Bool, true, false, Result, Ok, Err, refl, sym, ◌∙◌, ap, subst}
-use Rattle.std.proofs.lemmas.Bool.{false≢true}
+use Rattle.std.proofs.Common.{◌≡◌, ⊎_elim, inl, inr, ℕ, ◌<◌, ◌≤◌, ◌+◌, ◌-◌, ◌^◌, min, Bool, true, false, Result, Ok, Err}
+use Rattle.std.proofs.Common.{refl, sym, ◌∙◌, ap, subst, arith}
+use Rattle.std.proofs.lemmas.Bool.{false≢true, cases_lt}
+use Rattle.sector_disk.specs.Disk.{HasFailed}
 use Rattle.sector_bytes.specs.Counts.{HasRisen, NeverFalls}
 use Rattle.sector_bytes.proofs.Counts.{same_count, risen_count, failed_risen}
 use Rattle.tile_service.specs.Events.{Tells, edit_answer, left_answer}
@@ -17,6 +19,10 @@ use Rattle.tile_service.specs.declared.fault.ServiceFault.TheVariants.{Memory, D
 abbrev is_device : ServiceFault → Bool
 is_device Device = true
 is_device fault = false
+
+-- a fault of another name isn't Device
+pub other_fault : (fault : ServiceFault) → is_device fault ≡ false → fault ≡ Device → ⊥
+other_fault fault other is = false≢true (sym other ∙ ap is_device is)
 
 abbrev tells_device : Answer → Bool
 tells_device (answers.Refused fault) = is_device fault
@@ -35,6 +41,13 @@ pub memory_told : (fault : ServiceFault) → fault ≡ Memory → answers.Refuse
 memory_told fault memory is = false≢true (ap is_device (sym memory ∙ device_told fault is))
 
 -- ---- what is counted
+
+-- an error that is counted is a failure
+pub counted_failed : (old new : ℕ) → new ≡ min (old + 1) (2 ^ 64 - 1) → HasFailed old new
+counted_failed old new is = ⊎_elim
+    (λ (lt : old < 2 ^ 64 - 1). inl (omega (arith, is, lt)))
+    (λ (last : 2 ^ 64 - 1 ≤ old). inr (omega (arith, is, last)))
+    (cases_lt old (2 ^ 64 - 1))
 
 -- The count doesn't fall,
 pub outcome_counts : (outcome : Result ℕ ServiceFault) (before after : ℕ) → TellsDevice outcome before after → NeverFalls before after

@@ -1,4 +1,4 @@
-use Rattle.std.proofs.Common.{arith, sym}
+use Rattle.std.proofs.Common.{arith, refl, sym}
 use Rattle.sector_disk.specs.Disk.{seen}
 use Rattle.generations.proofs.Laws.{one_live}
 use Rattle.disk_copy.proofs.Outside.{live_outside}
@@ -22,3 +22,33 @@ returns-then-not-is_same_root-clause-same g c honest live version =
     let is_same = c.is_same_root.ensures.1 (sym same.1) in
     let differs = c.if-not-is_same_root.true in
     absurd cc
+
+pub returns-in-Err-clause-disk : goal.returns-in-Err-clause-disk
+returns-in-Err-clause-disk g c = c.read_root.ensures.disk
+
+pub returns-in-Err-clause-failed : goal.returns-in-Err-clause-failed
+returns-in-Err-clause-failed g c = (c.in-Err.ensures.failed, refl)
+
+pub returns-then-again-found-clause-disk : goal.returns-then-again-found-clause-disk
+returns-then-again-found-clause-disk g c = c.read_root.ensures.disk
+
+pub returns-then-again-found-clause-failed : goal.returns-then-again-found-clause-failed
+returns-then-again-found-clause-failed g c = (c.in-Ok.ensures.failed, refl)
+
+pub returns-then-not-is_same_root-clause-disk : goal.returns-then-not-is_same_root-clause-disk
+returns-then-not-is_same_root-clause-disk g c = c.read_root.ensures.disk
+
+pub returns-then-not-is_same_root-clause-failed : goal.returns-then-not-is_same_root-clause-failed
+returns-then-not-is_same_root-clause-failed g c = (c.in-Ok.ensures.failed, refl)
+
+pub returns-then-again-found-2-clause-disk : goal.returns-then-again-found-2-clause-disk
+returns-then-again-found-2-clause-disk g c = c.read_root.ensures.disk
+
+pub returns-then-again-found-2-clause-failed : goal.returns-then-again-found-2-clause-failed
+returns-then-again-found-2-clause-failed g c = (c.in-Ok.ensures.failed, refl)
+
+pub returns-clause-disk : goal.returns-clause-disk
+returns-clause-disk g c = c.read_root.ensures.disk
+
+pub returns-clause-failed : goal.returns-clause-failed
+returns-clause-failed g c = (c.in-Ok.ensures.failed, refl)

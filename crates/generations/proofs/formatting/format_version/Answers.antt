@@ -1,5 +1,5 @@
 use Rattle.std.proofs.Common.{◌≡◌, ◌⊎◌, inl, ℕ, subst, ◌∙◌}
-use Rattle.sector_disk.specs.Disk.{seen, MayLeave}
+use Rattle.sector_disk.specs.Disk.{Image, seen, MayLeave}
 use Rattle.sector_disk.specs.Moments.{LeavesOnly}
 use Rattle.sector_disk.proofs.History.{started, seen_may}
 use Rattle.generations.specs.Disks.{HasNoMark, IsFresh}
@@ -30,3 +30,21 @@ returns-in-Ok-clause-seen g c honest =
     let same : c.in-Some.layout.sectors ≡ g.D.Sectors.sectors c.args.disk.now = c.in-Some.ensures.size ∙ c.count-sectors.ensures in
     subst (λ (n : ℕ). IsFresh c.args.version n (seen (g.D.Sectors.history c.write_parts.new.disk))) same
     (c.in-Ok.ensures.fresh honest (seen (g.D.Sectors.history c.write_parts.new.disk)) (seen_may (g.D.Sectors.history c.write_parts.new.disk)))
+
+pub returns-in-Ok-clause-disk : goal.returns-in-Ok-clause-disk
+returns-in-Ok-clause-disk g c = c.write_parts.ensures.disk
+
+pub returns-in-Err-clause-disk : goal.returns-in-Err-clause-disk
+returns-in-Err-clause-disk g c = c.write_parts.ensures.disk
+
+pub returns-in-Ok-clause-failed : goal.returns-in-Ok-clause-failed
+returns-in-Ok-clause-failed g c = c.in-Ok.ensures.failed
+
+pub returns-in-Err-clause-failed : goal.returns-in-Err-clause-failed
+returns-in-Err-clause-failed g c = c.in-Err.ensures.failed
+
+pub returns-in-Ok-clause-fresh : goal.returns-in-Ok-clause-fresh
+returns-in-Ok-clause-fresh g c honest =
+    let same : c.in-Some.layout.sectors ≡ g.D.Sectors.sectors c.args.disk.now = c.in-Some.ensures.size ∙ c.count-sectors.ensures in
+    subst (λ (n : ℕ). (image : Image) → MayLeave (g.D.Sectors.history c.write_parts.new.disk) image → IsFresh c.args.version n image) same
+    (c.in-Ok.ensures.fresh honest)

@@ -1,3 +1,5 @@
+use Rattle.std.proofs.lemmas.Result.{IfOk-from_err}
+use Rattle.sector_disk.proofs.AskedLaws.{writes_on}
 use Rattle.generations.proofs.Parts.{wrote_leaves, stood_leaves}
 use Rattle.generations.proofs.formatting.write_and_sync.Goals as goal
 
@@ -11,3 +13,15 @@ returns-in_err-sync-clause-leaves g c honest =
 pub returns-clause-leaves : goal.returns-clause-leaves
 returns-clause-leaves g c honest =
     stood_leaves _ _ _ _ _ (c.write.ensures.writes (c.sync.ensures.disk.was_honest honest)) _ _ (c.sync.ensures.syncs honest)
+
+pub returns-in_err-sync-clause-disk : goal.returns-in_err-sync-clause-disk
+returns-in_err-sync-clause-disk g c = writes_on c.write.ensures.disk c.sync.ensures.disk
+
+pub returns-clause-disk : goal.returns-clause-disk
+returns-clause-disk g c = writes_on c.write.ensures.disk c.sync.ensures.disk
+
+pub returns-in_err-write-clause-stands : goal.returns-in_err-write-clause-stands
+returns-in_err-write-clause-stands g c honest = IfOk-from_err _ _ c.from_residual.ensures.0
+
+pub returns-in_err-sync-clause-stands : goal.returns-in_err-sync-clause-stands
+returns-in_err-sync-clause-stands g c honest = IfOk-from_err _ _ c.from_residual-in_err-sync.ensures.0

@@ -1,8 +1,11 @@
-use Rattle.std.proofs.Common.{◌≡◌, arith}
+use Rattle.std.proofs.Common.{◌≡◌, ◌∙◌, refl, arith}
+use Rattle.std.proofs.lemmas.Result.{IfOk-from_err}
 use Rattle.sector_disk.specs.Disk.{Image, MayLeave}
 use Rattle.sector_disk.specs.Disk.History.{wrote, synced}
 use Rattle.sector_disk.specs.Moments.{LeavesOnly}
+use Rattle.sector_disk.proofs.AskedLaws.{writes_on}
 use Rattle.generations.specs.Disks.{IsFresh}
+use Rattle.generations.proofs.Exits.{failed_after}
 use Rattle.generations.proofs.Parts.{Formats, first_leaves, second_leaves, third_leaves, fourth}
 use Rattle.generations.proofs.formatting.write_parts.Given as given
 use Rattle.generations.proofs.formatting.write_parts.Goals as goal
@@ -49,3 +52,52 @@ returns-clause-any_moment g c honest = (written g (goal.at.returns-clause-any_mo
 pub returns-clause-fresh : goal.returns-clause-fresh
 returns-clause-fresh g c honest =
     (written g (goal.at.returns-clause-fresh g c).After-write_and_sync-3 honest).1 (c.in_ok-write_and_sync-3.ensures.stands honest)
+
+-- a `?` that returns returns the fault of its call
+pub returns-in_err-write_and_sync-clause-fresh : goal.returns-in_err-write_and_sync-clause-fresh
+returns-in_err-write_and_sync-clause-fresh g c honest = IfOk-from_err _ _ c.from_residual.ensures.0
+
+pub returns-in_err-clear-clause-fresh : goal.returns-in_err-clear-clause-fresh
+returns-in_err-clear-clause-fresh g c honest = IfOk-from_err _ _ c.from_residual-in_err-clear.ensures.0
+
+pub returns-in_err-write_and_sync-2-clause-fresh : goal.returns-in_err-write_and_sync-2-clause-fresh
+returns-in_err-write_and_sync-2-clause-fresh g c honest = IfOk-from_err _ _ c.from_residual-in_err-write_and_sync-2.ensures.0
+
+pub returns-in_err-write_and_sync-3-clause-fresh : goal.returns-in_err-write_and_sync-3-clause-fresh
+returns-in_err-write_and_sync-3-clause-fresh g c honest = IfOk-from_err _ _ c.from_residual-in_err-write_and_sync-3.ensures.0
+
+pub returns-in_err-write_and_sync-clause-failed : goal.returns-in_err-write_and_sync-clause-failed
+returns-in_err-write_and_sync-clause-failed g c = failed_after _ _ c.from_residual.ensures.0 refl c.in_err-write_and_sync.ensures.failed
+
+pub returns-in_err-clear-clause-failed : goal.returns-in_err-clear-clause-failed
+returns-in_err-clear-clause-failed g c =
+    failed_after _ _ c.from_residual-in_err-clear.ensures.0 c.in_ok-write_and_sync.ensures.failed c.in_err-clear.ensures.failed
+
+pub returns-in_err-write_and_sync-2-clause-failed : goal.returns-in_err-write_and_sync-2-clause-failed
+returns-in_err-write_and_sync-2-clause-failed g c = failed_after _ _ c.from_residual-in_err-write_and_sync-2.ensures.0
+    (c.in_ok-clear.ensures.failed ∙ c.in_ok-write_and_sync.ensures.failed) c.in_err-write_and_sync-2.ensures.failed
+
+pub returns-in_err-write_and_sync-3-clause-failed : goal.returns-in_err-write_and_sync-3-clause-failed
+returns-in_err-write_and_sync-3-clause-failed g c = failed_after _ _ c.from_residual-in_err-write_and_sync-3.ensures.0
+    (c.in_ok-write_and_sync-2.ensures.failed ∙ c.in_ok-clear.ensures.failed ∙ c.in_ok-write_and_sync.ensures.failed)
+    c.in_err-write_and_sync-3.ensures.failed
+
+pub returns-clause-failed : goal.returns-clause-failed
+returns-clause-failed g c = c.in_ok-write_and_sync-3.ensures.failed ∙ c.in_ok-write_and_sync-2.ensures.failed ∙ c.in_ok-clear.ensures.failed
+    ∙ c.in_ok-write_and_sync.ensures.failed
+
+-- what calls ensure that may write, one after the other
+pub returns-in_err-clear-clause-disk : goal.returns-in_err-clear-clause-disk
+returns-in_err-clear-clause-disk g c = writes_on c.write_and_sync.ensures.disk c.clear.ensures.disk
+
+pub returns-in_err-write_and_sync-2-clause-disk : goal.returns-in_err-write_and_sync-2-clause-disk
+returns-in_err-write_and_sync-2-clause-disk g c =
+    writes_on (writes_on c.write_and_sync.ensures.disk c.clear.ensures.disk) c.write_and_sync-2.ensures.disk
+
+pub returns-in_err-write_and_sync-3-clause-disk : goal.returns-in_err-write_and_sync-3-clause-disk
+returns-in_err-write_and_sync-3-clause-disk g c =
+    writes_on (writes_on (writes_on c.write_and_sync.ensures.disk c.clear.ensures.disk) c.write_and_sync-2.ensures.disk) c.write_and_sync-3.ensures.disk
+
+pub returns-clause-disk : goal.returns-clause-disk
+returns-clause-disk g c =
+    writes_on (writes_on (writes_on c.write_and_sync.ensures.disk c.clear.ensures.disk) c.write_and_sync-2.ensures.disk) c.write_and_sync-3.ensures.disk

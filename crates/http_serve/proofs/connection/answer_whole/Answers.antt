@@ -217,3 +217,6 @@ requests-smaller g c =
     let found = subst (λ (t : List ℕ). IsNext t (Whole frame)) c.waiting.ensures c.in-Whole.ensures.next in
     let within = found.1.body_within.1 in
     omega (arith, ap length c.drop_front.ensures, length-drop frame.body.end input, found.1.some, within)
+
+pub invariant_of-session-in-Err-answer_one : goal.invariant_of-session-in-Err-answer_one
+invariant_of-session-in-Err-answer_one g c = record { room = c.answer_one.ensures.room; space = c.answer_one.ensures.space }

@@ -21,3 +21,21 @@ returns-clause-read g c e = g.met.B.Bytes.failed_on _ _ _ c.in_ok-entry.ensures.
 
 pub returns-clause-source : goal.returns-clause-source
 returns-clause-source g c = keeps_on g.met.B.Bytes.unchanged_on c.in_ok-entry.ensures.source c.content_in.ensures.source
+
+pub returns-in_err-entry-clause-source : goal.returns-in_err-entry-clause-source
+returns-in_err-entry-clause-source g c = c.in_err-entry.ensures.source
+
+pub returns-in_err-entry-clause-still : goal.returns-in_err-entry-clause-still
+returns-in_err-entry-clause-still g c = c.in_err-entry.ensures.still
+
+pub returns-in_err-entry-clause-room : goal.returns-in_err-entry-clause-room
+returns-in_err-entry-clause-room g c = c.in_err-entry.ensures.room
+
+pub returns-in_err-entry-clause-still_inside : goal.returns-in_err-entry-clause-still_inside
+returns-in_err-entry-clause-still_inside g c = c.in_err-entry.ensures.still_inside
+
+pub returns-clause-room : goal.returns-clause-room
+returns-clause-room g c = c.in_ok-entry.ensures.room
+
+pub returns-clause-still_inside : goal.returns-clause-still_inside
+returns-clause-still_inside g c = c.in_ok-entry.ensures.still_inside

@@ -1,9 +1,7 @@
 use Rattle.std.proofs.Common.{◌≡◌, take, sym, ◌∙◌, rules, arith}
-use Rattle.std.specs.Int.{w32}
-use Rattle.std.proofs.lemmas.Int.{to_z-of_z}
 use Rattle.std.proofs.lemmas.List.{take_all}
 use Rattle.pm_header.specs.declared.header.TheConstants.{HEADER_BYTES}
-use Rattle.pm_header.proofs.Fields.{HeaderFits, is_laid_out}
+use Rattle.pm_header.proofs.Fields.{HeaderFits, is_laid_out, on, on_part, on_4}
 use Rattle.pm_header.proofs.writing.header_bytes.Goals as goal
 
 pub returns : goal.returns
@@ -26,28 +24,21 @@ returns c =
       centre_lat = search rules;
     } in
     let whole : take HEADER_BYTES bytes ≡ bytes = take_all HEADER_BYTES bytes (omega arith) in
-    is_laid_out h bytes fits (sym whole ∙ rw (
-      c.put_position-5.ensures,
-      c.put-5.ensures,
-      c.put_position-4.ensures,
-      c.put_position-3.ensures,
-      c.put_position-2.ensures,
-      c.put_position.ensures,
-      c.put-4.ensures,
-      c.put-3.ensures,
-      c.put_number-3.ensures,
-      c.put_number-2.ensures,
-      c.put_number.ensures,
-      c.put_part-4.ensures,
-      c.put_part-3.ensures,
-      c.put_part-2.ensures,
-      c.put_part.ensures,
-      c.put-2.ensures,
-      c.put.ensures,
-      to_z-of_z w32 h.min_lon fits.min_lon,
-      to_z-of_z w32 h.min_lat fits.min_lat,
-      to_z-of_z w32 h.max_lon fits.max_lon,
-      to_z-of_z w32 h.max_lat fits.max_lat,
-      to_z-of_z w32 h.centre_lon fits.centre_lon,
-      to_z-of_z w32 h.centre_lat fits.centre_lat,
-    ) at c.put_position-6.ensures)
+    is_laid_out h bytes fits (sym whole
+    ∙ on_4 h.centre_lat fits.centre_lat c.put_position-6.ensures
+    (on_4 h.centre_lon fits.centre_lon c.put_position-5.ensures
+    (on _ c.put-5.ensures
+    (on_4 h.max_lat fits.max_lat c.put_position-4.ensures
+    (on_4 h.max_lon fits.max_lon c.put_position-3.ensures
+    (on_4 h.min_lat fits.min_lat c.put_position-2.ensures
+    (on_4 h.min_lon fits.min_lon c.put_position.ensures
+    (on _ c.put-4.ensures
+    (on _ c.put-3.ensures
+    (on _ c.put_number-3.ensures
+    (on _ c.put_number-2.ensures
+    (on _ c.put_number.ensures
+    (on_part _ _ c.put_part-4.ensures
+    (on_part _ _ c.put_part-3.ensures
+    (on_part _ _ c.put_part-2.ensures
+    (on_part _ _ c.put_part.ensures
+    (on _ c.put-2.ensures c.put.ensures)))))))))))))))))

@@ -2,6 +2,7 @@ use Rattle.std.proofs.Common.{◌∙◌, inl, inr, ℕ, refl, arith, subst}
 use Rattle.sector_disk.specs.Disk.{seen}
 use Rattle.tile_service.proofs.Disk.Opened.{synced_and_read, live_before, version_before, read_after, fault_after, root_fault_after}
 use Rattle.tile_service.proofs.Disk.Opened.{device_no_memory, root_no_memory}
+use Rattle.tile_service.proofs.Runs.DeviceFaults.{counted_failed}
 use Rattle.sector_disk.proofs.AskedLaws.{writes_on, reads_on, reads_may}
 use Rattle.generations.specs.Faults.{CountsDevice}
 use Rattle.tile_service.proofs.opening.load.Goals as goal
@@ -132,3 +133,6 @@ returns-in-Err-read_map-clause-written g c = λ honest. inr (synced_and_read c.i
 pub returns-in-Err-read_map-clause-failed : goal.returns-in-Err-read_map-clause-failed
 returns-in-Err-read_map-clause-failed g c = subst (λ (count : ℕ). CountsDevice c.in-Err-read_map.fault count (g.D.Sectors.faults c.read_map.new.disk))
     (c.in-Ok-read_root.ensures.failed ∙ c.in-Ok.ensures.faults) c.in-Err-read_map.ensures.failed
+
+pub returns-in-Err-clause-failed : goal.returns-in-Err-clause-failed
+returns-in-Err-clause-failed g c = counted_failed _ _ c.in-Err.ensures.faults

@@ -116,3 +116,11 @@ returns-in-Ok-replay-clause-last g c = omega (arith, c.in-Ok.ensures.last, c.in-
 
 pub returns-in-Err-replay-clause-disk : goal.returns-in-Err-replay-clause-disk
 returns-in-Err-replay-clause-disk g c = c.recover.ensures.disk
+
+pub same-store : goal.same-store
+same-store g c = refl
+
+pub returns-in-Ok-replay-clause-ring : goal.returns-in-Ok-replay-clause-ring
+returns-in-Ok-replay-clause-ring g c =
+    let ring : ℕ → Ring = λ places. record { first = 3; places = places } in
+    c.in-Ok.ensures.same.0 ∙ ap ring c.args.layout.journal_is

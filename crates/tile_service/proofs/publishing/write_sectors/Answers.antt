@@ -99,3 +99,30 @@ returns-in_ok-sync-clause-beside g c honest =
     sync_beside c.args.layout.sectors c.args.generation (g.D.Sectors.history c.args.disk.now) (g.D.Sectors.history c.loop-index.disk)
     (g.D.Sectors.history c.sync.new.self) (c.loop-index.invariant.beside (c.sync.ensures.disk.was_honest honest))
     (any_sync c.sync.result _ _ (c.sync.ensures.syncs honest))
+
+pub returns-in_err-write_area-clause-disk : goal.returns-in_err-write_area-clause-disk
+returns-in_err-write_area-clause-disk g c = writes_on c.loop-index.invariant.disk c.write_area.ensures.disk
+
+pub returns-in_err-sync-clause-disk : goal.returns-in_err-sync-clause-disk
+returns-in_err-sync-clause-disk g c = writes_on c.loop-index.invariant.disk c.sync.ensures.disk
+
+pub returns-in_ok-sync-clause-disk : goal.returns-in_ok-sync-clause-disk
+returns-in_ok-sync-clause-disk g c = writes_on c.loop-index.invariant.disk c.sync.ensures.disk
+
+pub returns-in_ok-sync-clause-failed : goal.returns-in_ok-sync-clause-failed
+returns-in_ok-sync-clause-failed g c = c.in_ok-sync.ensures.faults ∙ c.loop-index.invariant.faults
+
+pub returns-else-pauses-clause-disk : goal.returns-else-pauses-clause-disk
+returns-else-pauses-clause-disk g c = c.loop-index.invariant.disk
+
+pub returns-else-pauses-clause-failed : goal.returns-else-pauses-clause-failed
+returns-else-pauses-clause-failed g c = c.loop-index.invariant.faults
+
+pub returns-else-pauses-clause-leaves : goal.returns-else-pauses-clause-leaves
+returns-else-pauses-clause-leaves g c = c.loop-index.invariant.leaves
+
+pub returns-else-pauses-clause-keeps : goal.returns-else-pauses-clause-keeps
+returns-else-pauses-clause-keeps g c = c.loop-index.invariant.keeps
+
+pub returns-else-pauses-clause-beside : goal.returns-else-pauses-clause-beside
+returns-else-pauses-clause-beside g c = c.loop-index.invariant.beside

@@ -15,3 +15,12 @@ returns-clause-fault g c version honest =
     c.in-Ok.ensures.len
     (subst (λ (text : List ℕ). IfErr c.map_in.result (λ fault. (fault ≡ Memory) ⊎ ((fault ≡ Damaged Snapshot) × IsNoSnapshot text)))
     c.deref.ensures.value c.map_in.ensures.fault)
+
+pub returns-in-Err-clause-disk : goal.returns-in-Err-clause-disk
+returns-in-Err-clause-disk g c = c.read_text.ensures.disk
+
+pub returns-in-Err-clause-failed : goal.returns-in-Err-clause-failed
+returns-in-Err-clause-failed g c = c.in-Err.ensures.failed
+
+pub returns-clause-disk : goal.returns-clause-disk
+returns-clause-disk g c = c.read_text.ensures.disk

@@ -1,4 +1,5 @@
 use Rattle.std.proofs.Common.{None, Some, sym, ap, ◌∙◌, subst}
+use Rattle.std.proofs.lemmas.Result.{IfOk-from_err}
 use Rattle.std.specs.Rc.{rc_slice_items}
 use Rattle.tile_cache.specs.declared.cached_tiles.Origin.TheVariants.{Cut, Read}
 use Rattle.feature_store.specs.Content.{IsTileContent}
@@ -61,3 +62,27 @@ pub returns-clause-reads : goal.returns-clause-reads
 returns-clause-reads c =
     let inside = c.self.inside in
     rw (← c.self.view_is) (same_kept Read inside.store.features inside.touched inside.last inside.kept c.promote.new.self c.promote.ensures.same)
+
+pub returns-in_err-clone-clause-tile : goal.returns-in_err-clone-clause-tile
+returns-in_err-clone-clause-tile c = λ read. IfOk-from_err _ _ c.from_residual.ensures.0
+
+pub returns-in_err-clone-clause-given : goal.returns-in_err-clone-clause-given
+returns-in_err-clone-clause-given c newest is = IfOk-from_err _ _ c.from_residual.ensures.0
+
+pub returns-in_err-clone-clause-keeps : goal.returns-in_err-clone-clause-keeps
+returns-in_err-clone-clause-keeps c = rw (← c.self.view_is) c.promote.ensures.same
+
+pub returns-in_err-clone-clause-order : goal.returns-in_err-clone-clause-order
+returns-in_err-clone-clause-order c = rw (← c.self.view_is) c.promote.ensures.order
+
+pub returns-in-Some-clause-keeps : goal.returns-in-Some-clause-keeps
+returns-in-Some-clause-keeps c = rw (← c.self.view_is) c.promote.ensures.same
+
+pub returns-in-Some-clause-order : goal.returns-in-Some-clause-order
+returns-in-Some-clause-order c = rw (← c.self.view_is) c.promote.ensures.order
+
+pub returns-clause-keeps : goal.returns-clause-keeps
+returns-clause-keeps c = rw (← c.self.view_is) c.promote.ensures.same
+
+pub returns-clause-order : goal.returns-clause-order
+returns-clause-order c = rw (← c.self.view_is) c.promote.ensures.order

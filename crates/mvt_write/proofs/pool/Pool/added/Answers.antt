@@ -10,8 +10,8 @@ invariant_of-self-2 g c =
     let entry = c.args.entry in
     let slots = before.slots.value in
     let other = get g.T.Ord.cmp before.others in
-    let pushed : c.push.new.self.items ≡ items ++ entry ∷ [] = search rules in
-    let len : c.len-index.result ≡ length items = search rules in
+    let pushed : c.push.new.self.items ≡ items ++ entry ∷ [] = c.in_ok-push.ensures.items in
+    let len : c.len-index.result ≡ length items = omega (arith, c.len-index.ensures, before.entries.ok) in
     let number : c.len-index.result + 1 ≡ suc (length items) = omega (arith, len) in
     let inside : c.args.place < length slots = search rules in
     record {
@@ -27,8 +27,8 @@ returns-clause-index g c =
     let before = c.args.self.now in
     let items = before.entries.items in
     let entry = c.args.entry in
-    let pushed : c.push.new.self.items ≡ items ++ entry ∷ [] = search rules in
-    let len : c.len-index.result ≡ length items = search rules in
+    let pushed : c.push.new.self.items ≡ items ++ entry ∷ [] = c.in_ok-push.ensures.items in
+    let len : c.len-index.result ≡ length items = omega (arith, c.len-index.ensures, before.entries.ok) in
     let absent = first_absent g.T.FieldData.spelled g.T.FieldData.coded (get g.T.Ord.cmp before.others entry) items entry before.slots.value c.args.place
     c.requires.place c.requires.free (before.looked entry) in
     rw pushed (last_index g.T.FieldData.spelled items entry absent ∙ sym len)

@@ -1,9 +1,8 @@
-use Rattle.std.proofs.lemmas.Grind.{common_steps}
-use Rattle.std.proofs.Common.{◌≡◌, ◌∷◌, ◌++◌, [], rules, length, map, ◌∙◌, sym, arith}
+use Rattle.std.proofs.Common.{◌≡◌, ◌∷◌, ◌++◌, [], rules, length, map, ◌∙◌, sym, ap, arith}
 use Rattle.std.specs.BTreeMap.{get}
 use Rattle.std.proofs.lemmas.List.{map-append, length-append}
-use Rattle.mvt_write.proofs.Pooled.{absent_from, with_new}
-use Rattle.mvt_write.proofs.Slotted.{other_looked, other_free}
+use Rattle.mvt_write.proofs.Pooled.{absent_from, held_number, with_held, with_new}
+use Rattle.mvt_write.proofs.Slotted.{other_looked, other_free, last_index}
 use Rattle.mvt_write.proofs.pool.Pool.found.Goals as goal
 
 pub invariant_of-self-then-index-next : goal.invariant_of-self-then-index-next
@@ -13,7 +12,7 @@ invariant_of-self-then-index-next g c =
     let entry = c.args.entry in
     let spelled = g.T.FieldData.spelled in
     let pushed : c.push.new.self.items ≡ items ++ entry ∷ [] = search rules in
-    let last : c.len-next.result ≡ length items = search rules in
+    let last : c.len-next.result ≡ length items = omega (arith, c.len-next.ensures, before.entries.ok) in
     let absent = absent_from spelled items entry _ c.in_ok-index.index c.len-next.result c.requires.other c.in_ok-index.ensures.number
     c.if-index-next.true last in
     let old = get g.T.Ord.cmp before.others in
@@ -32,11 +31,35 @@ returns-then-index-next-clause-entries g c =
     let before = c.args.self.now in
     let items = before.entries.items in
     let entry = c.args.entry in
-    let pushed : c.push.new.self.items ≡ items ++ entry ∷ [] = search rules in
-    let last : c.len-next.result ≡ length items = search rules in
+    let grown : c.push.new.self.items ≡ c.reserve.new.self.items ++ entry ∷ [] = rw c.unwrap.ensures at c.push.ensures.items in
+    let pushed : c.push.new.self.items ≡ items ++ entry ∷ [] = grown ∙ ap (λ xs. xs ++ entry ∷ []) c.reserve.ensures.items in
+    let last : c.len-next.result ≡ length items = omega (arith, c.len-next.ensures, before.entries.ok) in
     let absent = absent_from g.T.FieldData.spelled items entry _ c.in_ok-index.index c.len-next.result c.requires.other c.in_ok-index.ensures.number
     c.if-index-next.true last in
     rw pushed (map-append g.T.FieldData.spelled items (entry ∷ []) ∙ sym (with_new (map g.T.FieldData.spelled items) (g.T.FieldData.spelled entry) absent))
 
 pub returns-then-index-next-clause-index : goal.returns-then-index-next-clause-index
-returns-then-index-next-clause-index g c = grind (arith, common_steps)
+returns-then-index-next-clause-index g c =
+    let before = c.args.self.now in
+    let items = before.entries.items in
+    let entry = c.args.entry in
+    let grown : c.push.new.self.items ≡ c.reserve.new.self.items ++ entry ∷ [] = rw c.unwrap.ensures at c.push.ensures.items in
+    let pushed : c.push.new.self.items ≡ items ++ entry ∷ [] = grown ∙ ap (λ xs. xs ++ entry ∷ []) c.reserve.ensures.items in
+    let last : c.len-next.result ≡ length items = omega (arith, c.len-next.ensures, before.entries.ok) in
+    let absent = absent_from g.T.FieldData.spelled items entry _ c.in_ok-index.index c.len-next.result c.requires.other c.in_ok-index.ensures.number
+    c.if-index-next.true last in
+    rw pushed (last_index g.T.FieldData.spelled items entry absent ∙ sym (c.if-index-next.true ∙ last))
+
+pub returns-else-index-next-clause-index : goal.returns-else-index-next-clause-index
+returns-else-index-next-clause-index g c =
+    let pool = map g.T.FieldData.spelled c.args.self.now.entries.items in
+    let entry = g.T.FieldData.spelled c.args.entry in
+    rw c.reserve.ensures.items (held_number pool entry _ c.in_ok-index.index c.len-next.result c.requires.other c.in_ok-index.ensures.number
+    c.if-index-next.false).0
+
+pub returns-else-index-next-clause-entries : goal.returns-else-index-next-clause-entries
+returns-else-index-next-clause-entries g c =
+    let pool = map g.T.FieldData.spelled c.args.self.now.entries.items in
+    let entry = g.T.FieldData.spelled c.args.entry in
+    let held = held_number pool entry _ c.in_ok-index.index c.len-next.result c.requires.other c.in_ok-index.ensures.number c.if-index-next.false in
+    rw c.reserve.ensures.items (sym (with_held pool entry held.1))

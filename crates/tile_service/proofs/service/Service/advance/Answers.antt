@@ -1,4 +1,4 @@
-use Rattle.std.proofs.Common.{true, Ok, Err, ◌+◌, ◌-◌, ◌≤◌, refl, sym, ◌∙◌, ap, subst, arith, ℕ, ◌≡◌, Some}
+use Rattle.std.proofs.Common.{true, Ok, Err, ◌+◌, ◌-◌, ◌≤◌, min, refl, sym, ◌∙◌, ap, subst, arith, ℕ, suc, ◌≡◌, Some}
 use Rattle.area_content.specs.Content.{sectors_taken}
 use Rattle.tile_service.specs.Inside.{publication_view, service_view}
 use Rattle.tile_service.specs.Service.{ServiceView, PublicationView, IsUp, with_publication}
@@ -8,13 +8,42 @@ use Rattle.tile_service.proofs.Publications.Steps.{up_further, step_leaves, last
 use Rattle.tile_service.proofs.Publications.Steps.{step_fails, service_on_disk, service_with, going_seen, going_further}
 use Rattle.sector_disk.specs.Asked.{TellsFailure}
 use Rattle.sector_disk.proofs.AskedLaws.{writes_on}
+use Rattle.tile_service.specs.declared.publishing.TheConstants.{STEP_SECTORS}
 use Rattle.tile_service.proofs.service.Service.advance.Goals as goal
+
+-- ---- numbers
+
+next_one : (n : ℕ) → n + 1 ≡ suc n
+next_one n = omega arith
+
+next_of : (n m : ℕ) → n ≡ m → n + 1 ≡ suc m
+next_of n m is = next_one n ∙ ap suc is
+
+-- of the sectors that are taken, those before `written` are written
+module _ (taken sectors written : ℕ) (is : sectors ≡ taken) where
+  last_left : sectors - written ≤ STEP_SECTORS → taken + 1 - written ≤ STEP_SECTORS + 1
+  last_left few = omega (arith, is, few)
+
+  module _ (more : ℕ) (more_is : more ≡ min (sectors - written) STEP_SECTORS) where
+    more_within : written ≤ taken → written + more ≤ taken
+    more_within within = omega (arith, is, more_is, within)
+
+    more_all : written ≤ taken → sectors - written ≤ STEP_SECTORS → written + more ≡ taken
+    more_all within few = omega (arith, is, more_is, within, few)
+
+few_steps : (old new from more left : ℕ) → new + from ≤ old + (from + more) + 1 → more ≡ min left STEP_SECTORS → new ≤ old + 67
+few_steps old new from more left steps more_is = omega (arith, steps, more_is)
+
+last_steps : (old between new from more left : ℕ) → new ≤ between + 3 → between + from ≤ old + (from + more) → more ≡ min left STEP_SECTORS → new ≤ old + 67
+last_steps old between new from more left root steps more_is = omega (arith, root, steps, more_is)
+
+-- ---- the answers
 
 pub returns-in-Err-clause-any_moment : goal.returns-in-Err-clause-any_moment
 returns-in-Err-clause-any_moment g c = rw (← c.self.view_is, ← c.publication.view_is) (λ stored honest up.
     let p : PublicationView = publication_view c.publication.inside in
     step_leaves _ _ stored p _ _ (Err Device)
-    (c.write_sectors.ensures.leaves stored honest (omega (arith, up.generation_is)) up.keeps))
+    (c.write_sectors.ensures.leaves stored honest (next_of _ _ up.generation_is) up.keeps))
 
 pub returns-then-left-le-STEP_SECTORS-clause-machine : goal.returns-then-left-le-STEP_SECTORS-clause-machine
 returns-then-left-le-STEP_SECTORS-clause-machine g c = rw (← c.self.view_is, ← c.publication.view_is) (λ known.
@@ -23,7 +52,7 @@ returns-then-left-le-STEP_SECTORS-clause-machine g c = rw (← c.self.view_is, �
     last_step_told known service p (ap (λ s. s.broken) c.self.view_is ∙ c.requires.unbroken)
     (c.publication.inside.written + c.min-more.result) c.install_now.result c.install_now.new.self.disk c.install_now.new.self
     (ap (λ s. s.publication) c.self.view_is ∙ c.requires.none)
-    c.install_now.ensures.told c.install_now.ensures.fault (omega (arith, c.sectors.ensures)) c.install_now.ensures.broken
+    c.install_now.ensures.told c.install_now.ensures.fault (last_left _ _ _ c.sectors.ensures c.if-left-le-STEP_SECTORS.true) c.install_now.ensures.broken
     (c.install_now.ensures.state known))
 
 pub returns-then-left-le-STEP_SECTORS-clause-any_moment : goal.returns-then-left-le-STEP_SECTORS-clause-any_moment
@@ -34,11 +63,11 @@ returns-then-left-le-STEP_SECTORS-clause-any_moment g c = rw (← c.self.view_is
     let between : IsUp (g.D.Sectors.sectors c.write_sectors.new.disk) (g.D.Sectors.history c.write_sectors.new.disk) stored
     (with_publication (record service { disk = c.write_sectors.new.disk }) (record p { written = c.publication.inside.written + c.min-more.result })) =
     up_further _ _ _ _ stored service p (c.self.inside.root.generation + 1) (c.publication.inside.written + c.min-more.result) c.write_sectors.new.disk up
-    c.write_sectors.ensures.disk.same_count refl (c.write_sectors.ensures.keeps stored written (omega (arith, up.generation_is)) up.keeps)
+    c.write_sectors.ensures.disk.same_count refl (c.write_sectors.ensures.keeps stored written (next_of _ _ up.generation_is) up.keeps)
     (c.in-Ok.ensures.first written) in
     last_step_leaves _ _ stored p _ _ _ _ c.install_now.result c.write_sectors.ensures.disk.same_count c.install_now.ensures.told
-    c.install_now.ensures.fault (omega (arith, c.sectors.ensures))
-    (c.write_sectors.ensures.leaves stored written (omega (arith, up.generation_is)) up.keeps)
+    c.install_now.ensures.fault (last_left _ _ _ c.sectors.ensures c.if-left-le-STEP_SECTORS.true)
+    (c.write_sectors.ensures.leaves stored written (next_of _ _ up.generation_is) up.keeps)
     (c.install_now.ensures.any_moment stored honest between))
 
 pub returns-then-left-le-STEP_SECTORS-clause-after : goal.returns-then-left-le-STEP_SECTORS-clause-after
@@ -49,7 +78,7 @@ returns-then-left-le-STEP_SECTORS-clause-after g c = rw (← c.self.view_is, ←
     let between : IsUp (g.D.Sectors.sectors c.write_sectors.new.disk) (g.D.Sectors.history c.write_sectors.new.disk) stored
     (with_publication (record service { disk = c.write_sectors.new.disk }) (record p { written = c.publication.inside.written + c.min-more.result })) =
     up_further _ _ _ _ stored service p (c.self.inside.root.generation + 1) (c.publication.inside.written + c.min-more.result) c.write_sectors.new.disk up
-    c.write_sectors.ensures.disk.same_count refl (c.write_sectors.ensures.keeps stored written (omega (arith, up.generation_is)) up.keeps)
+    c.write_sectors.ensures.disk.same_count refl (c.write_sectors.ensures.keeps stored written (next_of _ _ up.generation_is) up.keeps)
     (c.in-Ok.ensures.first written) in
     up_after_last _ stored p _ _ c.install_now.new.self c.install_now.result c.install_now.ensures.told
     (c.install_now.ensures.after stored honest between))
@@ -68,7 +97,7 @@ pub returns-clause-any_moment : goal.returns-clause-any_moment
 returns-clause-any_moment g c = rw (← c.self.view_is, ← c.publication.view_is) (λ stored honest up.
     let p : PublicationView = publication_view c.publication.inside in
     step_leaves _ _ stored p _ _ (Ok (c.sectors.result - c.publication.inside.written - c.min-more.result + 1))
-    (c.write_sectors.ensures.leaves stored honest (omega (arith, up.generation_is)) up.keeps))
+    (c.write_sectors.ensures.leaves stored honest (next_of _ _ up.generation_is) up.keeps))
 
 pub returns-clause-after : goal.returns-clause-after
 returns-clause-after g c = rw (← c.self.view_is, ← c.publication.view_is) (λ stored written up.
@@ -77,40 +106,40 @@ returns-clause-after g c = rw (← c.self.view_is, ← c.publication.view_is) (�
     let between : IsUp (g.D.Sectors.sectors c.write_sectors.new.disk) (g.D.Sectors.history c.write_sectors.new.disk) stored
     (with_publication (record service { disk = c.write_sectors.new.disk }) (record p { written = c.publication.inside.written + c.min-more.result })) =
     up_further _ _ _ _ stored service p (c.self.inside.root.generation + 1) (c.publication.inside.written + c.min-more.result) c.write_sectors.new.disk up
-    c.write_sectors.ensures.disk.same_count refl (c.write_sectors.ensures.keeps stored written (omega (arith, up.generation_is)) up.keeps)
+    c.write_sectors.ensures.disk.same_count refl (c.write_sectors.ensures.keeps stored written (next_of _ _ up.generation_is) up.keeps)
     (c.in-Ok.ensures.first written) in
     up_after_step _ stored p _ _ _ (c.sectors.result - c.publication.inside.written - c.min-more.result + 1) (omega arith) between)
 
 pub returns-in-Err-clause-archive : goal.returns-in-Err-clause-archive
 returns-in-Err-clause-archive g c other =
     beside_keeps g.D.Sectors.honest g.D.Sectors.history _ _ (sym c.self.view_is) c.write_sectors.new.disk c.self.inside.publication true
-    (c.self.inside.root.generation + 1) c.self.invariant.area (omega arith) c.write_sectors.ensures.beside
+    (c.self.inside.root.generation + 1) c.self.invariant.area (next_one _) c.write_sectors.ensures.beside
 
 pub returns-then-left-le-STEP_SECTORS-clause-archive : goal.returns-then-left-le-STEP_SECTORS-clause-archive
 returns-then-left-le-STEP_SECTORS-clause-archive g c = install_keeps g.D.Sectors.honest g.D.Sectors.history _ _ c.install_now.new.self
     c.install_now.result
     (beside_keeps g.D.Sectors.honest g.D.Sectors.history _ _ (sym c.self.view_is) c.write_sectors.new.disk c.self.inside.publication c.self.inside.broken
-    (c.self.inside.root.generation + 1) c.self.invariant.area (omega arith) c.write_sectors.ensures.beside)
+    (c.self.inside.root.generation + 1) c.self.invariant.area (next_one _) c.write_sectors.ensures.beside)
     c.install_now.ensures.disk.was_honest c.install_now.ensures.told c.install_now.ensures.archive
 
 pub returns-clause-archive : goal.returns-clause-archive
 returns-clause-archive g c other =
     beside_keeps g.D.Sectors.honest g.D.Sectors.history _ _ (sym c.self.view_is) c.write_sectors.new.disk _ c.self.inside.broken
-    (c.self.inside.root.generation + 1) c.self.invariant.area (omega arith) c.write_sectors.ensures.beside
+    (c.self.inside.root.generation + 1) c.self.invariant.area (next_one _) c.write_sectors.ensures.beside
 
 pub returns-in-Err-clause-area : goal.returns-in-Err-clause-area
 returns-in-Err-clause-area g c = rw (← c.self.view_is) (λ honest. beside_area c.self.inside.layout.sectors c.self.inside.root.generation _ _
-    (c.self.inside.root.generation + 1) (omega arith) (c.write_sectors.ensures.beside honest))
+    (c.self.inside.root.generation + 1) (next_one _) (c.write_sectors.ensures.beside honest))
 
 pub returns-clause-area : goal.returns-clause-area
 returns-clause-area g c = rw (← c.self.view_is) (λ honest. beside_area c.self.inside.layout.sectors c.self.inside.root.generation _ _
-    (c.self.inside.root.generation + 1) (omega arith) (c.write_sectors.ensures.beside honest))
+    (c.self.inside.root.generation + 1) (next_one _) (c.write_sectors.ensures.beside honest))
 
 pub returns-then-left-le-STEP_SECTORS-clause-area : goal.returns-then-left-le-STEP_SECTORS-clause-area
 returns-then-left-le-STEP_SECTORS-clause-area g c = rw (← c.self.view_is) (λ honest at inside.
     c.install_now.ensures.area c.self.inside.root.generation honest at inside
     ∙ beside_area c.self.inside.layout.sectors c.self.inside.root.generation _ _
-    (c.self.inside.root.generation + 1) (omega arith) (c.write_sectors.ensures.beside (c.install_now.ensures.disk.was_honest honest)) at inside)
+    (c.self.inside.root.generation + 1) (next_one _) (c.write_sectors.ensures.beside (c.install_now.ensures.disk.was_honest honest)) at inside)
 
 pub overflow_sub-left : goal.overflow_sub-left
 overflow_sub-left g c = omega (
@@ -125,7 +154,7 @@ write_sectors-requires-clause-order g c = omega arith
 pub write_sectors-requires-clause-within : goal.write_sectors-requires-clause-within
 write_sectors-requires-clause-within g c =
     let going = going_seen _ (service_view c.self.inside) _ (publication_view c.publication.inside) c.self.view_is c.publication.view_is c.requires.going in
-    omega (arith, c.sectors.ensures, c.min-more.ensures, going.2.written)
+    more_within _ _ _ c.sectors.ensures _ c.min-more.ensures going.2.written
 
 pub write_sectors-requires-clause-area : goal.write_sectors-requires-clause-area
 write_sectors-requires-clause-area g c =
@@ -156,7 +185,7 @@ pub returns-in-Err-clause-failed : goal.returns-in-Err-clause-failed
 returns-in-Err-clause-failed g c = rw (← c.self.view_is) c.in-Err.ensures.failed
 
 pub returns-in-Err-clause-steps : goal.returns-in-Err-clause-steps
-returns-in-Err-clause-steps g c = rw (← c.self.view_is) (λ honest. omega (arith, c.write_sectors.ensures.steps honest, c.min-more.ensures))
+returns-in-Err-clause-steps g c = rw (← c.self.view_is) (λ honest. few_steps _ _ _ _ _ (c.write_sectors.ensures.steps honest) c.min-more.ensures)
 
 pub invariant_of-self-then-left-le-STEP_SECTORS : goal.invariant_of-self-then-left-le-STEP_SECTORS
 invariant_of-self-then-left-le-STEP_SECTORS g c = service_on_disk c.write_sectors.ensures.disk.same_count c.self.invariant
@@ -173,13 +202,13 @@ install_now-requires-clause-going g c =
       going.0,
       going.1,
       going_further going.0 (publication_view c.publication.inside) (c.publication.inside.written + c.min-more.result) refl
-          (omega (arith, c.sectors.ensures, c.min-more.ensures, going.2.written)) going.2,
+          (more_within _ _ _ c.sectors.ensures _ c.min-more.ensures going.2.written) going.2,
     )
 
 pub install_now-requires-clause-written : goal.install_now-requires-clause-written
 install_now-requires-clause-written g c =
     let going = going_seen _ (service_view c.self.inside) _ (publication_view c.publication.inside) c.self.view_is c.publication.view_is c.requires.going in
-    omega (arith, c.sectors.ensures, c.min-more.ensures, c.if-left-le-STEP_SECTORS.true, going.2.written)
+    more_all _ _ _ c.sectors.ensures _ c.min-more.ensures going.2.written c.if-left-le-STEP_SECTORS.true
 
 pub returns-then-left-le-STEP_SECTORS-clause-fault : goal.returns-then-left-le-STEP_SECTORS-clause-fault
 returns-then-left-le-STEP_SECTORS-clause-fault g c = c.install_now.ensures.fault
@@ -199,15 +228,16 @@ pub returns-then-left-le-STEP_SECTORS-clause-steps : goal.returns-then-left-le-S
 returns-then-left-le-STEP_SECTORS-clause-steps g c = rw (← c.self.view_is) (λ honest.
     let going = going_seen _ (service_view c.self.inside) _ (publication_view c.publication.inside) c.self.view_is c.publication.view_is c.requires.going in
     let all : c.publication.inside.written + c.min-more.result ≡ sectors_taken c.publication.inside.content =
-    omega (arith, c.sectors.ensures, c.min-more.ensures, c.if-left-le-STEP_SECTORS.true, going.2.written) in
-    omega (arith, c.install_now.ensures.steps honest, c.write_sectors.ensures.last all (c.install_now.ensures.disk.was_honest honest), c.min-more.ensures))
+    more_all _ _ _ c.sectors.ensures _ c.min-more.ensures going.2.written c.if-left-le-STEP_SECTORS.true in
+    last_steps _ _ _ _ _ _ (c.install_now.ensures.steps honest) (c.write_sectors.ensures.last all (c.install_now.ensures.disk.was_honest honest))
+    c.min-more.ensures)
 
 pub invariant_of-self-2 : goal.invariant_of-self-2
 invariant_of-self-2 g c =
     let going = going_seen _ (service_view c.self.inside) _ (publication_view c.publication.inside) c.self.view_is c.publication.view_is c.requires.going in
     service_with (Some (record (publication_view c.publication.inside) { written = c.publication.inside.written + c.min-more.result }))
     (going_further c.self.inside.root (publication_view c.publication.inside) (c.publication.inside.written + c.min-more.result) going.1
-    (omega (arith, c.sectors.ensures, c.min-more.ensures, going.2.written)) going.2)
+    (more_within _ _ _ c.sectors.ensures _ c.min-more.ensures going.2.written) going.2)
     (service_on_disk c.write_sectors.ensures.disk.same_count c.self.invariant)
 
 pub returns-clause-size : goal.returns-clause-size
@@ -220,4 +250,4 @@ pub returns-clause-failed : goal.returns-clause-failed
 returns-clause-failed g c = rw (← c.self.view_is) c.in-Ok.ensures.failed
 
 pub returns-clause-steps : goal.returns-clause-steps
-returns-clause-steps g c = rw (← c.self.view_is) (λ honest. omega (arith, c.write_sectors.ensures.steps honest, c.min-more.ensures))
+returns-clause-steps g c = rw (← c.self.view_is) (λ honest. few_steps _ _ _ _ _ (c.write_sectors.ensures.steps honest) c.min-more.ensures)

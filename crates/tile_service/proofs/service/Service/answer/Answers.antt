@@ -1,7 +1,10 @@
-use Rattle.std.proofs.Common.{◌∙◌, Ok, Err, map, refl, sym}
+use Rattle.std.proofs.Common.{◌≡◌, ◌∙◌, Bool, true, false, Ok, Err, map, refl, sym, ap, subst}
+use Rattle.std.proofs.lemmas.Bool.{false≢true}
+use Rattle.sector_bytes.proofs.Counts.{same_count}
 use Rattle.cached_map.specs.Cached.{shared_bytes}
 use Rattle.feature_model.specs.Data.{put, delete, feature_data, change_data}
 use Rattle.tile_service.specs.Machine.{got, no_memory, single, batched, recorded_in, recorded_change, edit, begin, step, cancel, tile, look}
+use Rattle.tile_service.specs.Events.{IsTile}
 use Rattle.tile_service.proofs.Runs.Callers.{edit_step, tile_step, look_step, begin_step, step_step, cancel_step}
 use Rattle.tile_service.proofs.Runs.DeviceFaults.{other_answer, memory_told, outcome_counts, edit_risen, left_risen}
 use Rattle.tile_service.proofs.Runs.DeviceFaults.{begin_no_device, cancel_no_device, look_no_device}
@@ -169,3 +172,62 @@ returns-in-Step-clause-never_falls g c = outcome_counts c.publish_step.result _ 
 
 pub returns-in-Step-clause-device : goal.returns-in-Step-clause-device
 returns-in-Step-clause-device g c is = left_risen c.publish_step.result _ _ c.publish_step.ensures.failed (sym c.left-in-Step.ensures ∙ is)
+
+-- ---- events at which the disk isn't asked, or only read
+
+stays_whole : (was now : Bool) → now ≡ was → was ≡ false → now ≡ true → ⊥
+stays_whole was now same whole broke = false≢true (sym whole ∙ sym same ∙ broke)
+
+pub returns-in-Look-clause-never_falls : goal.returns-in-Look-clause-never_falls
+returns-in-Look-clause-never_falls g c = same_count _ _ refl
+
+pub returns-in-Look-clause-faults : goal.returns-in-Look-clause-faults
+returns-in-Look-clause-faults g c none whole = refl
+
+pub returns-in-Look-clause-failed : goal.returns-in-Look-clause-failed
+returns-in-Look-clause-failed g c whole broke = absurd (stays_whole _ _ refl whole broke)
+
+pub returns-in-Ok-clause-never_falls : goal.returns-in-Ok-clause-never_falls
+returns-in-Ok-clause-never_falls g c = c.tile.ensures.never_falls
+
+pub returns-in-Ok-clause-faults : goal.returns-in-Ok-clause-faults
+returns-in-Ok-clause-faults g c none = absurd (none (subst IsTile (sym c.in-Tile.is) tt))
+
+pub returns-in-Ok-clause-failed : goal.returns-in-Ok-clause-failed
+returns-in-Ok-clause-failed g c whole broke = absurd (stays_whole _ _ (ap (λ s. s.broken) c.tile.ensures.same) whole broke)
+
+pub returns-in-Err-clause-never_falls : goal.returns-in-Err-clause-never_falls
+returns-in-Err-clause-never_falls g c = c.tile.ensures.never_falls
+
+pub returns-in-Err-clause-faults : goal.returns-in-Err-clause-faults
+returns-in-Err-clause-faults g c none = absurd (none (subst IsTile (sym c.in-Tile.is) tt))
+
+pub returns-in-Err-clause-failed : goal.returns-in-Err-clause-failed
+returns-in-Err-clause-failed g c whole broke = absurd (stays_whole _ _ (ap (λ s. s.broken) c.tile.ensures.same) whole broke)
+
+pub returns-in-Begin-clause-never_falls : goal.returns-in-Begin-clause-never_falls
+returns-in-Begin-clause-never_falls g c = same_count _ _ (ap (λ s. g.D.Sectors.faults s.disk) c.publish_begin.ensures.same)
+
+pub returns-in-Begin-clause-faults : goal.returns-in-Begin-clause-faults
+returns-in-Begin-clause-faults g c none whole = ap (λ s. g.D.Sectors.faults s.disk) c.publish_begin.ensures.same
+
+pub returns-in-Begin-clause-failed : goal.returns-in-Begin-clause-failed
+returns-in-Begin-clause-failed g c whole broke = absurd (stays_whole _ _ (ap (λ s. s.broken) c.publish_begin.ensures.same) whole broke)
+
+pub returns-in-Ok-publish_cancel-clause-never_falls : goal.returns-in-Ok-publish_cancel-clause-never_falls
+returns-in-Ok-publish_cancel-clause-never_falls g c = same_count _ _ (ap (λ s. g.D.Sectors.faults s.disk) c.publish_cancel.ensures.same)
+
+pub returns-in-Ok-publish_cancel-clause-faults : goal.returns-in-Ok-publish_cancel-clause-faults
+returns-in-Ok-publish_cancel-clause-faults g c none whole = ap (λ s. g.D.Sectors.faults s.disk) c.publish_cancel.ensures.same
+
+pub returns-in-Ok-publish_cancel-clause-failed : goal.returns-in-Ok-publish_cancel-clause-failed
+returns-in-Ok-publish_cancel-clause-failed g c whole broke = absurd (stays_whole _ _ (ap (λ s. s.broken) c.publish_cancel.ensures.same) whole broke)
+
+pub returns-in-Err-publish_cancel-clause-never_falls : goal.returns-in-Err-publish_cancel-clause-never_falls
+returns-in-Err-publish_cancel-clause-never_falls g c = same_count _ _ (ap (λ s. g.D.Sectors.faults s.disk) c.publish_cancel.ensures.same)
+
+pub returns-in-Err-publish_cancel-clause-faults : goal.returns-in-Err-publish_cancel-clause-faults
+returns-in-Err-publish_cancel-clause-faults g c none whole = ap (λ s. g.D.Sectors.faults s.disk) c.publish_cancel.ensures.same
+
+pub returns-in-Err-publish_cancel-clause-failed : goal.returns-in-Err-publish_cancel-clause-failed
+returns-in-Err-publish_cancel-clause-failed g c whole broke = absurd (stays_whole _ _ (ap (λ s. s.broken) c.publish_cancel.ensures.same) whole broke)

@@ -7,6 +7,7 @@ use Rattle.feature_store.specs.Store.{FeatureMap}
 use Rattle.tile_service.specs.Limits.{KeepsBatchLimits, BreaksBatchLimit}
 use Rattle.tile_service.specs.Machine.{batched, recorded_in, HasTarget}
 use Rattle.tile_service.specs.declared.fault.ServiceFault.TheVariants.{Broken, NeedsUpgrade, NotFound, NumbersSpent}
+use Rattle.tile_service.proofs.Runs.DeviceFaults.{other_fault}
 use Rattle.tile_service.proofs.Edits.BatchLimits.{lacks_from}
 use Rattle.tile_service.proofs.Edits.EditStored.{refuses_edit}
 use Rattle.tile_service.proofs.Edits.Limits.{is_later, many_fit, breaks_refused}
@@ -17,12 +18,12 @@ use Rattle.tile_service.proofs.service.Service.batch.Goals as goal
 pub returns-then-self-clause-takes : goal.returns-then-self-clause-takes
 returns-then-self-clause-takes g c = rw (← c.self.view_is)
     (refuses_edit g.D.Sectors.sectors g.D.Sectors.honest g.D.Sectors.history g.D.Sectors.faults _ _ batched
-    (recorded_in c.self.inside.version (map change_data c.args.changes.items)) Broken refl (λ is. cc))
+    (recorded_in c.self.inside.version (map change_data c.args.changes.items)) Broken refl (other_fault Broken refl))
 
 pub returns-then-self-eq-FIRST_VERSION-clause-takes : goal.returns-then-self-eq-FIRST_VERSION-clause-takes
 returns-then-self-eq-FIRST_VERSION-clause-takes g c = rw (← c.self.view_is)
     (refuses_edit g.D.Sectors.sectors g.D.Sectors.honest g.D.Sectors.history g.D.Sectors.faults _ _ batched
-    (recorded_in c.self.inside.version (map change_data c.args.changes.items)) NeedsUpgrade refl (λ is. cc))
+    (recorded_in c.self.inside.version (map change_data c.args.changes.items)) NeedsUpgrade refl (other_fault NeedsUpgrade refl))
 
 pub returns-in-Err-clause-takes : goal.returns-in-Err-clause-takes
 returns-in-Err-clause-takes g c = rw (← c.self.view_is)
@@ -50,12 +51,12 @@ returns-then-not-has_targets-clause-machine g c = rw (← c.self.view_is) (λ kn
 pub returns-then-not-has_targets-clause-takes : goal.returns-then-not-has_targets-clause-takes
 returns-then-not-has_targets-clause-takes g c = rw (← c.self.view_is)
     (refuses_edit g.D.Sectors.sectors g.D.Sectors.honest g.D.Sectors.history g.D.Sectors.faults _ _ batched
-    (recorded_in c.self.inside.version (map change_data c.args.changes.items)) NotFound refl (λ is. cc))
+    (recorded_in c.self.inside.version (map change_data c.args.changes.items)) NotFound refl (other_fault NotFound refl))
 
 pub returns-then-self-2-clause-takes : goal.returns-then-self-2-clause-takes
 returns-then-self-2-clause-takes g c = rw (← c.self.view_is)
     (refuses_edit g.D.Sectors.sectors g.D.Sectors.honest g.D.Sectors.history g.D.Sectors.faults _ _ batched
-    (recorded_in c.self.inside.version (map change_data c.args.changes.items)) NumbersSpent refl (λ is. cc))
+    (recorded_in c.self.inside.version (map change_data c.args.changes.items)) NumbersSpent refl (other_fault NumbersSpent refl))
 
 pub returns-clause-takes : goal.returns-clause-takes
 returns-clause-takes g c = c.write_edit.ensures.takes batched

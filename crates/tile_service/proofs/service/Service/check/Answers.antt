@@ -1,6 +1,9 @@
 use Rattle.sector_disk.proofs.History.{any_sync, started}
-use Rattle.tile_service.proofs.Disk.Synced.{sync_leaves_stored, up_synced}
-use Rattle.std.proofs.Common.{inl, inr, None, refl, rules}
+use Rattle.tile_service.specs.declared.fault.ServiceFault.TheVariants.{Broken}
+use Rattle.tile_service.specs.Inside.{service_view}
+use Rattle.tile_service.proofs.Runs.DeviceFaults.{counted_failed, other_fault}
+use Rattle.tile_service.proofs.Disk.Synced.{sync_leaves_stored, up_synced, sync_shows}
+use Rattle.std.proofs.Common.{inl, inr, None, refl}
 use Rattle.tile_service.proofs.Archive.Unchanged.{shows_the_same}
 use Rattle.tile_service.proofs.Publications.Steps.{service_on_disk, service_idle}
 use Rattle.tile_service.proofs.service.Service.check.Goals as goal
@@ -32,7 +35,7 @@ pub returns-then-self-clause-disk : goal.returns-then-self-clause-disk
 returns-then-self-clause-disk g c = record { same_count = refl; was_honest = λ is_honest. is_honest }
 
 pub returns-then-self-clause-failed : goal.returns-then-self-clause-failed
-returns-then-self-clause-failed g c = inr ((λ is. cc), refl)
+returns-then-self-clause-failed g c = inr (other_fault Broken refl, refl)
 
 pub returns-then-self-clause-synced : goal.returns-then-self-clause-synced
 returns-then-self-clause-synced g c = λ honest. inl refl
@@ -81,4 +84,20 @@ returns-in-Err-clause-synced g c = rw (← c.self.view_is) c.in-Err.ensures.sync
 
 -- with an answer the must-fail edit acknowledged_edit_taken_away_for_a_while is refused at once
 pub returns-in-Err-clause-failed : goal.returns-in-Err-clause-failed
-returns-in-Err-clause-failed g c = rw (← c.self.view_is) (inl (refl, search rules))
+returns-in-Err-clause-failed g c = rw (← c.self.view_is) (inl (refl, counted_failed _ _ c.in-Err.ensures.faults))
+
+pub returns-in-Ok-clause-archive : goal.returns-in-Ok-clause-archive
+returns-in-Ok-clause-archive g c = rw (← c.self.view_is) (record {
+  generation = refl;
+  snapshot_len = refl;
+  archive_len = refl;
+  shows = λ archive shown is_honest. sync_shows _ _ (any_sync c.sync.result _ _ (c.sync.ensures.syncs is_honest)) (service_view c.self.inside) archive shown;
+})
+
+pub returns-in-Err-clause-archive : goal.returns-in-Err-clause-archive
+returns-in-Err-clause-archive g c = rw (← c.self.view_is) (record {
+  generation = refl;
+  snapshot_len = refl;
+  archive_len = refl;
+  shows = λ archive shown is_honest. sync_shows _ _ (any_sync c.sync.result _ _ (c.sync.ensures.syncs is_honest)) (service_view c.self.inside) archive shown;
+})

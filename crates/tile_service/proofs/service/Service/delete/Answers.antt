@@ -1,19 +1,22 @@
-use Rattle.std.proofs.Common.{◌≡◌, ◌≢◌, Ok, ℕ, List, [], ◌∷◌, refl, sym, ap, subst, arith, rules, length}
-use Rattle.edit_journal.specs.Appends.{ring_of, TakesSteps}
+use Rattle.std.specs.Prelude.{IsSome, option_map}
+use Rattle.std.proofs.Common.{◌≡◌, ◌≢◌, ◌∙◌, Ok, Err, ℕ, List, [], ◌∷◌, refl, sym, ap, subst, arith, rules, length}
+use Rattle.edit_journal.specs.Appends.{ring_of, IsAppendFault, TakesSteps}
 use Rattle.edit_journal.specs.Records.{IsRecordLength, parts_of, record_of}
+use Rattle.edit_journal.specs.Ring.{Ring}
 use Rattle.edit_text.specs.Recorded.{text_in}
 use Rattle.feature_model.specs.Data.{delete}
 use Rattle.feature_model.specs.Limits.{NumberFits}
-use Rattle.feature_store.specs.Store.{snapshot}
+use Rattle.feature_store.specs.Store.{FeatureMap, feature_at, snapshot}
 use Rattle.sector_disk.specs.Asked.{MayWrite}
 use Rattle.tile_service.specs.Inside.{service_view}
-use Rattle.tile_service.specs.Machine.{single, recorded_change}
-use Rattle.tile_service.specs.Service.{CountsDevice, IsUp}
+use Rattle.tile_service.specs.Machine.{single, recorded_change, AnswersEdit}
+use Rattle.tile_service.specs.Service.{CountsDevice, IsUp, going_of, state_of}
 use Rattle.tile_service.specs.Stored.{stored_records}
 use Rattle.tile_service.specs.declared.fault.ServiceFault.TheVariants.{Broken, NotFound, Device}
+use Rattle.tile_service.proofs.Runs.DeviceFaults.{other_fault}
 use Rattle.tile_service.proofs.Tiles.EarlierMaps.{since_on, now_on, right_on}
 use Rattle.tile_service.proofs.Edits.EditStored.{up_is_at, refuses_edit, append_counts, refused_unchanged, append_any_moment, refused_any_moment, up_with_edit}
-use Rattle.tile_service.proofs.Edits.ServiceAfter.{service_on, refused_service}
+use Rattle.tile_service.proofs.Edits.ServiceAfter.{service_on, refused_service, append_later, append_room, append_free, append_refuses}
 use Rattle.tile_service.proofs.Archive.Unchanged.{append_keeps, append_area}
 use Rattle.tile_service.proofs.Edits.Limits.{delete_recorded, text_length, short_after_edit}
 use Rattle.tile_service.proofs.service.Service.delete.Goals as goal
@@ -21,12 +24,12 @@ use Rattle.tile_service.proofs.service.Service.delete.Goals as goal
 pub returns-then-self-clause-takes : goal.returns-then-self-clause-takes
 returns-then-self-clause-takes g c = rw (← c.self.view_is)
     (refuses_edit g.D.Sectors.sectors g.D.Sectors.honest g.D.Sectors.history g.D.Sectors.faults _ _ single
-    (recorded_change c.self.inside.version (delete c.args.id)) Broken refl (λ is. cc))
+    (recorded_change c.self.inside.version (delete c.args.id)) Broken refl (other_fault Broken refl))
 
 pub returns-then-not-has-clause-takes : goal.returns-then-not-has-clause-takes
 returns-then-not-has-clause-takes g c = rw (← c.self.view_is)
     (refuses_edit g.D.Sectors.sectors g.D.Sectors.honest g.D.Sectors.history g.D.Sectors.faults _ _ single
-    (recorded_change c.self.inside.version (delete c.args.id)) NotFound refl (λ is. cc))
+    (recorded_change c.self.inside.version (delete c.args.id)) NotFound refl (other_fault NotFound refl))
 
 pub append-requires-clause-text : goal.append-requires-clause-text
 append-requires-clause-text g c =
@@ -145,12 +148,46 @@ pub invariant_of-self-in-Err : goal.invariant_of-self-in-Err
 invariant_of-self-in-Err g c = refused_service c.append.new.self c.self.inside.map c.self.inside.map c.append.ensures.disk.same_count c.in-Err.ensures.kept refl
     c.self.invariant
 
+pub same-self : goal.same-self
+same-self g c = refl
+
+pub same-self-then-not-has : goal.same-self-then-not-has
+same-self-then-not-has g c = refl
+
+pub remove-requires : goal.remove-requires
+remove-requires g c = record { later = append_later _ _ _ c.self.invariant.last_is c.in-Ok.ensures.number }
+
 -- with an answer the must-fail edit refused_edit_stands_in_an_image is refused at once
 pub returns-in-Ok-clause-machine : goal.returns-in-Ok-clause-machine
-returns-in-Ok-clause-machine g c = rw (← c.self.view_is) (λ known. record {
-  unbroken = c.if-self.false;
-  can = search rules;
-  room = search rules;
-  told = search rules;
-  made = search rules;
-})
+returns-in-Ok-clause-machine g c = rw (← c.self.view_is) (λ known.
+    let need = ap (λ (t : List ℕ). parts_of (length t)) (c.deletion_text-text.ensures c.args.id c.delete_edit_text-text.ensures) in
+    let there = subst (λ (m : FeatureMap). IsSome (feature_at m c.args.id)) c.store.ensures.features (c.has.ensures.found.0 c.if-not-has.false) in
+    let places = ap (λ (r : Ring). r.places) c.append.ensures.same.0 in
+    record {
+      unbroken = c.if-self.false;
+      can = record { version_is = refl; accepts = tt; wanted = there; number = search rules };
+      room = append_room _ _ _ _ _ _ c.append.new.self.room places c.in-Ok.ensures.used need;
+      told = c.in-Ok.ensures.number;
+      made = λ i. record (state_of known (service_view c.self.inside)) {
+        features = c.remove.ensures.map i;
+        last = c.in-Ok.ensures.last i;
+        free = append_free _ _ _ _ _ _ places c.in-Ok.ensures.used need i;
+      };
+    })
+
+pub returns-in-Err-clause-machine : goal.returns-in-Err-clause-machine
+returns-in-Err-clause-machine g c = rw (← c.self.view_is) (λ known.
+    let there = subst (λ (m : FeatureMap). IsSome (feature_at m c.args.id)) c.store.ensures.features (c.has.ensures.found.0 c.if-not-has.false) in
+    let need = ap (λ (t : List ℕ). parts_of (length t)) (c.deletion_text-text.ensures c.args.id c.delete_edit_text-text.ensures) in
+    let e = recorded_change c.self.inside.version (delete c.args.id) in
+    subst (λ f. AnswersEdit (state_of known (service_view c.self.inside)) single e (Err f) (state_of known c.fail.new.self)) (sym c.fail.ensures.told)
+    (append_refuses known c.self.inside (state_of known c.fail.new.self) single e _ _ c.if-self.false refl tt there c.in-Err.fault
+    (subst (λ (n : ℕ). IsAppendFault c.self.inside.journal n (g.D.Sectors.faults c.self.inside.disk) (g.D.Sectors.faults c.append.new.disk) c.in-Err.fault) need
+    c.in-Err.ensures.fault)
+    (λ other. ap (state_of known) (c.fail.ensures.other other)
+    ∙ (λ i. state_of known (service_view (record c.self.inside { journal = c.in-Err.ensures.kept i }))))
+    (λ device. ap (state_of known) c.fail.ensures.same
+    ∙ (λ i. record (state_of known (service_view (record c.self.inside { journal = c.in-Err.ensures.kept i }))) {
+      publication = option_map (going_of known.publishing) ((c.fail.ensures.device device).0 i);
+      broken = (c.fail.ensures.device device).1 i;
+    }))))

@@ -43,3 +43,45 @@ pub returns-in-Ok-clause-sound : goal.returns-in-Ok-clause-sound
 returns-in-Ok-clause-sound g c honest =
     read_sound (g.D.Sectors.sectors c.args.disk) c.in-Ok.found.layout.sectors c.in-Ok.found.version (seen (g.D.Sectors.history c.args.disk)) c.in-Ok.found.root
     c.in-Ok.found.journal c.in-Ok.found.map.features c.in-Ok.found.map.touched (c.in-Ok.ensures.found honest)
+
+pub returns-in-Ok-clause-disk : goal.returns-in-Ok-clause-disk
+returns-in-Ok-clause-disk g c = c.load.ensures.disk
+
+pub returns-in-Ok-clause-history : goal.returns-in-Ok-clause-history
+returns-in-Ok-clause-history g c = c.in-Ok.ensures.synced
+
+pub returns-in-Ok-clause-failed : goal.returns-in-Ok-clause-failed
+returns-in-Ok-clause-failed g c = c.in-Ok.ensures.failed
+
+pub returns-in-Ok-clause-unbroken : goal.returns-in-Ok-clause-unbroken
+returns-in-Ok-clause-unbroken g c = refl
+
+pub returns-in-Ok-clause-idle : goal.returns-in-Ok-clause-idle
+returns-in-Ok-clause-idle g c = refl
+
+pub returns-in-Err-clause-disk : goal.returns-in-Err-clause-disk
+returns-in-Err-clause-disk g c = c.load.ensures.disk
+
+pub returns-in-Err-clause-written : goal.returns-in-Err-clause-written
+returns-in-Err-clause-written g c = c.load.ensures.written
+
+pub returns-in-Err-clause-failed : goal.returns-in-Err-clause-failed
+returns-in-Err-clause-failed g c = c.in-Err.ensures.failed
+
+pub returns-in-Err-clause-fault : goal.returns-in-Err-clause-fault
+returns-in-Err-clause-fault g c = c.in-Err.ensures.fault
+
+pub returns-in-Err-clause-memory : goal.returns-in-Err-clause-memory
+returns-in-Err-clause-memory g c = c.in-Err.ensures.memory
+
+pub invariant_of-result : goal.invariant_of-result
+invariant_of-result g c = record {
+  within = c.in-Ok.ensures.within;
+  version_is = c.in-Ok.ensures.version;
+  ring = c.in-Ok.ensures.ring;
+  area = c.in-Ok.ensures.can.area;
+  texts = c.in-Ok.ensures.texts;
+  counted = c.in-Ok.ensures.counted;
+  last_is = c.in-Ok.ensures.last;
+  going = tt;
+}

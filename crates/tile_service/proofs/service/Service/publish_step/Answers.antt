@@ -5,6 +5,8 @@ use Rattle.sector_disk.specs.Moments.{LeavesOnly}
 use Rattle.tile_service.specs.Inside.{service_view}
 use Rattle.tile_service.specs.Machine.{AnswersStep, step}
 use Rattle.tile_service.specs.Service.{PublicationView, IsGoing, IsUp, EventLeaves, going_of, known_stepped, state_of, stored_after, with_publication}
+use Rattle.tile_service.specs.declared.fault.ServiceFault.TheVariants.{Broken, Idle}
+use Rattle.tile_service.proofs.Runs.DeviceFaults.{other_fault}
 use Rattle.tile_service.proofs.Archive.Unchanged.{keeps_on, shows_the_same}
 use Rattle.tile_service.proofs.Publications.Steps.{service_idle, tells_device, no_other_fault}
 use Rattle.tile_service.proofs.service.Service.publish_step.Goals as goal
@@ -25,7 +27,7 @@ pub returns-then-self-clause-disk : goal.returns-then-self-clause-disk
 returns-then-self-clause-disk g c = record { same_count = refl; was_honest = λ is_honest. is_honest }
 
 pub returns-then-self-clause-failed : goal.returns-then-self-clause-failed
-returns-then-self-clause-failed g c = inr ((λ is. cc), refl)
+returns-then-self-clause-failed g c = inr (other_fault Broken refl, refl)
 
 pub returns-then-self-clause-refused : goal.returns-then-self-clause-refused
 returns-then-self-clause-refused g c = λ other. refl
@@ -62,7 +64,7 @@ pub returns-in-None-clause-disk : goal.returns-in-None-clause-disk
 returns-in-None-clause-disk g c = rw (← c.self.view_is) (record { same_count = refl; was_honest = λ is_honest. is_honest })
 
 pub returns-in-None-clause-failed : goal.returns-in-None-clause-failed
-returns-in-None-clause-failed g c = rw (← c.self.view_is) (inr ((λ is. cc), refl))
+returns-in-None-clause-failed g c = rw (← c.self.view_is) (inr (other_fault Idle refl, refl))
 
 pub returns-in-None-clause-refused : goal.returns-in-None-clause-refused
 returns-in-None-clause-refused g c = λ other. idle g c ∙ c.self.view_is

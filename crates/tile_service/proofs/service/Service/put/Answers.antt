@@ -5,6 +5,7 @@ use Rattle.edit_text.specs.Recorded.{FitsVersion}
 use Rattle.tile_service.specs.Machine.{single, recorded_in, recorded_change}
 use Rattle.tile_service.specs.Runs.{TakesEdit}
 use Rattle.tile_service.specs.declared.fault.ServiceFault.TheVariants.{Broken, NumbersSpent, Memory}
+use Rattle.tile_service.proofs.Runs.DeviceFaults.{other_fault}
 use Rattle.tile_service.proofs.Edits.EditStored.{refuses_edit}
 use Rattle.tile_service.proofs.Edits.Limits.{put_allowed, one_fits}
 use Rattle.tile_service.proofs.service.Service.put.Goals as goal
@@ -12,7 +13,7 @@ use Rattle.tile_service.proofs.service.Service.put.Goals as goal
 pub returns-then-self-clause-takes : goal.returns-then-self-clause-takes
 returns-then-self-clause-takes g c = rw (← c.self.view_is)
     (refuses_edit g.D.Sectors.sectors g.D.Sectors.honest g.D.Sectors.history g.D.Sectors.faults _ _ single
-    (recorded_change c.self.inside.version (put c.args.id (feature_data c.args.feature))) Broken refl (λ is. cc))
+    (recorded_change c.self.inside.version (put c.args.id (feature_data c.args.feature))) Broken refl (other_fault Broken refl))
 
 pub returns-in-Err-clause-takes : goal.returns-in-Err-clause-takes
 returns-in-Err-clause-takes g c = rw (← c.self.view_is)
@@ -22,12 +23,12 @@ returns-in-Err-clause-takes g c = rw (← c.self.view_is)
 pub returns-then-self-2-clause-takes : goal.returns-then-self-2-clause-takes
 returns-then-self-2-clause-takes g c = rw (← c.self.view_is)
     (refuses_edit g.D.Sectors.sectors g.D.Sectors.honest g.D.Sectors.history g.D.Sectors.faults _ _ single
-    (recorded_change c.self.inside.version (put c.args.id (feature_data c.args.feature))) NumbersSpent refl (λ is. cc))
+    (recorded_change c.self.inside.version (put c.args.id (feature_data c.args.feature))) NumbersSpent refl (other_fault NumbersSpent refl))
 
 pub returns-in-Err-single_edit-clause-takes : goal.returns-in-Err-single_edit-clause-takes
 returns-in-Err-single_edit-clause-takes g c = rw (← c.self.view_is)
     (refuses_edit g.D.Sectors.sectors g.D.Sectors.honest g.D.Sectors.history g.D.Sectors.faults _ _ single
-    (recorded_change c.self.inside.version (put c.args.id (feature_data c.args.feature))) Memory refl (λ is. cc))
+    (recorded_change c.self.inside.version (put c.args.id (feature_data c.args.feature))) Memory refl (other_fault Memory refl))
 
 pub write_edit-requires-clause-allowed : goal.write_edit-requires-clause-allowed
 write_edit-requires-clause-allowed g c =

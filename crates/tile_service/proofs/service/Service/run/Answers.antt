@@ -166,3 +166,21 @@ returns-clause-faults g c = λ none. c.loop-event.invariant.faults (λ asks. non
 
 pub returns-clause-failed : goal.returns-clause-failed
 returns-clause-failed g c = λ none. c.loop-event.invariant.failed (λ asks. none (subst AsksTile (all_yielded g c) asks))
+
+pub same-self : goal.same-self
+same-self g c = refl
+
+pub same-self-2 : goal.same-self-2
+same-self-2 g c = refl
+
+pub unwrap-requires : goal.unwrap-requires
+unwrap-requires g c =
+    let inv = c.loop-event.invariant in
+    c.push.ensures.succeeds (omega (
+      arith,
+      inv.capacity,
+      inv.len,
+      length-append c.loop-event.yielded (into_iter_items c.loop-event.event-iterator),
+      ap length inv.items,
+      ap length c.in-Some.ensures.steps.0,
+    ))

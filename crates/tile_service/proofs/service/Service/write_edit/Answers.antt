@@ -1,21 +1,23 @@
-use Rattle.std.proofs.Common.{◌≡◌, ◌≢◌, Ok, ◌∙◌, ℕ, List, [], refl, sym, ap, subst, arith, length}
+use Rattle.std.specs.Prelude.{option_map}
+use Rattle.std.proofs.Common.{◌≡◌, ◌≢◌, Ok, Err, ◌∙◌, ℕ, List, [], refl, sym, ap, subst, arith, length}
 use Rattle.cached_map.specs.Cached.{CachedView, marks_after}
-use Rattle.edit_journal.specs.Appends.{ring_of, TakesSteps}
+use Rattle.edit_journal.specs.Appends.{ring_of, IsAppendFault, TakesSteps}
 use Rattle.edit_journal.specs.Records.{IsRecordLength, parts_of, record_of}
 use Rattle.edit_journal.specs.Ring.{Ring}
 use Rattle.edit_text.specs.Recorded.{IsRecorded, text_in, FitsVersion}
 use Rattle.feature_model.specs.Data.{ChangeData, edit_data}
 use Rattle.feature_store.specs.Store.{edited, snapshot}
 use Rattle.tile_cache.specs.Touched.{StaysElsewhere}
-use Rattle.tile_service.specs.Machine.{recorded_in}
+use Rattle.tile_service.specs.Machine.{recorded_in, AnswersEdit}
 use Rattle.sector_disk.specs.Asked.{MayWrite}
 use Rattle.tile_service.specs.Inside.{service_view}
-use Rattle.tile_service.specs.Service.{CountsDevice, IsUp, state_of}
+use Rattle.tile_service.specs.Service.{CountsDevice, IsUp, going_of, state_of}
 use Rattle.tile_service.specs.Stored.{stored_records}
 use Rattle.tile_service.specs.declared.fault.ServiceFault.TheVariants.{Device, Memory}
+use Rattle.tile_service.proofs.Runs.DeviceFaults.{other_fault}
 use Rattle.tile_service.proofs.Tiles.EarlierMaps.{since_on, now_on, right_on}
 use Rattle.tile_service.proofs.Edits.EditStored.{up_is_at, refuses_edit, append_counts, refused_unchanged, append_any_moment, refused_any_moment, up_with_edit}
-use Rattle.tile_service.proofs.Edits.ServiceAfter.{service_on, refused_service}
+use Rattle.tile_service.proofs.Edits.ServiceAfter.{service_on, refused_service, append_later, append_room, append_free, append_refuses}
 use Rattle.tile_service.proofs.Archive.Unchanged.{append_keeps, append_area}
 use Rattle.tile_service.proofs.Edits.Limits.{text_length, short_after_edit, short_enough}
 use Rattle.tile_service.proofs.service.Service.write_edit.Goals as goal
@@ -24,7 +26,7 @@ pub returns-in-Err-clause-takes : goal.returns-in-Err-clause-takes
 returns-in-Err-clause-takes g c = rw (← c.self.view_is)
     (λ call. refuses_edit g.D.Sectors.sectors g.D.Sectors.honest g.D.Sectors.history g.D.Sectors.faults _ _ call
     (recorded_in c.self.inside.version (edit_data c.args.requested)) Memory
-    (ap (λ m. service_view (record c.self.inside { map = m })) c.prepare.ensures.same) (λ is. cc))
+    (ap (λ m. service_view (record c.self.inside { map = m })) c.prepare.ensures.same) (other_fault Memory refl))
 
 pub append-requires-clause-text : goal.append-requires-clause-text
 append-requires-clause-text g c = subst (λ (t : List ℕ). IsRecordLength c.self.inside.version (length t))
@@ -165,3 +167,45 @@ returns-in-Err-clause-machine g c = rw (← c.self.view_is) (λ known call can a
   (allocates, can),
   ap (λ m. state_of known (service_view (record c.self.inside { map = m }))) c.prepare.ensures.same,
 ))
+
+pub make_edit-requires-clause-later : goal.make_edit-requires-clause-later
+make_edit-requires-clause-later g c =
+    append_later _ _ _ (ap (λ m. m.last) c.prepare.ensures.same ∙ c.self.invariant.last_is) c.in-Ok-append.ensures.number
+
+pub returns-in-Ok-append-clause-machine : goal.returns-in-Ok-append-clause-machine
+returns-in-Ok-append-clause-machine g c = rw (← c.self.view_is) (λ known call can allocates.
+    let need = ap (λ (t : List ℕ). parts_of (length t)) (c.deref.ensures.value ∙ c.in-Ok.ensures.text) in
+    let places = ap (λ (r : Ring). r.places) c.append.ensures.same.0 in
+    let later = c.make_edit.ensures.map ∙ ap (edited c.prepare.new.cached.features) c.in-Ok.ensures.prepared
+    ∙ ap (λ m. edited m.features (edit_data c.args.requested)) c.prepare.ensures.same in
+    record {
+      unbroken = ap (λ s. s.broken) c.self.view_is ∙ c.requires.unbroken;
+      can = can;
+      room = append_room _ _ _ _ _ _ c.append.new.self.room places c.in-Ok-append.ensures.used need;
+      told = c.in-Ok-append.ensures.number;
+      made = λ i. record (state_of known (service_view c.self.inside)) {
+        features = later i;
+        last = c.in-Ok-append.ensures.last i;
+        free = append_free _ _ _ _ _ _ places c.in-Ok-append.ensures.used need i;
+      };
+    })
+
+pub returns-clause-machine : goal.returns-clause-machine
+returns-clause-machine g c = rw (← c.self.view_is) (λ known call can allocates.
+    let need = ap (λ (t : List ℕ). parts_of (length t)) (c.deref.ensures.value ∙ c.in-Ok.ensures.text) in
+    let e = recorded_in c.self.inside.version (edit_data c.args.requested) in
+    subst (λ f. AnswersEdit (state_of known (service_view c.self.inside)) call e (Err f) (state_of known c.fail.new.self)) (sym c.fail.ensures.told)
+    (append_refuses known c.self.inside (state_of known c.fail.new.self) call e _ _ (ap (λ s. s.broken) c.self.view_is ∙ c.requires.unbroken)
+    can.version_is can.accepts can.wanted c.in-Err-append.fault
+    (subst (λ (n : ℕ). IsAppendFault c.self.inside.journal n (g.D.Sectors.faults c.self.inside.disk) (g.D.Sectors.faults c.append.new.disk)
+    c.in-Err-append.fault) need c.in-Err-append.ensures.fault)
+    (λ other. ap (state_of known) (c.fail.ensures.other other)
+    ∙ (λ i. state_of known (service_view (record c.self.inside { journal = c.in-Err-append.ensures.kept i; map = c.prepare.ensures.same i }))))
+    (λ device. ap (state_of known) c.fail.ensures.same
+    ∙ (λ i. record (state_of known (service_view (record c.self.inside {
+      journal = c.in-Err-append.ensures.kept i;
+      map = c.prepare.ensures.same i;
+    }))) {
+      publication = option_map (going_of known.publishing) ((c.fail.ensures.device device).0 i);
+      broken = (c.fail.ensures.device device).1 i;
+    }))))

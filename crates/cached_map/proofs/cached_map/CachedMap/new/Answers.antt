@@ -1,0 +1,40 @@
+use Rattle.std.proofs.Common.{[], refl, arith}
+use Rattle.std.proofs.lemmas.Result.{IfOk-from_err}
+use Rattle.tile_cache.specs.declared.cached_tiles.Origin.TheVariants.{Cut, Read}
+use Rattle.cached_map.proofs.Kept.{nothing_kept}
+use Rattle.cached_map.proofs.cached_map.CachedMap.new.Goals as goal
+
+pub invariant_of-result : goal.invariant_of-result
+invariant_of-result c = nothing_kept Cut c.args.store.features c.new-2.result c.args.last c.in_ok-kept.kept c.new-2.ensures c.in_ok-kept.ensures
+
+pub returns-clause-now : goal.returns-clause-now
+returns-clause-now c = record {
+  marks = [];
+  remembers = c.new-2.ensures;
+  number = omega arith;
+  tiles = λ z x y all. refl;
+}
+
+pub returns-clause-reads : goal.returns-clause-reads
+returns-clause-reads c = nothing_kept Read c.args.store.features c.new-2.result c.args.last c.in_ok-kept.kept c.new-2.ensures c.in_ok-kept.ensures
+
+pub returns-in_err-kept-clause-features : goal.returns-in_err-kept-clause-features
+returns-in_err-kept-clause-features c = IfOk-from_err _ _ c.from_residual.ensures.0
+
+pub returns-in_err-kept-clause-spare : goal.returns-in_err-kept-clause-spare
+returns-in_err-kept-clause-spare c = IfOk-from_err _ _ c.from_residual.ensures.0
+
+pub returns-in_err-kept-clause-last : goal.returns-in_err-kept-clause-last
+returns-in_err-kept-clause-last c = IfOk-from_err _ _ c.from_residual.ensures.0
+
+pub returns-in_err-kept-clause-untouched : goal.returns-in_err-kept-clause-untouched
+returns-in_err-kept-clause-untouched c = IfOk-from_err _ _ c.from_residual.ensures.0
+
+pub returns-in_err-kept-clause-now : goal.returns-in_err-kept-clause-now
+returns-in_err-kept-clause-now c = IfOk-from_err _ _ c.from_residual.ensures.0
+
+pub returns-in_err-kept-clause-nothing_kept : goal.returns-in_err-kept-clause-nothing_kept
+returns-in_err-kept-clause-nothing_kept c = IfOk-from_err _ _ c.from_residual.ensures.0
+
+pub returns-in_err-kept-clause-reads : goal.returns-in_err-kept-clause-reads
+returns-in_err-kept-clause-reads c = IfOk-from_err _ _ c.from_residual.ensures.0

@@ -1,0 +1,50 @@
+use Rattle.map_replies.proofs.SendingLemmas.{whole_answer, whole_words}
+use Rattle.map_replies.proofs.calls.Calls.allowed.Goals as goal
+
+pub returns-in-Tile-clause-answered : goal.returns-in-Tile-clause-answered
+returns-in-Tile-clause-answered g c = rw c.in-Tile.is (whole_answer _ _ c.tile.result c.tile.ensures.answered c.tile.ensures.writable)
+
+pub returns-in-Tile-clause-words : goal.returns-in-Tile-clause-words
+returns-in-Tile-clause-words g c = whole_words c.tile.result c.tile.ensures.writable
+
+pub returns-in-Tile-clause-held : goal.returns-in-Tile-clause-held
+returns-in-Tile-clause-held g c = c.tile.ensures.held
+
+pub returns-in-Feature-clause-answered : goal.returns-in-Feature-clause-answered
+returns-in-Feature-clause-answered g c =
+    rw c.in-Feature.is (whole_answer _ _ c.on_feature.result c.on_feature.ensures.answered c.on_feature.ensures.writable)
+
+pub returns-in-Feature-clause-words : goal.returns-in-Feature-clause-words
+returns-in-Feature-clause-words g c = whole_words c.on_feature.result c.on_feature.ensures.writable
+
+pub returns-in-Feature-clause-held : goal.returns-in-Feature-clause-held
+returns-in-Feature-clause-held g c = c.on_feature.ensures.held
+
+pub returns-in-FeatureFrom-clause-answered : goal.returns-in-FeatureFrom-clause-answered
+returns-in-FeatureFrom-clause-answered g c =
+    rw c.in-FeatureFrom.is (whole_answer _ _ c.feature_from.result c.feature_from.ensures.answered c.feature_from.ensures.writable)
+
+pub returns-in-FeatureFrom-clause-words : goal.returns-in-FeatureFrom-clause-words
+returns-in-FeatureFrom-clause-words g c = whole_words c.feature_from.result c.feature_from.ensures.writable
+
+pub returns-in-FeatureFrom-clause-held : goal.returns-in-FeatureFrom-clause-held
+returns-in-FeatureFrom-clause-held g c = c.feature_from.ensures.held
+
+pub returns-in-View-clause-answered : goal.returns-in-View-clause-answered
+returns-in-View-clause-answered g c = rw c.in-View.is c.on_view.ensures.answered
+
+pub returns-in-View-clause-words : goal.returns-in-View-clause-words
+returns-in-View-clause-words g c = c.on_view.ensures.words
+
+pub returns-in-View-clause-held : goal.returns-in-View-clause-held
+returns-in-View-clause-held g c = c.on_view.ensures.held
+
+pub returns-in-Action-clause-answered : goal.returns-in-Action-clause-answered
+returns-in-Action-clause-answered g c =
+    rw c.in-Action.is (whole_answer _ _ c.on_action.result c.on_action.ensures.answered c.on_action.ensures.writable)
+
+pub returns-in-Action-clause-words : goal.returns-in-Action-clause-words
+returns-in-Action-clause-words g c = whole_words c.on_action.result c.on_action.ensures.writable
+
+pub returns-in-Action-clause-held : goal.returns-in-Action-clause-held
+returns-in-Action-clause-held g c = c.on_action.ensures.held
