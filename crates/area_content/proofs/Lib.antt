@@ -1,4 +1,5 @@
 mod Bounds
+mod Exits
 pub mod Laws
 mod MapTiles
 mod Pieces

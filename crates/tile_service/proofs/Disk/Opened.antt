@@ -13,6 +13,7 @@ use Rattle.sector_disk.specs.declared.disk.TheConstants.{SECTOR_BYTES}
 use Rattle.sector_bytes.specs.Bytes.{StandsIn}
 use Rattle.generations.specs.Areas.{IsSize, journal_sectors, area_sectors, area_start}
 use Rattle.generations.specs.Disks.{LiveRoot, IsFaultOf}
+use Rattle.generations.specs.Faults.{CountsDevice}
 use Rattle.generations.specs.Sectors.{version_from}
 use Rattle.generations.specs.declared.fault.StoreFault.{StoreFault}
 use Rattle.generations.specs.declared.fault.StoreFault.TheVariants.{NotFormatted, TooSmall, Damaged, Device, Memory}
@@ -341,3 +342,18 @@ pub no_other_fault : (sectors n : ℕ) (stored : Stored) (image : Image) (fault 
 no_other_fault sectors n stored image fault holds (inl device) = inl device
 no_other_fault sectors n stored image fault holds (inr (inl memory)) = inr memory
 no_other_fault sectors n stored image fault holds (inr (inr is)) = absurd (no_open_fault sectors n stored image holds fault is)
+
+-- ---- what a fault makes of the count of faults
+
+-- a recovery's fault is told as one that counts as much
+pub recovery_counts : (fault : JournalFault) (old new : ℕ) → IsRecoverFault old new fault → CountsDevice (recovery_told_as fault) old new
+recovery_counts faults.NumbersSpent old new never = absurd never
+recovery_counts (faults.Full need free) old new never = absurd never
+recovery_counts faults.Device old new failed = failed
+recovery_counts faults.Damaged old new same = same
+recovery_counts faults.Memory old new same = same
+
+-- and no call of the disk failed where edits aren't replayed
+pub replay_counts : (records : List RecordData) (fault : StoreFault) (old new : ℕ) → IsReplayFault records fault → new ≡ old → CountsDevice fault old new
+replay_counts records fault old new (inl is) same = subst (λ (f : StoreFault). CountsDevice f old new) (sym is) same
+replay_counts records fault old new (inr w) same = subst (λ (f : StoreFault). CountsDevice f old new) (sym w.0) same

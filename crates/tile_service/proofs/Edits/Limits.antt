@@ -24,7 +24,7 @@ use Rattle.feature_store.specs.Store.{FeatureMap, changed, edited, snapshot}
 use Rattle.feature_store.specs.declared.limit.TheConstants.{TEXTS_END}
 use Rattle.feature_store.proofs.Laws.{snapshot_after_put, snapshot_after_delete}
 use Rattle.feature_model.specs.declared.fault.EditFault.{EditFault}
-use Rattle.tile_service.specs.Limits.{KeepsLimits, KeepsBatchLimits, BreaksBatchLimit}
+use Rattle.tile_service.specs.Limits.{KeepsLimits, KeepsBatchLimits, BreaksLimit, BreaksBatchLimit}
 use Rattle.tile_service.specs.Machine.{ServiceState, single, batched, recorded_in, recorded_change, HasTarget, CanMake, Refuses, EditFault as MachineFault}
 use Rattle.tile_service.specs.declared.fault.ServiceFault.{ServiceFault}
 use Rattle.tile_service.specs.declared.fault.ServiceFault.TheVariants.{Limit}
@@ -83,6 +83,13 @@ pub batch_can : (s : ServiceState) (cs : EditData) → IsVersion s.version → (
     → All (HasTarget s.features) cs → s.last < 2 ^ 64 - 1 → CanMake s batched (recorded_in s.version cs)
 batch_can s cs is later keeps targets number =
     record { version_is = refl; accepts = is_later s.version is later; wanted = (keeps, targets); number = number }
+
+-- a feature that breaks a limit is refused for that
+pub limit_refused : (s : ServiceState) (id : ℕ) (f : FeatureData) (fault : ServiceFault) (limit : EditFault) → fault ≡ Limit limit → s.broken ≡ false
+    → BreaksLimit id f limit → Refuses (MachineFault s fault single (recorded_change s.version (put id f))) s fault s
+limit_refused s id f fault limit is unbroken breaks =
+    subst (λ (told : ServiceFault). Refuses (MachineFault s told single (recorded_change s.version (put id f))) s told s) (sym is)
+    (unbroken, (tt, breaks), refl)
 
 -- a batch that breaks a limit is refused for that
 pub breaks_refused : (s : ServiceState) (cs : EditData) (fault : ServiceFault) (limit : EditFault) → fault ≡ Limit limit → s.broken ≡ false

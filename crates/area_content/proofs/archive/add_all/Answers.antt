@@ -21,3 +21,10 @@ returns-in-Err-clause-fault c =
     let map = c.loop-fault.invariant.map in
     let can = subst (λ (m : FeatureMap). CanFit m metadata c.args.area c.loop-fault.builder) (sym map) c.loop-fault.invariant.can in
     subst (λ (m : FeatureMap). IsContentFault m metadata c.args.area c.in-Err.fault) map (c.in-Err.ensures.fault metadata can)
+
+pub add_next-requires-clause-area : goal.add_next-requires-clause-area
+add_next-requires-clause-area c = c.requires.area
+
+pub add_next-requires-clause-added : goal.add_next-requires-clause-added
+add_next-requires-clause-added c = subst (λ (m : FeatureMap). AreAdded m c.loop-fault.tiles.from c.loop-fault.builder) (sym c.loop-fault.invariant.map)
+    c.loop-fault.invariant.added

@@ -4,8 +4,9 @@ use Rattle.feature_store.proofs.Below.{none_left}
 use Rattle.pm_build.specs.Building.{AreFew}
 use Rattle.pm_build.specs.Tiles.{Tile}
 use Rattle.area_content.specs.Faults.{AreAdded, IsContentFault}
-use Rattle.area_content.proofs.Bounds.{many_tiles, fault_told}
+use Rattle.area_content.proofs.Bounds.{many_tiles, fault_told, full_of_long}
 use Rattle.area_content.proofs.MapTiles.{can_be_added, below_end, next_added}
+use Rattle.area_content.proofs.Exits.{no_success, no_false}
 use Rattle.area_content.proofs.archive.add_next.Goals as goal
 
 pub returns-in-Ok-None-clause-last : goal.returns-in-Ok-None-clause-last
@@ -60,3 +61,75 @@ returns-clause-fault c metadata can =
     (fault_told old.features metadata c.args.area c.in-Err-add.fault
     (λ many. many_tiles old.features metadata c.args.area old.from c.args.builder.now tile c.requires.added next.0 short
     ((rw c.deref.ensures.value at c.in-Err-add.ensures.many).0 (ap (λ f. Err f) many))))
+
+pub returns-in-Ok-None-clause-map : goal.returns-in-Ok-None-clause-map
+returns-in-Ok-None-clause-map c = c.next.ensures.map
+
+pub returns-in-Ok-None-clause-added : goal.returns-in-Ok-None-clause-added
+returns-in-Ok-None-clause-added c same = absurd (no_false same)
+
+pub returns-in-Ok-None-clause-grown : goal.returns-in-Ok-None-clause-grown
+returns-in-Ok-None-clause-grown c same = absurd (no_false same)
+
+pub returns-in-Ok-None-clause-further : goal.returns-in-Ok-None-clause-further
+returns-in-Ok-None-clause-further c same = absurd (no_false same)
+
+pub returns-in-Err-clause-map : goal.returns-in-Err-clause-map
+returns-in-Err-clause-map c = c.next.ensures.map
+
+pub returns-in-Err-clause-added : goal.returns-in-Err-clause-added
+returns-in-Err-clause-added c same = absurd (no_success _ _ same)
+
+pub returns-in-Err-clause-grown : goal.returns-in-Err-clause-grown
+returns-in-Err-clause-grown c same = absurd (no_success _ _ same)
+
+pub returns-in-Err-clause-further : goal.returns-in-Err-clause-further
+returns-in-Err-clause-further c same = absurd (no_success _ _ same)
+
+pub returns-in-Err-clause-last : goal.returns-in-Err-clause-last
+returns-in-Err-clause-last c same = absurd (no_success _ _ same)
+
+pub returns-then-len-clause-map : goal.returns-then-len-clause-map
+returns-then-len-clause-map c = c.next.ensures.map
+
+pub returns-then-len-clause-added : goal.returns-then-len-clause-added
+returns-then-len-clause-added c same = absurd (no_success _ _ same)
+
+pub returns-then-len-clause-grown : goal.returns-then-len-clause-grown
+returns-then-len-clause-grown c same = absurd (no_success _ _ same)
+
+pub returns-then-len-clause-further : goal.returns-then-len-clause-further
+returns-then-len-clause-further c same = absurd (no_success _ _ same)
+
+pub returns-then-len-clause-last : goal.returns-then-len-clause-last
+returns-then-len-clause-last c same = absurd (no_success _ _ same)
+
+pub returns-in-Ok-clause-map : goal.returns-in-Ok-clause-map
+returns-in-Ok-clause-map c = c.next.ensures.map
+
+pub returns-in-Ok-clause-last : goal.returns-in-Ok-clause-last
+returns-in-Ok-clause-last c same = absurd (no_false (sym same))
+
+pub returns-clause-map : goal.returns-clause-map
+returns-clause-map c = c.next.ensures.map
+
+pub returns-clause-added : goal.returns-clause-added
+returns-clause-added c same = absurd (no_success _ _ same)
+
+pub returns-clause-grown : goal.returns-clause-grown
+returns-clause-grown c same = absurd (no_success _ _ same)
+
+pub returns-clause-further : goal.returns-clause-further
+returns-clause-further c same = absurd (no_success _ _ same)
+
+pub returns-clause-last : goal.returns-clause-last
+returns-clause-last c same = absurd (no_success _ _ same)
+
+pub returns-then-len-clause-fault : goal.returns-then-len-clause-fault
+returns-then-len-clause-fault c metadata can =
+    let old = c.args.tiles.now in
+    let tile : Tile = (c.in-Ok-Some.tile.0, c.in-Ok-Some.tile.1.items) in
+    let next = rw c.in-Ok-Some.field-0-is at c.in-Ok-Some.ensures.tile in
+    full_of_long old.features metadata c.args.area old.from c.len-then-len.result c.sectors_for.result c.args.builder.now tile c.requires.added can next.0
+    (omega (arith, c.if-len.true, c.len.ensures, c.len-then-len.ensures)) (omega (arith, c.len-then-len.ensures, c.in-Ok-Some.tile.1.ok))
+    c.requires.area c.sectors_for.ensures.taken

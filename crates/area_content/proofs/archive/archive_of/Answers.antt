@@ -1,11 +1,12 @@
 use Rattle.std.proofs.lemmas.Grind.{common_steps}
-use Rattle.std.proofs.Common.{◌≡◌, ◌≢◌, true, ℕ, List, [], ◌++◌, sym, ap, ◌∙◌, arith}
+use Rattle.std.proofs.Common.{◌≡◌, ◌≢◌, true, ℕ, List, [], ◌++◌, sym, ap, ◌∙◌, arith, refl, length}
 use Rattle.std.proofs.lemmas.Bool.{false≢true}
 use Rattle.std.proofs.lemmas.Result.{IfOk-weaker}
 use Rattle.pm_metadata.specs.Archive.{IsArchiveOf}
 use Rattle.pm_build.specs.Built.{archive_bytes, tile_content}
 use Rattle.area_content.specs.Tiles.{IsArchiveOfMap}
 use Rattle.area_content.proofs.MapTiles.{none_is_archive, some_are_archive}
+use Rattle.area_content.proofs.Bounds.{some_bounded}
 use Rattle.area_content.proofs.archive.archive_of.Goals as goal
 
 pub returns-then-is_empty-clause-archive : goal.returns-then-is_empty-clause-archive
@@ -24,3 +25,27 @@ returns-clause-archive c m is_map are =
 
 pub returns-then-is_empty-clause-bounded : goal.returns-then-is_empty-clause-bounded
 returns-then-is_empty-clause-bounded c = grind (arith, common_steps)
+
+pub returns-then-is_empty-clause-of_tiles : goal.returns-then-is_empty-clause-of_tiles
+returns-then-is_empty-clause-of_tiles c some = absurd (some (c.is_empty.ensures.0 c.if-is_empty.true))
+
+pub returns-then-is_empty-clause-least : goal.returns-then-is_empty-clause-least
+returns-then-is_empty-clause-least c some = absurd (some (c.is_empty.ensures.0 c.if-is_empty.true))
+
+pub same-builder : goal.same-builder
+same-builder c = refl
+
+pub finish-requires-clause-some : goal.finish-requires-clause-some
+finish-requires-clause-some c none = false≢true (sym c.if-is_empty.false ∙ c.is_empty.ensures.1 none)
+
+pub finish-requires-clause-metadata : goal.finish-requires-clause-metadata
+finish-requires-clause-metadata c = c.requires.metadata
+
+pub returns-clause-of_tiles : goal.returns-clause-of_tiles
+returns-clause-of_tiles c some = c.finish.ensures.archive
+
+pub returns-clause-least : goal.returns-clause-least
+returns-clause-least c some = c.finish.ensures.least
+
+pub returns-clause-bounded : goal.returns-clause-bounded
+returns-clause-bounded c = some_bounded c.args.builder (length c.args.metadata.now) c.finish.result c.finish.ensures.size

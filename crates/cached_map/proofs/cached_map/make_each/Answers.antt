@@ -76,3 +76,20 @@ returns-clause-stays c marks first before =
     let empty = nothing_left (into_iter_items c.loop-change.change-iterator) (sym inv.left ∙ c.in-None.ensures.steps.0) in
     let all = sym (append-nil yielded) ∙ ap (λ l. yielded ++ l) (sym empty) ∙ inv.items in
     subst (λ l. StaysElsewhere (marks_after m (map prepared_data l) c.args.number marks) first c.loop-change.touched) all (inv.stays marks first before)
+
+pub returns-clause-map : goal.returns-clause-map
+returns-clause-map c =
+    let inv = c.loop-change.invariant in
+    let yielded = c.loop-change.yielded in
+    let empty = nothing_left (into_iter_items c.loop-change.change-iterator) (sym inv.left ∙ c.in-None.ensures.steps.0) in
+    let all = sym (append-nil yielded) ∙ ap (λ l. yielded ++ l) (sym empty) ∙ inv.items in
+    inv.map_is ∙ ap (λ l. edited c.args.store.now.features (map prepared_data l)) all
+
+pub returns-clause-marks : goal.returns-clause-marks
+returns-clause-marks c marks before =
+    let inv = c.loop-change.invariant in
+    let m = c.args.store.now.features in
+    let yielded = c.loop-change.yielded in
+    let empty = nothing_left (into_iter_items c.loop-change.change-iterator) (sym inv.left ∙ c.in-None.ensures.steps.0) in
+    let all = sym (append-nil yielded) ∙ ap (λ l. yielded ++ l) (sym empty) ∙ inv.items in
+    subst (λ l. Remembers c.loop-change.touched (marks_after m (map prepared_data l) c.args.number marks)) all (inv.marks marks before)

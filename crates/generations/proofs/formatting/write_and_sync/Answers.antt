@@ -1,6 +1,7 @@
 use Rattle.std.proofs.lemmas.Result.{IfOk-from_err}
 use Rattle.sector_disk.proofs.AskedLaws.{writes_on}
 use Rattle.generations.proofs.Parts.{wrote_leaves, stood_leaves}
+use Rattle.std.proofs.Common.{◌∙◌}
 use Rattle.generations.proofs.formatting.write_and_sync.Goals as goal
 
 pub returns-in_err-write-clause-leaves : goal.returns-in_err-write-clause-leaves
@@ -25,3 +26,9 @@ returns-in_err-write-clause-stands g c honest = IfOk-from_err _ _ c.from_residua
 
 pub returns-in_err-sync-clause-stands : goal.returns-in_err-sync-clause-stands
 returns-in_err-sync-clause-stands g c honest = IfOk-from_err _ _ c.from_residual-in_err-sync.ensures.0
+
+pub returns-in_err-write-clause-disk : goal.returns-in_err-write-clause-disk
+returns-in_err-write-clause-disk g c = c.write.ensures.disk
+
+pub returns-clause-failed : goal.returns-clause-failed
+returns-clause-failed g c = c.in_ok-sync.ensures.faults ∙ c.in_ok-write.ensures.faults

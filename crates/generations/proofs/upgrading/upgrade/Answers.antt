@@ -1,4 +1,4 @@
-use Rattle.std.proofs.Common.{◌≡◌, inl, inr, ⊎_elim, ℕ, sym, ap, subst, ◌∙◌, arith}
+use Rattle.std.proofs.Common.{◌≡◌, inl, inr, ⊎_elim, ℕ, sym, ap, subst, ◌∙◌, arith, refl}
 use Rattle.sector_disk.specs.Disk.{History, moment, seen}
 use Rattle.sector_disk.specs.Disk.History.{synced}
 use Rattle.sector_disk.proofs.AskedLaws.{reads_may, writes_on}
@@ -6,6 +6,7 @@ use Rattle.sector_disk.proofs.History.{any_sync}
 use Rattle.generations.specs.Disks.{IsFaultOf}
 use Rattle.generations.specs.Sectors.{IsFormat, version_from}
 use Rattle.generations.proofs.Upgrades.{sync_upgrades, upgraded_already, write_upgrades, upgraded_now}
+use Rattle.generations.specs.Faults.{CountsDevice}
 use Rattle.generations.proofs.upgrading.upgrade.Goals as goal
 
 pub returns-in-Err-clause-any_moment : goal.returns-in-Err-clause-any_moment
@@ -112,3 +113,68 @@ returns-in-Err-write_and_sync-clause-steps g c honest =
     let there = c.write_and_sync.ensures.disk.was_honest honest in
     let before = c.in-Ok.ensures.syncs (c.read_layout.ensures.disk.was_honest there) in
     omega (arith, c.write_and_sync.ensures.steps honest, ap moment (c.read_layout.ensures.disk.same_history there ∙ before))
+
+pub returns-in-Err-clause-disk : goal.returns-in-Err-clause-disk
+returns-in-Err-clause-disk g c = c.sync.ensures.disk
+
+pub returns-in-Err-clause-only : goal.returns-in-Err-clause-only
+returns-in-Err-clause-only g c = inr (inr refl)
+
+pub returns-in-Err-clause-fault : goal.returns-in-Err-clause-fault
+returns-in-Err-clause-fault g c honest = inl refl
+
+pub returns-in-Err-clause-unwritten : goal.returns-in-Err-clause-unwritten
+returns-in-Err-clause-unwritten g c honest = inl refl
+
+pub returns-in-Err-clause-already : goal.returns-in-Err-clause-already
+returns-in-Err-clause-already g c honest last = c.in-Err.ensures.syncs honest
+
+pub returns-in-Err-read_layout-clause-failed : goal.returns-in-Err-read_layout-clause-failed
+returns-in-Err-read_layout-clause-failed g c = subst (λ (count : ℕ). CountsDevice c.in-Err-read_layout.fault count (g.D.Sectors.faults c.read_layout.new.disk))
+    c.in-Ok.ensures.faults c.in-Err-read_layout.ensures.failed
+
+pub returns-in-Err-read_layout-clause-only : goal.returns-in-Err-read_layout-clause-only
+returns-in-Err-read_layout-clause-only g c = c.in-Err-read_layout.ensures.only
+
+pub returns-in-Err-read_layout-clause-unwritten : goal.returns-in-Err-read_layout-clause-unwritten
+returns-in-Err-read_layout-clause-unwritten g c honest =
+    inr (c.read_layout.ensures.disk.same_history honest ∙ c.in-Ok.ensures.syncs (c.read_layout.ensures.disk.was_honest honest))
+
+pub returns-in-Err-read_layout-clause-already : goal.returns-in-Err-read_layout-clause-already
+returns-in-Err-read_layout-clause-already g c honest last =
+    inr (c.read_layout.ensures.disk.same_history honest ∙ c.in-Ok.ensures.syncs (c.read_layout.ensures.disk.was_honest honest))
+
+pub returns-in-Err-read_layout-clause-others : goal.returns-in-Err-read_layout-clause-others
+returns-in-Err-read_layout-clause-others g c honest at other =
+    ap (λ (h : History). seen h at) (c.read_layout.ensures.disk.same_history honest ∙ c.in-Ok.ensures.syncs (c.read_layout.ensures.disk.was_honest honest))
+
+pub returns-then-version-eq-LAST_VERSION-clause-failed : goal.returns-then-version-eq-LAST_VERSION-clause-failed
+returns-then-version-eq-LAST_VERSION-clause-failed g c = c.in-Ok-read_layout.ensures.failed ∙ c.in-Ok.ensures.faults
+
+pub returns-then-version-eq-LAST_VERSION-clause-steps : goal.returns-then-version-eq-LAST_VERSION-clause-steps
+returns-then-version-eq-LAST_VERSION-clause-steps g c honest =
+    let before = c.in-Ok.ensures.syncs (c.read_layout.ensures.disk.was_honest honest) in
+    omega (arith, ap moment (c.read_layout.ensures.disk.same_history honest ∙ before))
+
+pub returns-then-version-eq-LAST_VERSION-clause-already : goal.returns-then-version-eq-LAST_VERSION-clause-already
+returns-then-version-eq-LAST_VERSION-clause-already g c honest last =
+    inr (c.read_layout.ensures.disk.same_history honest ∙ c.in-Ok.ensures.syncs (c.read_layout.ensures.disk.was_honest honest))
+
+pub returns-then-version-eq-LAST_VERSION-clause-others : goal.returns-then-version-eq-LAST_VERSION-clause-others
+returns-then-version-eq-LAST_VERSION-clause-others g c honest at other =
+    ap (λ (h : History). seen h at) (c.read_layout.ensures.disk.same_history honest ∙ c.in-Ok.ensures.syncs (c.read_layout.ensures.disk.was_honest honest))
+
+pub returns-in-Err-write_and_sync-clause-only : goal.returns-in-Err-write_and_sync-clause-only
+returns-in-Err-write_and_sync-clause-only g c = inr (inr refl)
+
+pub returns-in-Err-write_and_sync-clause-fault : goal.returns-in-Err-write_and_sync-clause-fault
+returns-in-Err-write_and_sync-clause-fault g c honest = inl refl
+
+pub returns-in-Err-write_and_sync-clause-unwritten : goal.returns-in-Err-write_and_sync-clause-unwritten
+returns-in-Err-write_and_sync-clause-unwritten g c honest = inl refl
+
+pub returns-in-Err-write_and_sync-clause-already : goal.returns-in-Err-write_and_sync-clause-already
+returns-in-Err-write_and_sync-clause-already g c honest last =
+    let there = c.write_and_sync.ensures.disk.was_honest honest in
+    let before = c.in-Ok.ensures.syncs (c.read_layout.ensures.disk.was_honest there) in
+    absurd (c.if-version-eq-LAST_VERSION.false (sym (version_read _ _ c.in-Ok-read_layout.found.1 before (c.in-Ok-read_layout.ensures.version there)) ∙ last))

@@ -14,7 +14,8 @@ use Rattle.tile_service.specs.After.{after}
 use Rattle.feature_store.specs.declared.limit.TheConstants.{TEXTS_END}
 use Rattle.tile_service.specs.Replayed.{bytes_of}
 use Rattle.tile_service.specs.Tiles.{WereMaps}
-use Rattle.tile_service.proofs.Disk.Opened.{recovery_fault, text_fault, texts_short, replayed_short}
+use Rattle.tile_service.proofs.Disk.Opened.{recovery_fault, text_fault, texts_short, replayed_short, recovery_counts, replay_counts}
+use Rattle.generations.specs.Faults.{CountsDevice}
 use Rattle.tile_service.proofs.opening.read_edits.Goals as goal
 
 pub returns-in-Err-clause-fault : goal.returns-in-Err-clause-fault
@@ -124,3 +125,17 @@ pub returns-in-Ok-replay-clause-ring : goal.returns-in-Ok-replay-clause-ring
 returns-in-Ok-replay-clause-ring g c =
     let ring : ℕ → Ring = λ places. record { first = 3; places = places } in
     c.in-Ok.ensures.same.0 ∙ ap ring c.args.layout.journal_is
+
+pub recover-requires-clause-ring : goal.recover-requires-clause-ring
+recover-requires-clause-ring g c = omega (arith, c.args.layout.fits, c.requires.within)
+
+pub recover-requires-clause-small : goal.recover-requires-clause-small
+recover-requires-clause-small g c = omega (arith, c.args.layout.fits, c.args.layout.size.1)
+
+pub returns-in-Err-clause-failed : goal.returns-in-Err-clause-failed
+returns-in-Err-clause-failed g c = subst (λ f. CountsDevice f (g.D.Sectors.faults c.args.disk.now) (g.D.Sectors.faults c.recover.new.disk))
+    (sym c.to_store_fault.ensures) (recovery_counts c.in-Err.fault _ _ c.in-Err.ensures.failed)
+
+pub returns-in-Err-replay-clause-failed : goal.returns-in-Err-replay-clause-failed
+returns-in-Err-replay-clause-failed g c =
+    replay_counts (records_of c.in-Ok.found.1.items) c.in-Err-replay.fault _ _ c.in-Err-replay.ensures.fault c.in-Ok.ensures.failed

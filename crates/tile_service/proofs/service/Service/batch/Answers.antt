@@ -1,4 +1,4 @@
-use Rattle.std.proofs.Common.{◌∙◌, List, map, refl, sym, subst}
+use Rattle.std.proofs.Common.{◌∙◌, List, map, refl, sym, subst, arith}
 use Rattle.std.specs.List.{All}
 use Rattle.std.proofs.lemmas.Bool.{false≢true}
 use Rattle.feature_model.specs.Data.{change_data}
@@ -10,7 +10,7 @@ use Rattle.tile_service.specs.declared.fault.ServiceFault.TheVariants.{Broken, N
 use Rattle.tile_service.proofs.Runs.DeviceFaults.{other_fault}
 use Rattle.tile_service.proofs.Edits.BatchLimits.{lacks_from}
 use Rattle.tile_service.proofs.Edits.EditStored.{refuses_edit}
-use Rattle.tile_service.proofs.Edits.Limits.{is_later, many_fit, breaks_refused}
+use Rattle.tile_service.proofs.Edits.Limits.{is_later, many_fit, breaks_refused, batch_can}
 use Rattle.tile_service.specs.Inside.{service_view}
 use Rattle.tile_service.specs.Service.{state_of}
 use Rattle.tile_service.proofs.service.Service.batch.Goals as goal
@@ -82,3 +82,50 @@ write_edit-requires-clause-allowed g c = (subst (λ (cs : List Change). KeepsBat
 pub write_edit-requires-clause-fits : goal.write_edit-requires-clause-fits
 write_edit-requires-clause-fits g c = rw (← c.self.view_is)
     (many_fit c.self.inside.version (map change_data c.args.changes.items) c.self.invariant.version_is c.if-self-eq-FIRST_VERSION.false)
+
+pub same-self : goal.same-self
+same-self g c = refl
+
+pub same-self-then-self-eq-FIRST_VERSION : goal.same-self-then-self-eq-FIRST_VERSION
+same-self-then-self-eq-FIRST_VERSION g c = refl
+
+pub same-self-in-Err : goal.same-self-in-Err
+same-self-in-Err g c = refl
+
+pub same-self-then-not-has_targets : goal.same-self-then-not-has_targets
+same-self-then-not-has_targets g c = refl
+
+pub same-self-then-self-2 : goal.same-self-then-self-2
+same-self-then-self-2 g c = refl
+
+pub same-self-2 : goal.same-self-2
+same-self-2 g c = refl
+
+pub write_edit-requires-clause-number : goal.write_edit-requires-clause-number
+write_edit-requires-clause-number g c = rw (← c.self.view_is) (omega arith)
+
+pub returns-then-self-2-clause-machine : goal.returns-then-self-2-clause-machine
+returns-then-self-2-clause-machine g c = rw (← c.self.view_is) (λ known. (
+  c.if-self.false,
+  (
+    is_later c.self.inside.version c.self.invariant.version_is c.if-self-eq-FIRST_VERSION.false,
+    (
+      subst (λ (cs : List Change). KeepsBatchLimits (map change_data cs)) c.deref.ensures.value c.in-Ok.ensures.ok,
+      subst (λ (m : FeatureMap). All (HasTarget m) (map change_data c.args.changes.items)) c.store.ensures.features
+          (subst (λ (cs : List Change). All (HasTarget c.store.result.now.features) (map change_data cs)) c.deref-2.ensures.value
+          (c.has_targets.ensures.0 c.if-not-has_targets.false)),
+    ),
+    c.if-self-2.true,
+  ),
+  refl,
+))
+
+pub returns-clause-machine : goal.returns-clause-machine
+returns-clause-machine g c = λ known. c.write_edit.ensures.machine known batched (rw (← c.self.view_is)
+    (batch_can (state_of known (service_view c.self.inside)) (map change_data c.args.changes.items) c.self.invariant.version_is
+    c.if-self-eq-FIRST_VERSION.false
+    (subst (λ (cs : List Change). KeepsBatchLimits (map change_data cs)) c.deref.ensures.value c.in-Ok.ensures.ok)
+    (subst (λ (m : FeatureMap). All (HasTarget m) (map change_data c.args.changes.items)) c.store.ensures.features
+    (subst (λ (cs : List Change). All (HasTarget c.store.result.now.features) (map change_data cs)) c.deref-2.ensures.value
+    (c.has_targets.ensures.0 c.if-not-has_targets.false)))
+    (omega arith))) tt

@@ -95,3 +95,21 @@ returns-in-Err-clause-machine g c = rw (← c.self.view_is) (λ known. begin_ref
     })
     (subst (λ m. HasNoContent m (area_sectors c.self.inside.layout.sectors) c.in-Err.fault) c.store.ensures.features
     (subst (λ (n : ℕ). HasNoContent c.store.result.now.features n c.in-Err.fault) c.self.inside.layout.area_is c.in-Err.ensures.fault)))
+
+pub same-self : goal.same-self
+same-self g c = refl
+
+pub same-self-then-is_some : goal.same-self-then-is_some
+same-self-then-is_some g c = refl
+
+pub same-self-then-self-2 : goal.same-self-then-self-2
+same-self-then-self-2 g c = refl
+
+pub same-self-in-Err : goal.same-self-in-Err
+same-self-in-Err g c = refl
+
+pub content_for-requires : goal.content_for-requires
+content_for-requires g c = omega (arith, c.self.inside.layout.fits, c.self.inside.layout.size.1)
+
+pub overflow_add-left : goal.overflow_add-left
+overflow_add-left g c = omega (arith, c.sectors-left.ensures, c.in-Ok.ensures.fits, c.self.inside.layout.fits, c.self.inside.layout.size.1)
