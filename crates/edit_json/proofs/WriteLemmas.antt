@@ -65,3 +65,12 @@ list_over {X} json list left all none so_far =
     view-Array list
     ∙ ap (λ (ds : List Data). array (items_of ds))
     (sym (append-nil (map view list.items)) ∙ ap (λ (xs : List X). map view list.items ++ map json xs) (sym none) ∙ so_far)
+
+-- The value of one item more is pushed.
+pub one_more : {X : Type 0} (json : X → Data) (before after : List Value) (value : Value) (x : X) (rest left all : List X) → left ≡ x ∷ rest
+    → after ≡ before ++ value ∷ [] → view value ≡ json x → map view before ++ map json left ≡ map json all
+    → map view after ++ map json rest ≡ map json all
+one_more {X} json before after value x rest left all first pushed is so_far =
+    ap (λ (vs : List Value). map view vs ++ map json rest) pushed ∙ ap (λ l. l ++ map json rest) (map-append view before (value ∷ []))
+    ∙ append_assoc (map view before) (view value ∷ []) (map json rest) ∙ ap (λ d. map view before ++ d ∷ map json rest) is
+    ∙ ap (λ (xs : List X). map view before ++ map json xs) (sym first) ∙ so_far

@@ -126,7 +126,7 @@ fn read_numbers(alloc: Global, all: &[Asked<'_>]) -> Result<Vec<u64>, EditFault>
 {
     let mut numbers = Vec::with_capacity(alloc, all.len())?;
     for asked in all {
-        numbers.push(number(*asked))?;
+        numbers.push_reserved(number(*asked));
     }
     Ok(numbers)
 }
@@ -182,7 +182,7 @@ fn read_changes(alloc: Global, all: &[Asked<'_>]) -> Result<Vec<Change>, EditFau
             Ok(change) => change,
             Err(fault) => return Err(fault),
         };
-        changes.push(change)?;
+        changes.push_reserved(change);
     }
     Ok(changes)
 }
@@ -229,8 +229,5 @@ pub fn batch_from_json(alloc: Global, value: &Value) -> Result<Vec<Change>, Edit
         Ok(all) => all,
         Err(fault) => return Err(fault),
     };
-    match changes_of(alloc, &all) {
-        Ok(changes) => Ok(changes),
-        Err(fault) => Err(fault),
-    }
+    changes_of(alloc, &all)
 }

@@ -157,7 +157,7 @@ fn read_were(alloc: Global, all: &[Checked<'_>]) -> Result<Vec<Seen>, EditFault>
             Ok(was) => was,
             Err(fault) => return Err(fault),
         };
-        seen.push(was)?;
+        seen.push_reserved(was);
     }
     Ok(seen)
 }
@@ -207,8 +207,5 @@ pub fn checked_from_json(
         Ok(all) => all,
         Err(fault) => return Err(fault),
     };
-    match checked_of(alloc, &all) {
-        Ok(found) => Ok(found),
-        Err(fault) => Err(fault),
-    }
+    checked_of(alloc, &all)
 }

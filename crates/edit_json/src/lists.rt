@@ -74,7 +74,8 @@ fn read_points(alloc: Global, list: &[Value], least: usize) -> Result<Vec<World>
     check_count(list.len(), least)?;
     let mut points = Vec::with_capacity(alloc, list.len())?;
     for value in list {
-        points.push(point_in(value)?)?;
+        let point = point_in(value)?;
+        points.push_reserved(point);
     }
     Ok(points)
 }
@@ -97,7 +98,8 @@ fn read_lines(alloc: Global, list: &[Value], least: usize) -> Result<Vec<Vec<Wor
     check_count(list.len(), 1)?;
     let mut lines = Vec::with_capacity(alloc, list.len())?;
     for value in list {
-        lines.push(read_line(alloc, value, least)?)?;
+        let line = read_line(alloc, value, least)?;
+        lines.push_reserved(line);
     }
     Ok(lines)
 }
@@ -121,7 +123,8 @@ fn read_polygons(alloc: Global, list: &[Value]) -> Result<Vec<Vec<Vec<World>>>, 
     check_count(list.len(), 1)?;
     let mut polygons = Vec::with_capacity(alloc, list.len())?;
     for value in list {
-        polygons.push(read_polygon(alloc, value)?)?;
+        let polygon = read_polygon(alloc, value)?;
+        polygons.push_reserved(polygon);
     }
     Ok(polygons)
 }

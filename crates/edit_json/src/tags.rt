@@ -30,17 +30,6 @@ fn keys_fit(tags: &Map<String, Value>) -> bool
     true
 }
 
-/// Whether the tags are few, and their keys are names.
-fn tags_fit(tags: &Map<String, Value>) -> bool
-    ensures fits { IsTrue result ↔ ((length (names_of (members_view tags.now.entries)) ≤ MAX_TAGS)
-        × All IsName (names_of (members_view tags.now.entries))) }
-    // An object's names ascend.
-    ensures ascending { IsStrictlySortedBy (slice_cmp nat_cmp)
-        (names_of (members_view tags.now.entries)) }
-{
-    tag_count_fits(tags.len()) && keys_fit(tags)
-}
-
 /// The tags are few, and their keys are names.
 pub(crate) fn check_tags(tags: &Map<String, Value>) -> Result<(), EditFault>
     ensures ok { OnOk result ((length (names_of (members_view tags.now.entries)) ≤ MAX_TAGS) × All IsName (names_of (members_view tags.now.entries))) }
@@ -49,7 +38,7 @@ pub(crate) fn check_tags(tags: &Map<String, Value>) -> Result<(), EditFault>
     // An object's names ascend.
     ensures ascending { IsStrictlySortedBy (slice_cmp nat_cmp) (names_of (members_view tags.now.entries)) }
 {
-    if tags_fit(tags) {
+    if tag_count_fits(tags.len()) && keys_fit(tags) {
         Ok(())
     } else {
         Err(EditFault::Tags)
@@ -102,7 +91,8 @@ pub(crate) fn read_tags(alloc: Global, tags: &Map<String, Value>) -> Result<Vec<
 {
     let mut read = Vec::with_capacity(alloc, tags.len())?;
     for (key, value) in tags {
-        read.push(read_tag(alloc, key.as_str(), value)?)?;
+        let tag = read_tag(alloc, key.as_str(), value)?;
+        read.push_reserved(tag);
     }
     Ok(read)
 }

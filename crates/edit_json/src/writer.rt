@@ -1,7 +1,7 @@
 //! A feature's JSON value.
 
 ghost use Rattle.std.specs.Prelude.{◌≡◌, IfOk, OnOk};
-ghost use Rattle.serde_json.specs.Data.{object, member, no_members};
+ghost use Rattle.serde_json.specs.Data.{Data, object, member, no_members, put as with_member};
 ghost use Rattle.serde_json.specs.View.{view, members_view};
 ghost use Rattle.feature_model.specs.Limits.{HasAscendingKeys, TagsFit, ValueFits, ValuesFit};
 ghost use Rattle.edit_text.specs.Views.{points_view, lines_view, polygons_view, geometry_view, value_view, tags_view, feature_view};
@@ -18,8 +18,8 @@ fn point_value(alloc: Global, point: World) -> Result<Value, AllocError>
     ensures { IfOk result (λ v. view v ≡ point_json point) }
 {
     let mut pair = Vec::with_capacity(alloc, 2)?;
-    pair.push(Value::from(point.x))?;
-    pair.push(Value::from(point.y))?;
+    pair.push_reserved(Value::from(point.x));
+    pair.push_reserved(Value::from(point.y));
     Ok(Value::Array(pair))
 }
 
@@ -29,7 +29,8 @@ fn points_value(alloc: Global, points: Points<'_>) -> Result<Value, AllocError>
 {
     let mut list = Vec::with_capacity(alloc, points.len())?;
     for point in points {
-        list.push(point_value(alloc, point)?)?;
+        let value = point_value(alloc, point)?;
+        list.push_reserved(value);
     }
     Ok(Value::Array(list))
 }
@@ -40,7 +41,8 @@ fn lines_value(alloc: Global, lines: Lines<'_>) -> Result<Value, AllocError>
 {
     let mut list = Vec::with_capacity(alloc, lines.len())?;
     for line in lines {
-        list.push(points_value(alloc, line)?)?;
+        let value = points_value(alloc, line)?;
+        list.push_reserved(value);
     }
     Ok(Value::Array(list))
 }
@@ -51,17 +53,36 @@ fn polygons_value(alloc: Global, polygons: Polygons<'_>) -> Result<Value, AllocE
 {
     let mut list = Vec::with_capacity(alloc, polygons.len())?;
     for rings in polygons {
-        list.push(lines_value(alloc, rings)?)?;
+        let value = lines_value(alloc, rings)?;
+        list.push_reserved(value);
     }
     Ok(Value::Array(list))
 }
 
-/// An object with one member.
-fn object_of(alloc: Global, name: &str, value: Value) -> Result<Value, AllocError>
-    ensures { IfOk result (λ v. view v ≡ object (member name.now (view value) no_members)) }
+/// Puts a member into an object, if its value could be made.
+fn put_made(
+    members: &mut Map<String, Value>,
+    alloc: Global,
+    name: &str,
+    made: Result<Value, AllocError>,
+) -> Result<(), AllocError>
+    ensures { OnOk result ((d : Data) → IfOk made (λ v. view v ≡ d)
+        → members_view members.new.entries ≡ with_member name.now d (members_view members.old.entries)) }
+{
+    let value = made?;
+    put(members, alloc, name, value)
+}
+
+/// An object with one member, if its value could be made.
+fn object_of(
+    alloc: Global,
+    name: &str,
+    made: Result<Value, AllocError>,
+) -> Result<Value, AllocError>
+    ensures { IfOk result (λ v. (d : Data) → IfOk made (λ m. view m ≡ d) → view v ≡ object (member name.now d no_members)) }
 {
     let mut members = Map::new(alloc);
-    put(&mut members, alloc, name, value)?;
+    put_made(&mut members, alloc, name, made)?;
     Ok(Value::Object(members))
 }
 
@@ -71,10 +92,10 @@ fn geometry_value(alloc: Global, geometry: GeometryText<'_>) -> Result<Value, Al
     ensures { IfOk result (λ v. view v ≡ shape_json (shape_of (geometry_view geometry.entry))) }
 {
     match geometry {
-        GeometryText::Points(points) => object_of(alloc, "points", points_value(alloc, points)?),
-        GeometryText::Lines(lines) => object_of(alloc, "lines", lines_value(alloc, lines)?),
+        GeometryText::Points(points) => object_of(alloc, "points", points_value(alloc, points)),
+        GeometryText::Lines(lines) => object_of(alloc, "lines", lines_value(alloc, lines)),
         GeometryText::Polygons(polygons) => {
-            object_of(alloc, "polygons", polygons_value(alloc, polygons)?)
+            object_of(alloc, "polygons", polygons_value(alloc, polygons))
         },
     }
 }
@@ -100,7 +121,7 @@ fn tags_value(alloc: Global, tags: Tags<'_>) -> Result<Value, AllocError>
 {
     let mut members = Map::new(alloc);
     for tag in tags {
-        put(&mut members, alloc, tag.key, tag_value(alloc, tag.value)?)?;
+        put_made(&mut members, alloc, tag.key, tag_value(alloc, tag.value))?;
     }
     Ok(Value::Object(members))
 }
@@ -117,14 +138,21 @@ fn put_members(
     requires values { ValuesFit (feature_view feature).tags }
     ensures { OnOk result (object (members_view members.new.entries) ≡ json_of (feature_view feature.entry)) }
 {
-    let geometry = geometry_value(alloc, feature.geometry)?;
-    put(members, alloc, "geometry", geometry)?;
-    let layer = Value::try_from_str(alloc, feature.layer)?;
-    put(members, alloc, "layer", layer)?;
+    put_made(
+        members,
+        alloc,
+        "geometry",
+        geometry_value(alloc, feature.geometry),
+    )?;
+    put_made(
+        members,
+        alloc,
+        "layer",
+        Value::try_from_str(alloc, feature.layer),
+    )?;
     put(members, alloc, "maxzoom", Value::from(feature.maxzoom))?;
     put(members, alloc, "minzoom", Value::from(feature.minzoom))?;
-    let tags = tags_value(alloc, feature.tags)?;
-    put(members, alloc, "tags", tags)
+    put_made(members, alloc, "tags", tags_value(alloc, feature.tags))
 }
 
 /// The one JSON value of a feature.

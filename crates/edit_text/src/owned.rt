@@ -20,7 +20,7 @@ fn own_points(alloc: Global, points: Points<'_>) -> Result<Vec<World>, AllocErro
 {
     let mut owned = Vec::with_capacity(alloc, points.len())?;
     for point in points {
-        owned.push(point)?;
+        owned.push_reserved(point);
     }
     Ok(owned)
 }
@@ -31,7 +31,8 @@ fn own_lines(alloc: Global, lines: Lines<'_>) -> Result<Vec<Vec<World>>, AllocEr
 {
     let mut owned = Vec::with_capacity(alloc, lines.len())?;
     for line in lines {
-        owned.push(own_points(alloc, line)?)?;
+        let points = own_points(alloc, line)?;
+        owned.push_reserved(points);
     }
     Ok(owned)
 }
@@ -42,7 +43,8 @@ fn own_polygons(alloc: Global, polygons: Polygons<'_>) -> Result<Vec<Vec<Vec<Wor
 {
     let mut owned = Vec::with_capacity(alloc, polygons.len())?;
     for rings in polygons {
-        owned.push(own_lines(alloc, rings)?)?;
+        let lines = own_lines(alloc, rings)?;
+        owned.push_reserved(lines);
     }
     Ok(owned)
 }
@@ -92,7 +94,8 @@ fn own_tags(alloc: Global, tags: Tags<'_>) -> Result<Vec<Tag>, AllocError>
 {
     let mut owned = Vec::with_capacity(alloc, tags.len())?;
     for tag in tags {
-        owned.push(own_tag(alloc, tag)?)?;
+        let one = own_tag(alloc, tag)?;
+        owned.push_reserved(one);
     }
     Ok(owned)
 }

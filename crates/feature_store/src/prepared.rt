@@ -60,7 +60,8 @@ pub(crate) fn prepare_each(alloc: Global, changes: &[Change]) -> Result<Vec<Prep
 {
     let mut prepared = Vec::with_capacity(alloc, changes.len())?;
     for change in changes {
-        prepared.push(prepare_one(alloc, change)?)?;
+        let one = prepare_one(alloc, change)?;
+        prepared.push_reserved(one);
     }
     Ok(prepared)
 }

@@ -54,7 +54,7 @@ fn begin_record(alloc: Global, version: u32, changes: &[Prepared]) -> Result<Vec
         return Vec::with_capacity(alloc, len);
     }
     let mut text = Vec::with_capacity(alloc, 1 + len)?;
-    text.push(changes.len() as u8)?;
+    text.push_reserved(changes.len() as u8);
     Ok(text)
 }
 
@@ -202,7 +202,7 @@ fn read_changes(alloc: Global, count: u8, text: &[u8]) -> Result<Vec<Prepared>, 
             Ok(read) => read,
             Err(fault) => return Err(fault),
         };
-        changes.push(change)?;
+        changes.push_reserved(change);
         rest = behind;
     }
     if rest.len() > 0 {

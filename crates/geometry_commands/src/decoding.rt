@@ -130,7 +130,7 @@ fn walk<'a>(
     let mut rest = ints;
     for i in 0..count {
         let (to, after) = step_of(at, rest)?;
-        points.push(to)?;
+        points.push_reserved(to);
         at = to;
         rest = after;
     }
@@ -238,17 +238,6 @@ fn points_count(ints: &[u32]) -> Result<(u32, &[u32]), GeometryFault>
     Ok((count, rest))
 }
 
-/// No integers remain after the points.
-fn check_end(rest: &[u32]) -> Result<(), GeometryFault>
-    ensures end { OnOk result (length rest.now ≡ 0) }
-    ensures fault { IfErr result (λ fault. (fault ≡ GeometryFault.Command) × (0 < length rest.now)) }
-{
-    if rest.len() > 0 {
-        return Err(GeometryFault::Command);
-    }
-    Ok(())
-}
-
 /// The points of one move.
 #[tactic(auto, unfolding(crate::specs::Decoding::points_at, crate::specs::Decoding::points_behind, crate::specs::Decoding::points_end))]
 fn points_of(alloc: Global, ints: &[u32]) -> Result<Vec<Pt>, GeometryFault>
@@ -260,8 +249,11 @@ fn points_of(alloc: Global, ints: &[u32]) -> Result<Vec<Pt>, GeometryFault>
     }
     let (count, rest) = points_count(ints)?;
     let (points, _at, rest) = walk(Vec::new(alloc), Pt::ORIGIN, count, rest)?;
-    check_end(rest)?;
-    Ok(points)
+    if rest.len() == 0 {
+        Ok(points)
+    } else {
+        Err(GeometryFault::Command)
+    }
 }
 
 /// The shape of this kind that the integers encode, by the commands that its kind allows (Mapbox Vector Tile 2.1,

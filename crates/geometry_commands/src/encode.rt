@@ -1,6 +1,6 @@
 //! Encodes shapes.
 
-ghost use Rattle.std.specs.Prelude.{◌≡◌, ◌+◌, ◌*◌, ◌<◌, ◌^◌, ◌++◌, ◌-ℤ◌, pos, length, map, false, true, IfOk, OnOk};
+ghost use Rattle.std.specs.Prelude.{◌≡◌, ◌+◌, ◌*◌, ◌<◌, ◌≤◌, ◌^◌, ◌++◌, ◌-ℤ◌, pos, length, map, false, true, vec_len, vec_capacity, IfOk, OnOk};
 ghost use Rattle.pb_wire.specs.Zigzag.{zigzagged};
 ghost use Rattle.geometry_commands.specs.Commands.{IsShort, IsNear, AreNear, step, steps, points_spelled, origin};
 ghost use Rattle.geometry_commands.specs.Encodable.{CanSpell, CanSpellLine, CanSpellLines};
@@ -23,31 +23,36 @@ pub(crate) fn way(from: i64, to: i64) -> u32
     zigzag(to - from) as u32
 }
 
-/// Appends the two numbers of the way from one point to the next.
+/// Appends the two numbers of the way from one point to the next, for which there is room.
 #[tactic(auto, unfolding(crate::specs::Ways::fits))]
-fn put_step(out: &mut Vec<u32>, from: Pt, to: Pt) -> Result<(), AllocError>
-    requires { IsNear from to }
-    ensures step { OnOk result (out.new.items ≡ out.old.items ++ step from to) }
+fn put_step(out: &mut Vec<u32>, from: Pt, to: Pt)
+    requires near { IsNear from to }
+    requires room { vec_len out.old + 2 ≤ vec_capacity out.old }
+    ensures step { out.new.items ≡ out.old.items ++ step from to }
     ensures fits { FitsPt to }
+    ensures len { vec_len out.new ≡ vec_len out.old + 2 }
+    ensures capacity { vec_capacity out.new ≡ vec_capacity out.old }
 {
-    out.push(way(from.x, to.x))?;
-    out.push(way(from.y, to.y))?;
-    Ok(())
+    out.push_reserved(way(from.x, to.x));
+    out.push_reserved(way(from.y, to.y));
 }
 
-/// Appends the way from a point along the others, and returns its end.
-fn put_steps(out: &mut Vec<u32>, from: Pt, points: &[Pt]) -> Result<Pt, AllocError>
-    requires { AreNear from points.now }
-    ensures steps { OnOk result (out.new.items ≡ out.old.items ++ steps from points.now) }
-    ensures last { IfOk result (λ at. at ≡ last_of from points.now) }
-    ensures fits { OnOk result (AllByRecursion FitsPt points.now) }
+/// Appends the way from a point along the others, for which there is room, and returns its end.
+fn put_steps(out: &mut Vec<u32>, from: Pt, points: &[Pt]) -> Pt
+    requires near { AreNear from points.now }
+    requires room { vec_len out.old + 2 * length points.now ≤ vec_capacity out.old }
+    ensures steps { out.new.items ≡ out.old.items ++ steps from points.now }
+    ensures last { result ≡ last_of from points.now }
+    ensures fits { AllByRecursion FitsPt points.now }
+    ensures len { vec_len out.new ≡ vec_len out.old + 2 * length points.now }
+    ensures capacity { vec_capacity out.new ≡ vec_capacity out.old }
 {
     let mut at = from;
     for point in points {
-        put_step(out, at, *point)?;
+        put_step(out, at, *point);
         at = *point;
     }
-    Ok(at)
+    at
 }
 
 /// The number of command integers of a ring: MoveTo, LineTo and ClosePath.
@@ -63,12 +68,12 @@ fn put_line(out: &mut Vec<u32>, closed: bool, from: Pt, line: &[Pt]) -> Result<P
     let first = line[0];
     let others = &line[1..];
     out.reserve(LINE_INTEGERS + 2 * line.len())?;
-    out.push(CommandId::MoveTo.times(1))?;
-    put_step(out, from, first)?;
-    out.push(CommandId::LineTo.times(others.len() as u32))?;
-    let last = put_steps(out, first, others)?;
+    out.push_reserved(CommandId::MoveTo.times(1));
+    put_step(out, from, first);
+    out.push_reserved(CommandId::LineTo.times(others.len() as u32));
+    let last = put_steps(out, first, others);
     if closed {
-        out.push(CommandId::ClosePath.times(1))?;
+        out.push_reserved(CommandId::ClosePath.times(1));
     }
     Ok(last)
 }
@@ -98,8 +103,8 @@ pub fn encode_points(alloc: Global, points: &[Pt]) -> Result<Vec<u32>, AllocErro
     ensures shape { IfOk result (λ v. IsShape ShapeKind.Points v.items (shapes.points points.now)) }
 {
     let mut out = Vec::with_capacity(alloc, 1 + 2 * points.len())?;
-    out.push(CommandId::MoveTo.times(points.len() as u32))?;
-    put_steps(&mut out, Pt::ORIGIN, points)?;
+    out.push_reserved(CommandId::MoveTo.times(points.len() as u32));
+    put_steps(&mut out, Pt::ORIGIN, points);
     Ok(out)
 }
 

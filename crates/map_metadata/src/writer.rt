@@ -78,7 +78,8 @@ fn layers_value(alloc: Global, layers: Layers<'_>) -> Result<Value, AllocError>
 {
     let mut list = Vec::with_capacity(alloc, layers.len())?;
     for (name, summary) in layers {
-        list.push(layer_value(alloc, name, summary)?)?;
+        let layer = layer_value(alloc, name, summary)?;
+        list.push_reserved(layer);
     }
     Ok(Value::Array(list))
 }

@@ -1,6 +1,6 @@
 //! Features.
 
-ghost use Rattle.std.specs.Prelude.{◌≡◌, ℕ, ◌<◌, ◌≤◌, ◌⊎◌, [], true, false, length, slice_get, OnOk, IfErr};
+ghost use Rattle.std.specs.Prelude.{◌≡◌, ◌≤◌, ◌⊎◌, [], length, slice_get, IfErr};
 ghost use Rattle.reader.specs.Reading.{Reads, Gives};
 ghost use Rattle.geometry_commands.specs.Shapes.{shape_view};
 ghost use Rattle.mvt_layer.specs.Tile.{bytes_of, tag_view, tag_views, tagged, feature_view};
@@ -52,28 +52,6 @@ fn tag_of<'a>(
     Ok((*text, *said))
 }
 
-/// Two indices are left, a key's and a value's.
-fn check_two(indices: &[u32]) -> Result<(), TileFault>
-    ensures two { OnOk result (2 ≤ length indices.now) }
-    ensures odd { IfErr result (λ d. (d ≡ TileFault.Tag) × (length indices.now < 2)) }
-{
-    if indices.len() < 2 {
-        return Err(TileFault::Tag);
-    }
-    Ok(())
-}
-
-/// The key index came for the first time.
-fn check_new(is_new: bool) -> Result<(), TileFault>
-    ensures new { OnOk result (is_new ≡ true) }
-    ensures twice { IfErr result (λ d. (d ≡ TileFault.Tag) × (is_new ≡ false)) }
-{
-    if !is_new {
-        return Err(TileFault::Tag);
-    }
-    Ok(())
-}
-
 /// The tags of these indices, a key's and a value's in turn. A key index comes once. What `used` holds is cleared first.
 fn tags_of<'a>(
     alloc: Global,
@@ -88,11 +66,15 @@ fn tags_of<'a>(
     let mut tags = Vec::with_capacity(alloc, indices.len() / 2)?;
     let mut rest = indices;
     while rest.len() > 0 {
-        check_two(rest)?;
+        if rest.len() < 2 {
+            return Err(TileFault::Tag);
+        }
         let is_new = used.insert(rest[0])?;
-        check_new(is_new)?;
+        if !is_new {
+            return Err(TileFault::Tag);
+        }
         let tag = tag_of(keys, values, rest[0], rest[1])?;
-        tags.push(tag)?;
+        tags.push_reserved(tag);
         rest = &rest[2..];
     }
     Ok(tags)

@@ -36,7 +36,7 @@ fn texts_of<'a>(alloc: Global, raw: &[&'a [u8]]) -> Result<Vec<&'a str>, TileFau
     let mut texts = Vec::with_capacity(alloc, raw.len())?;
     for part in raw {
         let text = text_of(*part)?;
-        texts.push(text)?;
+        texts.push_reserved(text);
     }
     Ok(texts)
 }
@@ -61,7 +61,7 @@ fn tag_values_of<'a>(alloc: Global, raw: &[&'a [u8]]) -> Result<Vec<TagValue<'a>
     let mut values = Vec::with_capacity(alloc, raw.len())?;
     for part in raw {
         let value = tag_value_of(*part)?;
-        values.push(value)?;
+        values.push_reserved(value);
     }
     Ok(values)
 }
@@ -93,7 +93,7 @@ fn read_features<'a>(
     let mut features = Vec::with_capacity(alloc, raw.len())?;
     for part in raw {
         let feature = feature_of(alloc, keys, values, *part, lists)?;
-        features.push(feature)?;
+        features.push_reserved(feature);
     }
     Ok(features)
 }

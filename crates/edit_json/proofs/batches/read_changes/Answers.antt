@@ -1,4 +1,4 @@
-use Rattle.std.proofs.Common.{◌≡◌, ⊎_elim, inl, inr, [], ◌∷◌, map, All, sym, ap, subst, ◌∙◌}
+use Rattle.std.proofs.Common.{◌≡◌, ⊎_elim, inl, inr, [], ◌∷◌, map, All, sym, ap, subst, ◌∙◌, arith}
 use Rattle.std.proofs.lemmas.List.{map-append, take_all}
 use Rattle.std.proofs.lemmas.List.Elements.{All-push}
 use Rattle.feature_model.specs.declared.fault.EditFault.TheVariants as faults
@@ -13,8 +13,10 @@ pub loop-asked-preserved : goal.loop-asked-preserved
 loop-asked-preserved c =
     let done = c.loop-asked.changes.items in
     let so_far = c.loop-asked.invariant in
-    let pushed = ap (map change_data) c.in_ok-push.ensures.items ∙ map-append change_data done (c.in-Ok.change ∷ []) in
+    let pushed = ap (map change_data) c.push_reserved.ensures.items ∙ map-append change_data done (c.in-Ok.change ∷ []) in
     record {
+      len = omega (arith, c.loop-asked.invariant.len, c.push_reserved.ensures.len);
+      room = omega (arith, c.loop-asked.invariant.room, c.push_reserved.ensures.capacity);
       asked = changes-more c.args.all.now c.loop-asked.asked-index c.asked-item.result (map change_data done) (change_data c.in-Ok.change)
           c.loop-asked-test.true c.asked-item.is c.in-Ok.ensures.asked so_far.asked ∙ ap (map asked_of) (sym pushed);
       are = subst (All IsJsonChange) (sym pushed) (All-push IsJsonChange (map change_data done) (change_data c.in-Ok.change) so_far.are c.in-Ok.ensures.is);
@@ -33,3 +35,6 @@ returns-in-Err-clause-fault c = ⊎_elim
 pub returns-clause-asked : goal.returns-clause-asked
 returns-clause-asked c =
     ap (map asked_data) (sym (take_all c.loop-asked.asked-index c.args.all.now c.loop-asked-test.false)) ∙ c.loop-asked.invariant.asked
+
+pub push_reserved-requires : goal.push_reserved-requires
+push_reserved-requires c = omega (arith, c.loop-asked.invariant.len, c.loop-asked.invariant.room, c.loop-asked-test.true)

@@ -13,12 +13,19 @@ returns-in_err-check_count c =
 pub returns : goal.returns
 returns c =
     list_of-counted point_in c.args.least c.args.list.now c.in_ok-check_count.ensures.ok
-    ∙ sym c.loop-value.invariant ∙ rest_gives-end point_in c.loop-value.points.items c.args.list.now c.loop-value.value-index (omega arith)
+    ∙ sym c.loop-value.invariant.read ∙ rest_gives-end point_in c.loop-value.points.items c.args.list.now c.loop-value.value-index (omega arith)
 
-pub returns-in_err-point_in : goal.returns-in_err-point_in
+pub returns-in_err-point : goal.returns-in_err-point
 unfolding list_of each
-returns-in_err-point_in c = grind (arith, common_steps)
+returns-in_err-point c = grind (arith, common_steps)
 
 pub loop-value-preserved : goal.loop-value-preserved
 unfolding list_of each
-loop-value-preserved c = grind (arith, common_steps)
+loop-value-preserved c = record {
+  len = omega (arith, c.loop-value.invariant.len, c.push_reserved.ensures.len);
+  room = omega (arith, c.loop-value.invariant.room, c.push_reserved.ensures.capacity);
+  read = grind (arith, common_steps);
+}
+
+pub push_reserved-requires : goal.push_reserved-requires
+push_reserved-requires c = omega (arith, c.loop-value.invariant.len, c.loop-value.invariant.room, c.loop-value-test.true)

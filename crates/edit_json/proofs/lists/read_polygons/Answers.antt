@@ -15,19 +15,26 @@ returns-in_err-check_count c =
 pub returns : goal.returns
 returns c =
     list_of-counted (lines_at MIN_RING) 1 c.args.list.now c.in_ok-check_count.ensures.ok
-    ∙ sym c.loop-value.invariant
+    ∙ sym c.loop-value.invariant.read
     ∙ rest_gives-end (lines_at MIN_RING) (map (λ p. map (λ r. r.items) p.items) c.loop-value.polygons.items) c.args.list.now c.loop-value.value-index
     (omega arith)
 
-pub returns-in_err-read_polygon : goal.returns-in_err-read_polygon
-returns-in_err-read_polygon c =
-    let stops = λ (other : c.in_err-read_polygon.field-0.0 ≢ Memory).
+pub returns-in_err-polygon : goal.returns-in_err-polygon
+returns-in_err-polygon c =
+    let stops = λ (other : c.in_err-polygon.field-0.0 ≢ Memory).
     list_of-counted (lines_at MIN_RING) 1 c.args.list.now c.in_ok-check_count.ensures.ok
     ∙ rest_gives-fault (lines_at MIN_RING) (map (λ p. map (λ r. r.items) p.items) c.loop-value.polygons.items) c.args.list.now c.loop-value.value-index
     c.value-item.result
-    c.in_err-read_polygon.field-0.0 _ c.loop-value-test.true c.value-item.is (c.in_err-read_polygon.ensures other) c.loop-value.invariant in
+    c.in_err-polygon.field-0.0 _ c.loop-value-test.true c.value-item.is (c.in_err-polygon.ensures other) c.loop-value.invariant.read in
     search (rules, stops)
 
 pub loop-value-preserved : goal.loop-value-preserved
 unfolding list_of each
-loop-value-preserved c = grind (arith, common_steps)
+loop-value-preserved c = record {
+  len = omega (arith, c.loop-value.invariant.len, c.push_reserved.ensures.len);
+  room = omega (arith, c.loop-value.invariant.room, c.push_reserved.ensures.capacity);
+  read = grind (arith, common_steps);
+}
+
+pub push_reserved-requires : goal.push_reserved-requires
+push_reserved-requires c = omega (arith, c.loop-value.invariant.len, c.loop-value.invariant.room, c.loop-value-test.true)

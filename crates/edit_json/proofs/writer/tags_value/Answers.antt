@@ -1,9 +1,9 @@
-use Rattle.std.proofs.Common.{ap, ◌∙◌, map}
+use Rattle.std.proofs.Common.{refl, ap, ◌∙◌, map}
 use Rattle.serde_json.specs.Data.{object}
-use Rattle.serde_json.specs.View.{view, members_view}
+use Rattle.serde_json.specs.View.{members_view}
 use Rattle.serde_json.proofs.Views.{view-Object}
-use Rattle.edit_text.specs.Views.{tag_view, tags_view}
-use Rattle.edit_json.specs.Json.{tags_json}
+use Rattle.edit_text.specs.Views.{value_view, tag_view, tags_view}
+use Rattle.edit_json.specs.Json.{value_json, tags_json}
 use Rattle.edit_json.proofs.WriteLemmas.{value_there, parts_next, parts_over, put_next}
 use Rattle.edit_json.proofs.writer.tags_value.Goals as goal
 
@@ -19,8 +19,9 @@ loop-tag-preserved c = record {
       c.in-Some.ensures.steps c.loop-tag.invariant.parts;
   members =
       put_next c.loop-tag.yielded c.in-Some.tag (tags_view c.next.new.self) (tags_view c.loop-tag.tag-iterator) (tags_view c.args.tags)
-      (view c.in_ok-tag_value.field-0) (members_view c.loop-tag.members.entries) (members_view c.put.new.map.entries) c.in-Some.ensures.steps
-      c.loop-tag.invariant.parts c.requires.ascending c.in_ok-tag_value.ensures c.loop-tag.invariant.members c.in_ok-put.ensures.ok;
+      (value_json (value_view c.in-Some.tag.value)) (members_view c.loop-tag.members.entries) (members_view c.put_made.new.members.entries)
+      c.in-Some.ensures.steps c.loop-tag.invariant.parts c.requires.ascending refl c.loop-tag.invariant.members
+      (c.in_ok-put_made.ensures _ c.tag_value.ensures);
 }
 
 pub returns : goal.returns

@@ -10,7 +10,14 @@ prepare_one-requires c = read_from_map IsAllowedChange change_data c.args.change
     c.requires c.loop-change-test.true c.change-item.is
 
 pub loop-change-preserved : goal.loop-change-preserved
-loop-change-preserved c = grind (arith, common_steps)
+loop-change-preserved c = record {
+  len = omega (arith, c.loop-change.invariant.len, c.push_reserved.ensures.len);
+  room = omega (arith, c.loop-change.invariant.room, c.push_reserved.ensures.capacity);
+  read = grind (arith, common_steps);
+}
+
+pub push_reserved-requires : goal.push_reserved-requires
+push_reserved-requires c = omega (arith, c.loop-change.invariant.len, c.loop-change.invariant.room, c.loop-change-test.true)
 
 pub returns : goal.returns
 returns c = grind (arith, common_steps)

@@ -17,12 +17,14 @@ pub loop-preserved : goal.loop-preserved
 loop-preserved c =
     let next = c.in-Ok.read.0 in
     let done = map prepared_data c.loop.changes.items in
-    rw (c.in_ok-push.ensures.items, map-append prepared_data c.loop.changes.items (next ∷ [])) record {
+    rw (c.push_reserved.ensures.items, map-append prepared_data c.loop.changes.items (next ∷ [])) record {
       read =
           one_more done (prepared_data next) c.loop.rest.now c.in-Ok.read.1.now c.args.text.now c.loop.invariant.read c.in-Ok.ensures.change
           (rw c.deref.ensures.value at c.in-Ok.ensures.new) c.in-Ok.ensures.text;
       each = omega (arith, length-append c.loop.changes.items (next ∷ []), c.loop.invariant.each);
       most = omega (arith, c.loop-test.true);
+      len = omega (arith, c.loop.invariant.len, c.push_reserved.ensures.len);
+      room = omega (arith, c.loop.invariant.room, c.push_reserved.ensures.capacity);
     }
 
 pub returns-then-rest-gt0-clause-only : goal.returns-then-rest-gt0-clause-only
@@ -40,3 +42,6 @@ returns-clause-only c = λ cs is.
 
 pub returns-clause-found : goal.returns-clause-found
 returns-clause-found c = grind (arith, common_steps)
+
+pub push_reserved-requires : goal.push_reserved-requires
+push_reserved-requires c = omega (arith, c.loop.invariant.len, c.loop.invariant.room, c.loop-test.true)

@@ -12,10 +12,10 @@ pub returns-in_err-points-clause-exact : goal.returns-in_err-points-clause-exact
 unfolding points_at points_behind points_end
 returns-in_err-points-clause-exact c = search rules
 
-pub returns-in_err-check_end-clause-exact : goal.returns-in_err-check_end-clause-exact
+pub returns-else-rest-eq0-clause-exact : goal.returns-else-rest-eq0-clause-exact
 unfolding points_at points_behind points_end
-returns-in_err-check_end-clause-exact c = search rules
+returns-else-rest-eq0-clause-exact c = search rules
 
-pub returns-clause-exact : goal.returns-clause-exact
+pub returns-then-rest-eq0-clause-exact : goal.returns-then-rest-eq0-clause-exact
 unfolding points_at points_behind points_end
-returns-clause-exact c = search rules
+returns-then-rest-eq0-clause-exact c = search rules

@@ -16,11 +16,12 @@ pub loop-i-preserved : goal.loop-i-preserved
 loop-i-preserved c =
     let stepped = walk_step_on c.loop-i.points.items c.loop-i.at c.in_ok-to.to c.loop-i.rest.now c.in_ok-to.after.now c.in_ok-to.ensures.exact in
     record {
-      spelled = rw c.in_ok-push.ensures.items (repeated_on walk_step c.args.count c.loop-i.i (c.loop-i.points.items, c.loop-i.at, c.loop-i.rest.now) _ _
+      spelled = rw c.push_reserved.ensures.items (repeated_on walk_step c.args.count c.loop-i.i (c.loop-i.points.items, c.loop-i.at, c.loop-i.rest.now) _ _
           c.loop-i-test.true c.loop-i.invariant.spelled stepped);
-      long = search rules;
-      room = search rules;
-      left = search rules;
+      long = omega (arith, c.loop-i.invariant.long, c.push_reserved.ensures.len);
+      room = omega (arith, c.loop-i.invariant.room, c.push_reserved.ensures.capacity);
+      spare = omega (arith, c.loop-i.invariant.spare, c.push_reserved.ensures.capacity);
+      left = omega (arith, c.loop-i.invariant.left, c.in_ok-to.ensures.behind);
     }
 
 pub returns-clause-exact : goal.returns-clause-exact
@@ -52,18 +53,7 @@ returns-in_err-to-clause-full c =
     let p = err_from_is_err_and c.from_residual-in_err-to.result c.from_residual-in_err-to.ensures.1 in
     rw (p.1, p.2) (λ is. absurd (c.in_err-to.ensures.memory (ap Err is)))
 
-pub returns-in_err-push-clause-exact : goal.returns-in_err-push-clause-exact
-returns-in_err-push-clause-exact c =
-    let p = err_from_is_err_and c.from_residual-in_err-push.result c.from_residual-in_err-push.ensures.1 in
-    rw (p.1, p.2) (λ other. absurd (other refl))
-
-pub returns-in_err-push-clause-behind : goal.returns-in_err-push-clause-behind
-returns-in_err-push-clause-behind c =
-    let p = err_from_is_err_and c.from_residual-in_err-push.result c.from_residual-in_err-push.ensures.1 in
-    rw p.1 tt
-
-pub returns-in_err-push-clause-full : goal.returns-in_err-push-clause-full
-returns-in_err-push-clause-full c =
-    let p = err_from_is_err_and c.from_residual-in_err-push.result c.from_residual-in_err-push.ensures.1 in
+pub push_reserved-requires : goal.push_reserved-requires
+push_reserved-requires c =
     let inv = c.loop-i.invariant in
-    rw p.1 (λ _. omega (arith, c.in_err-push.ensures.full, inv.long, inv.room, inv.left, c.in_ok-to.ensures.behind))
+    omega (arith, inv.long, inv.spare, inv.left, c.in_ok-to.ensures.behind, c.loop-i-test.true)

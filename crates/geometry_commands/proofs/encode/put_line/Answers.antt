@@ -7,44 +7,52 @@ use Rattle.geometry_commands.specs.Shapes.{close_spelled}
 use Rattle.geometry_commands.proofs.Written.{split_first, line_written}
 use Rattle.geometry_commands.proofs.encode.put_line.Goals as goal
 
-pub returns-in_ok-push-3-clause-line : goal.returns-in_ok-push-3-clause-line
-returns-in_ok-push-3-clause-line c =
+pub returns-then-closed-clause-line : goal.returns-then-closed-clause-line
+returns-then-closed-clause-line c =
     let line = c.args.line.now in
-    let others = c.put_steps.new.out.items in
+    let others = c.put_steps-last.new.out.items in
     let close : close_spelled c.args.closed ≡ command 7 1 ∷ [] = rw c.if-closed.true refl in
     let all = line_written c.args.closed c.args.from (get_or line 0 origin) (take (length line - 1) (drop 1 line))
-    line c.times.result c.times-2.result c.args.out.now.items c.push.new.self.items c.put_step.new.out.items c.push-2.new.self.items others
+    line c.times.result c.times-2.result c.args.out.now.items c.push_reserved.new.self.items c.put_step.new.out.items c.push_reserved-2.new.self.items others
     (split_first line origin (omega arith)) c.times.ensures c.times-2.ensures
-    (rw c.in_ok-reserve.ensures.items at c.in_ok-push.ensures.items) c.in_ok-put_step.ensures.step
-    c.in_ok-push-2.ensures.items c.in_ok-last.ensures.steps in
-    c.in_ok-push-3.ensures.items ∙ rw c.times-then-closed.ensures (rw close at all)
+    (rw c.in_ok-reserve.ensures.items at c.push_reserved.ensures.items) c.put_step.ensures.step
+    c.push_reserved-2.ensures.items c.put_steps-last.ensures.steps in
+    c.push_reserved-then-closed.ensures.items ∙ rw c.times-then-closed.ensures (rw close at all)
 
 pub returns-else-closed-clause-line : goal.returns-else-closed-clause-line
 returns-else-closed-clause-line c =
     let line = c.args.line.now in
-    let others = c.put_steps.new.out.items in
+    let others = c.put_steps-last.new.out.items in
     let close : close_spelled c.args.closed ≡ [] = rw c.if-closed.false refl in
     let all = line_written c.args.closed c.args.from (get_or line 0 origin) (take (length line - 1) (drop 1 line))
-    line c.times.result c.times-2.result c.args.out.now.items c.push.new.self.items c.put_step.new.out.items c.push-2.new.self.items others
+    line c.times.result c.times-2.result c.args.out.now.items c.push_reserved.new.self.items c.put_step.new.out.items c.push_reserved-2.new.self.items others
     (split_first line origin (omega arith)) c.times.ensures c.times-2.ensures
-    (rw c.in_ok-reserve.ensures.items at c.in_ok-push.ensures.items) c.in_ok-put_step.ensures.step
-    c.in_ok-push-2.ensures.items c.in_ok-last.ensures.steps in
+    (rw c.in_ok-reserve.ensures.items at c.push_reserved.ensures.items) c.put_step.ensures.step
+    c.push_reserved-2.ensures.items c.put_steps-last.ensures.steps in
     sym (append-nil others) ∙ rw close at all
 
-pub put_steps-requires : goal.put_steps-requires
-put_steps-requires c = grind (arith, common_steps)
+pub put_steps-last-requires-clause-near : goal.put_steps-last-requires-clause-near
+put_steps-last-requires-clause-near c = grind (arith, common_steps)
 
-pub returns-in_ok-push-3-clause-last : goal.returns-in_ok-push-3-clause-last
-returns-in_ok-push-3-clause-last c = grind (arith, common_steps)
+pub returns-then-closed-clause-last : goal.returns-then-closed-clause-last
+returns-then-closed-clause-last c = grind (arith, common_steps)
 
-pub returns-in_ok-push-3-clause-whole : goal.returns-in_ok-push-3-clause-whole
-returns-in_ok-push-3-clause-whole c = grind (arith, common_steps)
+pub returns-then-closed-clause-whole : goal.returns-then-closed-clause-whole
+returns-then-closed-clause-whole c = grind (arith, common_steps)
 
 pub returns-else-closed-clause-last : goal.returns-else-closed-clause-last
 returns-else-closed-clause-last c = grind (arith, common_steps)
 
 pub returns-else-closed-clause-whole : goal.returns-else-closed-clause-whole
 returns-else-closed-clause-whole c = grind (arith, common_steps)
+
+-- ---- room
+
+pub push_reserved-requires : goal.push_reserved-requires
+push_reserved-requires c = omega (arith, c.in_ok-reserve.ensures.ok)
+
+pub put_step-requires-clause-room : goal.put_step-requires-clause-room
+put_step-requires-clause-room c = omega (arith, c.in_ok-reserve.ensures.ok, c.push_reserved.ensures.len, c.push_reserved.ensures.capacity)
 
 -- ---- no memory
 
@@ -56,48 +64,3 @@ returns-in_err-reserve-clause-last c = IfOk-from_err c.from_residual.result _ c.
 
 pub returns-in_err-reserve-clause-whole : goal.returns-in_err-reserve-clause-whole
 returns-in_err-reserve-clause-whole c = IfOk-from_err c.from_residual.result _ c.from_residual.ensures.0
-
-pub returns-in_err-push-clause-line : goal.returns-in_err-push-clause-line
-returns-in_err-push-clause-line c = IfOk-from_err c.from_residual-in_err-push.result _ c.from_residual-in_err-push.ensures.0
-
-pub returns-in_err-push-clause-last : goal.returns-in_err-push-clause-last
-returns-in_err-push-clause-last c = IfOk-from_err c.from_residual-in_err-push.result _ c.from_residual-in_err-push.ensures.0
-
-pub returns-in_err-push-clause-whole : goal.returns-in_err-push-clause-whole
-returns-in_err-push-clause-whole c = IfOk-from_err c.from_residual-in_err-push.result _ c.from_residual-in_err-push.ensures.0
-
-pub returns-in_err-put_step-clause-line : goal.returns-in_err-put_step-clause-line
-returns-in_err-put_step-clause-line c = IfOk-from_err c.from_residual-in_err-put_step.result _ c.from_residual-in_err-put_step.ensures.0
-
-pub returns-in_err-put_step-clause-last : goal.returns-in_err-put_step-clause-last
-returns-in_err-put_step-clause-last c = IfOk-from_err c.from_residual-in_err-put_step.result _ c.from_residual-in_err-put_step.ensures.0
-
-pub returns-in_err-put_step-clause-whole : goal.returns-in_err-put_step-clause-whole
-returns-in_err-put_step-clause-whole c = IfOk-from_err c.from_residual-in_err-put_step.result _ c.from_residual-in_err-put_step.ensures.0
-
-pub returns-in_err-push-2-clause-line : goal.returns-in_err-push-2-clause-line
-returns-in_err-push-2-clause-line c = IfOk-from_err c.from_residual-in_err-push-2.result _ c.from_residual-in_err-push-2.ensures.0
-
-pub returns-in_err-push-2-clause-last : goal.returns-in_err-push-2-clause-last
-returns-in_err-push-2-clause-last c = IfOk-from_err c.from_residual-in_err-push-2.result _ c.from_residual-in_err-push-2.ensures.0
-
-pub returns-in_err-push-2-clause-whole : goal.returns-in_err-push-2-clause-whole
-returns-in_err-push-2-clause-whole c = IfOk-from_err c.from_residual-in_err-push-2.result _ c.from_residual-in_err-push-2.ensures.0
-
-pub returns-in_err-last-clause-line : goal.returns-in_err-last-clause-line
-returns-in_err-last-clause-line c = IfOk-from_err c.from_residual-in_err-last.result _ c.from_residual-in_err-last.ensures.0
-
-pub returns-in_err-last-clause-last : goal.returns-in_err-last-clause-last
-returns-in_err-last-clause-last c = IfOk-from_err c.from_residual-in_err-last.result _ c.from_residual-in_err-last.ensures.0
-
-pub returns-in_err-last-clause-whole : goal.returns-in_err-last-clause-whole
-returns-in_err-last-clause-whole c = IfOk-from_err c.from_residual-in_err-last.result _ c.from_residual-in_err-last.ensures.0
-
-pub returns-in_err-push-3-clause-line : goal.returns-in_err-push-3-clause-line
-returns-in_err-push-3-clause-line c = IfOk-from_err c.from_residual-in_err-push-3.result _ c.from_residual-in_err-push-3.ensures.0
-
-pub returns-in_err-push-3-clause-last : goal.returns-in_err-push-3-clause-last
-returns-in_err-push-3-clause-last c = IfOk-from_err c.from_residual-in_err-push-3.result _ c.from_residual-in_err-push-3.ensures.0
-
-pub returns-in_err-push-3-clause-whole : goal.returns-in_err-push-3-clause-whole
-returns-in_err-push-3-clause-whole c = IfOk-from_err c.from_residual-in_err-push-3.result _ c.from_residual-in_err-push-3.ensures.0

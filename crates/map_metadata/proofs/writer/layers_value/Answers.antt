@@ -1,4 +1,4 @@
-use Rattle.std.proofs.Common.{◌≡◌, ◌∙◌, ℕ, List, Bor, [], ◌∷◌, ◌++◌, sym, ap, map, arith, append_assoc, append-nil}
+use Rattle.std.proofs.Common.{length, ◌≡◌, ◌∙◌, ℕ, List, Bor, [], ◌∷◌, ◌++◌, sym, ap, map, arith, append_assoc, append-nil}
 use Rattle.serde_json.specs.Data.{array}
 use Rattle.serde_json.specs.View.{view, items_of}
 use Rattle.serde_json.proofs.Views.{view-Array}
@@ -12,15 +12,16 @@ use Rattle.map_metadata.proofs.writer.layers_value.Goals as goal
 
 pub loop-name-preserved : goal.loop-name-preserved
 loop-name-preserved c = record {
+  room = omega (arith, c.loop-name.invariant.room, ap length c.in-Some.ensures.steps, c.push_reserved.ensures.len, c.push_reserved.ensures.capacity);
   items =
       append_assoc c.loop-name.yielded ((c.in-Some.name, c.in-Some.summary) ∷ []) c.next.new.self
       ∙ ap (λ es. c.loop-name.yielded ++ es) (sym c.in-Some.ensures.steps) ∙ c.loop-name.invariant.items;
   values =
-      layers_next c.loop-name.list.items c.push.new.self.items c.in_ok-layer_value.field-0 c.loop-name.yielded (c.in-Some.name, c.in-Some.summary)
-      c.in_ok-push.ensures.items c.in_ok-layer_value.ensures.value c.loop-name.invariant.values;
+      layers_next c.loop-name.list.items c.push_reserved.new.self.items c.in_ok-layer.layer c.loop-name.yielded (c.in-Some.name, c.in-Some.summary)
+      c.push_reserved.ensures.items c.in_ok-layer.ensures.value c.loop-name.invariant.values;
   fields =
       All-push (λ (e : Bor (List ℕ) × LayerSummary). HasOrder e.1.fields) c.loop-name.yielded (c.in-Some.name, c.in-Some.summary)
-      c.loop-name.invariant.fields c.in_ok-layer_value.ensures.ordered;
+      c.loop-name.invariant.fields c.in_ok-layer.ensures.ordered;
 }
 
 pub returns-in_err-list-clause-value : goal.returns-in_err-list-clause-value
@@ -32,23 +33,14 @@ returns-in_err-list-clause-fields c = IfOk-from_err _ _ c.from_residual.ensures.
 pub returns-in_err-list-clause-ordered : goal.returns-in_err-list-clause-ordered
 returns-in_err-list-clause-ordered c = IfOk-from_err _ _ c.from_residual.ensures.0
 
-pub returns-in_err-layer_value-clause-value : goal.returns-in_err-layer_value-clause-value
-returns-in_err-layer_value-clause-value c = IfOk-from_err _ _ c.from_residual-in_err-layer_value.ensures.0
+pub returns-in_err-layer-clause-value : goal.returns-in_err-layer-clause-value
+returns-in_err-layer-clause-value c = IfOk-from_err _ _ c.from_residual-in_err-layer.ensures.0
 
-pub returns-in_err-layer_value-clause-fields : goal.returns-in_err-layer_value-clause-fields
-returns-in_err-layer_value-clause-fields c = IfOk-from_err _ _ c.from_residual-in_err-layer_value.ensures.0
+pub returns-in_err-layer-clause-fields : goal.returns-in_err-layer-clause-fields
+returns-in_err-layer-clause-fields c = IfOk-from_err _ _ c.from_residual-in_err-layer.ensures.0
 
-pub returns-in_err-layer_value-clause-ordered : goal.returns-in_err-layer_value-clause-ordered
-returns-in_err-layer_value-clause-ordered c = IfOk-from_err _ _ c.from_residual-in_err-layer_value.ensures.0
-
-pub returns-in_err-push-clause-value : goal.returns-in_err-push-clause-value
-returns-in_err-push-clause-value c = IfOk-from_err _ _ c.from_residual-in_err-push.ensures.0
-
-pub returns-in_err-push-clause-fields : goal.returns-in_err-push-clause-fields
-returns-in_err-push-clause-fields c = IfOk-from_err _ _ c.from_residual-in_err-push.ensures.0
-
-pub returns-in_err-push-clause-ordered : goal.returns-in_err-push-clause-ordered
-returns-in_err-push-clause-ordered c = IfOk-from_err _ _ c.from_residual-in_err-push.ensures.0
+pub returns-in_err-layer-clause-ordered : goal.returns-in_err-layer-clause-ordered
+returns-in_err-layer-clause-ordered c = IfOk-from_err _ _ c.from_residual-in_err-layer.ensures.0
 
 -- the loop has had each layer
 all_yielded : (c : goal.After-drop-name-iterator-2) → c.loop-name.yielded ≡ c.args.layers.entries
@@ -69,7 +61,17 @@ returns-clause-ordered c = c.into_iter-name-iterator.ensures.into_iter_gives.5
 
 pub loop-name-init : goal.loop-name-init
 loop-name-init c = record {
+  room = omega (
+    arith,
+    c.in_ok-list.ensures.len,
+    c.in_ok-list.ensures.capacity,
+    c.len.ensures,
+    ap length c.into_iter-name-iterator.ensures.into_iter_gives.0,
+  );
   items = c.into_iter-name-iterator.ensures.into_iter_gives.0;
   values = ap (map view) c.in_ok-list.ensures.items;
   fields = λ k d lt. absurd (omega (arith, lt));
 }
+
+pub push_reserved-requires : goal.push_reserved-requires
+push_reserved-requires c = omega (arith, c.loop-name.invariant.room, ap length c.in-Some.ensures.steps)
