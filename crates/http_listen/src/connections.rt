@@ -35,22 +35,6 @@ fn prepare<S: OpenStream>(stream: &S) {
     let _ = stream.set_nonblocking(true);
 }
 
-/// Answers the requests that these bytes are, up to the rest of a content.
-fn serve_bytes<S, H>(
-    buffers: &mut Buffers,
-    requests: &[u8],
-    writer: &mut ReplyWriter<S>,
-    handler: &mut H,
-) -> Result<Served, ServeFault>
-where
-    S: Write + OpenStream,
-    H: Downloads,
-    ensures { ComesTo H.replies H.fails result handler.old handler.new }
-{
-    let mut reader = requests;
-    serve_fronts(buffers, &mut reader, writer, handler, MAX_READS)
-}
-
 /// What a stretch of a connection came to.
 #[derive(Drop)]
 struct Past<S> {
@@ -82,7 +66,8 @@ where
         pace,
     } = kept;
     let mut writer = ReplyWriter::new(stream, pace, output, limit);
-    let outcome = serve_bytes(buffers, input.front(end), &mut writer, handler);
+    let mut reader = input.front(end);
+    let outcome = serve_fronts(buffers, &mut reader, &mut writer, handler, MAX_READS);
     let (stream, pace, output) = writer.into_parts();
     let unsent = Unsent::after(&outcome, handler);
     let kept = Kept {
@@ -132,10 +117,12 @@ where
 {
     let limit = room.output_limit();
     let start = time_of(clock);
-    let past = serve_front(buffers, limit, kept, end, handler);
+    let Past { outcome, mut kept } = serve_front(buffers, limit, kept, end, handler);
     room.spend(clock, start);
     let now = room.now(clock);
-    room.answered(now, past.kept, end, past.outcome, log);
+    kept.answered(now, end, outcome);
+    let ending = kept.send_replies(now);
+    room.keep_or_end(now, kept, ending, log);
 }
 
 /// Reads the next part of the content that a connection sends, and begins to send it.

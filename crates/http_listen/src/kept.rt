@@ -12,7 +12,7 @@ use crate::places::List;
 use crate::readiness::Readiness;
 use crate::rests::{Unsent, once_sent};
 use crate::turns::Next;
-use http_requests::{MAX_REQUEST, Scanned};
+use http_requests::MAX_REQUEST;
 use http_serve::{End, ServeFault, Served};
 use std::alloc::Global;
 use std::io::{self, ErrorKind, Read, Write};
@@ -179,16 +179,6 @@ impl<S> Kept<S> {
         let _ = write_line(log, self.turn.number, outcome);
     }
 
-    /// How many bytes of the input can be answered: a request, or bytes that are none, whatever follows, or all bytes at the input's end.
-    pub(crate) fn asked(&mut self) -> Option<usize> {
-        match self.input.scan() {
-            Scanned::Whole(end) => Some(end),
-            Scanned::Refused => Some(self.input.len()),
-            Scanned::More if self.turn.ended => Some(self.input.len()),
-            Scanned::More => None,
-        }
-    }
-
     /// More bytes are waited for.
     pub(crate) fn begin_read(&mut self, now: Duration) {
         self.turn.searches = false;
@@ -232,17 +222,6 @@ impl<S> Kept<S> {
             self.begin_read(now);
         }
     }
-
-    /// The connection has ended, and what its peer still sends is dropped.
-    fn begin_drop(&mut self, now: Duration) {
-        self.turn.drops = Some(MAX_DROPPED);
-        self.turn.searches = false;
-        self.turn.unsent = None;
-        self.output.clear();
-        self.input.drop_front(usize::MAX);
-        self.pace = Pace::begin(Stage::Idle);
-        self.turn.since = now;
-    }
 }
 
 impl<S: OpenStream> Kept<S> {
@@ -259,7 +238,13 @@ impl<S: OpenStream> Kept<S> {
         if outcome.is_err() || self.turn.ended || self.stream.shutdown(Shutdown::Write).is_err() {
             return false;
         }
-        self.begin_drop(now);
+        self.turn.drops = Some(MAX_DROPPED);
+        self.turn.searches = false;
+        self.turn.unsent = None;
+        self.output.clear();
+        self.input.drop_front(usize::MAX);
+        self.pace = Pace::begin(Stage::Idle);
+        self.turn.since = now;
         true
     }
 }

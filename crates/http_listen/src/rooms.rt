@@ -195,20 +195,6 @@ impl<S: OpenStream + Drop> Room<S> {
 }
 
 impl<S: Read + Write + OpenStream + Drop> Room<S> {
-    /// The first `end` bytes of a connection's input were answered: begins to send the replies.
-    pub(crate) fn answered<W: Write>(
-        &mut self,
-        now: Duration,
-        mut kept: Kept<S>,
-        end: usize,
-        outcome: Result<Served, ServeFault>,
-        log: &mut W,
-    ) {
-        kept.answered(now, end, outcome);
-        let ending = kept.send_replies(now);
-        self.keep_or_end(now, kept, ending, log);
-    }
-
     /// Gives the next connection of this round its turn, if there is one. Returns what is to be done then.
     fn give_turn<W: Write>(&mut self, now: Duration, log: &mut W) -> Option<Found<S>>
         ensures { (found : Found S) → result ≡ Some found → (stream : S) → found ≢ New stream }
@@ -240,14 +226,12 @@ impl<S: Read + Write + OpenStream + Drop> Room<S> {
         if stops {
             self.end_stopped(now, log);
         }
+        let accepts = accepts && !stops;
         if let Some(found) = self.give_turn(now, log) {
-            return found;
-        }
-        if accepts && !stops && self.may_accept(now) {
-            return self.accept(now, listener, log);
-        }
-        let is_over = self.places.count() == 0 && (stops || !accepts);
-        if !is_over && self.wait(now, listener, accepts && !stops, log) {
+            found
+        } else if accepts && self.may_accept(now) {
+            self.accept(now, listener, log)
+        } else if (accepts || self.places.count() > 0) && self.wait(now, listener, accepts, log) {
             Found::Nothing
         } else {
             Found::Over

@@ -12,7 +12,7 @@ use std::alloc::{AllocError, Global};
 use std::io::{self, ErrorKind};
 use std::marker::Model;
 use std::net::{Net, TcpListener, TcpStream};
-use std::os::fd::{AsRawFd, RawFd};
+use std::os::fd::AsRawFd;
 use std::time::Duration;
 
 /// How many changes one wait reports at most. The others are reported by the next one.
@@ -69,17 +69,6 @@ impl SystemListener {
             Err(AllocError) => Err(ErrorKind::OutOfMemory.into()),
         }
     }
-
-    /// Watches a descriptor, which may be watched already.
-    fn watch_fd(&self, fd: RawFd, key: usize, interest: Interest) -> io::Result<()> {
-        let registry = self.poll.registry();
-        match registry.register(&mut SourceFd(&fd), Token(key), interest) {
-            Err(e) if e.kind() == ErrorKind::AlreadyExists => {
-                registry.reregister(&mut SourceFd(&fd), Token(key), interest)
-            }
-            outcome => outcome,
-        }
-    }
 }
 
 /// What an event says of a stream.
@@ -129,7 +118,15 @@ impl Waits for SystemListener {
         } else {
             Interest::READABLE
         };
-        self.watch_fd(stream.as_raw_fd(), key, interest)
+        let fd = stream.as_raw_fd();
+        let registry = self.poll.registry();
+        match registry.register(&mut SourceFd(&fd), Token(key), interest) {
+            // It is watched already.
+            Err(e) if e.kind() == ErrorKind::AlreadyExists => {
+                registry.reregister(&mut SourceFd(&fd), Token(key), interest)
+            }
+            outcome => outcome,
+        }
     }
 
     fn wait(&mut self, longest: Duration, places: &mut Places<TcpStream>) -> io::Result<bool>

@@ -2,6 +2,7 @@
 
 use crate::kept::{Ending, Kept};
 use crate::rests::Unsent;
+use http_requests::Scanned;
 use http_serve::ServeFault;
 use std::io::{Read, Write};
 use std::time::Duration;
@@ -59,9 +60,15 @@ impl<S: Write> Kept<S> {
 }
 
 impl<S> Kept<S> {
-    /// Searches the input for a request. If there is none, more is waited for.
+    /// Searches the input for a request, or bytes that are none, whatever follows: these are answered, or all bytes at the input's end. If
+    /// there is none, more is waited for.
     pub(crate) fn search(&mut self, now: Duration) -> Next {
-        if let Some(end) = self.asked() {
+        let asked = match self.input.scan() {
+            Scanned::Whole(end) => Some(end),
+            Scanned::More if !self.turn.ended => None,
+            Scanned::Refused | Scanned::More => Some(self.input.len()),
+        };
+        if let Some(end) = asked {
             self.pace = self.pace.writes();
             return Next::Asks(end);
         }
