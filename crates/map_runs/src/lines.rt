@@ -10,6 +10,16 @@ pub(crate) struct Line<'a> {
     pub(crate) numbers: [u64; 8],
 }
 
+/// What a word stands for by a table, if it is in there.
+pub(crate) fn asked<T: Copy + Drop>(words: &[(&str, T)], word: &str) -> Option<T> {
+    for (name, asks) in words {
+        if *name == word {
+            return Some(*asks);
+        }
+    }
+    None
+}
+
 /// A number as a byte, the greatest where it is greater.
 pub(crate) fn byte(number: u64) -> u8 {
     u8::try_from(number).unwrap_or(u8::MAX)

@@ -46,8 +46,8 @@ impl Script {
         }
         let line = line_in(text);
         match self.part {
-            Part::Maps => self.maps.answer(answer, line),
-            Part::Reads => reads::answer(answer, &mut self.inputs, line),
+            Part::Maps => self.maps.answer(answer, &line),
+            Part::Reads => reads::answer(answer, &mut self.inputs, &line),
         }
     }
 }

@@ -26,7 +26,7 @@
 //! | `serve` | serves these peers by a listener and its clock, as the program does |
 //! | `serve log N`, `serve until AT` | the same with a log that takes N bytes, and with a listener that stops after AT milliseconds |
 //!
-//! SIZES are the most bytes that a read gives, such as `4096,1`: the connection is served once for each. `texts::bytes_of` says how a TEXT spells
+//! SIZES are the most bytes that a read gives, such as `4096,1`: the connection is served once for each. `texts::add_bytes` says how a TEXT spells
 //! bytes. The answer has the result, how many bytes were read, how many reads failed, and all that was written; `same` if another size gives the
 //! same result and the same bytes. For peers it has whether the listener failed, after how many milliseconds it ended, the log, and for each peer
 //! when the last byte came and all that it got; `same` if the peer before got the same.
@@ -37,17 +37,18 @@ mod streams;
 mod talks;
 mod texts;
 
+use crate::commands::{ANY, asked};
+use crate::narrow::WIDE;
 use http_serve::MAX_READS;
-use lines::{failing_in, narrowness_in, number_in, turns_in};
-use peers::{Gathered, Room, gather, room_in, serve_peers};
+use lines::{Line, narrowness_in};
+use peers::{Gathered, OfPeer, gather, room_in, serve_peers};
 use script_bytes::{Answer, parted};
 use sector_disk::MemoryDisk;
-use stands::{Stand, begin, begin_first, open_again, overwrite, upgrade, zeros};
+use stands::{OfStand, Stand};
 use std::alloc::{AllocError, Global};
-use streams::{Pieces, WIDE};
+use streams::Pieces;
 use talks::{Bounds, talks};
-use texts::bytes_of;
-use tile_routes::Access;
+use texts::add_bytes;
 
 /// The state of a script: a disk or what answers over it, and what lines before said of connections and of the peers that are served next.
 /// It ends by `end` alone.
@@ -87,23 +88,28 @@ impl Trial {
 /// Serves a connection, where a map is open. Its bytes end with its input, unless it stays open.
 fn connect(alloc: Global, trial: &mut Trial, open: bool, line: &str, answer: &mut Answer) {
     let (sizes, text) = parted(line);
-    let Some(bytes) = bytes_of(alloc, text, answer) else {
-        return answer.say("no bytes");
-    };
-    let given = Pieces {
-        rest: &bytes,
-        size: 1,
-        open,
-        failed: 0,
-    };
-    match &mut trial.stand {
-        Stand::Open(map) => talks(alloc, map, sizes, given, trial.bounds, answer),
-        Stand::Closed(_) => answer.say("closed"),
+    let mut bytes = Vec::new(alloc);
+    if add_bytes(&mut bytes, text, answer) {
+        let given = Pieces {
+            rest: &bytes,
+            size: 1,
+            open,
+            failed: 0,
+        };
+        match &mut trial.stand {
+            Stand::Open(map) => talks(alloc, map, sizes, given, trial.bounds, answer),
+            Stand::Closed(_) => answer.say("closed"),
+        }
+    } else {
+        answer.say("no bytes");
     }
 }
 
 /// Serves the peers that were gathered, where a map is open. They are gone then.
-fn listen(alloc: Global, trial: &mut Trial, room: Room, answer: &mut Answer) {
+fn listen(alloc: Global, trial: &mut Trial, room: &str, answer: &mut Answer) {
+    let Some(room) = room_in(room) else {
+        return answer.reject();
+    };
     match &mut trial.stand {
         Stand::Open(map) => serve_peers(alloc, map, &trial.gathered, room, answer),
         Stand::Closed(_) => answer.say("closed"),
@@ -111,71 +117,80 @@ fn listen(alloc: Global, trial: &mut Trial, room: Room, answer: &mut Answer) {
     trial.gathered.clear();
 }
 
-/// Answers a line that is about the disk. `None` if it isn't, or doesn't fit.
-fn answer_disk(
-    alloc: Global,
-    stand: &mut Stand,
-    word: &str,
-    rest: &str,
-    answer: &mut Answer,
-) -> Option<()> {
-    match (word, number_in(rest)) {
-        ("disk", Some(sectors)) => begin(alloc, stand, sectors, answer),
-        ("first", Some(sectors)) => begin_first(alloc, stand, sectors, answer),
-        ("zeros", Some(sectors)) => zeros(alloc, stand, sectors, answer),
-        ("upgrade", _) if rest.is_empty() => upgrade(alloc, stand, answer),
-        ("sector", _) => {
-            let (at, first) = parted(rest);
-            overwrite(
-                alloc,
-                stand,
-                number_in(at)?,
-                first.parse::<u8>().ok()?,
-                answer,
-            );
+/// Sets what writers take.
+fn narrow(bounds: &mut Bounds, text: &str, answer: &mut Answer) {
+    match narrowness_in(text) {
+        Some(narrowness) => {
+            bounds.narrowness = narrowness;
+            answer.say("writer");
         }
-        ("again", _) => open_again(alloc, stand, Access::Map, failing_in(rest)?, answer),
-        ("admin", _) => open_again(alloc, stand, Access::Admin, failing_in(rest)?, answer),
-        _ => return None,
+        None => answer.reject(),
     }
-    Some(())
 }
 
-/// Answers a line of this word. `None` if there is no such line, or it doesn't fit.
-fn answer_word(
-    alloc: Global,
-    trial: &mut Trial,
-    word: &str,
-    rest: &str,
-    answer: &mut Answer,
-) -> Option<()> {
-    match word {
-        "writer" => {
-            trial.bounds.narrowness = narrowness_in(rest)?;
-            answer.say(word);
-        }
-        "turns" => {
-            trial.bounds.turns = turns_in(rest)?;
-            answer.say(word);
-        }
-        "ask" => connect(alloc, trial, false, rest, answer),
-        "wait" => connect(alloc, trial, true, rest, answer),
-        "serve" => listen(alloc, trial, room_in(rest)?, answer),
-        _ => return answer_disk(alloc, &mut trial.stand, word, rest, answer),
+/// Sets how many reads a connection makes.
+fn turn(bounds: &mut Bounds, turns: u64, answer: &mut Answer) {
+    bounds.turns = turns;
+    answer.say("turns");
+}
+
+/// What a line asks for.
+#[derive(Clone, Copy)]
+enum Asks {
+    Stand(OfStand),
+    Peer(OfPeer),
+    Writer,
+    AllTurns,
+    Turns,
+    Ask,
+    Wait,
+    Serve,
+}
+
+/// The words of lines, with how many numbers stand behind them and what they ask for.
+static LINES: [(&str, usize, Asks); 21] = [
+    ("disk", 1, Asks::Stand(OfStand::Begin)),
+    ("first", 1, Asks::Stand(OfStand::First)),
+    ("zeros", 1, Asks::Stand(OfStand::Zeros)),
+    ("upgrade", 0, Asks::Stand(OfStand::Upgrade)),
+    ("sector", ANY, Asks::Stand(OfStand::Sector)),
+    ("again", ANY, Asks::Stand(OfStand::Again)),
+    ("admin", ANY, Asks::Stand(OfStand::Admin)),
+    ("peer", ANY, Asks::Peer(OfPeer::Comes)),
+    ("sends", ANY, Asks::Peer(OfPeer::Sends)),
+    ("ends", 1, Asks::Peer(OfPeer::Ends)),
+    ("floods", 1, Asks::Peer(OfPeer::Floods)),
+    ("stubborn", 0, Asks::Peer(OfPeer::Stubborn)),
+    ("unwatched", 0, Asks::Peer(OfPeer::Unwatched)),
+    ("more", 1, Asks::Peer(OfPeer::More)),
+    ("accepts", ANY, Asks::Peer(OfPeer::Accepts)),
+    ("writer", ANY, Asks::Writer),
+    ("turns", 0, Asks::AllTurns),
+    ("turns", 1, Asks::Turns),
+    ("ask", ANY, Asks::Ask),
+    ("wait", ANY, Asks::Wait),
+    ("serve", ANY, Asks::Serve),
+];
+
+/// Does what a line asks for.
+fn run(alloc: Global, trial: &mut Trial, asks: Asks, line: Line<'_>, answer: &mut Answer) {
+    match asks {
+        Asks::Stand(asks) => stands::run(alloc, &mut trial.stand, asks, line, answer),
+        Asks::Peer(asks) => gather(alloc, &mut trial.gathered, asks, line, answer),
+        Asks::Writer => narrow(&mut trial.bounds, line.rest, answer),
+        Asks::AllTurns => turn(&mut trial.bounds, MAX_READS, answer),
+        Asks::Turns => turn(&mut trial.bounds, line.number, answer),
+        Asks::Ask => connect(alloc, trial, false, line.rest, answer),
+        Asks::Wait => connect(alloc, trial, true, line.rest, answer),
+        Asks::Serve => listen(alloc, trial, line.rest, answer),
     }
-    Some(())
 }
 
 /// Answers a line of text.
 pub(crate) fn answer_to(alloc: Global, trial: &mut Trial, text: &str, answer: &mut Answer) {
-    let (word, rest) = parted(text);
-    match gather(alloc, &mut trial.gathered, word, rest, answer) {
-        Some(true) => answer.say(text),
-        Some(false) => answer.say("no bytes"),
-        None => {
-            if answer_word(alloc, trial, word, rest, answer).is_none() {
-                answer.reject();
-            }
-        }
+    let line = Line::of(text);
+    match asked(&LINES, line.word, line.count) {
+        Some(asks) => run(alloc, trial, asks, line, answer),
+        None => answer.reject(),
     }
 }

@@ -35,20 +35,71 @@ mod generation;
 mod rings;
 mod trial;
 
-use crate::commands::operands_in;
+use crate::commands::{ANY, Operands, asked, operands_in};
+use crate::sectors::Fails;
+use disks::OfDisk;
+use generation::OfGeneration;
+use rings::OfRing;
 use script_bytes::{Answer, parted};
 use std::alloc::Global;
 pub(crate) use trial::Trial;
+
+/// What a command asks for.
+#[derive(Clone, Copy)]
+enum Asks {
+    Disk(OfDisk),
+    Generation(OfGeneration),
+    Ring(OfRing),
+}
+
+/// The words of commands, with how many numbers they have and what they ask for.
+static COMMANDS: [(&str, usize, Asks); 28] = [
+    ("disk", 1, Asks::Disk(OfDisk::Make)),
+    ("write", 1, Asks::Disk(OfDisk::Write)),
+    ("sync", 0, Asks::Disk(OfDisk::Sync)),
+    ("sector", 1, Asks::Disk(OfDisk::Sector)),
+    ("sectors", 0, Asks::Disk(OfDisk::Sectors)),
+    ("fail_from", 1, Asks::Disk(OfDisk::Fail(Fails::From))),
+    ("fail_not_made", 1, Asks::Disk(OfDisk::Fail(Fails::NotMade))),
+    ("fail_made", 1, Asks::Disk(OfDisk::Fail(Fails::Made))),
+    ("fail_none", 0, Asks::Disk(OfDisk::Fail(Fails::None))),
+    ("stop", 0, Asks::Disk(OfDisk::Stop)),
+    ("crash", ANY, Asks::Disk(OfDisk::Crash)),
+    ("layout", 1, Asks::Generation(OfGeneration::Layout)),
+    ("format", 0, Asks::Generation(OfGeneration::Format)),
+    ("format_version", 1, Asks::Generation(OfGeneration::Version)),
+    ("upgrade", 0, Asks::Generation(OfGeneration::Upgrade)),
+    ("root", 0, Asks::Generation(OfGeneration::Root)),
+    ("area", 2, Asks::Generation(OfGeneration::Area)),
+    ("install", 5, Asks::Generation(OfGeneration::Install)),
+    ("ring", 4, Asks::Ring(OfRing::Ring)),
+    ("ring", 5, Asks::Ring(OfRing::RingOf)),
+    ("append", 0, Asks::Ring(OfRing::Append)),
+    ("append", 1, Asks::Ring(OfRing::AppendOf)),
+    ("next", 0, Asks::Ring(OfRing::Next)),
+    ("mark", 0, Asks::Ring(OfRing::Mark)),
+    ("release", 1, Asks::Ring(OfRing::Release)),
+    ("head", 2, Asks::Ring(OfRing::Head)),
+    ("head", 3, Asks::Ring(OfRing::HeadUpTo)),
+    ("has_part", 4, Asks::Ring(OfRing::HasPart)),
+];
+
+/// Does what a command asks for.
+fn run(alloc: Global, trial: &mut Trial, asks: Asks, operands: &Operands, answer: &mut Answer) {
+    match asks {
+        Asks::Disk(asks) => disks::run(alloc, trial, asks, operands, answer),
+        Asks::Generation(asks) => generation::run(trial, asks, operands, answer),
+        Asks::Ring(asks) => rings::run(alloc, trial, asks, operands, answer),
+    }
+}
 
 /// Answers a line of text.
 pub(crate) fn answer_to(alloc: Global, trial: &mut Trial, text: &str, answer: &mut Answer) {
     let (word, rest) = parted(text);
     if let Some(operands) = answer.fitting(operands_in(alloc, rest)) {
-        let is_command = disks::answer_to(alloc, trial, word, &operands, answer)
-            || generation::answer_to(trial, word, &operands, answer)
-            || rings::answer_to(alloc, trial, word, &operands, answer);
-        if !is_command {
-            answer.reject();
+        match asked(&COMMANDS, word, operands.numbers.len()) {
+            Some(asks) => run(alloc, trial, asks, &operands, answer),
+            None => answer.reject(),
         }
     }
 }

@@ -9,6 +9,7 @@
 mod commands;
 mod connections;
 mod journal;
+mod narrow;
 mod sectors;
 mod service;
 

@@ -33,34 +33,76 @@ mod exports;
 mod features;
 mod sessions;
 
-use crate::commands::{Operands, operands_in};
-use calls::run;
+use crate::commands::{ANY, Operands, asked, operands_in};
+use crate::sectors::Fails;
+use calls::{OfService, run_events};
+use disks::{OfDisk, Work, format_in, work_on};
 use script_bytes::{Answer, parted};
+use sessions::OfSession;
 pub(crate) use sessions::Trial;
-use std::alloc::{AllocError, Global};
+use std::alloc::Global;
 
-/// Answers a command. Returns false if it is none, does not fit, or asks for a service and none is open.
-fn answer_command(
-    alloc: Global,
-    trial: &mut Trial,
-    word: &str,
-    operands: &Operands,
-    answer: &mut Answer,
-) -> bool {
-    disks::answer_to(alloc, trial, word, operands, answer)
-        || sessions::answer_to(alloc, trial, word, &operands.numbers, answer)
-        || calls::answer_to(alloc, trial, word, &operands.numbers, answer)
+/// What a command asks for.
+#[derive(Clone, Copy)]
+enum Asks {
+    Session(OfSession),
+    Work(Work),
+    Version,
+    Disk(OfDisk),
+    Service(OfService),
+}
+
+/// The words of commands, with how many numbers they have and what they ask for.
+static COMMANDS: [(&str, usize, Asks); 22] = [
+    ("disk", 1, Asks::Session(OfSession::Make)),
+    ("fail_from", 1, Asks::Session(OfSession::Fail(Fails::From))),
+    (
+        "fail_not_made",
+        1,
+        Asks::Session(OfSession::Fail(Fails::NotMade)),
+    ),
+    ("fail_made", 1, Asks::Session(OfSession::Fail(Fails::Made))),
+    ("open", 0, Asks::Session(OfSession::Open)),
+    ("stop", 0, Asks::Session(OfSession::Stop)),
+    ("resume", 0, Asks::Session(OfSession::Resume)),
+    ("crash", ANY, Asks::Session(OfSession::Crash)),
+    ("format", 0, Asks::Work(Work::Format)),
+    ("format_version", 1, Asks::Version),
+    ("upgrade", 0, Asks::Work(Work::Upgrade)),
+    ("write", 1, Asks::Disk(OfDisk::Write)),
+    ("sector", 1, Asks::Disk(OfDisk::Sector)),
+    ("sectors", 0, Asks::Disk(OfDisk::Sectors)),
+    ("export", 0, Asks::Disk(OfDisk::Export)),
+    ("export", 1, Asks::Disk(OfDisk::ExportUpTo)),
+    ("publish", 0, Asks::Service(OfService::Publish)),
+    ("archive", 0, Asks::Service(OfService::Archive)),
+    ("archive", 2, Asks::Service(OfService::ArchivePart)),
+    ("verify", 0, Asks::Service(OfService::Verify)),
+    ("metadata", 0, Asks::Service(OfService::Metadata)),
+    ("version", 0, Asks::Service(OfService::Version)),
+];
+
+/// Does what a command asks for.
+fn run(alloc: Global, trial: &mut Trial, asks: Asks, operands: &Operands, answer: &mut Answer) {
+    match asks {
+        Asks::Session(asks) => sessions::run(alloc, trial, asks, operands, answer),
+        Asks::Work(work) => work_on(alloc, trial, work, answer),
+        Asks::Version => format_in(alloc, trial, operands.number(0), answer),
+        Asks::Disk(asks) => disks::run(alloc, trial, asks, operands, answer),
+        Asks::Service(asks) => calls::run(alloc, trial, asks, operands, answer),
+    }
 }
 
 /// Answers a line of text, which is a run of events if it is no other command.
 pub(crate) fn answer_to(alloc: Global, trial: &mut Trial, text: &str, answer: &mut Answer) {
     let (word, rest) = parted(text);
-    let is_command = match operands_in(alloc, rest) {
-        Ok(Some(operands)) => answer_command(alloc, trial, word, &operands, answer),
-        Ok(None) => false,
-        Err(AllocError) => return answer.refuse(),
+    let found = answer.granted(operands_in(alloc, rest)).flatten();
+    let asks = match &found {
+        Some(operands) => asked(&COMMANDS, word, operands.numbers.len()),
+        None => None,
     };
-    if !is_command {
-        run(alloc, trial, text, answer);
+    match (asks, &found) {
+        (Some(asks), Some(operands)) => run(alloc, trial, asks, operands, answer),
+        _ => run_events(alloc, trial, text, answer),
     }
 }

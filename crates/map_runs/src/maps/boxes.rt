@@ -5,6 +5,17 @@ use box_index::{BoxIndex, IndexEntry, Span};
 use feature_model::WorldBox;
 use script_bytes::{Answer, short};
 
+/// What a line over an index asks for.
+#[derive(Clone, Copy)]
+pub(crate) enum Asks {
+    Add,
+    Take,
+    Query,
+    Scatter,
+    Gather,
+    Blocks,
+}
+
 /// The box of these columns and rows.
 pub(crate) fn bounds_of(x0: u64, x1: u64, y0: u64, y1: u64) -> WorldBox {
     WorldBox {
@@ -104,17 +115,15 @@ fn index_blocks(answer: &mut Answer, index: &BoxIndex, most: u64) {
     blocks(answer, count, most);
 }
 
-/// Answers a line over an index. Returns whether it is one.
-pub(crate) fn answer(answer: &mut Answer, index: &mut BoxIndex, line: Line<'_>) -> bool {
+/// Answers a line over an index.
+pub(crate) fn answer(answer: &mut Answer, index: &mut BoxIndex, asks: Asks, line: &Line<'_>) {
     let numbers = line.numbers;
-    match line.word {
-        "add" => add(answer, index, entry_of(numbers)),
-        "take" => take(answer, index, entry_of(numbers)),
-        "query" => query(answer, index, numbers),
-        "scatter" => scatter(answer, index, numbers),
-        "gather" => gather(answer, index, numbers),
-        "boxblocks" => index_blocks(answer, index, numbers[0]),
-        _ => return false,
+    match asks {
+        Asks::Add => add(answer, index, entry_of(numbers)),
+        Asks::Take => take(answer, index, entry_of(numbers)),
+        Asks::Query => query(answer, index, numbers),
+        Asks::Scatter => scatter(answer, index, numbers),
+        Asks::Gather => gather(answer, index, numbers),
+        Asks::Blocks => index_blocks(answer, index, numbers[0]),
     }
-    true
 }

@@ -7,6 +7,15 @@ use std::alloc::{AllocError, Global};
 use std::rc::RcSlice;
 use tile_cache::{CachedTile, Origin, TileCache, TouchGrid};
 
+/// What a line over these asks for.
+#[derive(Clone, Copy)]
+pub(crate) enum Asks {
+    Mark,
+    Touched,
+    Hold,
+    Held,
+}
+
 /// A grid of cells, and a cache of tiles.
 #[derive(Drop)]
 pub(crate) struct Caches {
@@ -54,25 +63,19 @@ impl Caches {
         }
     }
 
-    fn answer_tile(&mut self, answer: &mut Answer, line: Line<'_>) {
+    /// Answers a line over these.
+    pub(crate) fn answer(&mut self, answer: &mut Answer, asks: Asks, line: &Line<'_>) {
+        if let Asks::Mark = asks {
+            return self.mark(answer, line.numbers);
+        }
         let Some(at) = tile_at(line.numbers) else {
             return answer.say("no tile");
         };
         let [_, _, _, fourth, fifth, ..] = line.numbers;
-        match line.word {
-            "hold" => self.hold(answer, at, fourth, fifth),
-            "held" => self.held(answer, at, fourth),
+        match asks {
+            Asks::Hold => self.hold(answer, at, fourth, fifth),
+            Asks::Held => self.held(answer, at, fourth),
             _ => answer.tell(&self.grid.newest(at)),
         }
-    }
-
-    /// Answers a line over these. Returns whether it is one.
-    pub(crate) fn answer(&mut self, answer: &mut Answer, line: Line<'_>) -> bool {
-        match line.word {
-            "mark" => self.mark(answer, line.numbers),
-            "hold" | "held" | "touched" => self.answer_tile(answer, line),
-            _ => return false,
-        }
-        true
     }
 }

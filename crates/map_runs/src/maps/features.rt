@@ -15,6 +15,20 @@ use serde_json::Value;
 use std::alloc::Global;
 use tile_cutter::{bounding_box, check_reach, cover_count, tiles_met};
 
+/// What a line about JSON or about the texts of edits asks for.
+#[derive(Clone, Copy)]
+pub(crate) enum Asks {
+    Json,
+    Changes,
+    Checked,
+    Reach,
+    Text,
+    Covers,
+    Put,
+    Deleted,
+    Record,
+}
+
 /// The feature as the text of this number, or the limit that it breaks.
 fn stored(alloc: Global, id: u64, feature: &Feature) -> Result<StoredFeature, EditFault>
     ensures { IfOk result (λ s. IsAllowed s.0 s.1) }
@@ -107,47 +121,62 @@ fn covered(answer: &mut Answer, zoom: u64, feature: &Feature) {
     }
 }
 
+/// What is told of a feature, which no edit gets.
+fn told_of(answer: &mut Answer, asks: Asks, number: u64, feature: &Feature) {
+    match asks {
+        Asks::Json => shown(answer, 0, feature),
+        Asks::Covers => covered(answer, number, feature),
+        _ => reach_of(answer, feature),
+    }
+}
+
 /// Answers a line about the feature of a JSON value.
-fn answer_feature(answer: &mut Answer, map: &mut CachedMap, line: Line<'_>, value: &Value) {
-    let feature = match feature_from_json(answer.alloc(), value) {
-        Ok(feature) => feature,
-        Err(fault) => return answer.tell(&fault),
-    };
-    let number = line.numbers[0];
-    match line.word {
-        "json" => shown(answer, 0, &feature),
-        "text" => put_text(answer, number, feature),
-        "reach" => reach_of(answer, &feature),
-        "covers" => covered(answer, number, &feature),
-        _ => put(answer, map, number, feature),
+fn answer_feature(
+    answer: &mut Answer,
+    map: &mut CachedMap,
+    asks: Asks,
+    number: u64,
+    value: &Value,
+) {
+    match feature_from_json(answer.alloc(), value) {
+        Ok(feature) => match asks {
+            Asks::Put => put(answer, map, number, feature),
+            Asks::Text => put_text(answer, number, feature),
+            _ => told_of(answer, asks, number, &feature),
+        },
+        Err(fault) => answer.tell(&fault),
+    }
+}
+
+/// Answers a line about a JSON value.
+fn answer_value(answer: &mut Answer, map: &mut CachedMap, asks: Asks, number: u64, value: &Value) {
+    match asks {
+        Asks::Changes => changes(answer, value),
+        Asks::Checked => checked(answer, value),
+        _ => answer_feature(answer, map, asks, number, value),
     }
 }
 
 /// Answers a line about a text of JSON, in which `<COUNT:TEXT>` stands for that text so many times.
-fn answer_json(answer: &mut Answer, map: &mut CachedMap, line: Line<'_>, json: &str) {
-    let Ok(text) = expanded(answer.alloc(), json) else {
-        return answer.refuse();
+fn answer_json(answer: &mut Answer, map: &mut CachedMap, asks: Asks, number: u64, json: &str) {
+    let Some(text) = answer.granted(expanded(answer.alloc(), json)) else {
+        return;
     };
-    let value = Value::from_str(answer.alloc(), text.as_str());
-    drop(text);
-    let Ok(value) = value else {
-        return answer.say("Json");
-    };
-    match line.word {
-        "changes" => changes(answer, &value),
-        "checked" => checked(answer, &value),
-        _ => answer_feature(answer, map, line, &value),
+    match Value::from_str(answer.alloc(), text.as_str()) {
+        Ok(value) => answer_value(answer, map, asks, number, &value),
+        Err(_) => answer.say("Json"),
     }
 }
 
-/// Answers a line about JSON, which stands behind a number in some, or about the texts of edits. Returns whether it is one.
-pub(crate) fn answer(answer: &mut Answer, map: &mut CachedMap, line: Line<'_>) -> bool {
-    match line.word {
-        "json" | "changes" | "checked" | "reach" => answer_json(answer, map, line, line.rest),
-        "text" | "covers" | "put" => answer_json(answer, map, line, parted(line.rest).1),
-        "deleted" => deleted(answer, line.numbers[0]),
-        "record" => record(answer, line.rest),
-        _ => return false,
+/// Answers a line about JSON, which stands behind a number in some, or about the texts of edits.
+pub(crate) fn answer(answer: &mut Answer, map: &mut CachedMap, asks: Asks, line: &Line<'_>) {
+    let number = line.numbers[0];
+    match asks {
+        Asks::Deleted => deleted(answer, number),
+        Asks::Record => record(answer, line.rest),
+        Asks::Text | Asks::Covers | Asks::Put => {
+            answer_json(answer, map, asks, number, parted(line.rest).1)
+        }
+        _ => answer_json(answer, map, asks, number, line.rest),
     }
-    true
 }

@@ -20,6 +20,25 @@ use script_bytes::{Answer, digest};
 use std::alloc::{AllocError, Global};
 use std::mem;
 
+/// What a line over a map asks for.
+#[derive(Clone, Copy)]
+pub(crate) enum Asks {
+    Delete,
+    Make,
+    Random,
+    Restore,
+    Tile,
+    Anew,
+    Layers,
+    Newest,
+    Square,
+    Look,
+    Tiles,
+    Snapshot,
+    Metadata,
+    Area,
+}
+
 /// The most features of a map.
 const MOST: usize = 100_000;
 
@@ -236,14 +255,14 @@ fn restore(answer: &mut Answer, map: &mut CachedMap, text: &str) {
 }
 
 /// Answers a line about a tile.
-fn answer_tile(answer: &mut Answer, map: &mut CachedMap, line: Line<'_>) {
-    let Some(at) = tile_at(line.numbers) else {
+fn answer_tile(answer: &mut Answer, map: &mut CachedMap, asks: Asks, numbers: [u64; 8]) {
+    let Some(at) = tile_at(numbers) else {
         return answer.say("no tile");
     };
-    match line.word {
-        "tile" => tile(answer, map, at),
-        "anew" => anew(answer, map.store(), at),
-        "layers" => layers(answer, map.store(), at),
+    match asks {
+        Asks::Tile => tile(answer, map, at),
+        Asks::Anew => anew(answer, map.store(), at),
+        Asks::Layers => layers(answer, map.store(), at),
         _ => answer.tell(&map.newest(at)),
     }
 }
@@ -272,21 +291,19 @@ fn square(answer: &mut Answer, map: &mut CachedMap, [zoom, column, row, side, ..
     write!(answer, "{cached} cached, digest {sum}");
 }
 
-/// Answers a line over a map. Returns whether it is one.
-pub(crate) fn answer(answer: &mut Answer, map: &mut CachedMap, line: Line<'_>) -> bool {
-    match line.word {
-        "delete" => delete(answer, map, line.numbers[0]),
-        "make" => make_text(answer, map, line.rest),
-        "random" => make_random(answer, map, line.numbers),
-        "restore" => restore(answer, map, line.rest),
-        "tile" | "anew" | "layers" | "newest" => answer_tile(answer, map, line),
-        "square" => square(answer, map, line.numbers),
-        "look" => look(answer, map.store(), line.numbers[0]),
-        "tiles" => tiles(answer, map.store()),
-        "snapshot" => snapshot(answer, map.store()),
-        "metadata" => answer.add(metadata_text(answer.alloc(), map.store())),
-        "area" => area(answer, map.store(), line.numbers[0]),
-        _ => return false,
+/// Answers a line over a map.
+pub(crate) fn answer(answer: &mut Answer, map: &mut CachedMap, asks: Asks, line: &Line<'_>) {
+    match asks {
+        Asks::Delete => delete(answer, map, line.numbers[0]),
+        Asks::Make => make_text(answer, map, line.rest),
+        Asks::Random => make_random(answer, map, line.numbers),
+        Asks::Restore => restore(answer, map, line.rest),
+        Asks::Square => square(answer, map, line.numbers),
+        Asks::Look => look(answer, map.store(), line.numbers[0]),
+        Asks::Tiles => tiles(answer, map.store()),
+        Asks::Snapshot => snapshot(answer, map.store()),
+        Asks::Metadata => answer.add(metadata_text(answer.alloc(), map.store())),
+        Asks::Area => area(answer, map.store(), line.numbers[0]),
+        _ => answer_tile(answer, map, asks, line.numbers),
     }
-    true
 }

@@ -4,6 +4,21 @@ use crate::lines::Line;
 use number_map::NumberMap;
 use script_bytes::Answer;
 
+/// What a line over a map from numbers asks for.
+#[derive(Clone, Copy)]
+pub(crate) enum Asks {
+    Set,
+    Unset,
+    Get,
+    From,
+    FillUp,
+    FillDown,
+    Thin,
+    Serve,
+    Entries,
+    Blocks,
+}
+
 /// How many entries there are, by two counts, whether each is found, and what they make together in their order: 31 times what those before
 /// an entry do, plus 7 times its number, plus its value, all modulo 2^64.
 fn entries(answer: &mut Answer, map: &NumberMap<u64>) {
@@ -37,9 +52,7 @@ fn set(answer: &mut Answer, map: &mut NumberMap<u64>, number: u64, value: u64) {
 
 /// Gives so many numbers values from 0 up, in this order or from the last one down: each number is so much above the one before, from
 /// 0 up.
-fn fill(answer: &mut Answer, map: &mut NumberMap<u64>, line: Line<'_>) {
-    let [count, step, ..] = line.numbers;
-    let is_up = line.word == "fillup";
+fn fill(answer: &mut Answer, map: &mut NumberMap<u64>, is_up: bool, count: u64, step: u64) {
     for place in 0..count {
         let behind = count.wrapping_sub(place).wrapping_sub(1);
         let index = if is_up { place } else { behind };
@@ -74,20 +87,19 @@ fn serve(answer: &mut Answer, map: &mut NumberMap<u64>, number: u64) {
     write!(answer, "{was_there} {before:?} {found:?} {removed:?}");
 }
 
-/// Answers a line over a map from numbers. Returns whether it is one.
-pub(crate) fn answer(answer: &mut Answer, map: &mut NumberMap<u64>, line: Line<'_>) -> bool {
+/// Answers a line over a map from numbers.
+pub(crate) fn answer(answer: &mut Answer, map: &mut NumberMap<u64>, asks: Asks, line: &Line<'_>) {
     let [first, second, ..] = line.numbers;
-    match line.word {
-        "set" => set(answer, map, first, second),
-        "unset" => answer.show(&map.remove(first)),
-        "get" => answer.show(&map.get(first)),
-        "from" => answer.show(&map.first_from(first)),
-        "fillup" | "filldown" => fill(answer, map, line),
-        "thin" => thin(answer, map, line.numbers),
-        "serve" => serve(answer, map, first),
-        "entries" => entries(answer, map),
-        "blocks" => blocks(answer, map.blocks().len(), first),
-        _ => return false,
+    match asks {
+        Asks::Set => set(answer, map, first, second),
+        Asks::Unset => answer.show(&map.remove(first)),
+        Asks::Get => answer.show(&map.get(first)),
+        Asks::From => answer.show(&map.first_from(first)),
+        Asks::FillUp => fill(answer, map, true, first, second),
+        Asks::FillDown => fill(answer, map, false, first, second),
+        Asks::Thin => thin(answer, map, line.numbers),
+        Asks::Serve => serve(answer, map, first),
+        Asks::Entries => entries(answer, map),
+        Asks::Blocks => blocks(answer, map.blocks().len(), first),
     }
-    true
 }

@@ -1,5 +1,5 @@
 //! Lines about the bytes of archives.
-use archive_commands::{ShowFault, Verdict, show, verify};
+use archive_commands::{Verdict, show, verify};
 use pm_archive::{Archive, ArchiveFault, Lookup};
 use pm_directory::{DirectoryEntry, find, read_directory};
 use pm_header::{HEADER_BYTES, Header};
@@ -93,16 +93,8 @@ pub(crate) fn judged(answer: &mut Answer, bytes: &[u8]) {
 /// The text that `show` writes, or the name of its fault.
 pub(crate) fn shown(answer: &mut Answer, bytes: &[u8]) {
     let mut out = Vec::new(answer.alloc());
-    let outcome = show(bytes, &mut out);
-    tell_shown(answer, outcome, &out);
-}
-
-fn tell_shown(answer: &mut Answer, outcome: Result<(), ShowFault>, written: &[u8]) {
-    match outcome {
-        Ok(()) => answer.show_made(&String::from_utf8_lossy(answer.alloc(), written)),
-        Err(fault) => {
-            let len = written.len();
-            write!(answer, "{fault}, {len} bytes written");
-        }
+    match show(bytes, &mut out) {
+        Ok(()) => answer.show_made(&String::from_utf8_lossy(answer.alloc(), &out)),
+        Err(fault) => write!(answer, "{fault}, {} bytes written", out.len()),
     }
 }

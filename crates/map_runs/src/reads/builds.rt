@@ -7,6 +7,15 @@ use pm_metadata::is_metadata;
 use script_bytes::{Answer, number_in, parted};
 use std::alloc::{AllocError, Global};
 
+/// What archive a line asks for: of the tiles that it has, of even ids with one content or with one each; or what `verify` says of one.
+#[derive(Clone, Copy)]
+pub(crate) enum Asks {
+    Build,
+    Even,
+    Apart,
+    EvenJudged,
+}
+
 /// The metadata of a map of one point.
 const METADATA: &[u8] = br#"{"vector_layers":[{"fields":{},"id":"p","maxzoom":2,"minzoom":0}]}"#;
 
@@ -29,15 +38,15 @@ fn add_all(builder: &mut ArchiveBuilder, tiles: &[Tile]) -> Result<bool, BuildFa
 }
 
 /// What is told of an archive's bytes: these, or the line of `verify`.
-fn tell_bytes(answer: &mut Answer, word: &str, bytes: &[u8]) {
-    match word {
-        "evenjudged" => answer.tell(&Verdict::of(verify(answer.alloc(), bytes))),
+fn tell_bytes(answer: &mut Answer, asks: Asks, bytes: &[u8]) {
+    match asks {
+        Asks::EvenJudged => answer.tell(&Verdict::of(verify(answer.alloc(), bytes))),
         _ => answer.hex(bytes),
     }
 }
 
 /// The same of an archive in two parts.
-fn tell_archive(answer: &mut Answer, word: &str, archive: BuiltArchive) {
+fn tell_archive(answer: &mut Answer, asks: Asks, archive: BuiltArchive) {
     let BuiltArchive {
         mut front,
         contents,
@@ -45,13 +54,13 @@ fn tell_archive(answer: &mut Answer, word: &str, archive: BuiltArchive) {
     let joined = front.extend_from_slice(&contents);
     drop(contents);
     match joined {
-        Ok(()) => tell_bytes(answer, word, &front),
+        Ok(()) => tell_bytes(answer, asks, &front),
         Err(_) => answer.refuse(),
     }
 }
 
 /// The same of the archive of what a builder has.
-fn finish(answer: &mut Answer, word: &str, builder: ArchiveBuilder) {
+fn finish(answer: &mut Answer, asks: Asks, builder: ArchiveBuilder) {
     let Ok(is_object) = is_metadata(answer.alloc(), METADATA) else {
         return answer.refuse();
     };
@@ -59,16 +68,16 @@ fn finish(answer: &mut Answer, word: &str, builder: ArchiveBuilder) {
         return answer.say(NO_TILES);
     }
     match builder.finish(METADATA) {
-        Ok(archive) => tell_archive(answer, word, archive),
+        Ok(archive) => tell_archive(answer, asks, archive),
         Err(_) => answer.refuse(),
     }
 }
 
 /// The same of the archive of tiles.
-fn build(answer: &mut Answer, word: &str, tiles: &[Tile]) {
+fn build(answer: &mut Answer, asks: Asks, tiles: &[Tile]) {
     let mut builder = ArchiveBuilder::new(answer.alloc());
     match add_all(&mut builder, tiles) {
-        Ok(true) => finish(answer, word, builder),
+        Ok(true) => finish(answer, asks, builder),
         Ok(false) => answer.say(NO_TILES),
         Err(fault) => answer.tell(&fault),
     }
@@ -115,19 +124,24 @@ fn add_apart(alloc: Global, tiles: &mut Vec<Tile>, count: u64, len: u64) -> Resu
 }
 
 /// Adds the tiles that a line is about.
-fn add_tiles(alloc: Global, tiles: &mut Vec<Tile>, line: Line<'_>) -> Result<(), AllocError> {
-    match line.word {
-        "build" => add_words(alloc, tiles, line.rest),
-        "apart" => add_apart(alloc, tiles, line.numbers[0], line.numbers[1]),
+fn add_tiles(
+    alloc: Global,
+    tiles: &mut Vec<Tile>,
+    asks: Asks,
+    line: &Line<'_>,
+) -> Result<(), AllocError> {
+    match asks {
+        Asks::Build => add_words(alloc, tiles, line.rest),
+        Asks::Apart => add_apart(alloc, tiles, line.numbers[0], line.numbers[1]),
         _ => add_even(alloc, tiles, line.rest),
     }
 }
 
 /// What is told of the archive of the tiles that a line is about.
-pub(crate) fn answer(answer: &mut Answer, line: Line<'_>) {
+pub(crate) fn answer(answer: &mut Answer, asks: Asks, line: &Line<'_>) {
     let mut tiles = Vec::new(answer.alloc());
-    match add_tiles(answer.alloc(), &mut tiles, line) {
-        Ok(()) => build(answer, line.word, &tiles),
+    match add_tiles(answer.alloc(), &mut tiles, asks, line) {
+        Ok(()) => build(answer, asks, &tiles),
         Err(_) => answer.refuse(),
     }
 }

@@ -48,11 +48,8 @@ impl Inputs {
     /// Gives bytes a name.
     pub(crate) fn keep(&mut self, answer: &mut Answer, name: &str, bytes: Vec<u8>) {
         write!(answer, "{} bytes", bytes.len());
-        let Ok(name) = String::from_str(answer.alloc(), name) else {
-            return answer.refuse();
-        };
-        if self.held.push((name, bytes)).is_err() {
-            answer.refuse();
+        if let Some(name) = answer.granted(String::from_str(answer.alloc(), name)) {
+            answer.note(self.held.push((name, bytes)));
         }
     }
 

@@ -7,6 +7,22 @@ use http_values::{are_digits, byte_range, digits_number, push_number, push_text}
 use pb_wire::{put_varint, unzigzag, zigzag};
 use script_bytes::{Answer, number_in, parted, short};
 
+/// What a line about numbers asks for.
+#[derive(Clone, Copy)]
+pub(crate) enum Asks {
+    Shape,
+    Example,
+    Nothing,
+    Spell,
+    Zigzag,
+    Unzigzag,
+    Id,
+    Place,
+    Range,
+    Digits,
+    Written,
+}
+
 fn kind_in(word: &str) -> ShapeKind {
     match word {
         "points" => ShapeKind::Points,
@@ -21,9 +37,7 @@ fn shape(answer: &mut Answer, rest: &str) {
     let (kind, others) = parted(rest);
     let mut integers = Vec::new(answer.alloc());
     for word in others.split_whitespace() {
-        if integers.push(short(number_in(word))).is_err() {
-            answer.refuse();
-        }
+        answer.note(integers.push(short(number_in(word))));
     }
     answer.show_read(&decode(answer.alloc(), kind_in(kind), &integers));
 }
@@ -39,9 +53,7 @@ fn nothing(answer: &mut Answer) {
 fn spell(answer: &mut Answer, rest: &str) {
     let mut out = Vec::new(answer.alloc());
     for word in rest.split_whitespace() {
-        if put_varint(&mut out, number_in(word)).is_err() {
-            answer.refuse();
-        }
+        answer.note(put_varint(&mut out, number_in(word)));
     }
     answer.hex(&out);
 }
@@ -94,22 +106,20 @@ fn written(answer: &mut Answer, first: u64, second: u64) {
     answer.add(String::from_utf8_lossy(answer.alloc(), &out));
 }
 
-/// Answers a line about numbers. Returns whether it is one.
-pub(crate) fn answer(answer: &mut Answer, line: Line<'_>) -> bool {
+/// Answers a line about numbers.
+pub(crate) fn answer(answer: &mut Answer, asks: Asks, line: &Line<'_>) {
     let [first, second, ..] = line.numbers;
-    match line.word {
-        "shape" => shape(answer, line.rest),
-        "example" => example(answer, line.rest),
-        "nothing" => nothing(answer),
-        "spell" => spell(answer, line.rest),
-        "zigzag" => answer.tell(&zigzag(line.rest.parse::<i64>().unwrap_or(0))),
-        "unzigzag" => answer.tell(&unzigzag(first)),
-        "id" => id(answer, line.numbers),
-        "place" => tile(answer, first),
-        "range" => range(answer, line.rest.as_bytes()),
-        "digits" => digits(answer, line.rest),
-        "written" => written(answer, first, second),
-        _ => return false,
+    match asks {
+        Asks::Shape => shape(answer, line.rest),
+        Asks::Example => example(answer, line.rest),
+        Asks::Nothing => nothing(answer),
+        Asks::Spell => spell(answer, line.rest),
+        Asks::Zigzag => answer.tell(&zigzag(line.rest.parse::<i64>().unwrap_or(0))),
+        Asks::Unzigzag => answer.tell(&unzigzag(first)),
+        Asks::Id => id(answer, line.numbers),
+        Asks::Place => tile(answer, first),
+        Asks::Range => range(answer, line.rest.as_bytes()),
+        Asks::Digits => digits(answer, line.rest),
+        Asks::Written => written(answer, first, second),
     }
-    true
 }

@@ -1,47 +1,79 @@
 //! What the words of a line say.
-use super::streams::{Narrowness, WIDE};
-use http_serve::MAX_READS;
+use crate::commands::{ANY, asked};
+use crate::narrow::{Narrowness, WIDE};
+use crate::sectors::Fails;
 use script_bytes::parted;
 use sector_disk::FailingCalls;
 
-/// Which calls of a disk fail, counted from its opening.
+/// A line, or a part of one.
 #[derive(Clone, Copy)]
-pub(crate) enum Failing {
-    None,
-    /// Each from this number on.
-    From(u64),
-    /// The one of this number, which isn't made.
-    Lost(u64),
-    /// The one of this number, which is made.
-    Made(u64),
+pub(crate) struct Line<'a> {
+    pub(crate) text: &'a str,
+    /// The first word, and what stands behind it.
+    pub(crate) word: &'a str,
+    pub(crate) rest: &'a str,
+    /// How many numbers stand behind it: none, one, or two where that is something else.
+    pub(crate) count: usize,
+    /// The number if it is one, and otherwise 0.
+    pub(crate) number: u64,
 }
+
+impl<'a> Line<'a> {
+    pub(crate) fn of(text: &'a str) -> Line<'a> {
+        let (word, rest) = parted(text);
+        let (count, number) = match rest.parse::<u64>() {
+            Ok(number) => (1, number),
+            Err(_) if rest.is_empty() => (0, 0),
+            Err(_) => (2, 0),
+        };
+        Line {
+            text,
+            word,
+            rest,
+            count,
+            number,
+        }
+    }
+}
+
+/// The words for which calls of a disk fail.
+static FAILS: [(&str, usize, Fails); 4] = [
+    ("", ANY, Fails::None),
+    ("from", 1, Fails::From),
+    ("lost", 1, Fails::NotMade),
+    ("made", 1, Fails::Made),
+];
+
+/// Which calls of a disk fail, by a number that is counted from its opening.
+#[derive(Clone, Copy)]
+pub(crate) struct Failing {
+    fails: Fails,
+    number: u64,
+}
+
+/// No call fails.
+pub(crate) const NONE: Failing = Failing {
+    fails: Fails::None,
+    number: 0,
+};
 
 impl Failing {
     /// The same, counted on behind so many calls.
     pub(crate) fn behind(self, calls: u64) -> FailingCalls {
-        match self {
-            Failing::None => FailingCalls::OneNotMade(0),
-            Failing::From(number) => FailingCalls::AllFrom(calls.saturating_add(number)),
-            Failing::Lost(number) => FailingCalls::OneNotMade(calls.saturating_add(number)),
-            Failing::Made(number) => FailingCalls::OneMade(calls.saturating_add(number)),
-        }
+        self.fails.at(calls.saturating_add(self.number))
     }
 }
 
 /// Which calls a text says that fail.
 pub(crate) fn failing_in(text: &str) -> Option<Failing> {
-    let (word, number) = parted(text);
-    if word.is_empty() {
-        return Some(Failing::None);
-    }
-    let number = number_in(number)?;
-    match word {
-        "from" => Some(Failing::From(number)),
-        "lost" => Some(Failing::Lost(number)),
-        "made" => Some(Failing::Made(number)),
-        _ => None,
-    }
+    let line = Line::of(text);
+    let fails = asked(&FAILS, line.word, line.count)?;
+    let number = line.number;
+    Some(Failing { fails, number })
 }
+
+/// The words for whether a writer without room fails.
+static ENDS: [(&str, usize, bool); 2] = [("fails", ANY, true), ("full", ANY, false)];
 
 /// What a text says that the writer takes.
 pub(crate) fn narrowness_in(text: &str) -> Option<Narrowness> {
@@ -52,23 +84,11 @@ pub(crate) fn narrowness_in(text: &str) -> Option<Narrowness> {
     let (room, end) = parted(rest);
     let size = size.parse::<usize>().ok()?;
     let room = room.parse::<usize>().ok()?;
-    let fails = match end {
-        "fails" => true,
-        "full" => false,
-        _ => return None,
-    };
+    let fails = asked(&ENDS, end, ANY)?;
     Some(Narrowness { size, room, fails })
 }
 
 /// A number.
 pub(crate) fn number_in(text: &str) -> Option<u64> {
     text.parse::<u64>().ok()
-}
-
-/// How many reads a text says that a connection makes.
-pub(crate) fn turns_in(text: &str) -> Option<u64> {
-    if text.is_empty() {
-        return Some(MAX_READS);
-    }
-    number_in(text)
 }

@@ -8,7 +8,7 @@ mod serving;
 
 pub(crate) use gathered::{Gathered, Room};
 use http_listen::Change;
-pub(crate) use lines::{gather, room_in};
+pub(crate) use lines::{OfPeer, gather, room_in};
 pub(crate) use serving::serve_peers;
 use std::alloc::{AllocError, Global};
 use std::cell::{Cell, RefCell};
@@ -172,21 +172,14 @@ impl<'a> Peer<'a> {
         }
     }
 
-    /// How many bytes it has got.
-    fn count(&self) -> usize {
-        match self.got.try_borrow() {
-            Ok(got) => got.len(),
-            Err(_) => 0,
-        }
-    }
-
     /// How many bytes it can take now.
     fn space(&self, now: u64) -> usize {
         let later = self.plan.rate.saturating_mul((now / 100) as usize);
-        self.plan
-            .quick
-            .saturating_add(later)
-            .saturating_sub(self.count())
+        let all = self.plan.quick.saturating_add(later);
+        match self.got.try_borrow() {
+            Ok(got) => all.saturating_sub(got.len()),
+            Err(_) => all,
+        }
     }
 
     /// How many of its acts have come by now, and whether the last one of them ends its side.

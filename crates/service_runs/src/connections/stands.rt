@@ -1,5 +1,6 @@
 //! A disk, and what answers over it while it is open.
-use super::lines::Failing;
+use super::lines::{Failing, Line, NONE, failing_in};
+use crate::commands::pair_in;
 use generations::{FIRST_VERSION, StoreFault, format_version};
 use map_replies::MapReplies;
 use map_server::{fresh_service, opened_service};
@@ -86,24 +87,32 @@ fn open(
 }
 
 /// Opens the disk, so that these paths are served, and these calls behind its opening fail.
-pub(crate) fn open_again(
+fn open_again(
     alloc: Global,
     stand: &mut Stand,
     access: Access,
-    failing: Failing,
+    failing: &str,
     answer: &mut Answer,
 ) {
+    let Some(failing) = failing_in(failing) else {
+        return answer.reject();
+    };
     if let Some(disk) = answer.granted(taken(alloc, stand)) {
         open(alloc, stand, disk, access, failing, answer);
     }
 }
 
-/// A disk of zeros.
-pub(crate) fn zeros(alloc: Global, stand: &mut Stand, sectors: u64, answer: &mut Answer) {
+/// Puts a disk of zeros in the place of what was there.
+fn clear(alloc: Global, stand: &mut Stand, sectors: u64, answer: &mut Answer) {
     if let Some(disk) = answer.granted(MemoryDisk::new(alloc, sectors)) {
         replace(stand, Stand::Closed(disk));
-        answer.say("closed");
     }
+}
+
+/// A disk of zeros.
+fn zeros(alloc: Global, stand: &mut Stand, sectors: u64, answer: &mut Answer) {
+    clear(alloc, stand, sectors, answer);
+    answer.say("closed");
 }
 
 /// A disk of so many sectors that holds the empty map.
@@ -114,46 +123,27 @@ fn fresh_disk(alloc: Global, sectors: u64) -> Result<MemoryDisk, StoreFault> {
     }
 }
 
-/// A disk of so many sectors that holds the empty map in the first version of the format.
-fn first_disk(alloc: Global, sectors: u64) -> Result<MemoryDisk, StoreFault> {
-    let mut disk = match MemoryDisk::new(alloc, sectors) {
-        Ok(disk) => disk,
-        Err(AllocError) => return Err(StoreFault::Memory),
-    };
-    match format_version(&mut disk, FIRST_VERSION) {
-        Ok(()) => Ok(disk),
-        Err(fault) => Err(fault),
-    }
-}
-
-/// Opens a disk that was made, if it was.
-fn open_made(
-    alloc: Global,
-    stand: &mut Stand,
-    made: Result<MemoryDisk, StoreFault>,
-    answer: &mut Answer,
-) {
-    match made {
-        Ok(disk) => open(alloc, stand, disk, Access::Map, Failing::None, answer),
+/// Makes a disk of so many sectors that holds the empty map, and opens it.
+fn begin(alloc: Global, stand: &mut Stand, sectors: u64, answer: &mut Answer) {
+    clear(alloc, stand, 1, answer);
+    match fresh_disk(alloc, sectors) {
+        Ok(disk) => open(alloc, stand, disk, Access::Map, NONE, answer),
         Err(fault) => answer.show(&fault),
     }
 }
 
-/// Makes a disk of so many sectors that holds the empty map, and opens it.
-pub(crate) fn begin(alloc: Global, stand: &mut Stand, sectors: u64, answer: &mut Answer) {
-    if let Some(disk) = answer.granted(taken(alloc, stand)) {
-        drop(disk);
-        open_made(alloc, stand, fresh_disk(alloc, sectors), answer);
+/// Makes a disk of so many sectors that holds the empty map in the first version of the format, and opens it.
+fn begin_first(alloc: Global, stand: &mut Stand, sectors: u64, answer: &mut Answer) {
+    if let Some(mut disk) = answer.granted(MemoryDisk::new(alloc, sectors)) {
+        match format_version(&mut disk, FIRST_VERSION) {
+            Ok(()) => open(alloc, stand, disk, Access::Map, NONE, answer),
+            Err(fault) => answer.show(&fault),
+        }
     }
 }
 
-/// Makes a disk of so many sectors that holds the empty map in the first version of the format, and opens it.
-pub(crate) fn begin_first(alloc: Global, stand: &mut Stand, sectors: u64, answer: &mut Answer) {
-    open_made(alloc, stand, first_disk(alloc, sectors), answer);
-}
-
 /// Closes the disk, and upgrades it.
-pub(crate) fn upgrade(alloc: Global, stand: &mut Stand, answer: &mut Answer) {
+fn upgrade(alloc: Global, stand: &mut Stand, answer: &mut Answer) {
     if let Some(mut disk) = answer.granted(taken(alloc, stand)) {
         match Service::upgrade(&mut disk) {
             Ok(()) => answer.say("upgraded"),
@@ -170,11 +160,45 @@ fn write(disk: &mut MemoryDisk, at: u64, first: u8) -> bool {
     at < disk.count() && disk.write(at, &sector).is_ok()
 }
 
-/// Closes the disk, and writes a sector of zeros behind this byte.
-pub(crate) fn overwrite(alloc: Global, stand: &mut Stand, at: u64, first: u8, answer: &mut Answer) {
+/// Closes the disk, and writes a sector of zeros behind a byte, as a text says.
+fn overwrite(alloc: Global, stand: &mut Stand, text: &str, answer: &mut Answer) {
+    let Some((at, first)) = pair_in::<u64, u8>(text, ' ') else {
+        return answer.reject();
+    };
     if let Some(mut disk) = answer.granted(taken(alloc, stand)) {
         let is_written = write(&mut disk, at, first);
         replace(stand, Stand::Closed(disk));
         answer.say(if is_written { "closed" } else { "not written" });
+    }
+}
+
+/// What is asked of a stand.
+#[derive(Clone, Copy)]
+pub(crate) enum OfStand {
+    Begin,
+    First,
+    Zeros,
+    Upgrade,
+    Sector,
+    Again,
+    Admin,
+}
+
+/// Does what a line about the disk asks for.
+pub(crate) fn run(
+    alloc: Global,
+    stand: &mut Stand,
+    asks: OfStand,
+    line: Line<'_>,
+    answer: &mut Answer,
+) {
+    match asks {
+        OfStand::Begin => begin(alloc, stand, line.number, answer),
+        OfStand::First => begin_first(alloc, stand, line.number, answer),
+        OfStand::Zeros => zeros(alloc, stand, line.number, answer),
+        OfStand::Upgrade => upgrade(alloc, stand, answer),
+        OfStand::Sector => overwrite(alloc, stand, line.rest, answer),
+        OfStand::Again => open_again(alloc, stand, Access::Map, line.rest, answer),
+        OfStand::Admin => open_again(alloc, stand, Access::Admin, line.rest, answer),
     }
 }

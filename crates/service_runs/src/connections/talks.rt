@@ -1,7 +1,8 @@
 //! Connections, and what is told of them.
 use super::stands::Map;
-use super::streams::{Narrow, Narrowness, Pieces};
+use super::streams::Pieces;
 use super::texts::tell_bytes;
+use crate::narrow::{Narrow, Narrowness};
 use http_serve::{ServeFault, Served};
 use map_replies::serve_map_turns;
 use script_bytes::Answer;
@@ -60,9 +61,8 @@ fn tell_other(size: usize, outcome: &Outcome, first: &Outcome, answer: &mut Answ
     }
 }
 
-/// The sizes of pieces, if these are some.
-fn sizes_in(alloc: Global, text: &str, answer: &mut Answer) -> Option<Vec<usize>> {
-    let mut sizes = Vec::new(alloc);
+/// Adds the sizes of pieces, and says whether these are some.
+fn add_sizes(sizes: &mut Vec<usize>, text: &str, answer: &mut Answer) -> bool {
     let mut are_some = true;
     for word in text.split(',') {
         match word.parse::<usize>() {
@@ -70,7 +70,7 @@ fn sizes_in(alloc: Global, text: &str, answer: &mut Answer) -> Option<Vec<usize>
             _ => are_some = false,
         }
     }
-    are_some.then_some(sizes)
+    are_some
 }
 
 /// Serves a connection of the same bytes for each of these sizes, and tells what they came to.
@@ -104,8 +104,10 @@ pub(crate) fn talks(
     bounds: Bounds,
     answer: &mut Answer,
 ) {
-    match sizes_in(alloc, sizes, answer) {
-        Some(sizes) => tell_talks(alloc, map, &sizes, given, bounds, answer),
-        None => answer.say("no sizes"),
+    let mut each = Vec::new(alloc);
+    if add_sizes(&mut each, sizes, answer) {
+        tell_talks(alloc, map, &each, given, bounds, answer);
+    } else {
+        answer.say("no sizes");
     }
 }

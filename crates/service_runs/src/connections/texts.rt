@@ -1,6 +1,5 @@
 //! Bytes as the texts of a script, both ways.
 use script_bytes::{Answer, digest};
-use std::alloc::Global;
 
 /// A reply with more bytes than these is told by its front, its length and a hash.
 const MAX_TOLD: usize = 2_000;
@@ -79,16 +78,15 @@ fn add_repetition(bytes: &mut Vec<u8>, text: &str, answer: &mut Answer) -> bool 
     spelled && add_plain(bytes, rest, answer)
 }
 
-/// The bytes that a text spells, if it spells some: `\r`, `\n` and `\t`, `\x` with two digits in base 16, `\*COUNT(TEXT)` for a text
+/// Adds the bytes that a text spells, and says whether it spells some: `\r`, `\n` and `\t`, `\x` with two digits in base 16, `\*COUNT(TEXT)` for a text
 /// that is there so often, and else the character itself.
-pub(crate) fn bytes_of(alloc: Global, text: &str, answer: &mut Answer) -> Option<Vec<u8>> {
-    let mut bytes = Vec::new(alloc);
+pub(crate) fn add_bytes(bytes: &mut Vec<u8>, text: &str, answer: &mut Answer) -> bool {
     let mut parts = text.split("\\*");
-    let mut spelled = add_plain(&mut bytes, parts.next().unwrap_or(""), answer);
+    let mut spelled = add_plain(bytes, parts.next().unwrap_or(""), answer);
     for part in parts {
-        spelled = spelled && add_repetition(&mut bytes, part, answer);
+        spelled = spelled && add_repetition(bytes, part, answer);
     }
-    spelled.then_some(bytes)
+    spelled
 }
 
 /// Tells a byte.

@@ -1,16 +1,17 @@
 //! Commands on the sectors of a disk.
 use super::trial::Trial;
 use crate::commands::Operands;
-use crate::sectors::{crashed, tell_used_sectors};
+use crate::sectors::{Fails, crashed, tell_used_sectors};
 use script_bytes::{Answer, sector_of, spelled, used_part};
 use sector_disk::{FailingCalls, MemoryDisk, SECTOR_BYTES, Sectors};
-use std::alloc::Global;
+use std::alloc::{AllocError, Global};
 use std::mem;
 
-fn make(alloc: Global, trial: &mut Trial, sectors: u64, answer: &mut Answer) {
-    if let Some(disk) = answer.granted(MemoryDisk::new(alloc, sectors)) {
+/// Replaces the disk by one that was made.
+fn put(trial: &mut Trial, made: Result<MemoryDisk, AllocError>, word: &str, answer: &mut Answer) {
+    if let Some(disk) = answer.granted(made) {
         trial.replace(disk);
-        answer.say("made");
+        answer.say(word);
     }
 }
 
@@ -41,39 +42,46 @@ fn fail(alloc: Global, trial: &mut Trial, failing: FailingCalls, answer: &mut An
 
 fn stop(alloc: Global, trial: &mut Trial, answer: &mut Answer) {
     if let Some(disk) = answer.granted(trial.take(alloc)) {
-        drop(mem::replace(&mut trial.stopped, disk));
+        drop(mem::replace(&mut trial.stopped, Some(disk)));
         answer.say("stopped");
     }
 }
 
 fn crash(alloc: Global, trial: &mut Trial, numbers: &[u64], answer: &mut Answer) {
-    if let Some(disk) = answer.granted(crashed(alloc, &trial.stopped, numbers)) {
-        trial.replace(disk);
-        answer.say("crashed");
-    }
+    let made = crashed(alloc, trial.stopped.as_ref(), numbers);
+    put(trial, made, "crashed", answer);
 }
 
-/// Answers a command on sectors. Returns false if it is none, or its numbers don't fit.
-pub(crate) fn answer_to(
+/// What is asked of a disk.
+#[derive(Clone, Copy)]
+pub(crate) enum OfDisk {
+    Make,
+    Write,
+    Sync,
+    Sector,
+    Sectors,
+    Fail(Fails),
+    Stop,
+    Crash,
+}
+
+/// Does what a command on sectors asks for.
+pub(crate) fn run(
     alloc: Global,
     trial: &mut Trial,
-    word: &str,
+    asks: OfDisk,
     operands: &Operands,
     answer: &mut Answer,
-) -> bool {
-    match (word, operands.numbers.as_slice()) {
-        ("disk", [sectors]) => make(alloc, trial, *sectors, answer),
-        ("write", [at]) => write(trial, *at, &operands.bytes, answer),
-        ("sync", []) => answer.show_calls(&trial.disk.sync(), 1),
-        ("sector", [at]) => sector(alloc, trial, *at, answer),
-        ("sectors", []) => tell_used_sectors(&mut trial.disk, answer),
-        ("fail_from", [call]) => fail(alloc, trial, FailingCalls::AllFrom(*call), answer),
-        ("fail_not_made", [call]) => fail(alloc, trial, FailingCalls::OneNotMade(*call), answer),
-        ("fail_made", [call]) => fail(alloc, trial, FailingCalls::OneMade(*call), answer),
-        ("fail_none", []) => fail(alloc, trial, FailingCalls::OneNotMade(0), answer),
-        ("stop", []) => stop(alloc, trial, answer),
-        ("crash", numbers) => crash(alloc, trial, numbers, answer),
-        _ => return false,
+) {
+    let number = operands.number(0);
+    match asks {
+        OfDisk::Make => put(trial, MemoryDisk::new(alloc, number), "made", answer),
+        OfDisk::Write => write(trial, number, &operands.bytes, answer),
+        OfDisk::Sync => answer.show_calls(&trial.disk.sync(), 1),
+        OfDisk::Sector => sector(alloc, trial, number, answer),
+        OfDisk::Sectors => tell_used_sectors(&mut trial.disk, answer),
+        OfDisk::Fail(fails) => fail(alloc, trial, fails.at(number), answer),
+        OfDisk::Stop => stop(alloc, trial, answer),
+        OfDisk::Crash => crash(alloc, trial, &operands.numbers, answer),
     }
-    true
 }

@@ -8,18 +8,38 @@ use generations::{
 use script_bytes::{Answer, sector_of};
 use sector_disk::Sectors;
 
-/// Formats or upgrades a disk, as a command asks for. `None` if it doesn't, or there is no such version.
-fn formatted<D: Sectors>(
-    disk: &mut D,
-    word: &str,
-    numbers: &[u64],
-) -> Option<Result<(), StoreFault>> {
-    match (word, numbers) {
-        ("format", []) => Some(format(disk)),
-        ("format_version", [1]) => Some(format_version(disk, FIRST_VERSION)),
-        ("format_version", [2]) => Some(format_version(disk, LAST_VERSION)),
-        ("upgrade", []) => Some(upgrade(disk)),
-        _ => None,
+/// How a disk is made a store.
+#[derive(Clone, Copy)]
+enum Work {
+    Format,
+    FormatFirst,
+    FormatLast,
+    Upgrade,
+}
+
+/// Formats or upgrades a disk.
+fn worked<D: Sectors>(disk: &mut D, work: Work) -> Result<(), StoreFault> {
+    match work {
+        Work::Format => format(disk),
+        Work::FormatFirst => format_version(disk, FIRST_VERSION),
+        Work::FormatLast => format_version(disk, LAST_VERSION),
+        Work::Upgrade => upgrade(disk),
+    }
+}
+
+/// Formats or upgrades the disk, and tells the outcome.
+fn work_on(trial: &mut Trial, work: Work, answer: &mut Answer) {
+    let before = trial.disk.calls();
+    let outcome = worked(&mut trial.disk, work);
+    answer.show_calls(&outcome, trial.disk.calls().saturating_sub(before));
+}
+
+/// Formats the disk in the version of this number, if there is one.
+fn format_in(trial: &mut Trial, version: u64, answer: &mut Answer) {
+    match version {
+        1 => work_on(trial, Work::FormatFirst, answer),
+        2 => work_on(trial, Work::FormatLast, answer),
+        _ => answer.say("no version"),
     }
 }
 
@@ -29,56 +49,57 @@ fn root(trial: &mut Trial, answer: &mut Answer) {
     answer.show_calls(&outcome, trial.disk.calls().saturating_sub(before));
 }
 
-fn area(trial: &mut Trial, generation: u64, index: u64, bytes: &[u8], answer: &mut Answer) {
+fn area(trial: &mut Trial, operands: &Operands, answer: &mut Answer) {
+    let index = operands.number(1);
     let sectors = trial.disk.count();
-    let (Some(sector), Some(layout)) = (sector_of(bytes), Layout::of(sectors)) else {
-        return answer.say("no sector");
-    };
-    if index >= layout.area || layout.sectors > sectors {
-        return answer.say("no sector");
+    match (sector_of(&operands.bytes), Layout::of(sectors)) {
+        (Some(sector), Some(layout)) if index < layout.area && layout.sectors <= sectors => {
+            let generation = operands.number(0);
+            let outcome = write_area(&mut trial.disk, layout, generation, index, &sector);
+            answer.show_calls(&outcome, 1);
+        }
+        _ => answer.say("no sector"),
     }
-    let outcome = write_area(&mut trial.disk, layout, generation, index, &sector);
-    answer.show_calls(&outcome, 1);
 }
 
-fn install_root(trial: &mut Trial, root: Root, answer: &mut Answer) {
+fn install_root(trial: &mut Trial, operands: &Operands, answer: &mut Answer) {
     if trial.disk.count() < JOURNAL_START {
         return answer.say("no sector");
     }
+    let root = Root {
+        generation: operands.number(0),
+        edits: operands.number(1),
+        journal_at: operands.number(2),
+        snapshot_len: operands.number(3),
+        archive_len: operands.number(4),
+    };
     let before = trial.disk.calls();
     let outcome = install(&mut trial.disk, root);
     answer.show_calls(&outcome, trial.disk.calls().saturating_sub(before));
 }
 
-/// Answers a command on generations. Returns false if it is none, or its numbers don't fit.
-pub(crate) fn answer_to(
-    trial: &mut Trial,
-    word: &str,
-    operands: &Operands,
-    answer: &mut Answer,
-) -> bool {
-    let numbers = operands.numbers.as_slice();
-    let before = trial.disk.calls();
-    if let Some(outcome) = formatted(&mut trial.disk, word, numbers) {
-        answer.show_calls(&outcome, trial.disk.calls().saturating_sub(before));
-        return true;
+/// What is asked of the generations of a disk.
+#[derive(Clone, Copy)]
+pub(crate) enum OfGeneration {
+    Layout,
+    Format,
+    Version,
+    Upgrade,
+    Root,
+    Area,
+    Install,
+}
+
+/// Does what a command on generations asks for.
+pub(crate) fn run(trial: &mut Trial, asks: OfGeneration, operands: &Operands, answer: &mut Answer) {
+    let number = operands.number(0);
+    match asks {
+        OfGeneration::Layout => answer.show(&Layout::of(number)),
+        OfGeneration::Format => work_on(trial, Work::Format, answer),
+        OfGeneration::Version => format_in(trial, number, answer),
+        OfGeneration::Upgrade => work_on(trial, Work::Upgrade, answer),
+        OfGeneration::Root => root(trial, answer),
+        OfGeneration::Area => area(trial, operands, answer),
+        OfGeneration::Install => install_root(trial, operands, answer),
     }
-    match (word, numbers) {
-        ("layout", [sectors]) => answer.show(&Layout::of(*sectors)),
-        ("format_version", [_]) => answer.say("no version"),
-        ("root", []) => root(trial, answer),
-        ("area", [generation, index]) => area(trial, *generation, *index, &operands.bytes, answer),
-        ("install", [generation, edits, journal_at, snapshot_len, archive_len]) => {
-            let root = Root {
-                generation: *generation,
-                edits: *edits,
-                journal_at: *journal_at,
-                snapshot_len: *snapshot_len,
-                archive_len: *archive_len,
-            };
-            install_root(trial, root, answer);
-        }
-        _ => return false,
-    }
-    true
 }

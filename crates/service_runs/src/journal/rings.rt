@@ -10,14 +10,9 @@ use edit_journal::{
     FIRST_RECORD_VERSION, Journal, JournalPosition, LAST_RECORD_VERSION, MAX_RECORD_BYTES, Record,
     head_in, head_version,
 };
-use script_bytes::{Answer, spelled_briefly};
+use script_bytes::{Answer, short, spelled_briefly};
 use sector_disk::{SECTOR_BYTES, Sectors};
 use std::alloc::Global;
-
-/// A number as a version; one that is too large as the largest.
-fn version_in(number: u64) -> u32 {
-    u32::try_from(number).unwrap_or(u32::MAX)
-}
 
 /// Tells of a journal and its records, of each its version and its text.
 fn tell_journal(alloc: Global, journal: Journal, records: &[Record], answer: &mut Answer) {
@@ -29,17 +24,13 @@ fn tell_journal(alloc: Global, journal: Journal, records: &[Record], answer: &mu
 }
 
 /// Recovers the journal of a ring, if the disk has that.
-fn ring(
-    alloc: Global,
-    trial: &mut Trial,
-    [first, places, place, edits]: [u64; 4],
-    version: u32,
-    answer: &mut Answer,
-) {
+fn ring(alloc: Global, trial: &mut Trial, operands: &Operands, version: u32, answer: &mut Answer) {
+    let (first, places, place) = (operands.number(0), operands.number(1), operands.number(2));
     let sectors = trial.disk.count();
     if places > sectors || first > sectors - places || place >= places {
         return answer.say("no ring");
     }
+    let edits = operands.number(3);
     let start = JournalPosition { place, edits };
     let before = trial.disk.calls();
     let outcome = Journal::recover(alloc, &mut trial.disk, first, places, start, version);
@@ -83,11 +74,6 @@ fn next(journal: Journal, answer: &mut Answer) {
     let free = journal.free();
     let start = journal.next();
     write!(answer, "free {free} {start:?}");
-}
-
-fn mark(trial: &mut Trial, answer: &mut Answer) {
-    trial.mark = trial.journal.next();
-    answer.show(&trial.mark);
 }
 
 /// Whether `records` records can take `places` places.
@@ -134,9 +120,10 @@ fn head(trial: &mut Trial, at: u64, number: u64, answer: &mut Answer) {
     write!(answer, "{version:?} {first:?} {last:?}");
 }
 
-fn head_up_to(trial: &mut Trial, at: u64, number: u64, most: u32, answer: &mut Answer) {
-    let sector = sector_at(&mut trial.disk, at);
-    answer.show(&head_version(&sector, number, most));
+fn head_up_to(trial: &mut Trial, operands: &Operands, answer: &mut Answer) {
+    let sector = sector_at(&mut trial.disk, operands.number(0));
+    let most = short(operands.number(2));
+    answer.show(&head_version(&sector, operands.number(1), most));
 }
 
 /// Whether a sector is this part of the record whose head another one is, if that is one.
@@ -151,52 +138,51 @@ fn has_part(
     Some(head.has_part(sector, part))
 }
 
-fn part(trial: &mut Trial, [head_at, number, at, part]: [u64; 4], answer: &mut Answer) {
-    let first = sector_at(&mut trial.disk, head_at);
-    let sector = sector_at(&mut trial.disk, at);
-    let part = u16::try_from(part).unwrap_or(u16::MAX);
-    answer.show(&has_part(&first, number, &sector, part));
+fn part(trial: &mut Trial, operands: &Operands, answer: &mut Answer) {
+    let first = sector_at(&mut trial.disk, operands.number(0));
+    let sector = sector_at(&mut trial.disk, operands.number(2));
+    let part = u16::try_from(operands.number(3)).unwrap_or(u16::MAX);
+    answer.show(&has_part(&first, operands.number(1), &sector, part));
 }
 
-/// Answers a command on a journal. Returns false if it is none, or its numbers don't fit.
-pub(crate) fn answer_to(
+/// What is asked of a journal. Where a version may be named, another command names it.
+#[derive(Clone, Copy)]
+pub(crate) enum OfRing {
+    Ring,
+    RingOf,
+    Append,
+    AppendOf,
+    Next,
+    Mark,
+    Release,
+    Head,
+    HeadUpTo,
+    HasPart,
+}
+
+/// Does what a command on a journal asks for.
+pub(crate) fn run(
     alloc: Global,
     trial: &mut Trial,
-    word: &str,
+    asks: OfRing,
     operands: &Operands,
     answer: &mut Answer,
-) -> bool {
+) {
+    let number = operands.number(0);
     let bytes = operands.bytes.as_slice();
-    match (word, operands.numbers.as_slice()) {
-        ("ring", [first, places, place, edits]) => {
-            ring(
-                alloc,
-                trial,
-                [*first, *places, *place, *edits],
-                LAST_RECORD_VERSION,
-                answer,
-            );
+    match asks {
+        OfRing::Ring => ring(alloc, trial, operands, LAST_RECORD_VERSION, answer),
+        OfRing::RingOf => ring(alloc, trial, operands, short(operands.number(4)), answer),
+        OfRing::Append => append(trial, FIRST_RECORD_VERSION, bytes, answer),
+        OfRing::AppendOf => append(trial, short(number), bytes, answer),
+        OfRing::Next => next(trial.journal, answer),
+        OfRing::Mark => {
+            trial.mark = trial.journal.next();
+            answer.show(&trial.mark);
         }
-        ("ring", [first, places, place, edits, version]) => {
-            ring(
-                alloc,
-                trial,
-                [*first, *places, *place, *edits],
-                version_in(*version),
-                answer,
-            );
-        }
-        ("append", []) => append(trial, FIRST_RECORD_VERSION, bytes, answer),
-        ("append", [version]) => append(trial, version_in(*version), bytes, answer),
-        ("next", []) => next(trial.journal, answer),
-        ("mark", []) => mark(trial, answer),
-        ("release", [behind]) => release(trial, *behind, answer),
-        ("head", [at, number]) => head(trial, *at, *number, answer),
-        ("head", [at, number, most]) => head_up_to(trial, *at, *number, version_in(*most), answer),
-        ("has_part", [head_at, number, at, part_at]) => {
-            part(trial, [*head_at, *number, *at, *part_at], answer);
-        }
-        _ => return false,
+        OfRing::Release => release(trial, number, answer),
+        OfRing::Head => head(trial, number, operands.number(1), answer),
+        OfRing::HeadUpTo => head_up_to(trial, operands, answer),
+        OfRing::HasPart => part(trial, operands, answer),
     }
-    true
 }

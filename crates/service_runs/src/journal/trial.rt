@@ -4,11 +4,11 @@ use sector_disk::{FailingCalls, FaultyDisk, MemoryDisk};
 use std::alloc::{AllocError, Global};
 use std::mem;
 
-/// A disk, the disk that was stopped last, the journal that was recovered last, and the mark in it.
+/// A disk, the disk that was stopped last if one was, the journal that was recovered last, and the mark in it.
 #[derive(Drop)]
 pub(crate) struct Trial {
     pub(crate) disk: FaultyDisk<MemoryDisk>,
-    pub(crate) stopped: MemoryDisk,
+    pub(crate) stopped: Option<MemoryDisk>,
     pub(crate) journal: Journal,
     pub(crate) mark: JournalPosition,
 }
@@ -32,7 +32,7 @@ impl Trial {
     pub(crate) fn new(alloc: Global) -> Result<Trial, AllocError> {
         Ok(Trial {
             disk: sound(MemoryDisk::new(alloc, 0)?),
-            stopped: MemoryDisk::new(alloc, 0)?,
+            stopped: None,
             journal: LEAST,
             mark: JournalPosition { place: 0, edits: 0 },
         })

@@ -2,17 +2,17 @@
 use super::brief::{tell_briefly, tell_events};
 use super::events::add_events;
 use super::sessions::{Served, Trial};
+use crate::commands::Operands;
 use pm_archive::Archive;
 use script_bytes::{Answer, spelled_briefly};
-use std::alloc::Global;
-use tile_service::ServiceFault;
+use std::alloc::{AllocError, Global};
 
 /// The most bytes of an archive that are read.
 const MAX_READ: u64 = 1_048_576;
 
 /// Runs the events of a line. It doesn't fit if it has anything else, or no service is open.
-pub(crate) fn run(alloc: Global, trial: &mut Trial, line: &str, answer: &mut Answer) {
-    let Some(service) = trial.open_service() else {
+pub(crate) fn run_events(alloc: Global, trial: &mut Trial, line: &str, answer: &mut Answer) {
+    let Some(service) = trial.service.as_mut() else {
         return answer.reject();
     };
     let mut events = Vec::new(alloc);
@@ -25,44 +25,50 @@ pub(crate) fn run(alloc: Global, trial: &mut Trial, line: &str, answer: &mut Ans
     }
 }
 
-/// Reads bytes of the archive. `None` if it is shorter.
-fn read(service: &mut Served, at: u64, into: &mut [u8]) -> Option<Result<(), ServiceFault>> {
+/// Reads bytes of the archive, and says whether it could. The line doesn't fit if the archive is shorter.
+fn read(service: &mut Served, at: u64, into: &mut [u8], answer: &mut Answer) -> bool {
     let len = service.archive_len();
     if at > len || into.len() as u64 > len - at {
-        return None;
+        answer.reject();
+        return false;
     }
-    Some(service.archive_read(at, into))
+    match service.archive_read(at, into) {
+        Ok(()) => true,
+        Err(fault) => {
+            answer.show(&fault);
+            false
+        }
+    }
 }
 
-/// Reads `count` bytes of the archive from an offset on. Where it can't, the answer tells why.
-fn archive_part(
-    alloc: Global,
-    service: &mut Served,
-    at: u64,
-    count: u64,
-    answer: &mut Answer,
-) -> Option<Vec<u8>> {
-    let mut bytes = answer.granted(vec![in alloc; 0u8; count.min(MAX_READ) as usize])?;
-    match read(service, at, &mut bytes) {
-        Some(Ok(())) => return Some(bytes),
-        Some(Err(fault)) => answer.show(&fault),
-        None => answer.reject(),
-    }
-    None
+/// Room for so many bytes of the archive.
+fn room_for(alloc: Global, count: u64) -> Result<Vec<u8>, AllocError> {
+    vec![in alloc; 0u8; count.min(MAX_READ) as usize]
 }
 
 /// Tells `count` bytes of the archive from an offset on.
 fn archive(alloc: Global, service: &mut Served, at: u64, count: u64, answer: &mut Answer) {
-    if let Some(bytes) = archive_part(alloc, service, at, count, answer) {
-        answer.add(spelled_briefly(alloc, &bytes));
+    if let Some(mut bytes) = answer.granted(room_for(alloc, count)) {
+        if read(service, at, &mut bytes, answer) {
+            answer.add(spelled_briefly(alloc, &bytes));
+        }
     }
 }
 
 /// Tells the verdict on the bytes of an archive.
-fn verify(alloc: Global, bytes: &[u8], answer: &mut Answer) {
+fn judge(alloc: Global, bytes: &[u8], answer: &mut Answer) {
     match Archive::open(alloc, bytes) {
         Ok(mut archive) => answer.show(&pm_verify::verify(alloc, &mut archive)),
         Err(fault) => answer.show(&fault),
+    }
+}
+
+/// Tells the verdict on the archive, which has `len` bytes.
+fn verify(alloc: Global, service: &mut Served, len: u64, answer: &mut Answer) {
+    if let Some(mut bytes) = answer.granted(room_for(alloc, len)) {
+        if read(service, 0, &mut bytes, answer) {
+            judge(alloc, &bytes, answer);
+        }
     }
 }
 
@@ -73,30 +79,36 @@ fn metadata(service: &Served, answer: &mut Answer) {
     }
 }
 
-/// Answers a call. Returns false if it is none, its numbers don't fit or no service is open.
-pub(crate) fn answer_to(
+/// What is asked of a service.
+#[derive(Clone, Copy)]
+pub(crate) enum OfService {
+    Publish,
+    Archive,
+    ArchivePart,
+    Verify,
+    Metadata,
+    Version,
+}
+
+/// Makes the call that a command asks for. It doesn't fit if no service is open.
+pub(crate) fn run(
     alloc: Global,
     trial: &mut Trial,
-    word: &str,
-    numbers: &[u64],
+    asks: OfService,
+    operands: &Operands,
     answer: &mut Answer,
-) -> bool {
-    let Some(service) = trial.open_service() else {
-        return false;
+) {
+    let Some(service) = trial.service.as_mut() else {
+        return answer.reject();
     };
     let len = service.archive_len();
-    match (word, numbers) {
-        ("publish", []) => answer.show(&service.publish()),
-        ("archive", []) => archive(alloc, service, 0, len, answer),
-        ("archive", [at, count]) => archive(alloc, service, *at, *count, answer),
-        ("verify", []) => {
-            if let Some(bytes) = archive_part(alloc, service, 0, len, answer) {
-                verify(alloc, &bytes, answer);
-            }
-        }
-        ("metadata", []) => metadata(service, answer),
-        ("version", []) => answer.show(&service.version()),
-        _ => return false,
+    let (at, count) = (operands.number(0), operands.number(1));
+    match asks {
+        OfService::Publish => answer.show(&service.publish()),
+        OfService::Archive => archive(alloc, service, 0, len, answer),
+        OfService::ArchivePart => archive(alloc, service, at, count, answer),
+        OfService::Verify => verify(alloc, service, len, answer),
+        OfService::Metadata => metadata(service, answer),
+        OfService::Version => answer.show(&service.version()),
     }
-    true
 }

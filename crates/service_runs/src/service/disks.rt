@@ -9,37 +9,33 @@ use sector_disk::{MemoryDisk, Sectors};
 use std::alloc::Global;
 use tile_service::Service;
 
-/// Writes a sector. Returns false if the disk has no such sector, or these aren't its bytes.
-fn write(disk: &mut MemoryDisk, at: u64, bytes: &[u8], answer: &mut Answer) -> bool {
+/// Writes a sector. The line doesn't fit if the disk has no such sector, or these aren't its bytes.
+fn write(disk: &mut MemoryDisk, at: u64, bytes: &[u8], answer: &mut Answer) {
     match sector_of(bytes) {
-        Some(sector) if at < disk.count() => {
-            answer.show(&disk.write(at, &sector));
-            true
-        }
-        _ => false,
+        Some(sector) if at < disk.count() => answer.show(&disk.write(at, &sector)),
+        _ => answer.reject(),
     }
 }
 
-/// Tells a sector. Returns false if the disk has no such sector.
-fn sector(alloc: Global, disk: &mut MemoryDisk, at: u64, answer: &mut Answer) -> bool {
+/// Tells a sector. The line doesn't fit if the disk has no such sector.
+fn sector(alloc: Global, disk: &mut MemoryDisk, at: u64, answer: &mut Answer) {
     if at >= disk.count() {
-        return false;
+        return answer.reject();
     }
     answer.add(spelled(alloc, used_part(&sector_at(disk, at))));
-    true
 }
 
 /// What is done with a disk as a whole.
 #[derive(Clone, Copy)]
-enum Work {
+pub(crate) enum Work {
     /// The disk is formatted for the empty map.
     Format,
     /// The same in the first version of the format.
     FormatFirst,
     /// The disk is upgraded.
     Upgrade,
-    /// Its archive is copied, to a writer with room for this many bytes if there is a number.
-    Export(Option<u64>),
+    /// Its archive is copied, to a writer with room for this many bytes.
+    Export(usize),
 }
 
 /// Does the work on a disk, and tells the outcome.
@@ -53,7 +49,7 @@ fn do_work(alloc: Global, disk: &mut ServedDisk, work: Work, answer: &mut Answer
 }
 
 /// Does the work on the disk with its failing calls, and tells the outcome with the number of calls.
-fn work_on(alloc: Global, trial: &mut Trial, work: Work, answer: &mut Answer) {
+pub(crate) fn work_on(alloc: Global, trial: &mut Trial, work: Work, answer: &mut Answer) {
     if let Some(mut disk) = answer.granted(trial.take_disk(alloc)) {
         do_work(alloc, &mut disk, work, answer);
         let calls = disk.calls();
@@ -62,49 +58,43 @@ fn work_on(alloc: Global, trial: &mut Trial, work: Work, answer: &mut Answer) {
     }
 }
 
-fn make(alloc: Global, trial: &mut Trial, sectors: u64, answer: &mut Answer) {
-    if let Some(disk) = answer.granted(MemoryDisk::new(alloc, sectors)) {
-        trial.begin(disk);
-        answer.say("made");
+/// Formats the disk in the version of this number. The line doesn't fit if there is none.
+pub(crate) fn format_in(alloc: Global, trial: &mut Trial, version: u64, answer: &mut Answer) {
+    match version {
+        1 => work_on(alloc, trial, Work::FormatFirst, answer),
+        2 => work_on(alloc, trial, Work::Format, answer),
+        _ => answer.reject(),
     }
 }
 
-/// Answers a command on a closed disk. Returns false if it is none, its operands don't fit or the disk is open.
-fn answer_closed(
-    alloc: Global,
-    trial: &mut Trial,
-    word: &str,
-    operands: &Operands,
-    answer: &mut Answer,
-) -> bool {
-    let Some(disk) = trial.closed_disk() else {
-        return false;
-    };
-    match (word, operands.numbers.as_slice()) {
-        ("write", [at]) => return write(disk, *at, &operands.bytes, answer),
-        ("sector", [at]) => return sector(alloc, disk, *at, answer),
-        ("sectors", []) => tell_used_sectors(disk, answer),
-        ("export", []) => work_on(alloc, trial, Work::Export(None), answer),
-        ("export", [room]) => work_on(alloc, trial, Work::Export(Some(*room)), answer),
-        _ => return false,
-    }
-    true
+/// What is asked of a closed disk.
+#[derive(Clone, Copy)]
+pub(crate) enum OfDisk {
+    Write,
+    Sector,
+    Sectors,
+    Export,
+    ExportUpTo,
 }
 
-/// Answers a command on a disk. Returns false if it is none, or its operands don't fit.
-pub(crate) fn answer_to(
+/// Does what a command on a closed disk asks for. It doesn't fit if the disk is open.
+pub(crate) fn run(
     alloc: Global,
     trial: &mut Trial,
-    word: &str,
+    asks: OfDisk,
     operands: &Operands,
     answer: &mut Answer,
-) -> bool {
-    match (word, operands.numbers.as_slice()) {
-        ("disk", [sectors]) => make(alloc, trial, *sectors, answer),
-        ("format", []) | ("format_version", [2]) => work_on(alloc, trial, Work::Format, answer),
-        ("format_version", [1]) => work_on(alloc, trial, Work::FormatFirst, answer),
-        ("upgrade", []) => work_on(alloc, trial, Work::Upgrade, answer),
-        _ => return answer_closed(alloc, trial, word, operands, answer),
+) {
+    if trial.service.is_some() {
+        return answer.reject();
     }
-    true
+    let disk = &mut trial.disk;
+    let number = operands.number(0);
+    match asks {
+        OfDisk::Write => write(disk, number, &operands.bytes, answer),
+        OfDisk::Sector => sector(alloc, disk, number, answer),
+        OfDisk::Sectors => tell_used_sectors(disk, answer),
+        OfDisk::Export => work_on(alloc, trial, Work::Export(usize::MAX), answer),
+        OfDisk::ExportUpTo => work_on(alloc, trial, Work::Export(number as usize), answer),
+    }
 }

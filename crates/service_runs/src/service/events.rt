@@ -1,5 +1,6 @@
 //! Events as words of a line. Where memory is refused, that is noted in the answer.
-use super::features::{feature_in, pair_in, zoom_in};
+use super::features::{feature_in, zoom_in};
+use crate::commands::{ANY, asked, keep, pair_in};
 use feature_model::Change;
 use hilbert_id::TileAt;
 use script_bytes::{Answer, parted};
@@ -14,18 +15,14 @@ fn put_in(alloc: Global, text: &str, answer: &mut Answer) -> Option<Change> {
     Some(Change::Put { id, feature })
 }
 
-/// Parses the number of a delete.
-fn delete_in(text: &str) -> Option<Change> {
-    let id = text.parse::<u64>().ok()?;
-    Some(Change::Delete { id })
-}
-
 /// Parses a change. `None` if the text is none.
 fn change_in(alloc: Global, text: &str, answer: &mut Answer) -> Option<Change> {
     let (word, rest) = parted(text);
     match word {
         "put" => put_in(alloc, rest, answer),
-        "delete" => delete_in(rest),
+        "delete" => Some(Change::Delete {
+            id: rest.parse::<u64>().ok()?,
+        }),
         _ => None,
     }
 }
@@ -36,10 +33,8 @@ fn add_changes(alloc: Global, changes: &mut Vec<Change>, text: &str, answer: &mu
         return;
     }
     for change in text.split(" & ") {
-        match change_in(alloc, change, answer) {
-            Some(change) => answer.note(changes.push(change)),
-            None => answer.reject(),
-        }
+        let change = change_in(alloc, change, answer);
+        keep(changes, change, answer);
     }
 }
 
@@ -66,23 +61,43 @@ fn tile_in(text: &str) -> Option<Event> {
     Some(Event::Tile { at })
 }
 
-fn look_in(text: &str) -> Option<Event> {
-    let id = text.parse::<u64>().ok()?;
-    Some(Event::Look { id })
+/// What the word of an event asks for.
+#[derive(Clone, Copy)]
+enum Asks {
+    Change,
+    Batch,
+    Tile,
+    Look,
+    Begin,
+    Step,
+    Cancel,
 }
+
+/// The words of events.
+static EVENTS: [(&str, usize, Asks); 8] = [
+    ("put", ANY, Asks::Change),
+    ("delete", ANY, Asks::Change),
+    ("batch", ANY, Asks::Batch),
+    ("tile", ANY, Asks::Tile),
+    ("look", ANY, Asks::Look),
+    ("begin", ANY, Asks::Begin),
+    ("step", ANY, Asks::Step),
+    ("cancel", ANY, Asks::Cancel),
+];
 
 /// Parses an event. `None` if the text is none.
 fn event_in(alloc: Global, text: &str, answer: &mut Answer) -> Option<Event> {
     let (word, rest) = parted(text);
-    match word {
-        "put" | "delete" => single_in(alloc, text, answer),
-        "batch" => Some(batch_in(alloc, rest, answer)),
-        "tile" => tile_in(rest),
-        "look" => look_in(rest),
-        "begin" => Some(Event::Begin),
-        "step" => Some(Event::Step),
-        "cancel" => Some(Event::Cancel),
-        _ => None,
+    match asked(&EVENTS, word, ANY)? {
+        Asks::Change => single_in(alloc, text, answer),
+        Asks::Batch => Some(batch_in(alloc, rest, answer)),
+        Asks::Tile => tile_in(rest),
+        Asks::Look => Some(Event::Look {
+            id: rest.parse::<u64>().ok()?,
+        }),
+        Asks::Begin => Some(Event::Begin),
+        Asks::Step => Some(Event::Step),
+        Asks::Cancel => Some(Event::Cancel),
     }
 }
 
@@ -92,9 +107,7 @@ pub(crate) fn add_events(alloc: Global, events: &mut Vec<Event>, line: &str, ans
         return;
     }
     for text in line.split("; ") {
-        match event_in(alloc, text, answer) {
-            Some(event) => answer.note(events.push(event)),
-            None => answer.reject(),
-        }
+        let event = event_in(alloc, text, answer);
+        keep(events, event, answer);
     }
 }

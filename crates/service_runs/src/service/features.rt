@@ -2,6 +2,7 @@
 //!
 //! `p 0 2 points 0,0 5,5 t='x*3 n=-7 b=true` is a feature of layer `p` on zooms 0 to 2 with two points and three tags: `t` is the text `xxx`,
 //! `n` a number and `b` a truth value. `/` separates lines, and the rings of a polygon; `|` separates polygons.
+use crate::commands::pair_in;
 use feature_model::{EditValue, Feature, Geometry, Tag, World};
 use script_bytes::Answer;
 use std::alloc::Global;
@@ -30,15 +31,6 @@ fn end_polygon(alloc: Global, parts: &mut Parts, answer: &mut Answer) {
     end_ring(alloc, parts, answer);
     let rings = mem::replace(&mut parts.rings, Vec::new(alloc));
     answer.note(parts.polygons.push(rings));
-}
-
-/// Two numbers with this character between them.
-pub(crate) fn pair_in(text: &str, between: char) -> Option<(u32, u32)> {
-    let (x, y) = text.split_once(between)?;
-    match (x.parse::<u32>(), y.parse::<u32>()) {
-        (Ok(x), Ok(y)) => Some((x, y)),
-        _ => None,
-    }
 }
 
 /// A zoom, and what stands behind it.

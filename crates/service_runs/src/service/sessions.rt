@@ -1,5 +1,6 @@
 //! A disk, and its service while it is open.
-use crate::sectors::crashed;
+use crate::commands::Operands;
+use crate::sectors::{Fails, crashed};
 use script_bytes::Answer;
 use sector_disk::{FailingCalls, FaultyDisk, MemoryDisk};
 use std::alloc::{AllocError, Global};
@@ -15,13 +16,13 @@ pub(crate) type Served = Service<ServedDisk>;
 /// No call fails.
 const NONE: FailingCalls = FailingCalls::OneNotMade(0);
 
-/// The state of a script: a closed disk or an open service, the disk that was stopped last, and the failing calls of the next session. It ends
-/// by `end` alone.
+/// The state of a script: a closed disk or an open service, the disk that was stopped last if one was, and the failing calls of the next
+/// session. It ends by `end` alone.
 pub(crate) struct Trial {
     /// The closed disk. While a service is open it has no sectors.
-    disk: MemoryDisk,
-    service: Option<Served>,
-    stopped: MemoryDisk,
+    pub(super) disk: MemoryDisk,
+    pub(super) service: Option<Served>,
+    stopped: Option<MemoryDisk>,
     failing: FailingCalls,
 }
 
@@ -29,26 +30,12 @@ impl Trial {
     /// A closed disk without sectors.
     pub(crate) fn new(alloc: Global) -> Result<Trial, AllocError> {
         let disk = MemoryDisk::new(alloc, 0)?;
-        let stopped = MemoryDisk::new(alloc, 0)?;
         Ok(Trial {
             disk,
             service: None,
-            stopped,
+            stopped: None,
             failing: NONE,
         })
-    }
-
-    /// The disk, if no service is open.
-    pub(crate) fn closed_disk(&mut self) -> Option<&mut MemoryDisk> {
-        if self.service.is_some() {
-            return None;
-        }
-        Some(&mut self.disk)
-    }
-
-    /// The service, if one is open.
-    pub(crate) fn open_service(&mut self) -> Option<&mut Served> {
-        self.service.as_mut()
     }
 
     /// Closes the service, if one is open. Returns the number of calls of its disk.
@@ -80,16 +67,11 @@ impl Trial {
         drop(mem::replace(&mut self.disk, disk));
     }
 
-    /// Closes the session, and begins another one with this disk.
-    pub(crate) fn begin(&mut self, disk: MemoryDisk) {
-        self.close();
-        self.replace(disk);
-    }
-
     /// Takes the disk of the session out, with its failing calls, and leaves one without sectors and failing calls.
     pub(crate) fn take_disk(&mut self, alloc: Global) -> Result<ServedDisk, AllocError> {
         self.close();
-        let failing = mem::replace(&mut self.failing, NONE);
+        let failing = self.failing;
+        self.failing = NONE;
         let empty = MemoryDisk::new(alloc, 0)?;
         Ok(FaultyDisk::new(mem::replace(&mut self.disk, empty), failing))
     }
@@ -123,25 +105,32 @@ fn open(alloc: Global, trial: &mut Trial, answer: &mut Answer) {
 fn stop(alloc: Global, trial: &mut Trial, answer: &mut Answer) {
     let calls = trial.close();
     if let Some(empty) = answer.granted(MemoryDisk::new(alloc, 0)) {
-        mem::swap(&mut trial.disk, &mut trial.stopped);
-        trial.replace(empty);
+        let disk = mem::replace(&mut trial.disk, empty);
+        drop(mem::replace(&mut trial.stopped, Some(disk)));
         write!(answer, "stopped in {calls}");
     }
 }
 
 fn resume(alloc: Global, trial: &mut Trial, answer: &mut Answer) {
-    if let Some(empty) = answer.granted(MemoryDisk::new(alloc, 0)) {
-        let disk = mem::replace(&mut trial.stopped, empty);
-        trial.begin(disk);
-        answer.say("resumed");
+    let made = match trial.stopped.take() {
+        Some(disk) => Ok(disk),
+        None => MemoryDisk::new(alloc, 0),
+    };
+    put(trial, made, "resumed", answer);
+}
+
+/// Begins a session with a disk that was made.
+fn put(trial: &mut Trial, made: Result<MemoryDisk, AllocError>, word: &str, answer: &mut Answer) {
+    if let Some(disk) = answer.granted(made) {
+        trial.close();
+        trial.replace(disk);
+        answer.say(word);
     }
 }
 
 fn crash(alloc: Global, trial: &mut Trial, numbers: &[u64], answer: &mut Answer) {
-    if let Some(disk) = answer.granted(crashed(alloc, &trial.stopped, numbers)) {
-        trial.begin(disk);
-        answer.say("crashed");
-    }
+    let made = crashed(alloc, trial.stopped.as_ref(), numbers);
+    put(trial, made, "crashed", answer);
 }
 
 fn fail(trial: &mut Trial, failing: FailingCalls, answer: &mut Answer) {
@@ -149,23 +138,32 @@ fn fail(trial: &mut Trial, failing: FailingCalls, answer: &mut Answer) {
     answer.show(&failing);
 }
 
-/// Answers a command on a session. Returns false if it is none, or its numbers don't fit.
-pub(crate) fn answer_to(
+/// What is asked of a session.
+#[derive(Clone, Copy)]
+pub(crate) enum OfSession {
+    Make,
+    Fail(Fails),
+    Open,
+    Stop,
+    Resume,
+    Crash,
+}
+
+/// Does what a command on a session asks for.
+pub(crate) fn run(
     alloc: Global,
     trial: &mut Trial,
-    word: &str,
-    numbers: &[u64],
+    asks: OfSession,
+    operands: &Operands,
     answer: &mut Answer,
-) -> bool {
-    match (word, numbers) {
-        ("fail_from", [call]) => fail(trial, FailingCalls::AllFrom(*call), answer),
-        ("fail_not_made", [call]) => fail(trial, FailingCalls::OneNotMade(*call), answer),
-        ("fail_made", [call]) => fail(trial, FailingCalls::OneMade(*call), answer),
-        ("open", []) => open(alloc, trial, answer),
-        ("stop", []) => stop(alloc, trial, answer),
-        ("resume", []) => resume(alloc, trial, answer),
-        ("crash", numbers) => crash(alloc, trial, numbers, answer),
-        _ => return false,
+) {
+    let number = operands.number(0);
+    match asks {
+        OfSession::Make => put(trial, MemoryDisk::new(alloc, number), "made", answer),
+        OfSession::Fail(fails) => fail(trial, fails.at(number), answer),
+        OfSession::Open => open(alloc, trial, answer),
+        OfSession::Stop => stop(alloc, trial, answer),
+        OfSession::Resume => resume(alloc, trial, answer),
+        OfSession::Crash => crash(alloc, trial, &operands.numbers, answer),
     }
-    true
 }

@@ -1,8 +1,9 @@
 //! What the lines of a script say of the peers that are served next.
 use super::listener::Accepts;
 use super::{Act, Does, Peer, Plan};
+use crate::commands::pair_in;
 use script_bytes::Answer;
-use std::alloc::{AllocError, Global};
+use std::alloc::Global;
 
 /// What bounds a listener.
 #[derive(Clone, Copy)]
@@ -19,7 +20,8 @@ pub(crate) struct Gathered {
     plans: Vec<Plan>,
     acts: Vec<Act>,
     bytes: Vec<u8>,
-    accepts: Vec<Accepts>,
+    /// How the first accepts end.
+    pub(super) accepts: Vec<Accepts>,
 }
 
 impl Gathered {
@@ -41,15 +43,19 @@ impl Gathered {
         self.accepts.clear();
     }
 
-    /// Another peer. What is said next is said of it.
-    pub(crate) fn add(&mut self, plan: Plan, answer: &mut Answer) {
+    /// Another peer. What is said next is said of it. The line doesn't fit if that is none.
+    pub(crate) fn add(&mut self, plan: Option<Plan>, answer: &mut Answer) {
         let first = self.acts.len();
-        let plan = Plan {
-            first,
-            behind: first,
-            ..plan
-        };
-        answer.note(self.plans.push(plan));
+        match plan {
+            Some(plan) => answer.note(
+                self.plans.push(Plan {
+                    first,
+                    behind: first,
+                    ..plan
+                }),
+            ),
+            None => answer.reject(),
+        }
     }
 
     /// So many more peers like the last one.
@@ -62,17 +68,11 @@ impl Gathered {
         }
     }
 
-    /// Nothing of the last peer's stream can be set.
-    pub(crate) fn set_stubborn(&mut self) {
+    /// Nothing of the last peer's stream can be set, or it can't be watched.
+    pub(crate) fn limit(&mut self, is_stubborn: bool, is_unwatched: bool) {
         if let Some(plan) = self.plans.last_mut() {
-            plan.is_stubborn = true;
-        }
-    }
-
-    /// The last peer's stream can't be watched.
-    pub(crate) fn set_unwatched(&mut self) {
-        if let Some(plan) = self.plans.last_mut() {
-            plan.is_unwatched = true;
+            plan.is_stubborn |= is_stubborn;
+            plan.is_unwatched |= is_unwatched;
         }
     }
 
@@ -92,22 +92,23 @@ impl Gathered {
         self.act(at, Does::Sends { from, to }, answer);
     }
 
-    /// So many accepts fail with this error of Linux: 0 if they don't, -1 if it is none of the system.
-    pub(crate) fn accept(&mut self, count: usize, error: i32, answer: &mut Answer) {
-        answer.note(self.accepts.push(Accepts { count, error }));
-    }
-
-    /// How the first accepts end.
-    pub(super) fn accepts(&self) -> &[Accepts] {
-        &self.accepts
-    }
-
-    /// The peers.
-    pub(super) fn peers(&self, alloc: Global) -> Result<Vec<Peer<'_>>, AllocError> {
-        let mut peers = Vec::new(alloc);
-        for plan in &self.plans {
-            peers.push(Peer::new(alloc, *plan, &self.acts, &self.bytes))?;
+    /// So many accepts fail with this error of Linux, as a text says. The line doesn't fit if it says none.
+    pub(crate) fn accept(&mut self, text: &str, answer: &mut Answer) {
+        match pair_in::<usize, i32>(text, ' ') {
+            Some((count, error)) => answer.note(self.accepts.push(Accepts { count, error })),
+            None => answer.reject(),
         }
-        Ok(peers)
+    }
+
+    /// Adds the peers.
+    pub(super) fn add_peers<'a>(
+        &'a self,
+        alloc: Global,
+        peers: &mut Vec<Peer<'a>>,
+        answer: &mut Answer,
+    ) {
+        for plan in &self.plans {
+            answer.note(peers.push(Peer::new(alloc, *plan, &self.acts, &self.bytes)));
+        }
     }
 }

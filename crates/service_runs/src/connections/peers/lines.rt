@@ -1,14 +1,10 @@
 //! Lines about the peers that are served next.
 use super::{Does, Gathered, Plan, Room};
-use crate::connections::lines::number_in;
-use crate::connections::texts::bytes_of;
+use crate::commands::{ANY, asked, pair_in};
+use crate::connections::lines::{Line, number_in};
+use crate::connections::texts::add_bytes;
 use script_bytes::{Answer, parted};
 use std::alloc::Global;
-
-/// A size.
-fn size_in(text: &str) -> Option<usize> {
-    text.parse::<usize>().ok()
-}
 
 /// A peer that comes at a time, and may say what it takes.
 fn plan_in(text: &str) -> Option<Plan> {
@@ -17,59 +13,85 @@ fn plan_in(text: &str) -> Option<Plan> {
     if takes.is_empty() {
         return Some(Plan::new(comes, usize::MAX, 0));
     }
-    let (quick, rate) = parted(takes);
-    Some(Plan::new(comes, size_in(quick)?, size_in(rate)?))
+    let (quick, rate) = pair_in::<usize, usize>(takes, ' ')?;
+    Some(Plan::new(comes, quick, rate))
 }
+
+/// What bounds a listener.
+#[derive(Clone, Copy)]
+enum Bound {
+    None,
+    Log,
+    Time,
+}
+
+/// The words for it.
+static BOUNDS: [(&str, usize, Bound); 3] = [
+    ("", ANY, Bound::None),
+    ("log", 1, Bound::Log),
+    ("until", 1, Bound::Time),
+];
 
 /// What bounds a listener, by a text.
 pub(crate) fn room_in(text: &str) -> Option<Room> {
-    let (word, number) = parted(text);
+    let line = Line::of(text);
     let mut room = Room {
         log: usize::MAX,
         stops: u64::MAX,
     };
-    match word {
-        "" => {}
-        "log" => room.log = size_in(number)?,
-        "until" => room.stops = number_in(number)?,
-        _ => return None,
+    match asked(&BOUNDS, line.word, line.count)? {
+        Bound::None => {}
+        Bound::Log => room.log = line.number as usize,
+        Bound::Time => room.stops = line.number,
     }
     Some(room)
 }
 
-/// Gathers the bytes that a peer sends at a time, and says whether the text spells some.
-fn send(alloc: Global, gathered: &mut Gathered, at: u64, text: &str, answer: &mut Answer) -> bool {
-    match bytes_of(alloc, text, answer) {
-        Some(bytes) => {
-            gathered.send(at, &bytes, answer);
-            true
-        }
-        None => false,
+/// Gathers the bytes that a peer sends at a time.
+fn send(alloc: Global, gathered: &mut Gathered, text: &str, answer: &mut Answer) {
+    let (at, text) = parted(text);
+    let Some(at) = number_in(at) else {
+        return answer.reject();
+    };
+    let mut bytes = Vec::new(alloc);
+    if add_bytes(&mut bytes, text, answer) {
+        gathered.send(at, &bytes, answer);
+    } else {
+        answer.clear();
+        answer.say("no bytes");
     }
 }
 
-/// Gathers what a line of this word says of peers, and says whether that can be. `None` if it says nothing of them.
+/// What is said of peers.
+#[derive(Clone, Copy)]
+pub(crate) enum OfPeer {
+    Comes,
+    Sends,
+    Ends,
+    Floods,
+    Stubborn,
+    Unwatched,
+    More,
+    Accepts,
+}
+
+/// Gathers what a line says of peers, and tells the line.
 pub(crate) fn gather(
     alloc: Global,
     gathered: &mut Gathered,
-    word: &str,
-    rest: &str,
+    asks: OfPeer,
+    line: Line<'_>,
     answer: &mut Answer,
-) -> Option<bool> {
-    let (first, second) = parted(rest);
-    match (word, number_in(rest)) {
-        ("ends", Some(at)) => gathered.act(at, Does::Ends, answer),
-        ("floods", Some(at)) => gathered.act(at, Does::Floods, answer),
-        ("more", Some(count)) => gathered.add_more(count, answer),
-        ("peer", _) => gathered.add(plan_in(rest)?, answer),
-        ("sends", _) => return Some(send(alloc, gathered, number_in(first)?, second, answer)),
-        ("accepts", _) => {
-            let error = second.parse::<i32>().ok()?;
-            gathered.accept(size_in(first)?, error, answer);
-        }
-        ("stubborn", _) if rest.is_empty() => gathered.set_stubborn(),
-        ("unwatched", _) if rest.is_empty() => gathered.set_unwatched(),
-        _ => return None,
+) {
+    answer.say(line.text);
+    match asks {
+        OfPeer::Comes => gathered.add(plan_in(line.rest), answer),
+        OfPeer::Sends => send(alloc, gathered, line.rest, answer),
+        OfPeer::Ends => gathered.act(line.number, Does::Ends, answer),
+        OfPeer::Floods => gathered.act(line.number, Does::Floods, answer),
+        OfPeer::Stubborn => gathered.limit(true, false),
+        OfPeer::Unwatched => gathered.limit(false, true),
+        OfPeer::More => gathered.add_more(line.number, answer),
+        OfPeer::Accepts => gathered.accept(line.rest, answer),
     }
-    Some(true)
 }

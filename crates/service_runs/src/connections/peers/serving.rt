@@ -2,8 +2,8 @@
 use super::listener::{Accepts, Listener};
 use super::{Gathered, Peer, Room, Watch};
 use crate::connections::stands::Map;
-use crate::connections::streams::{Narrow, Narrowness, WIDE};
 use crate::connections::texts::tell_bytes;
+use crate::narrow::{Narrow, Narrowness, WIDE};
 use map_server::serve_map_on;
 use script_bytes::Answer;
 use std::alloc::Global;
@@ -95,8 +95,8 @@ pub(crate) fn serve_peers(
     room: Room,
     answer: &mut Answer,
 ) {
-    if let Some(peers) = answer.granted(gathered.peers(alloc)) {
-        tell_served(alloc, map, &peers, gathered.accepts(), room, answer);
-        tell_peers(&peers, answer);
-    }
+    let mut peers = Vec::new(alloc);
+    gathered.add_peers(alloc, &mut peers, answer);
+    tell_served(alloc, map, &peers, &gathered.accepts, room, answer);
+    tell_peers(&peers, answer);
 }
