@@ -7,22 +7,18 @@
 
 mod tile;
 
-use pmtiles::{Archive, Bytes, DirectoryEntry, tile_of, verify};
+use pmtiles::{Archive, DirectoryEntry, tile_of, verify};
 use std::{fs, io, str};
 use tile::print_tile;
 
 /// Prints the header's zooms, the counts of the sound archive, and its metadata.
-fn print_header<B: Bytes + Drop>(rt: &HostRuntime, archive: &mut Archive<B>) -> anyhow::Result<()> {
-    let header = archive.header();
+fn print_header(rt: &HostRuntime, archive: &mut Archive<&[u8]>) -> anyhow::Result<()> {
     let report = verify(rt.alloc(), archive)?;
+    let header = archive.header();
+    let (least, most) = (header.min_zoom, header.max_zoom);
     let metadata = archive.metadata()?;
-    println!(rt;
-        "zooms {} to {}: {report}\nmetadata: {}",
-        header.min_zoom,
-        header.max_zoom,
-        str::from_utf8(&metadata)?
-    )?;
-    Ok(())
+    let text = str::from_utf8(&metadata)?;
+    Ok(println!(rt; "zooms {least} to {most}: {report}\nmetadata: {text}")?)
 }
 
 /// Prints the tiles of entries, one a line: the least id, how many tiles share the content, and how long it is.
@@ -39,15 +35,22 @@ fn print_entries(rt: &HostRuntime, entries: &[DirectoryEntry]) -> io::Result<()>
 }
 
 /// Prints the tile of an id, if the archive has it.
-fn print_content<B: Bytes + Drop>(
-    rt: &HostRuntime,
-    archive: &mut Archive<B>,
-    id: u64,
-) -> anyhow::Result<()> {
+fn print_content(rt: &HostRuntime, archive: &mut Archive<&[u8]>, id: u64) -> anyhow::Result<()> {
     match archive.tile(id)? {
         Some(content) => print_tile(rt, &content),
         None => Ok(println!(rt; "no tile {id}")?),
     }
+}
+
+/// Prints what an archive has, and the tile of an id.
+fn print_archive(rt: &HostRuntime, path: &str, bytes: &[u8], id: &str) -> anyhow::Result<()> {
+    let mut archive = match Archive::open(rt.alloc(), bytes) {
+        Ok(archive) => archive,
+        Err((_, fault)) => anyhow::bail!("{path}: {fault}"),
+    };
+    print_header(rt, &mut archive)?;
+    print_entries(rt, &archive.list()?)?;
+    print_content(rt, &mut archive, id.parse()?)
 }
 
 fn main(rt: HostRuntime) -> anyhow::Result<()> {
@@ -55,12 +58,5 @@ fn main(rt: HostRuntime) -> anyhow::Result<()> {
     let [_, path, id] = words.as_slice() else {
         anyhow::bail!("usage: read_archive FILE ID");
     };
-    let bytes = fs::read(&rt, path.as_str())?;
-    let mut archive = match Archive::open(rt.alloc(), bytes.as_slice()) {
-        Ok(archive) => archive,
-        Err((_, fault)) => anyhow::bail!("{path}: {fault}"),
-    };
-    print_header(&rt, &mut archive)?;
-    print_entries(&rt, &archive.list()?)?;
-    print_content(&rt, &mut archive, id.parse()?)
+    print_archive(&rt, path, &fs::read(&rt, path.as_str())?, id)
 }
