@@ -14,7 +14,7 @@ use pm_archive::{Archive, ArchiveFault};
 use sector_bytes::SectorBytes;
 use sector_disk::FailingCalls::AllFrom;
 use sector_disk::Sectors;
-use std::alloc::{AllocError, Global};
+use std::alloc::Global;
 
 /// An archive of three tiles with one content, written by hand: after the header of 127 bytes its root directory of 9, metadata of
 /// 366, of which 300 are spaces, and from byte 502 on the content of 21, so that a sector's border cuts it.
@@ -37,7 +37,7 @@ fn archive() -> [u8; 1536] {
 }
 
 /// A layer `p` with one point.
-const CONTENT: [u8; 21] =
+static CONTENT: [u8; 21] =
     *b"\x1a\x13\x0a\x01\x70\x12\x09\x08\x07\x18\x01\x22\x03\x09\0\0\x28\x80\x20\x78\x02";
 
 /// Opens an archive of `len` bytes that begins in this sector, looks up the content of a tile id, and gives the disk back to its
@@ -80,50 +80,43 @@ fn found(content: Result<Option<Vec<u8>>, ArchiveFault>) -> Found {
     }
 }
 
-/// What is looked up for a tile id over a disk that fails from this call on, and how many calls there are.
-fn looked_up(alloc: Global, id: u64, failing: u64) -> Result<(Found, u64), AllocError> {
-    let mut disk = disk_with(alloc, &archive(), AllFrom(failing))?;
-    let content = found(look_up(alloc, &mut disk, 2, 523, id));
-    let calls = disk.calls();
-    drop(disk);
-    Ok((content, calls))
-}
+/// A tile id, from which call on the disk fails, what is looked up, and how many calls there are.
+type Row = (u64, u64, Found, u64);
 
-/// Ids of tiles, whether each has the content, and how many calls a look takes. The header, the root directory and the first bytes of
-/// the content are in the first sector, which is read once.
-const LOOKS: [(u64, Option<bool>, u64); 4] = [
-    (0, Some(true), 2),
-    (1, Some(true), 2),
-    (5, Some(true), 2),
-    (2, None, 1),
+/// The header, the root directory and the first bytes of the content are in the first sector, which is read once. Each of the two reads
+/// fails in turn.
+static ROWS: [Row; 6] = [
+    (0, 100, Ok(Some(true)), 2),
+    (1, 100, Ok(Some(true)), 2),
+    (5, 100, Ok(Some(true)), 2),
+    (2, 100, Ok(None), 1),
+    (5, 1, Err(ArchiveFault::Read), 1),
+    (5, 2, Err(ArchiveFault::Read), 2),
 ];
 
-/// The id for which something else is looked up first, if there is one.
-fn other_look(alloc: Global) -> Result<Option<u64>, AllocError> {
-    for (id, content, calls) in &LOOKS {
-        if looked_up(alloc, *id, 100)? != (Ok(*content), *calls) {
-            return Ok(Some(*id));
+/// Whether that is so of a row.
+fn is_so(alloc: Global, row: &Row) -> bool {
+    let (id, failing, wanted, calls) = row;
+    let Ok(mut disk) = disk_with(alloc, &archive(), AllFrom(*failing)) else {
+        return false;
+    };
+    let content = found(look_up(alloc, &mut disk, 2, 523, *id));
+    let made = disk.calls();
+    drop(disk);
+    content == *wanted && made == *calls
+}
+
+/// The index of the first row of which that isn't so, if there is one.
+fn other_row(alloc: Global) -> Option<usize> {
+    for (index, row) in ROWS.iter().enumerate() {
+        if !is_so(alloc, row) {
+            return Some(index);
         }
     }
-    Ok(None)
+    None
 }
 
 #[test]
 fn tiles_of_an_archive(rt: HostRuntime) {
-    same(&rt, &other_look(rt.alloc()), &Ok(None));
-}
-
-/// Each of the two reads fails in turn: which doesn't, if one doesn't.
-fn other_failing(alloc: Global) -> Result<Option<u64>, AllocError> {
-    for failing in 1..3 {
-        if looked_up(alloc, 5, failing)? != (Err(ArchiveFault::Read), failing) {
-            return Ok(Some(failing));
-        }
-    }
-    Ok(None)
-}
-
-#[test]
-fn looks_that_fail(rt: HostRuntime) {
-    same(&rt, &other_failing(rt.alloc()), &Ok(None));
+    same(&rt, &other_row(rt.alloc()), &None);
 }

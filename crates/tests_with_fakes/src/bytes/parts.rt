@@ -10,7 +10,7 @@ use sector_disk::{FailingCalls, FaultyDisk, MemoryDisk, Sectors};
 use std::alloc::{AllocError, Global};
 
 /// Where a part begins or ends.
-const BORDERS: [usize; 9] = [0, 1, 511, 512, 513, 1023, 1024, 1025, 1100];
+static BORDERS: [usize; 9] = [0, 1, 511, 512, 513, 1023, 1024, 1025, 1100];
 
 /// How many sectors a part has a byte in, written down apart from the code: none for an empty one.
 const fn touched(from: usize, to: usize) -> u64 {
@@ -52,84 +52,90 @@ fn reads(disk: &mut FaultyDisk<MemoryDisk>, by: Reading, from: u64, into: &mut [
 }
 
 /// Whether a part of the bytes is read whole, and by as many calls as it touches sectors.
-fn is_read(alloc: Global, by: Reading, from: usize, to: usize) -> Result<bool, AllocError> {
+fn is_read(alloc: Global, by: Reading, from: usize, to: usize) -> bool {
     let mut into = [7; 1100];
     if from > to || to > 1100 {
-        return Ok(false);
+        return false;
     }
+    let part = &mut into[..to - from];
     let bytes = numbered();
-    let mut disk = disk_with(alloc, &bytes, AllFrom(100))?;
-    let read = reads(&mut disk, by, from as u64, &mut into[..to - from]);
+    let Ok(mut disk) = disk_with(alloc, &bytes, AllFrom(100)) else {
+        return false;
+    };
+    let read = reads(&mut disk, by, from as u64, part);
     let calls = disk.calls();
     drop(disk);
-    let is_part = into[..to - from] == bytes[from..to];
-    Ok(read && is_part && calls == touched(from, to))
+    let is_part = part[..] == bytes[from..to];
+    read && is_part && calls == touched(from, to)
 }
 
 /// The first part from one of the borders to the same or a later one of which that isn't so, if there is one.
-fn other_part(alloc: Global, by: Reading) -> Result<Option<(usize, usize)>, AllocError> {
+fn other_part(alloc: Global, by: Reading) -> Option<(usize, usize)> {
     for from in &BORDERS {
         for to in &BORDERS {
-            if *from <= *to && !is_read(alloc, by, *from, *to)? {
-                return Ok(Some((*from, *to)));
+            if *from <= *to && !is_read(alloc, by, *from, *to) {
+                return Some((*from, *to));
             }
         }
     }
-    Ok(None)
+    None
 }
 
 #[test]
-fn parts_of_bytes(rt: HostRuntime) {
-    same(&rt, &other_part(rt.alloc(), Reading::Call), &Ok(None));
+fn parts_of_bytes_and_of_a_source(rt: HostRuntime) {
+    let seen = [
+        other_part(rt.alloc(), Reading::Call),
+        other_part(rt.alloc(), Reading::Source),
+    ];
+    same(&rt, &seen, &[None; 2]);
 }
 
-#[test]
-fn parts_of_a_source(rt: HostRuntime) {
-    same(&rt, &other_part(rt.alloc(), Reading::Source), &Ok(None));
-}
+/// Which call fails, whether a part is read that lies in three sectors, and how many calls there are.
+type Row = (FailingCalls, bool, u64);
 
-/// Which call fails, whether a part is read that lies in three sectors, and how many calls there are. Of the calls 1 to 3 each makes it
-/// fail, and it ends there.
-const FAILING: [(FailingCalls, bool, u64); 4] = [
+/// Of the calls 1 to 3 each makes it fail, and it ends there.
+static FAILING: [Row; 4] = [
     (OneNotMade(1), false, 1),
     (OneNotMade(2), false, 2),
     (OneNotMade(3), false, 3),
     (OneNotMade(4), true, 3),
 ];
 
-/// Whether that part is read, and how many calls there are.
-fn read_over(alloc: Global, by: Reading, failing: FailingCalls) -> Result<(bool, u64), AllocError> {
-    let mut disk = disk_with(alloc, &numbered(), failing)?;
+/// Whether that is so of a row.
+fn is_so(alloc: Global, by: Reading, row: Row) -> bool {
+    let (failing, is_read, count) = row;
+    let Ok(mut disk) = disk_with(alloc, &numbered(), failing) else {
+        return false;
+    };
     let read = reads(&mut disk, by, 500, &mut [7; 600]);
     let calls = disk.calls();
     drop(disk);
-    Ok((read, calls))
+    read == is_read && calls == count
 }
 
-/// Which calls fail where it is first otherwise, if it is.
-fn other_failing(alloc: Global, by: Reading) -> Result<Option<FailingCalls>, AllocError> {
-    for (failing, read, calls) in &FAILING {
-        if read_over(alloc, by, *failing)? != (*read, *calls) {
-            return Ok(Some(*failing));
+/// The index of the first row of which that isn't so, if there is one.
+fn other_failing(alloc: Global, by: Reading) -> Option<usize> {
+    for (index, row) in FAILING.iter().enumerate() {
+        if !is_so(alloc, by, *row) {
+            return Some(index);
         }
     }
-    Ok(None)
+    None
 }
 
 #[test]
-fn reads_that_fail(rt: HostRuntime) {
-    same(&rt, &other_failing(rt.alloc(), Reading::Call), &Ok(None));
-}
-
-#[test]
-fn sources_that_fail(rt: HostRuntime) {
-    same(&rt, &other_failing(rt.alloc(), Reading::Source), &Ok(None));
+fn reads_and_sources_that_fail(rt: HostRuntime) {
+    let seen = [
+        other_failing(rt.alloc(), Reading::Call),
+        other_failing(rt.alloc(), Reading::Source),
+    ];
+    same(&rt, &seen, &[None; 2]);
 }
 
 /// Where parts of 20 bytes of a source begin, one after the other, and whether each is read. Call 1 reads the first sector, for three
 /// parts. Call 2 reads the second one, and the first isn't read again. Call 3 fails, and what was kept of the second sector isn't taken
 /// for the third one, nor the other way round: calls 4 and 5 read both.
-const NEIGHBOURS: [(usize, bool); 6] = [
+static NEIGHBOURS: [(usize, bool); 6] = [
     (0, true),
     (20, true),
     (492, true),
@@ -150,9 +156,9 @@ fn is_read_at(source: &mut SectorBytes<'_, FaultyDisk<MemoryDisk>>, from: usize)
 
 /// Which part is read otherwise, if one is.
 fn other_neighbour(source: &mut SectorBytes<'_, FaultyDisk<MemoryDisk>>) -> Option<usize> {
-    for (from, is_read) in NEIGHBOURS {
-        if is_read_at(source, from) != is_read {
-            return Some(from);
+    for (from, is_read) in &NEIGHBOURS {
+        if is_read_at(source, *from) != *is_read {
+            return Some(*from);
         }
     }
     None

@@ -30,7 +30,7 @@ impl Gives for Client<'_> {
 }
 
 /// What the client sends, and how many bytes of replies it has got then.
-const STEPS: [(&str, usize); 14] = [
+static STEPS: [(&str, usize); 14] = [
     ("GET /a HT", 0),
     ("TP/1.1\r\nhost: a\r\nx", 0),
     (": y\r\n", 0),
@@ -51,7 +51,7 @@ const STEPS: [(&str, usize); 14] = [
 ];
 
 /// What is told to a client that takes these steps, and how many it leaves.
-fn waited(alloc: Global, steps: &[(&str, usize)]) -> Result<(Served, usize), ServeFault> {
+fn waited(alloc: Global, steps: &[(&str, usize)]) -> (Result<Served, ServeFault>, usize) {
     let got = Cell::new(0);
     let mut client = FakeStream {
         inner: Client { steps, got: &got },
@@ -59,8 +59,8 @@ fn waited(alloc: Global, steps: &[(&str, usize)]) -> Result<(Served, usize), Ser
     let mut writer = FakeStream {
         inner: Counter { got: &got },
     };
-    let served = serve(alloc, &mut client, &mut writer, MAX_READS)?;
-    Ok((served, client.inner.steps.len()))
+    let served = serve(alloc, &mut client, &mut writer, MAX_READS);
+    (served, client.inner.steps.len())
 }
 
 const SIX: Served = Served {
@@ -70,14 +70,14 @@ const SIX: Served = Served {
 
 #[test]
 fn a_client_that_waits_is_answered(rt: HostRuntime) {
-    same(&rt, &waited(rt.alloc(), &STEPS), &Ok((SIX, 1)));
+    same(&rt, &waited(rt.alloc(), &STEPS), &(Ok(SIX), 1));
 }
 
 /// How many bytes are read one by one, and how many requests are answered.
-const TURNS: [(u64, u64); 5] = [(0, 0), (27, 0), (28, 1), (78, 1), (81, 2)];
+static TURNS: [(u64, u64); 5] = [(0, 0), (27, 0), (28, 1), (78, 1), (81, 2)];
 
-/// What so many reads come to, how many bytes are left, and how many reads fail.
-fn turned(alloc: Global, turns: u64) -> Result<(Served, u64, usize), ServeFault> {
+/// Whether so many reads end with so many requests answered, leave the bytes behind, and none of them fails.
+fn is_so(alloc: Global, turns: u64, requests: u64) -> bool {
     let mut out = Vec::new(alloc);
     let mut reader = FakeStream {
         inner: OneByOne {
@@ -87,18 +87,17 @@ fn turned(alloc: Global, turns: u64) -> Result<(Served, u64, usize), ServeFault>
     };
     let served = serve(alloc, &mut reader, &mut out, turns);
     drop(out);
-    Ok((served?, reader.inner.rest.len() as u64, reader.inner.failed))
+    let end = End::Turns;
+    let left = (TWO.len() as u64).saturating_sub(turns);
+    served == Ok(Served { requests, end })
+        && reader.inner.rest.len() as u64 == left
+        && reader.inner.failed == 0
 }
 
 /// Behind how many reads it is first otherwise, if it is.
 fn other_turns(alloc: Global) -> Option<u64> {
     for (turns, requests) in &TURNS {
-        let served = Served {
-            requests: *requests,
-            end: End::Turns,
-        };
-        let left = (TWO.len() as u64).saturating_sub(*turns);
-        if turned(alloc, *turns) != Ok((served, left, 0)) {
+        if !is_so(alloc, *turns, *requests) {
             return Some(*turns);
         }
     }

@@ -51,7 +51,7 @@ impl Gives for Watching<'_> {
 
 /// How many bytes come, in requests of 8,000 bytes each, in pieces of which size, and whether some of them are moved: where no piece ends
 /// with a request before the buffer is used up.
-const COMING: [(usize, usize, bool); 3] = [
+static COMING: [(usize, usize, bool); 3] = [
     (8_000, 1, false),
     (320_000, 100, false),
     (320_000, 301, true),
@@ -101,11 +101,11 @@ fn moved_of(alloc: Global, count: usize, size: usize) -> Option<usize> {
 /// The size of the pieces, and how many bytes are moved, where these are first more than come, or none though some are to be, or where the
 /// bytes aren't served.
 fn moved_otherwise(alloc: Global) -> Option<(usize, Option<usize>)> {
-    for (count, size, are_some) in COMING {
-        let moved = moved_of(alloc, count, size);
+    for (count, size, are_some) in &COMING {
+        let moved = moved_of(alloc, *count, *size);
         let told = moved.unwrap_or(usize::MAX);
-        if told > count || (told > 0) != are_some {
-            return Some((size, moved));
+        if told > *count || (told > 0) != *are_some {
+            return Some((*size, moved));
         }
     }
     None
@@ -117,7 +117,7 @@ fn waiting_bytes_are_seldom_moved(rt: HostRuntime) {
 }
 
 /// Heads of one long field, of many short ones, and with a target that isn't ASCII.
-const FORMS: [Form; 3] = [
+static FORMS: [Form; 3] = [
     LONG,
     ("GET /a HTTP/1.1\r\nhost: a\r\n", "x: y\r\n", "\r\n"),
     ("GET /", "\u{e9}", " HTTP/1.1\r\nhost: a\r\n\r\n"),

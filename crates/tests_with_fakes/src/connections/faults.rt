@@ -25,7 +25,8 @@ fn leaves_prefix(alloc: Global, room: usize, fails: bool) -> bool {
     let fault = serve(alloc, &mut reader, &mut writer, MAX_READS);
     let requests = u64::from(room >= A.len());
     fault == Err(ServeFault::Write { requests })
-        && WHOLE.as_bytes().get(..room) == Some(writer.inner.taken.as_slice())
+        && writer.inner.taken.len() == room
+        && WHOLE.as_bytes().starts_with(&writer.inner.taken)
         && writer.inner.failed == 1
 }
 

@@ -46,45 +46,15 @@ impl Fake for NotedFile {
     }
 }
 
-/// The first step with another outcome over a disk in a new file, whose bytes are `sector_from` 7, and the first call of the file that
-/// differs.
-fn others_of(
+/// What is done over a disk in a new file, whose bytes are `sector_from` 7, and the calls of the file that this takes.
+#[derive(Clone, Copy)]
+struct Row {
+    name: &'static str,
+    /// The call that fails.
     failing_call: usize,
     bytes: u64,
-    steps: &[Step],
+    steps: &'static [Step],
     calls: &'static [Call],
-) -> (Option<usize>, Option<usize>) {
-    let fake = NotedFile {
-        notes: Notes::new(calls),
-        bytes: Cell::new(sector_from(7)),
-        failing_call,
-    };
-    let step = other_step_in(&fake, bytes, steps);
-    (step, fake.notes.other_call())
-}
-
-/// Reads return what the file has, what was written to it last, and what is still buffered.
-const USED: [Step; 7] = [
-    Reads(3, 7),
-    Writes(2, 8),
-    Writes(0, 5),
-    Syncs,
-    Writes(2, 9),
-    Reads(1, 5),
-    Reads(2, 9),
-];
-
-const ASKED: [Call; 5] = [
-    ("read", 1536, 0),
-    ("write", 1024, 8),
-    ("write", 0, 5),
-    ("sync_data", 0, 0),
-    ("read", 512, 0),
-];
-
-#[test]
-fn asks_its_file(rt: HostRuntime) {
-    same(&rt, &others_of(0, 2048, &USED, &ASKED), &(None, None));
 }
 
 const READ: Call = ("read", 0, 0);
@@ -93,12 +63,36 @@ const WRITE: Call = ("write", 0, 1);
 
 const SYNC: Call = ("sync_data", 0, 0);
 
-/// The call that fails, the steps, and the calls of the file. A write is made by the sync after it. If the file refuses it, reads still return
-/// its bytes, and it is tried again before the next write.
-const FAILING: [(usize, [Step; 7], &[Call]); 3] = [
-    (
-        1,
-        [
+/// Of those that report a fault once: a write is made by the sync after it. If the file refuses it, reads still return its bytes, and it is
+/// tried again before the next write.
+static ROWS: [Row; 4] = [
+    // Reads return what the file has, what was written to it last, and what is still buffered.
+    Row {
+        name: "asks_its_file",
+        failing_call: 0,
+        bytes: 2048,
+        steps: &[
+            Reads(3, 7),
+            Writes(2, 8),
+            Writes(0, 5),
+            Syncs,
+            Writes(2, 9),
+            Reads(1, 5),
+            Reads(2, 9),
+        ],
+        calls: &[
+            ("read", 1536, 0),
+            ("write", 1024, 8),
+            ("write", 0, 5),
+            ("sync_data", 0, 0),
+            ("read", 512, 0),
+        ],
+    },
+    Row {
+        name: "reports_a_fault_once: of a read",
+        failing_call: 1,
+        bytes: 512,
+        steps: &[
             ReadsNot(0),
             Fills(0, 1),
             Syncs,
@@ -107,11 +101,13 @@ const FAILING: [(usize, [Step; 7], &[Call]); 3] = [
             Fills(0, 1),
             Syncs,
         ],
-        &[READ, WRITE, SYNC, READ, WRITE, SYNC],
-    ),
-    (
-        2,
-        [
+        calls: &[READ, WRITE, SYNC, READ, WRITE, SYNC],
+    },
+    Row {
+        name: "reports_a_fault_once: of a write",
+        failing_call: 2,
+        bytes: 512,
+        steps: &[
             Begins(0, 7),
             Fills(0, 1),
             SyncsNot,
@@ -120,11 +116,13 @@ const FAILING: [(usize, [Step; 7], &[Call]); 3] = [
             Fills(0, 1),
             Syncs,
         ],
-        &[READ, WRITE, WRITE, WRITE, SYNC],
-    ),
-    (
-        3,
-        [
+        calls: &[READ, WRITE, WRITE, WRITE, SYNC],
+    },
+    Row {
+        name: "reports_a_fault_once: of a sync",
+        failing_call: 3,
+        bytes: 512,
+        steps: &[
             Begins(0, 7),
             Fills(0, 1),
             SyncsNot,
@@ -133,23 +131,34 @@ const FAILING: [(usize, [Step; 7], &[Call]); 3] = [
             Fills(0, 1),
             Syncs,
         ],
-        &[READ, WRITE, SYNC, READ, WRITE, SYNC],
-    ),
+        calls: &[READ, WRITE, SYNC, READ, WRITE, SYNC],
+    },
 ];
 
-/// The first failing call with another outcome, if there is one.
-fn other_failing_call() -> Option<usize> {
-    for (failing_call, steps, calls) in &FAILING {
-        if others_of(*failing_call, 512, steps, calls) != (None, None) {
-            return Some(*failing_call);
+/// Whether each step of a row has its outcome, and the file has those calls.
+fn is_so(row: &Row) -> bool {
+    let fake = NotedFile {
+        notes: Notes::new(row.calls),
+        bytes: Cell::new(sector_from(7)),
+        failing_call: row.failing_call,
+    };
+    let step = other_step_in(&fake, row.bytes, row.steps);
+    step.is_none() && fake.notes.are_as_wanted()
+}
+
+/// The name of the first row of which that isn't so, if there is one.
+fn other_row() -> Option<&'static str> {
+    for row in &ROWS {
+        if !is_so(row) {
+            return Some(row.name);
         }
     }
     None
 }
 
 #[test]
-fn reports_a_fault_once(rt: HostRuntime) {
-    same(&rt, &other_failing_call(), &None);
+fn asks_its_file_and_reports_a_fault_once(rt: HostRuntime) {
+    same(&rt, &other_row(), &None);
 }
 
 const SET_LEN: Call = ("set_len", 1536, 0);
@@ -157,27 +166,27 @@ const SET_LEN: Call = ("set_len", 1536, 0);
 const SYNC_ALL: Call = ("sync_all", 0, 0);
 
 /// The call that fails, what filling a new file comes to, and the calls of the file.
-const FILLINGS: [(usize, Result<(), ErrorKind>, &[Call]); 3] = [
+static FILLINGS: [(usize, Result<(), ErrorKind>, &[Call]); 3] = [
     (0, Ok(()), &[SET_LEN, SYNC_ALL]),
     (1, Err(ErrorKind::Other), &[SET_LEN]),
     (2, Err(ErrorKind::Other), &[SET_LEN, SYNC_ALL]),
 ];
 
-/// What filling a new file comes to, and the first call of the file that differs.
-fn filled(failing_call: usize, calls: &'static [Call]) -> (Result<(), ErrorKind>, Option<usize>) {
+/// Whether filling a new file comes to this, by these calls of the file.
+fn fills(failing_call: usize, outcome: Result<(), ErrorKind>, calls: &'static [Call]) -> bool {
     let fake = NotedFile {
         notes: Notes::new(calls),
         bytes: Cell::new([0; 512]),
         failing_call,
     };
-    let outcome = kind_of(fill(&FakeFile { fake: &fake }, 1536));
-    (outcome, fake.notes.other_call())
+    let filled = kind_of(fill(&FakeFile { fake: &fake }, 1536));
+    filled == outcome && fake.notes.are_as_wanted()
 }
 
 /// The first failing call with another outcome, if there is one.
 fn other_filling() -> Option<usize> {
     for (failing_call, outcome, calls) in &FILLINGS {
-        if filled(*failing_call, calls) != (*outcome, None) {
+        if !fills(*failing_call, *outcome, calls) {
             return Some(*failing_call);
         }
     }

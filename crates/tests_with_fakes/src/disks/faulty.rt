@@ -5,7 +5,7 @@ use super::steps::{Step, other_step};
 use crate::wanted::same;
 use sector_disk::FailingCalls::{AllFrom, OneMade, OneNotMade};
 use sector_disk::{FailingCalls, FaultyDisk, MemoryDisk};
-use std::alloc::{AllocError, Global};
+use std::alloc::Global;
 
 /// Which calls of the script are reported as done, and what is read, if something is.
 type Reported = (bool, bool, bool, Option<u8>);
@@ -23,79 +23,62 @@ fn script((wrote, synced, again, byte): Reported) -> [Step; 4] {
     ]
 }
 
-/// Which calls fail; what is reported to the script; and how many of the four calls are passed on, or made all the same: each is one call of
-/// the inner disk.
-type Row = (FailingCalls, Reported, u64);
+/// Which calls fail of the outer disk, and of the inner one; what is reported to the script; and how many of the four calls are passed on, or
+/// made all the same: each is one call of the inner disk.
+type Row = (FailingCalls, FailingCalls, Reported, u64);
 
-const ROWS: [Row; 18] = [
-    (AllFrom(0), (false, false, false, None), 0),
-    (AllFrom(1), (false, false, false, None), 0),
-    (AllFrom(2), (true, false, false, None), 1),
-    (AllFrom(3), (true, true, false, None), 2),
-    (AllFrom(4), (true, true, true, None), 3),
-    (AllFrom(5), (true, true, true, Some(8)), 4),
-    (AllFrom(6), (true, true, true, Some(8)), 4),
-    (OneNotMade(0), (true, true, true, Some(8)), 4),
-    (OneMade(0), (true, true, true, Some(8)), 4),
-    (OneNotMade(1), (false, true, true, Some(8)), 3),
-    (OneMade(1), (false, true, true, Some(8)), 4),
-    (OneNotMade(2), (true, false, true, Some(8)), 3),
-    (OneMade(2), (true, false, true, Some(8)), 4),
-    (OneNotMade(3), (true, true, false, Some(7)), 3),
-    (OneMade(3), (true, true, false, Some(8)), 4),
-    (OneNotMade(4), (true, true, true, None), 3),
-    (OneMade(4), (true, true, true, None), 4),
-    (OneNotMade(5), (true, true, true, Some(8)), 4),
+/// No call fails.
+const NONE: FailingCalls = AllFrom(9);
+
+static ROWS: [Row; 20] = [
+    (AllFrom(0), NONE, (false, false, false, None), 0),
+    (AllFrom(1), NONE, (false, false, false, None), 0),
+    (AllFrom(2), NONE, (true, false, false, None), 1),
+    (AllFrom(3), NONE, (true, true, false, None), 2),
+    (AllFrom(4), NONE, (true, true, true, None), 3),
+    (AllFrom(5), NONE, (true, true, true, Some(8)), 4),
+    (AllFrom(6), NONE, (true, true, true, Some(8)), 4),
+    (OneNotMade(0), NONE, (true, true, true, Some(8)), 4),
+    (OneMade(0), NONE, (true, true, true, Some(8)), 4),
+    (OneNotMade(1), NONE, (false, true, true, Some(8)), 3),
+    (OneMade(1), NONE, (false, true, true, Some(8)), 4),
+    (OneNotMade(2), NONE, (true, false, true, Some(8)), 3),
+    (OneMade(2), NONE, (true, false, true, Some(8)), 4),
+    (OneNotMade(3), NONE, (true, true, false, Some(7)), 3),
+    (OneMade(3), NONE, (true, true, false, Some(8)), 4),
+    (OneNotMade(4), NONE, (true, true, true, None), 3),
+    (OneMade(4), NONE, (true, true, true, None), 4),
+    (OneNotMade(5), NONE, (true, true, true, Some(8)), 4),
+    // A fault of the inner disk is one of the outer disk too.
+    (OneNotMade(4), AllFrom(2), (true, false, false, None), 3),
+    (AllFrom(10), OneNotMade(3), (true, true, false, Some(7)), 4),
 ];
 
-/// How many calls the script makes of the inner disk, where calls of both disks fail, if the script has these outcomes.
-fn passed_on(
-    alloc: Global,
-    failing: FailingCalls,
-    inner: FailingCalls,
-    reported: Reported,
-) -> Result<Option<u64>, AllocError> {
-    let inner = FaultyDisk::new(MemoryDisk::new(alloc, 3)?, inner);
-    let mut disk = FaultyDisk::new(inner, failing);
+/// Whether the script has the outcomes of a row, and makes so many calls of the inner disk.
+fn is_so(alloc: Global, row: Row) -> bool {
+    let (failing, inner, reported, passed) = row;
+    let Ok(memory) = MemoryDisk::new(alloc, 3) else {
+        return false;
+    };
+    let mut disk = FaultyDisk::new(FaultyDisk::new(memory, inner), failing);
     let other = other_step(&mut disk, &script(reported));
     let inner = disk.into_disk();
     let calls = inner.calls();
     drop(inner);
-    Ok(if other.is_none() { Some(calls) } else { None })
+    other.is_none() && calls == passed
 }
 
-/// The failing calls of the first row with another number.
-fn other_number(alloc: Global) -> Result<Option<FailingCalls>, AllocError> {
-    for (failing, reported, passed) in &ROWS {
-        if passed_on(alloc, *failing, AllFrom(9), *reported)? != Some(*passed) {
-            return Ok(Some(*failing));
+/// The index of the first row of which that isn't so, if there is one.
+fn other_row(alloc: Global) -> Option<usize> {
+    for (index, row) in ROWS.iter().enumerate() {
+        if !is_so(alloc, *row) {
+            return Some(index);
         }
     }
-    Ok(None)
+    None
 }
 
 #[test]
 fn asks_once_of_the_inner_disk(rt: HostRuntime) {
-    same(&rt, &other_number(rt.alloc()), &Ok(None));
-}
-
-/// Which calls fail of the inner disk and of the outer one, and what is reported: a fault of the inner disk is one of the outer disk too.
-const FAULTS: [(FailingCalls, FailingCalls, Reported); 2] = [
-    (AllFrom(2), OneNotMade(4), (true, false, false, None)),
-    (OneNotMade(3), AllFrom(10), (true, true, false, Some(7))),
-];
-
-/// The failing calls of the first row with another outcome.
-fn other_fault(alloc: Global) -> Result<Option<FailingCalls>, AllocError> {
-    for (inner, failing, reported) in &FAULTS {
-        if passed_on(alloc, *failing, *inner, *reported)?.is_none() {
-            return Ok(Some(*failing));
-        }
-    }
-    Ok(None)
-}
-
-#[test]
-fn passes_faults_on(rt: HostRuntime) {
-    same(&rt, &other_fault(rt.alloc()), &Ok(None));
+    same(&rt, &other_row(rt.alloc()), &None);
 }

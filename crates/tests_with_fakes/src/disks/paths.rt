@@ -28,12 +28,12 @@ enum Act {
     Keeps,
 }
 
-const BEGUN: [Step; 4] = [Count(3), Begins(2, 0), Fills(2, 7), Syncs];
+static BEGUN: [Step; 4] = [Count(3), Begins(2, 0), Fills(2, 7), Syncs];
 
-const KEPT: [Step; 3] = [Count(3), Begins(1, 0), Begins(2, 7)];
+static KEPT: [Step; 3] = [Count(3), Begins(1, 0), Begins(2, 7)];
 
 /// A sector that someone cut off can't be read, not even in part, until there is one again.
-const MENDED: [Step; 5] = [
+static MENDED: [Step; 5] = [
     Count(3),
     ReadsNot(2),
     Begins(1, 0),
@@ -68,16 +68,11 @@ fn keeps_opened(rt: &HostRuntime, path: &str) -> bool {
     }
 }
 
-/// Whether each step of `BEGUN` has its outcome, and the same of the disk opened again, while this one is open too.
-fn keeps_begun<D: Sectors>(rt: &HostRuntime, path: &str, disk: &mut D) -> bool {
-    other_step(disk, &BEGUN).is_none() && keeps_opened(rt, path)
-}
-
-/// The same over a disk that is made.
+/// Whether each step of `BEGUN` has its outcome over a disk that is made, and the same of the disk opened again, while this one is open too.
 fn keeps(rt: &HostRuntime, path: &str) -> bool {
     match FileDisk::create(rt, path, 3, Zeros) {
         Ok(mut disk) => {
-            let keeps = keeps_begun(rt, path, &mut disk);
+            let keeps = other_step(&mut disk, &BEGUN).is_none() && keeps_opened(rt, path);
             drop(disk);
             keeps
         }
@@ -85,15 +80,15 @@ fn keeps(rt: &HostRuntime, path: &str) -> bool {
     }
 }
 
-/// How many sectors a disk has in the file, if it can be opened.
-fn count_of(rt: &HostRuntime, path: &str) -> Option<u64> {
+/// Whether a disk in the file can be opened, and has so many sectors.
+fn has_sectors(rt: &HostRuntime, path: &str, count: u64) -> bool {
     match FileDisk::open(rt, path, Unknown) {
         Ok(disk) => {
-            let count = disk.count();
+            let is_so = disk.count() == count;
             drop(disk);
-            Some(count)
+            is_so
         }
-        Err(_) => None,
+        Err(_) => false,
     }
 }
 
@@ -116,7 +111,7 @@ fn words_of(fault: &FileFault) -> (&'static str, &'static str) {
 
 /// Whether a fault's text begins so, and goes on.
 fn is_told(alloc: Global, fault: &FileFault, start: &str) -> bool {
-    match format!(in alloc; "{fault}") {
+    match fault.to_string(alloc) {
         Ok(text) => text.starts_with(start) && text.len() > start.len(),
         Err(_) => false,
     }
@@ -151,7 +146,7 @@ fn is_so(rt: &HostRuntime, path: &str, act: Act) -> bool {
         Act::Holds(text) => holds(rt, path, text),
         Act::Removes => fs::remove_file(rt, path).is_ok(),
         Act::HasSectors(bytes, count) => {
-            sets_len(rt, path, bytes) && count_of(rt, path) == Some(count)
+            sets_len(rt, path, bytes) && has_sectors(rt, path, count)
         }
         Act::OpensNot(variant) => opens_not(rt, path, variant),
         Act::MakesNot(count, variant, is_left) => {
@@ -161,14 +156,14 @@ fn is_so(rt: &HostRuntime, path: &str, act: Act) -> bool {
     }
 }
 
-/// The index of the first act with another outcome, if there is one.
-fn other_act(rt: &HostRuntime, path: &str, acts: &[Act]) -> Option<usize> {
-    for (index, act) in acts.iter().enumerate() {
+/// Whether each act has its expected outcome.
+fn are_so(rt: &HostRuntime, path: &str, acts: &[Act]) -> bool {
+    for act in acts {
         if !is_so(rt, path, *act) {
-            return Some(index);
+            return false;
         }
     }
-    None
+    true
 }
 
 /// A path in the system's folder for such files at which there is nothing, and these letters behind it.
@@ -180,66 +175,74 @@ fn free_path(rt: &HostRuntime, end: &str) -> io::Result<String> {
     Ok(path?)
 }
 
-/// The first act with another outcome at a free path with these letters behind it. It is act 0 if no path can be made up.
-fn other_at(rt: &HostRuntime, end: &str, acts: &[Act]) -> Option<usize> {
+/// The same at a free path with these letters behind it, if one can be made up.
+fn are_so_at(rt: &HostRuntime, end: &str, acts: &[Act]) -> bool {
     match free_path(rt, end) {
         Ok(path) => {
-            let other = other_act(rt, path.as_str(), acts);
+            let are_so = are_so(rt, path.as_str(), acts);
             drop(path);
-            other
+            are_so
         }
-        Err(_) => Some(0),
+        Err(_) => false,
     }
 }
 
-#[test]
-fn keeps_what_was_synced(rt: HostRuntime) {
-    let acts = [Act::Keeps, Act::Removes];
-    same(&rt, &other_at(&rt, "", &acts), &None);
-}
-
-/// Lengths of files, and the counts of their sectors.
-const COUNTS: [Act; 6] = [
-    Act::Writes(""),
-    Act::HasSectors(0, 0),
-    Act::HasSectors(511, 0),
-    Act::HasSectors(512, 1),
-    Act::HasSectors(1600, 3),
-    Act::Removes,
+/// Names, the letters behind a free path, and what is done there.
+static ROWS: [(&str, &str, &[Act]); 5] = [
+    ("keeps_what_was_synced", "", &[Act::Keeps, Act::Removes]),
+    // Lengths of files, and the counts of their sectors.
+    (
+        "counts_whole_sectors",
+        "",
+        &[
+            Act::Writes(""),
+            Act::HasSectors(0, 0),
+            Act::HasSectors(511, 0),
+            Act::HasSectors(512, 1),
+            Act::HasSectors(1600, 3),
+            Act::Removes,
+        ],
+    ),
+    // Opening a disk that isn't there, and making two that are larger than files are: no system has a file of 2^63 bytes, and 2^64 aren't
+    // a `u64`.
+    (
+        "names_its_faults",
+        "",
+        &[
+            Act::OpensNot("Open"),
+            Act::MakesNot(1 << 54, "Grow", false),
+            Act::MakesNot(1 << 55, "Grow", false),
+        ],
+    ),
+    // Making a disk in a folder that isn't there.
+    (
+        "names_its_fault_in_no_folder",
+        "/disk",
+        &[Act::MakesNot(3, "Create", false)],
+    ),
+    (
+        "leaves_another_file_as_it_is",
+        "",
+        &[
+            Act::Writes("as before"),
+            Act::MakesNot(3, "Create", true),
+            Act::Holds("as before"),
+            Act::Removes,
+        ],
+    ),
 ];
 
-#[test]
-fn counts_whole_sectors(rt: HostRuntime) {
-    same(&rt, &other_at(&rt, "", &COUNTS), &None);
+/// The name of the first row with another outcome, if there is one.
+fn other_row(rt: &HostRuntime) -> Option<&'static str> {
+    for (name, end, acts) in &ROWS {
+        if !are_so_at(rt, end, acts) {
+            return Some(*name);
+        }
+    }
+    None
 }
 
-/// Opening a disk that isn't there, and making two that are larger than files are: no system has a file of 2^63 bytes, and 2^64 aren't a `u64`.
-const FAULTS: [Act; 3] = [
-    Act::OpensNot("Open"),
-    Act::MakesNot(1 << 54, "Grow", false),
-    Act::MakesNot(1 << 55, "Grow", false),
-];
-
 #[test]
-fn names_its_faults(rt: HostRuntime) {
-    same(&rt, &other_at(&rt, "", &FAULTS), &None);
-}
-
-/// Making a disk in a folder that isn't there.
-#[test]
-fn names_its_fault_in_no_folder(rt: HostRuntime) {
-    let acts = [Act::MakesNot(3, "Create", false)];
-    same(&rt, &other_at(&rt, "/disk", &acts), &None);
-}
-
-const MADE_OVER: [Act; 4] = [
-    Act::Writes("as before"),
-    Act::MakesNot(3, "Create", true),
-    Act::Holds("as before"),
-    Act::Removes,
-];
-
-#[test]
-fn leaves_another_file_as_it_is(rt: HostRuntime) {
-    same(&rt, &other_at(&rt, "", &MADE_OVER), &None);
+fn disks_in_files_of_the_system(rt: HostRuntime) {
+    same(&rt, &other_row(&rt), &None);
 }

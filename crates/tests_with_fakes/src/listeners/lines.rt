@@ -7,7 +7,7 @@ use std::alloc::Global;
 /// The number of a connection, what it came to, and its line.
 type Row = (u64, Result<Served, ServeFault>, &'static str);
 
-const ROWS: [Row; 8] = [
+static ROWS: [Row; 8] = [
     (
         1,
         Ok(Served {

@@ -34,7 +34,7 @@ struct Row {
     log: &'static str,
 }
 
-const ROWS: [Row; 3] = [
+static ROWS: [Row; 3] = [
     Row {
         name: "a_peer_reads_its_replies",
         asks_again: false,
@@ -147,11 +147,11 @@ impl Downloads for Counter<'_> {
     }
 }
 
-/// Whether the peers of a row are served to the end.
-fn serves(
+/// Whether the peers of a row that wait at a listener are served to the end.
+fn serves_at(
     rt: &HostRuntime,
     row: &Row,
-    listener: &mut SystemListener,
+    listener: TcpListener,
     streams: &[TcpStream],
     log: &mut Vec<u8>,
 ) -> bool {
@@ -162,22 +162,11 @@ fn serves(
     };
     let mut handler = Counter { answers: 0, asker };
     let count = row.peers.len() as u64;
-    serve_on(rt, rt.alloc(), listener, count, &mut handler, log).is_ok()
-}
-
-/// The same of the peers that wait at a listener.
-fn serves_at(
-    rt: &HostRuntime,
-    row: &Row,
-    listener: TcpListener,
-    streams: &[TcpStream],
-    log: &mut Vec<u8>,
-) -> bool {
     match SystemListener::new(rt, rt.alloc(), listener, 8) {
         Ok(mut listener) => {
-            let is_served = serves(rt, row, &mut listener, streams, log);
+            let served = serve_on(rt, rt.alloc(), &mut listener, count, &mut handler, log);
             drop(listener);
-            is_served
+            served.is_ok()
         }
         Err(_) => false,
     }
@@ -243,49 +232,42 @@ fn reads(rt: &HostRuntime, peer: &TcpStream, wanted: &str) -> bool {
     is_read
 }
 
-/// The first peer of a row that gets something else.
-fn wrong_peer(rt: &HostRuntime, row: &Row, streams: &[TcpStream]) -> Option<usize> {
+/// Whether each peer of a row gets what it is to get.
+fn all_read(rt: &HostRuntime, row: &Row, streams: &[TcpStream]) -> bool {
     for (place, (_, wanted)) in row.peers.iter().enumerate() {
         let is_right = match streams.get(place) {
             Some(peer) => reads(rt, peer, wanted),
             None => false,
         };
         if !is_right {
-            return Some(place);
+            return false;
         }
     }
-    None
+    true
 }
 
-/// Whether the peers of a row were served, with the log that is wanted, and the first of them that gets something else.
-type Seen = (bool, Option<usize>);
-
-/// What the peers of a row come to.
-fn seen_with(rt: &HostRuntime, row: &Row, streams: &mut Vec<TcpStream>, log: &mut Vec<u8>) -> Seen {
-    if are_served(rt, row, streams, log) {
-        let is_logged = log.as_slice() == row.log.as_bytes();
-        (is_logged, wrong_peer(rt, row, streams))
-    } else {
-        (false, None)
-    }
+/// Whether the peers of a row are served, with the log that is wanted, and each gets what it is to get.
+fn is_so(rt: &HostRuntime, row: &Row, streams: &mut Vec<TcpStream>, log: &mut Vec<u8>) -> bool {
+    are_served(rt, row, streams, log)
+        && log.as_slice() == row.log.as_bytes()
+        && all_read(rt, row, streams)
 }
 
 /// The same with streams and a log of its own.
-fn seen_of(rt: &HostRuntime, row: &Row) -> Seen {
+fn is_row(rt: &HostRuntime, row: &Row) -> bool {
     let mut streams = Vec::new(rt.alloc());
     let mut log = Vec::new(rt.alloc());
-    let seen = seen_with(rt, row, &mut streams, &mut log);
+    let is_so = is_so(rt, row, &mut streams, &mut log);
     drop(streams);
     drop(log);
-    seen
+    is_so
 }
 
-/// The name of the first row that comes to something else, and to what.
-fn other_row(rt: &HostRuntime) -> Option<(&'static str, Seen)> {
+/// The name of the first row of which that isn't so, if there is one.
+fn other_row(rt: &HostRuntime) -> Option<&'static str> {
     for row in &ROWS {
-        let seen = seen_of(rt, row);
-        if seen != (true, None) {
-            return Some((row.name, seen));
+        if !is_row(rt, row) {
+            return Some(row.name);
         }
     }
     None
