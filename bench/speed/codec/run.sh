@@ -6,7 +6,8 @@ set -euo pipefail
 here="$(cd "$(dirname "$0")" && pwd)"
 work="$(mktemp -d)"
 trap 'rm -rf "$work"' EXIT
-python3 "$here/../../tools/scratch.py" "$work" codec_bench feature_store feature_model edit_text geometry_commands tile_cutter mvt_layer mvt_write hilbert_id anyhow
+python3 "$here/../../tools/scratch.py" "$work" codec_bench feature_store feature_model edit_text geometry_commands tile_cutter \
+    mvt_layer mvt_write hilbert_id anyhow
 cp "$here/main.rt.txt" "$work/crates/codec_bench/src/main.rt"
 mkdir -p "$work/crates/codec_bench/proofs/put" "$work/tiles"
 cp "$here/put.antt.txt" "$work/crates/codec_bench/proofs/put/Answers.antt"

@@ -1,5 +1,6 @@
 #!/bin/bash
-# Measures how long a disk in memory takes for a write and for a read: makes a scratch repository with copies of the product's crates, outside of this one, and runs main.rt.txt there.
+# Measures how long a disk in memory takes for a write and for a read: makes a scratch repository with copies of the product's crates, outside of
+# this one, and runs main.rt.txt there.
 set -euo pipefail
 here="$(cd "$(dirname "$0")" && pwd)"
 work="$(mktemp -d)"
