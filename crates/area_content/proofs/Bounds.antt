@@ -2,10 +2,8 @@
 use Rattle.std.proofs.Common.{◌≡◌, ℕ, ◌+◌, ◌*◌, ◌^◌, ◌<◌, ◌≤◌, ◌⊎◌, inl, inr, List, [], ◌∷◌, ◌++◌, length, map, Result, Ok, Err, refl, sym, ap, subst, arith}
 use Rattle.std.specs.Prelude.{IfOk}
 use Rattle.std.specs.List.{AllByRecursion, Contains, concat}
-use Rattle.std.proofs.lemmas.List.Elements.{All-nil, All-cons, All-append}
 use Rattle.feature_store.specs.Store.{FeatureMap, snapshot}
 use Rattle.feature_store.specs.Tiles.{IsNextTile}
-use Rattle.feature_store.proofs.Below.{one_more}
 use Rattle.generations.specs.Areas.{sectors_of}
 use Rattle.pm_build.specs.declared.fault.BuildFault.{BuildFault}
 use Rattle.pm_build.specs.declared.fault.BuildFault.TheVariants as building
@@ -21,15 +19,15 @@ use Rattle.area_content.specs.Faults.{IsShort, AreAdded, CanFit, HasLongTile, Ha
 use Rattle.area_content.specs.Faults.{IsContentFault, told_as}
 
 -- the size is within the bound of `pm_build`'s contract
-abbrev pub IsSize : List Tile → (metadata size : ℕ) → Type 0
+abbrev pub IsSize : List Tile → (metadata : List ℕ) → (size : ℕ) → Type 0
 IsSize ts metadata size = (runs : List TileRun) × (contents : List (List ℕ)) × AreLongestRuns ts runs × (length runs ≤ MAX_ENTRIES) × AreDifferent contents
-    × AllByRecursion (λ c. Contains (map (λ r. r.content) runs) c) contents × (size ≤ 127 + metadata + 64 * length runs + length (concat contents))
+    × AllByRecursion (λ c. Contains (map (λ r. r.content) runs) c) contents × (size ≤ 127 + length metadata + 64 * length runs + length (concat contents))
 
 pub no_runs : AreLongestRuns [] []
 no_runs = record { together = refl; each = tt; longest = tt }
 
 -- no bytes are within the bound of no tiles
-pub none_bounded : (ts : List Tile) (metadata : ℕ) (bytes : List ℕ) → ts ≡ [] → bytes ≡ [] → IsBounded ts metadata bytes
+pub none_bounded : (ts : List Tile) (metadata bytes : List ℕ) → ts ≡ [] → bytes ≡ [] → IsBounded ts metadata bytes
 none_bounded ts metadata bytes none empty =
     let bounded : IsBounded [] metadata bytes = record {
       runs = [];
@@ -43,7 +41,7 @@ none_bounded ts metadata bytes none empty =
     subst (λ (us : List Tile). IsBounded us metadata bytes) (sym none) bounded
 
 -- what was built is within the bound of its tiles
-pub some_bounded : {E : Type 0} (ts : List Tile) (metadata : ℕ) (r : Result BuiltArchive E)
+pub some_bounded : {E : Type 0} (ts : List Tile) (metadata : List ℕ) (r : Result BuiltArchive E)
     → IfOk r (λ a. IsSize ts metadata (length (archive_bytes a))) → IfOk r (λ a. IsBounded ts metadata (archive_bytes a))
 some_bounded ts metadata (Err fault) size = tt
 some_bounded ts metadata (Ok archive) (runs, contents, longest, few, different, used, small) =
@@ -51,7 +49,7 @@ some_bounded ts metadata (Ok archive) (runs, contents, longest, few, different, 
 
 -- ---- faults
 
-module _ (m : FeatureMap) (metadata area : ℕ) where
+module _ (m : FeatureMap) (metadata : List ℕ) (area : ℕ) where
   -- no area takes a content of 2^32 bytes or more
   pub full_of_long : (from size need : ℕ) (ts : List Tile) (t : Tile) → AreAdded m from ts → CanFit m metadata area ts → IsNextTile m from t → 2 ^ 32 ≤ size
       → size ≡ length t.1 → area < 2 ^ 23 → need ≡ sectors_of size → IsFull m metadata area need area
@@ -69,12 +67,16 @@ module _ (m : FeatureMap) (metadata area : ℕ) where
       record { free_is = refl; above = omega (arith, above, small, is); needed = inl (size, long, is) }
 
   -- more entries than an archive takes
-  pub many_tiles : (from : ℕ) (ts : List Tile) (t : Tile) → AreAdded m from ts → IsNextTile m from t → IsShort t → AreTooMany (ts ++ t ∷ []) → HasManyTiles m
-  many_tiles from ts t added next short many = record {
-    end = t.0 + 1;
-    tiles = ts ++ t ∷ [];
-    below = one_more m from ts t added.below next;
-    short = All-append IsShort ts (t ∷ []) added.short (All-cons IsShort t [] short (All-nil IsShort));
+  pub many_tiles : (from : ℕ) (ts : List Tile) (t : Tile) → AreAdded m from ts → CanFit m metadata area ts → IsNextTile m from t → IsShort t
+      → AreTooMany (ts ++ t ∷ []) → HasManyTiles m metadata area
+  many_tiles from ts t added can next short many = record {
+    from = from;
+    before = ts;
+    added = added;
+    can = can;
+    last = t;
+    next = next;
+    short = short;
     many = many;
   }
 
@@ -100,6 +102,6 @@ module _ (m : FeatureMap) (metadata area : ℕ) where
       absurd (omega (arith, fits, need, cut.1))
 
   -- the fault of a builder, which has too many tiles only if the map has
-  pub fault_told : (fault : BuildFault) → (fault ≡ building.TooManyEntries → HasManyTiles m) → IsContentFault m metadata area (told_as fault)
+  pub fault_told : (fault : BuildFault) → (fault ≡ building.TooManyEntries → HasManyTiles m metadata area) → IsContentFault m metadata area (told_as fault)
   fault_told building.TooManyEntries many = many refl
   fault_told building.Memory many = tt

@@ -1,10 +1,10 @@
 -- Laws of the sectors of an area's content, and of maps with too many tiles, for the crates above.
-use Rattle.std.proofs.Common.{◌≡◌, ℕ, ◌+◌, ◌-◌, ◌<◌, false, List, length, take, replicate, refl, subst, arith, ltb}
+use Rattle.std.proofs.Common.{◌≡◌, ℕ, ◌+◌, ◌-◌, ◌<◌, false, List, [], ◌∷◌, ◌++◌, length, take, replicate, refl, subst, arith, ltb}
 use Rattle.std.proofs.lemmas.Bool.{lt-ltb, le-ltb}
 use Rattle.std.proofs.lemmas.List.{take_at}
 use Rattle.feature_store.specs.Store.{FeatureMap}
 use Rattle.feature_store.specs.Tiles.{AreTiles}
-use Rattle.feature_store.proofs.Below.{first_of_all}
+use Rattle.feature_store.proofs.Below.{first_of_all, one_more}
 use Rattle.generations.specs.Areas.{sectors_of}
 use Rattle.pm_build.specs.declared.limit.TheConstants.{MAX_ENTRIES}
 use Rattle.pm_build.specs.Runs.{TileRun, AreLongestRuns}
@@ -31,9 +31,10 @@ archive_sector c index =
     let index_is : n + index - n ≡ index = omega arith in
     rw (behind, index_is) (begins (sector_piece c.archive index))
 
--- If the tiles below some id need more entries than an archive has, all tiles of the map do.
-pub all_are_many : (m : FeatureMap) → HasManyTiles m → (tiles : List Tile) (runs : List TileRun) → AreTiles m tiles → AreLongestRuns tiles runs
-    → MAX_ENTRIES < length runs
-all_are_many m many tiles runs are longest =
-    let behind = first_of_all m many.end many.tiles tiles many.below are in
-    too_many_behind many.tiles behind.0 runs many.many (subst (λ (ts : List Tile). AreLongestRuns ts runs) behind.1 longest)
+-- If the tiles up to one need more entries than an archive has, all tiles of the map do.
+pub all_are_many : (m : FeatureMap) (metadata : List ℕ) (area : ℕ) → HasManyTiles m metadata area → (tiles : List Tile) (runs : List TileRun)
+    → AreTiles m tiles → AreLongestRuns tiles runs → MAX_ENTRIES < length runs
+all_are_many m metadata area many tiles runs are longest =
+    let ts = many.before ++ many.last ∷ [] in
+    let behind = first_of_all m (many.last.0 + 1) ts tiles (one_more m many.from many.before many.last many.added.below many.next) are in
+    too_many_behind ts behind.0 runs many.many (subst (λ (ts : List Tile). AreLongestRuns ts runs) behind.1 longest)

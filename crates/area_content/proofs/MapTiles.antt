@@ -21,10 +21,10 @@ use Rattle.mvt_layer.specs.Reads.{ReadsAs}
 use Rattle.mvt_layer.specs.Tile.{LayerView}
 use Rattle.mvt_write.specs.Written.{written}
 use Rattle.pb_wire.specs.Varint.{varint, shortest_in}
-use Rattle.pm_metadata.specs.Archive.{IsArchiveOf}
 use Rattle.pm_build.specs.Built.{tile_content}
 use Rattle.pm_build.specs.Building.{CanAdd, AreFew}
 use Rattle.pm_build.specs.Tiles.{Tile}
+use Rattle.pm_build.specs.Vector.{IsVectorArchive}
 use Rattle.area_content.specs.Faults.{IsShort, AreAdded}
 use Rattle.area_content.proofs.Bounds.{no_runs}
 use Rattle.feature_store.specs.Content.{IsTileContent}
@@ -177,11 +177,12 @@ module _ (m : FeatureMap) where
       absurd (omega (arith, tile.4, ap (λ (ls : List LayerView). length ls) (none tile.0 tile.1 tile.2)))
 
   -- no bytes are the archive of no tiles
-  pub none_is_archive : (ts : List Tile) (bytes : List ℕ) → ts ≡ [] → bytes ≡ [] → AreTiles m ts → IsArchiveOfMap m bytes
-  none_is_archive ts bytes none empty are = inl (no_tile (subst (AreTiles m) none are), empty)
+  pub none_is_archive : (ts : List Tile) (metadata bytes : List ℕ) → ts ≡ [] → bytes ≡ [] → AreTiles m ts → IsArchiveOfMap m metadata bytes
+  none_is_archive ts metadata bytes none empty are = inl (no_tile (subst (AreTiles m) none are), empty)
 
   -- an archive of tiles is one of their map
-  pub some_are_archive : (ts : List Tile) (bytes : List ℕ) → ts ≢ [] → IsMap m → AreTiles m ts → IsArchiveOf bytes (tile_content ts) → IsArchiveOfMap m bytes
-  some_are_archive [] bytes some is_map are archive = absurd (some refl)
-  some_are_archive (t ∷ ts) bytes some is_map are archive =
+  pub some_are_archive : (ts : List Tile) (metadata bytes : List ℕ) → ts ≢ [] → IsMap m → AreTiles m ts
+      → IsVectorArchive bytes metadata (tile_content ts) → IsArchiveOfMap m metadata bytes
+  some_are_archive [] metadata bytes some is_map are archive = absurd (some refl)
+  some_are_archive (t ∷ ts) metadata bytes some is_map are archive =
       inr (a_tile t ts are, (tile_content (t ∷ ts), tiles_of_map is_map (t ∷ ts) are, archive))

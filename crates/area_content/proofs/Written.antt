@@ -5,15 +5,15 @@ use Rattle.std.specs.List.{concat}
 use Rattle.std.proofs.lemmas.List.{length-append}
 use Rattle.feature_store.specs.Store.{FeatureMap}
 use Rattle.feature_store.specs.Tiles.{AreTiles}
-use Rattle.pm_metadata.specs.Archive.{IsArchiveOf}
 use Rattle.pm_build.specs.declared.built.BuiltArchive.{BuiltArchive}
 use Rattle.pm_build.specs.Built.{archive_bytes, tile_content}
 use Rattle.pm_build.specs.Different.{contents_of}
 use Rattle.pm_build.specs.Tiles.{Tile}
+use Rattle.pm_build.specs.Vector.{IsVectorArchive}
 use Rattle.area_content.specs.Faults.{AreAdded, AreWritten, CanFit, IsArchiveFor, IsBounded, NoLongerFit, least_sectors}
 use Rattle.area_content.specs.Tiles.{IsArchiveOfMap}
 
-module _ (m : FeatureMap) (metadata area : ℕ) where
+module _ (m : FeatureMap) (metadata : List ℕ) (area : ℕ) where
   -- up to the first tile that no longer fits
   pub cut_written : (from : ℕ) (ts new : List Tile) (t : Tile) → CanFit m metadata area ts → new ≡ ts ++ t ∷ [] → from ≡ t.0 + 1 → AreAdded m from new
       → area < least_sectors m metadata new → AreWritten m metadata area new
@@ -32,8 +32,9 @@ module _ (m : FeatureMap) (metadata area : ℕ) where
 
   -- an archive of the tiles that are written
   pub archive_written : {E : Type 0} (r : Result BuiltArchive E) (ts : List Tile) → AreWritten m metadata area ts
-      → (AreTiles m ts → IfOk r (λ a. IsArchiveOfMap m (archive_bytes a))) → (ts ≢ [] → IfOk r (λ a. IsArchiveOf (archive_bytes a) (tile_content ts)))
-      → (ts ≢ [] → IfOk r (λ a. 127 + metadata + length (concat (contents_of ts)) ≤ length (archive_bytes a)))
+      → (AreTiles m ts → IfOk r (λ a. IsArchiveOfMap m metadata (archive_bytes a)))
+      → (ts ≢ [] → IfOk r (λ a. IsVectorArchive (archive_bytes a) metadata (tile_content ts)))
+      → (ts ≢ [] → IfOk r (λ a. 127 + length metadata + length (concat (contents_of ts)) ≤ length (archive_bytes a)))
       → IfOk r (λ a. IsBounded ts metadata (archive_bytes a)) → IfOk r (λ a. IsArchiveFor m metadata area (archive_bytes a))
   archive_written (Err fault) ts written of_map of_tiles least bounded = tt
   archive_written (Ok a) ts (inl (all, short, can)) of_map of_tiles least bounded =

@@ -4,7 +4,7 @@ use Rattle.feature_store.specs.Content.{IsTileContent}
 use Rattle.feature_store.specs.Layers.{layers}
 use Rattle.feature_store.specs.Store.{FeatureMap}
 use Rattle.hilbert_id.specs.Curve.{IsTileId}
-use Rattle.pm_metadata.specs.Archive.{IsArchiveOf}
+use Rattle.pm_build.specs.Vector.{IsVectorArchive}
 
 -- the contents of tile ids are the tiles of the map, and no other id has one
 pub record AreTilesOf (m : FeatureMap) (content : ℕ → Option (List ℕ)) : Type 0 where
@@ -15,7 +15,8 @@ pub record AreTilesOf (m : FeatureMap) (content : ℕ → Option (List ℕ)) : T
 abbrev pub HasNoTile : FeatureMap → Type 0
 HasNoTile m = (z x y : ℕ) → layers m z x y ≡ []
 
--- the bytes are an archive of exactly the tiles of the map, or empty if it has no tile
-abbrev pub IsArchiveOfMap : FeatureMap → List ℕ → Type 0
-IsArchiveOfMap m bytes =
-    (HasNoTile m × (bytes ≡ [])) ⊎ ((HasNoTile m → ⊥) × ((content : ℕ → Option (List ℕ)) × AreTilesOf m content × IsArchiveOf bytes content))
+-- the bytes are an archive of exactly the tiles of the map, with this metadata, or empty if the map has no tile
+abbrev pub IsArchiveOfMap : FeatureMap → (metadata bytes : List ℕ) → Type 0
+IsArchiveOfMap m metadata bytes =
+    (HasNoTile m × (bytes ≡ []))
+    ⊎ ((HasNoTile m → ⊥) × ((content : ℕ → Option (List ℕ)) × AreTilesOf m content × IsVectorArchive bytes metadata content))

@@ -1,14 +1,15 @@
 //! The archive of the tiles of a map.
 ghost use Rattle.pm_header.specs.declared.header.TheConstants.{HEADER_BYTES};
-ghost use Rattle.std.specs.Prelude.{◌≡◌, ◌≢◌, ◌<◌, ◌≤◌, ◌^◌, ◌+◌, ◌++◌, ◌∷◌, [], ℕ, Ok, true, false, length, OnOk, IfOk, IfErr};
+ghost use Rattle.std.specs.Prelude.{◌≡◌, ◌≢◌, ◌<◌, ◌≤◌, ◌^◌, ◌+◌, ◌++◌, ◌∷◌, [], ℕ, List, Ok, true, false, length, OnOk, IfOk, IfErr};
 ghost use Rattle.std.specs.List.{concat};
 ghost use Rattle.hilbert_id.specs.declared.number.TheConstants.{TILE_IDS};
 ghost use Rattle.feature_store.specs.Store.{FeatureMap, IsMap, snapshot};
 ghost use Rattle.feature_store.specs.Tiles.{AreTiles};
-ghost use Rattle.pm_metadata.specs.Archive.{IsArchiveOf, IsMetadata};
+ghost use Rattle.pm_metadata.specs.Archive.{IsMetadata};
 ghost use Rattle.pm_build.specs.Built.{archive_bytes, tile_content};
 ghost use Rattle.pm_build.specs.Different.{contents_of};
 ghost use Rattle.pm_build.specs.Tiles.{Tile};
+ghost use Rattle.pm_build.specs.Vector.{IsVectorArchive};
 ghost use Rattle.area_content.specs.Faults.{AreAdded, CanFit, AreWritten, IsBounded, IsContentFault, least_sectors, told_as};
 ghost use Rattle.area_content.specs.Tiles.{IsArchiveOfMap};
 
@@ -43,7 +44,8 @@ fn add_next(
     ensures grown { result ≡ Ok true → (t : Tile) × (builder.new ≡ builder.old ++ t ∷ []) × (tiles.new.from ≡ t.0 + 1) }
     ensures further { result ≡ Ok true → (tiles.old.from < tiles.new.from) × (tiles.new.from ≤ TILE_IDS) }
     ensures last { result ≡ Ok false → AreTiles tiles.old.features builder.old × (builder.new ≡ builder.old) }
-    ensures fault { (metadata : ℕ) → CanFit tiles.old.features metadata area builder.old → IfErr result (IsContentFault tiles.old.features metadata area) }
+    ensures fault { (metadata : List ℕ) → CanFit tiles.old.features metadata area builder.old
+        → IfErr result (IsContentFault tiles.old.features metadata area) }
 {
     let tile = match tiles.next() {
         Ok(Some(tile)) => tile,
@@ -64,7 +66,7 @@ fn add_next(
 
 /// How many sectors a snapshot with this text takes, and an archive of the tiles that were added at least.
 fn least_sectors(builder: &ArchiveBuilder, text: &[u8], metadata: &[u8]) -> u64
-    ensures { (m : FeatureMap) → text.now ≡ snapshot m → result ≡ least_sectors m (length metadata.now) builder.now }
+    ensures { (m : FeatureMap) → text.now ≡ snapshot m → result ≡ least_sectors m metadata.now builder.now }
 {
     let archive = HEADER_BYTES + metadata.len() + builder.content_len();
     sectors_for(text.len()) + sectors_for(archive)
@@ -83,8 +85,8 @@ pub(crate) fn add_all(
     requires none { builder.old ≡ [] }
     requires snapshot { text.now ≡ snapshot tiles.old.features }
     requires area { area < 2 ^ 23 }
-    ensures tiles { OnOk result (AreWritten tiles.old.features (length metadata.now) area builder.new) }
-    ensures fault { IfErr result (IsContentFault tiles.old.features (length metadata.now) area) }
+    ensures tiles { OnOk result (AreWritten tiles.old.features metadata.now area builder.new) }
+    ensures fault { IfErr result (IsContentFault tiles.old.features metadata.now area) }
 {
     loop {
         match add_next(tiles, builder, area) {
@@ -105,10 +107,10 @@ pub(crate) fn archive_of(
     metadata: &[u8],
 ) -> Result<BuiltArchive, AllocError>
     requires metadata { IsMetadata metadata.now }
-    ensures archive { (m : FeatureMap) → IsMap m → AreTiles m builder → IfOk result (λ a. IsArchiveOfMap m (archive_bytes a)) }
-    ensures of_tiles { builder ≢ [] → IfOk result (λ a. IsArchiveOf (archive_bytes a) (tile_content builder)) }
+    ensures archive { (m : FeatureMap) → IsMap m → AreTiles m builder → IfOk result (λ a. IsArchiveOfMap m metadata.now (archive_bytes a)) }
+    ensures of_tiles { builder ≢ [] → IfOk result (λ a. IsVectorArchive (archive_bytes a) metadata.now (tile_content builder)) }
     ensures least { builder ≢ [] → IfOk result (λ a. HEADER_BYTES + length metadata.now + length (concat (contents_of builder)) ≤ length (archive_bytes a)) }
-    ensures bounded { IfOk result (λ a. IsBounded builder (length metadata.now) (archive_bytes a)) }
+    ensures bounded { IfOk result (λ a. IsBounded builder metadata.now (archive_bytes a)) }
 {
     if builder.is_empty() {
         return Ok(BuiltArchive {

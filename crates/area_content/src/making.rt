@@ -1,5 +1,5 @@
 //! The content of an area for a map.
-ghost use Rattle.std.specs.Prelude.{◌≡◌, ◌<◌, ◌≤◌, ◌^◌, ℕ, length, IfOk, IfErr};
+ghost use Rattle.std.specs.Prelude.{◌≡◌, ◌<◌, ◌≤◌, ◌^◌, ℕ, List, IfOk, IfErr};
 ghost use Rattle.feature_store.specs.Store.{FeatureMap, snapshot};
 ghost use Rattle.pm_metadata.specs.Archive.{IsMetadata};
 ghost use Rattle.pm_build.specs.Built.{archive_bytes};
@@ -24,8 +24,8 @@ fn archive_for(
     requires snapshot { text.now ≡ snapshot store.now.features }
     requires metadata { IsMetadata metadata.now }
     requires area { area < 2 ^ 23 }
-    ensures built { IfOk result (λ a. IsArchiveFor store.now.features (length metadata.now) area (archive_bytes a)) }
-    ensures fault { IfErr result (IsContentFault store.now.features (length metadata.now) area) }
+    ensures built { IfOk result (λ a. IsArchiveFor store.now.features metadata.now area (archive_bytes a)) }
+    ensures fault { IfErr result (IsContentFault store.now.features metadata.now area) }
 {
     let mut tiles = match store.tiles() {
         Ok(tiles) => tiles,
@@ -45,9 +45,9 @@ fn archive_for(
 /// The content, if it fits in an area of `area` sectors.
 fn within(content: AreaContent, area: u64) -> Result<AreaContent, ContentFault>
     ensures fits { IfOk result (λ c. (c ≡ content) × (sectors_taken c ≤ area)) }
-    ensures built { (m : FeatureMap) (metadata : ℕ) → content.snapshot ≡ snapshot m → IsArchiveFor m metadata area content.archive
+    ensures built { (m : FeatureMap) (metadata : List ℕ) → content.snapshot ≡ snapshot m → IsArchiveFor m metadata area content.archive
         → IfOk result (λ c. IsBuiltFor m metadata c.archive) }
-    ensures full { (m : FeatureMap) (metadata : ℕ) → content.snapshot ≡ snapshot m → IsArchiveFor m metadata area content.archive
+    ensures full { (m : FeatureMap) (metadata : List ℕ) → content.snapshot ≡ snapshot m → IsArchiveFor m metadata area content.archive
         → IfErr result (IsContentFault m metadata area) }
 {
     let need = content.sectors();
@@ -79,9 +79,9 @@ pub fn content_of(
     requires metadata { IsMetadata metadata.now }
     requires area { area < 2 ^ 23 }
     ensures snapshot { IfOk result (λ c. c.snapshot ≡ snapshot store.now.features) }
-    ensures built { IfOk result (λ c. IsBuiltFor store.now.features (length metadata.now) c.archive) }
+    ensures built { IfOk result (λ c. IsBuiltFor store.now.features metadata.now c.archive) }
     ensures fits { IfOk result (λ c. sectors_taken c ≤ area) }
-    ensures fault { IfErr result (IsContentFault store.now.features (length metadata.now) area) }
+    ensures fault { IfErr result (IsContentFault store.now.features metadata.now area) }
 {
     let snapshot = match store.snapshot_text() {
         Ok(text) => text,

@@ -6,25 +6,28 @@ use Rattle.std.proofs.lemmas.List.{length-append, append-nil}
 use Rattle.std.proofs.lemmas.Result.{IfOk-weaker}
 use Rattle.pm_header.specs.declared.section_span.SectionSpan.{SectionSpan}
 use Rattle.pm_header.specs.declared.header.Header.{Header}
+use Rattle.pm_header.specs.declared.header.TheConstants.{VECTOR_TILES}
 use Rattle.pm_header.specs.declared.compression.TheConstants.{NOT_COMPRESSED}
 use Rattle.pm_header.specs.Layout.{IsHeader}
 use Rattle.pm_directory.specs.declared.entry.DirectoryEntry.{DirectoryEntry}
 use Rattle.pm_archive.specs.Sections.{section_bytes, HasSections}
-use Rattle.pm_metadata.specs.Archive.{IsMetadata, HasCounts, IsArchive, IsArchiveOf}
-use Rattle.pm_build.specs.Tiles.{Tile}
+use Rattle.pm_metadata.specs.Archive.{IsMetadata, HasCounts, IsArchive}
+use Rattle.pm_build.specs.Tiles.{Tile, IdsAscend}
 use Rattle.pm_build.specs.Runs.{TileRun}
 use Rattle.pm_build.specs.Placed.{ArePlaced, EachNames}
 use Rattle.pm_build.specs.declared.header.Counts.{Counts}
 use Rattle.pm_build.specs.Built.{tile_content}
 use Rattle.pm_build.specs.Leaves.{AreDirectories}
 use Rattle.pm_build.specs.Laid.{AreJoined, IsFront, AreLaidOut, AreZooms, counts_of, header_for, lengths_of}
+use Rattle.pm_build.specs.Vector.{IsVectorArchive}
 use Rattle.pm_build.proofs.Tiles.{have_tiles, lie_in, addressed_all, content_named}
 use Rattle.pm_build.proofs.Headers.{header_there}
 use Rattle.pm_build.proofs.Listed.{has_entries}
 use Rattle.pm_build.proofs.Pieces.{part_middle}
+use Rattle.pm_build.proofs.Zooms.{zooms_of_contents}
 
--- the header has these lengths and counts, and places the sections one after the other
-record IsLaid (h : Header) (root : List ℕ) (metadata : List ℕ) (leaves : List ℕ) (contents : List ℕ) (n : Counts) : Type 0 where
+-- the header has these lengths, counts and zooms, places the sections one after the other, and says that nothing is compressed
+record IsLaid (h : Header) (root : List ℕ) (metadata : List ℕ) (leaves : List ℕ) (contents : List ℕ) (n : Counts) (low high : ℕ) : Type 0 where
   root_at : h.root.offset ≡ 127
   root_is : h.root.length ≡ length root
   metadata_at : h.metadata.offset ≡ 127 + length root
@@ -37,9 +40,13 @@ record IsLaid (h : Header) (root : List ℕ) (metadata : List ℕ) (leaves : Lis
   addressed_is : h.addressed ≡ n.addressed
   entries_is : h.entries ≡ n.entries
   contents_is : h.contents ≡ n.contents
+  kind : h.kind ≡ VECTOR_TILES
+  compression : h.compression ≡ NOT_COMPRESSED
+  low_is : h.min_zoom ≡ low
+  high_is : h.max_zoom ≡ high
 
 laid : (root metadata leaves contents : List ℕ) (n : Counts) (low high : ℕ)
-    → IsLaid (header_for (lengths_of root metadata leaves contents) n low high) root metadata leaves contents n
+    → IsLaid (header_for (lengths_of root metadata leaves contents) n low high) root metadata leaves contents n low high
 unfolding header_for
 laid root metadata leaves contents n low high = record {
   root_at = refl;
@@ -54,6 +61,10 @@ laid root metadata leaves contents n low high = record {
   addressed_is = refl;
   entries_is = refl;
   contents_is = refl;
+  kind = refl;
+  compression = refl;
+  low_is = refl;
+  high_is = refl;
 }
 
 section_at : (p : SectionSpan) (before part behind : List ℕ) → p.offset ≡ length before → p.length ≡ length part
@@ -69,9 +80,9 @@ record HasParts (bytes : List ℕ) (h : Header) (root : List ℕ) (metadata : Li
   leaves_there : section_bytes h.leaves bytes ≡ leaves
   tiles_there : section_bytes h.tiles bytes ≡ contents
 
-parts_there : (bytes root metadata leaves contents : List ℕ) (h : Header) (n : Counts) → IsLaid h root metadata leaves contents n
+parts_there : (bytes root metadata leaves contents : List ℕ) (h : Header) (n : Counts) (low high : ℕ) → IsLaid h root metadata leaves contents n low high
     → AreJoined bytes h root metadata leaves contents → HasParts bytes h root metadata leaves contents
-parts_there bytes root metadata leaves contents h n is (front, header, whole, parts) =
+parts_there bytes root metadata leaves contents h n low high is (front, header, whole, parts) =
     let behind = root ++ (metadata ++ (leaves ++ contents)) in
     let second = front ++ root in
     let third = second ++ metadata in
@@ -99,9 +110,9 @@ parts_there bytes root metadata leaves contents h n is (front, header, whole, pa
           ap (λ (bs : List ℕ). section_bytes h.tiles bs) (at_fourth ∙ to_end) ∙ section_at h.tiles fourth contents [] (is.tiles_at ∙ omega arith) is.tiles_is;
     }
 
-sections_there : (bytes root metadata leaves contents : List ℕ) (h : Header) (n : Counts) → IsLaid h root metadata leaves contents n
-    → HasParts bytes h root metadata leaves contents → length root ≤ 14850 → HasSections bytes h
-sections_there bytes root metadata leaves contents h n is has low =
+sections_there : (bytes root metadata leaves contents : List ℕ) (h : Header) (n : Counts) (low high : ℕ)
+    → IsLaid h root metadata leaves contents n low high → HasParts bytes h root metadata leaves contents → length root ≤ 14850 → HasSections bytes h
+sections_there bytes root metadata leaves contents h n low high is has early =
     let size = has.size in
     let root_at = is.root_at in let root_is = is.root_is in
     let metadata_at = is.metadata_at in let metadata_is = is.metadata_is in
@@ -121,9 +132,9 @@ sections_there bytes root metadata leaves contents h n is has low =
 abbrev counted : List Tile → List DirectoryEntry → List (List ℕ) → Counts
 counted tiles es cs = record { addressed = length tiles; entries = length es; contents = length cs }
 
-counts_there : (h : Header) (tiles : List Tile) (es : List DirectoryEntry) (cs : List (List ℕ)) (root metadata leaves : List ℕ)
-    → IsLaid h root metadata leaves (concat cs) (counted tiles es cs) → ArePlaced tiles es cs → HasCounts h es
-counts_there h tiles es cs root metadata leaves is placed =
+counts_there : (h : Header) (tiles : List Tile) (es : List DirectoryEntry) (cs : List (List ℕ)) (root metadata leaves : List ℕ) (low high : ℕ)
+    → IsLaid h root metadata leaves (concat cs) (counted tiles es cs) low high → ArePlaced tiles es cs → HasCounts h es
+counts_there h tiles es cs root metadata leaves low high is placed =
     let all = addressed_all (concat cs) placed.runs es placed.named in
     let together = ap (λ (ts : List Tile). length ts) placed.longest.together in
     record {
@@ -132,34 +143,41 @@ counts_there h tiles es cs root metadata leaves is placed =
       contents = inr (is.contents_is ∙ sym placed.counted);
     }
 
-is_laid_archive : (bytes root metadata leaves : List ℕ) (tiles : List Tile) (es : List DirectoryEntry) (cs : List (List ℕ)) (h : Header)
-    → IsLaid h root metadata leaves (concat cs) (counted tiles es cs) → AreJoined bytes h root metadata leaves (concat cs)
-    → ArePlaced tiles es cs → AreDirectories root leaves es → length root ≤ 14850 → IsMetadata metadata → IsArchiveOf bytes (tile_content tiles)
-is_laid_archive bytes root metadata leaves tiles es cs h is joined placed directories low meta =
-    let has = parts_there bytes root metadata leaves (concat cs) h (counted tiles es cs) is joined in
+is_laid_archive : (bytes root metadata leaves : List ℕ) (tiles : List Tile) (es : List DirectoryEntry) (cs : List (List ℕ)) (h : Header) (low high : ℕ)
+    → IsLaid h root metadata leaves (concat cs) (counted tiles es cs) low high → AreZooms tiles low high → IdsAscend 0 tiles
+    → AreJoined bytes h root metadata leaves (concat cs) → ArePlaced tiles es cs → AreDirectories root leaves es → length root ≤ 14850 → IsMetadata metadata
+    → IsVectorArchive bytes metadata (tile_content tiles)
+is_laid_archive bytes root metadata leaves tiles es cs h low high is zooms ascend joined placed directories early meta =
+    let has = parts_there bytes root metadata leaves (concat cs) h (counted tiles es cs) low high is joined in
     let some = have_tiles (concat cs) placed.runs es placed.named placed.longest.each in
     let archive : IsArchive bytes h es = record {
-      sections = sections_there bytes root metadata leaves (concat cs) h (counted tiles es cs) is has low;
+      sections = sections_there bytes root metadata leaves (concat cs) h (counted tiles es cs) low high is has early;
       entries = has_entries bytes root leaves h es has.root_there has.leaves_there is.leaves_is directories placed.ascending placed.each some
           (lie_in (concat cs) h placed.runs es is.tiles_is placed.named);
-      counts = counts_there h tiles es cs root metadata leaves is placed;
+      counts = counts_there h tiles es cs root metadata leaves low high is placed;
       metadata = subst (λ (bs : List ℕ). IsMetadata bs) (sym has.metadata_there) meta;
-    } in (
-      h,
-      es,
-      archive,
-      λ id. ap (λ (ts : List Tile). tile_content ts id) (sym placed.longest.together)
-          ∙ content_named bytes (concat cs) h placed.runs es id has.tiles_there is.tiles_is placed.named,
-    )
+    } in
+    record {
+      header = h;
+      entries = es;
+      is_archive = archive;
+      contents = λ id. ap (λ (ts : List Tile). tile_content ts id) (sym placed.longest.together)
+          ∙ content_named bytes (concat cs) h placed.runs es id has.tiles_there is.tiles_is placed.named;
+      metadata_is = has.metadata_there;
+      kind = is.kind;
+      compression = is.compression;
+      zooms = rw (is.low_is, is.high_is) (zooms_of_contents tiles low high ascend zooms);
+    }
 
 is_archive : (bytes root metadata leaves : List ℕ) (tiles : List Tile) (es : List DirectoryEntry) (cs : List (List ℕ)) (h : Header) (low high : ℕ)
-    → h ≡ header_for (lengths_of root metadata leaves (concat cs)) (counted tiles es cs) low high → AreJoined bytes h root metadata leaves (concat cs)
-    → ArePlaced tiles es cs → AreDirectories root leaves es → length root ≤ 14850 → IsMetadata metadata → IsArchiveOf bytes (tile_content tiles)
-is_archive bytes root metadata leaves tiles es cs h low high e joined placed directories early meta =
-    let is : IsLaid h root metadata leaves (concat cs) (counted tiles es cs) =
-    subst (λ (g : Header). IsLaid g root metadata leaves (concat cs) (counted tiles es cs)) (sym e)
+    → h ≡ header_for (lengths_of root metadata leaves (concat cs)) (counted tiles es cs) low high → AreZooms tiles low high → IdsAscend 0 tiles
+    → AreJoined bytes h root metadata leaves (concat cs) → ArePlaced tiles es cs → AreDirectories root leaves es → length root ≤ 14850 → IsMetadata metadata
+    → IsVectorArchive bytes metadata (tile_content tiles)
+is_archive bytes root metadata leaves tiles es cs h low high e zooms ascend joined placed directories early meta =
+    let is : IsLaid h root metadata leaves (concat cs) (counted tiles es cs) low high =
+    subst (λ (g : Header). IsLaid g root metadata leaves (concat cs) (counted tiles es cs) low high) (sym e)
     (laid root metadata leaves (concat cs) (counted tiles es cs) low high) in
-    is_laid_archive bytes root metadata leaves tiles es cs h is joined placed directories early meta
+    is_laid_archive bytes root metadata leaves tiles es cs h low high is zooms ascend joined placed directories early meta
 
 -- what is stored before the contents, with the contents after it
 front_joined : (front root metadata leaves contents : List ℕ) (h : Header) → IsFront front h root metadata leaves
@@ -175,11 +193,11 @@ front_joined front root metadata leaves contents h (head, header, whole, parts) 
 
 pub archive_joined : {E : Type 0} (r : Result (Vec ℕ Global) E) (root metadata leaves : List ℕ) (tiles : List Tile) (es : List DirectoryEntry)
     (cs : List (List ℕ)) (h : Header) (low high : ℕ) → h ≡ header_for (lengths_of root metadata leaves (concat cs)) (counted tiles es cs) low high
-    → ArePlaced tiles es cs → AreDirectories root leaves es → length root ≤ 14850 → IsMetadata metadata
-    → IfOk r (λ v. IsFront v.items h root metadata leaves) → IfOk r (λ v. IsArchiveOf (v.items ++ concat cs) (tile_content tiles))
-archive_joined r root metadata leaves tiles es cs h low high e placed directories early meta =
-    IfOk-weaker r (λ v. IsFront v.items h root metadata leaves) (λ v. IsArchiveOf (v.items ++ concat cs) (tile_content tiles))
-    (λ v front. is_archive (v.items ++ concat cs) root metadata leaves tiles es cs h low high e
+    → AreZooms tiles low high → IdsAscend 0 tiles → ArePlaced tiles es cs → AreDirectories root leaves es → length root ≤ 14850 → IsMetadata metadata
+    → IfOk r (λ v. IsFront v.items h root metadata leaves) → IfOk r (λ v. IsVectorArchive (v.items ++ concat cs) metadata (tile_content tiles))
+archive_joined r root metadata leaves tiles es cs h low high e zooms ascend placed directories early meta =
+    IfOk-weaker r (λ v. IsFront v.items h root metadata leaves) (λ v. IsVectorArchive (v.items ++ concat cs) metadata (tile_content tiles))
+    (λ v front. is_archive (v.items ++ concat cs) root metadata leaves tiles es cs h low high e zooms ascend
     (front_joined v.items root metadata leaves (concat cs) h front) placed directories early meta)
 
 front_size : (front root metadata leaves : List ℕ) (h : Header) (n : ℕ) → length root + length leaves ≤ n → IsFront front h root metadata leaves

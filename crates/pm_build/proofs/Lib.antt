@@ -15,3 +15,5 @@ mod Listed
 mod Pieces
 mod Storing
 mod Tiles
+pub mod Vector
+mod Zooms

@@ -12,3 +12,4 @@ pub mod Placed
 pub mod Runs
 pub mod Storing
 pub mod Tiles
+pub mod Vector

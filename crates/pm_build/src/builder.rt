@@ -7,9 +7,10 @@ ghost use Rattle.pm_build.specs.Building.{CanAdd, AreTooMany, AreFew};
 ghost use Rattle.pm_build.specs.Different.{contents_of};
 ghost use Rattle.pm_build.specs.Runs.{TileRun, AreLongestRuns};
 ghost use Rattle.pm_build.specs.Placed.{AreDifferent};
-ghost use Rattle.pm_metadata.specs.Archive.{IsArchiveOf, IsMetadata};
+ghost use Rattle.pm_metadata.specs.Archive.{IsMetadata};
 ghost use Rattle.pm_build.specs.Built.{tile_content, archive_bytes};
 ghost use Rattle.pm_build.specs.Laid.{AreLaidOut};
+ghost use Rattle.pm_build.specs.Vector.{IsVectorArchive};
 
 use crate::building::front_of_runs;
 use crate::built::BuiltArchive;
@@ -117,7 +118,7 @@ impl ArchiveBuilder {
     pub fn finish(self, metadata: &[u8]) -> Result<BuiltArchive, AllocError>
         requires some { self ≢ [] }
         requires metadata { IsMetadata metadata.now }
-        ensures archive { IfOk result (λ a. IsArchiveOf (archive_bytes a) (tile_content self)) }
+        ensures archive { IfOk result (λ a. IsVectorArchive (archive_bytes a) metadata.now (tile_content self)) }
         ensures header { IfOk result (λ a. AreLaidOut (archive_bytes a) self metadata.now) }
         ensures size { IfOk result (λ a. (runs : List TileRun) × (contents : List (List ℕ)) × AreLongestRuns self runs × (length runs ≤ MAX_ENTRIES)
             × AreDifferent contents × AllByRecursion (λ c. Contains (map (λ r. r.content) runs) c) contents

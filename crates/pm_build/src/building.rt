@@ -8,9 +8,10 @@ ghost use Rattle.pm_build.specs.Runs.{AreLongestRuns, tiles_in};
 ghost use Rattle.pm_build.specs.Joined.{ArePlaces, run_views};
 ghost use Rattle.pm_build.specs.Different.{contents_of};
 ghost use Rattle.pm_build.specs.Placed.{ArePlaced};
-ghost use Rattle.pm_metadata.specs.Archive.{IsArchiveOf, IsMetadata};
+ghost use Rattle.pm_metadata.specs.Archive.{IsMetadata};
 ghost use Rattle.pm_build.specs.Built.{tile_content};
 ghost use Rattle.pm_build.specs.Laid.{IsFront, AreLaidOut, AreZooms, header_for, lengths_of};
+ghost use Rattle.pm_build.specs.Vector.{IsVectorArchive};
 
 use crate::contents::Contents;
 use crate::directories::{Directories, write_directories};
@@ -107,7 +108,8 @@ fn front_of(
     requires few { length entries.now ≤ MAX_ENTRIES }
     requires count { length entries.now ≡ length runs.now }
     requires metadata { IsMetadata metadata.now }
-    ensures archive { IfOk result (λ front. IsArchiveOf (front.items ++ concat contents.now) (tile_content (tiles_in (run_views contents.now runs.now)))) }
+    ensures archive { IfOk result (λ front. IsVectorArchive (front.items ++ concat contents.now) metadata.now
+        (tile_content (tiles_in (run_views contents.now runs.now)))) }
     ensures header { IfOk result (λ front. AreLaidOut (front.items ++ concat contents.now) (tiles_in (run_views contents.now runs.now)) metadata.now) }
     ensures size { IfOk result (λ front. length front.items ≤ HEADER_BYTES + length metadata.now + 64 * length entries.now) }
     ensures least { IfOk result (λ front. HEADER_BYTES + length metadata.now ≤ length front.items) }
@@ -133,7 +135,8 @@ pub(crate) fn front_of_runs(
     requires places { ArePlaces contents.now runs.now }
     requires contents { contents.now ≡ contents_of (tiles_in (run_views contents.now runs.now)) }
     requires metadata { IsMetadata metadata.now }
-    ensures archive { IfOk result (λ front. IsArchiveOf (front.items ++ concat contents.now) (tile_content (tiles_in (run_views contents.now runs.now)))) }
+    ensures archive { IfOk result (λ front. IsVectorArchive (front.items ++ concat contents.now) metadata.now
+        (tile_content (tiles_in (run_views contents.now runs.now)))) }
     ensures header { IfOk result (λ front. AreLaidOut (front.items ++ concat contents.now) (tiles_in (run_views contents.now runs.now)) metadata.now) }
     ensures size { IfOk result (λ front. length front.items ≤ HEADER_BYTES + length metadata.now + 64 * length runs.now) }
     ensures least { IfOk result (λ front. HEADER_BYTES + length metadata.now ≤ length front.items) }

@@ -31,6 +31,7 @@ use Rattle.pm_archive.specs.Answers.{IsOutside}
 use Rattle.pm_archive.specs.Archive.{HasContents}
 use Rattle.pm_archive.specs.declared.fault.ArchiveFault.{ArchiveFault}
 use Rattle.pm_metadata.proofs.ArchiveLaws.{has_contents}
+use Rattle.pm_build.proofs.Vector.{archive_of_contents}
 use Rattle.sector_disk.specs.Disk.{History, seen}
 use Rattle.sector_bytes.specs.Bytes.{StandsIn}
 use Rattle.sector_bytes.specs.Source.{SourceView, AreItsBytes}
@@ -49,10 +50,11 @@ made {D} history source disk first len bytes disk_is first_is len_is are = recor
 }
 
 -- bytes that are an archive of a map have the contents of its tiles
-pub contents_of_map : (m : FeatureMap) (bytes : List ℕ) (len : ℕ) → length bytes ≡ len → 0 < len → IsArchiveOfMap m bytes
+pub contents_of_map : (m : FeatureMap) (metadata bytes : List ℕ) (len : ℕ) → length bytes ≡ len → 0 < len → IsArchiveOfMap m metadata bytes
     → (content : ℕ → Option (List ℕ)) × AreTilesOf m content × HasContents bytes content
-contents_of_map m bytes len long some (inl none) = let nothing = ap length none.1 in absurd (omega (arith, nothing, long, some))
-contents_of_map m bytes len long some (inr has) = (has.1.0, has.1.1, has_contents bytes has.1.0 has.1.2)
+contents_of_map m metadata bytes len long some (inl none) = let nothing = ap length none.1 in absurd (omega (arith, nothing, long, some))
+contents_of_map m metadata bytes len long some (inr has) =
+    (has.1.0, has.1.1, has_contents bytes has.1.0 (archive_of_contents bytes metadata has.1.0 has.1.2))
 
 -- the content of a tile's id is that of the tile
 pub tile_told : (m : FeatureMap) (z x y : ℕ) (content : Option (List ℕ)) (r : Result (Option (Vec ℕ Global)) ArchiveFault)

@@ -64,8 +64,9 @@ impl PublishedTiles {
         requires on_disk { archive.first + sectors_of archive.len ≤ D.sectors disk.old }
         ensures disk { OnlyReads D.sectors D.honest D.history disk.old disk.new }
         ensures never_falls { NeverFalls (D.faults disk.old) (D.faults disk.new) }
-        ensures tile { (m : FeatureMap) (bytes : List ℕ) → D.honest disk.new
-            → AreItsBytes archive.first archive.len bytes (seen (D.history disk.old)) → IsArchiveOfMap m bytes → ArePublished self.old archive bytes
+        ensures tile { (m : FeatureMap) (metadata bytes : List ℕ) → D.honest disk.new
+            → AreItsBytes archive.first archive.len bytes (seen (D.history disk.old)) → IsArchiveOfMap m metadata bytes
+            → ArePublished self.old archive bytes
             → MatchResult result (λ content. IsTileContent (layers m at.z at.x at.y) (option_map (λ b. b.items) content)) IsOutside }
         ensures still { (bytes : List ℕ) → D.honest disk.new
             → AreItsBytes archive.first archive.len bytes (seen (D.history disk.old)) → ArePublished self.old archive bytes

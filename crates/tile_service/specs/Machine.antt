@@ -11,6 +11,7 @@ use Rattle.feature_store.specs.Layers.{layers}
 use Rattle.feature_store.specs.Store.{FeatureMap, feature_at, feature_from, snapshot}
 use Rattle.map_metadata.specs.Metadata.{IsMetadata}
 use Rattle.serde_json.specs.Data.{Data}
+use Rattle.serde_json.specs.Read.{read as read_json}
 use Rattle.serde_json.specs.Written.{compact_text}
 use Rattle.area_content.specs.Faults.{HasManyTiles, IsBuiltFor, IsFull}
 use Rattle.feature_store.specs.Content.{IsTileContent}
@@ -194,11 +195,12 @@ pub record CanBegin (s : ServiceState) : Type 0 where
   pub none : s.publication ≡ None
   pub generation : s.generation < 2 ^ 64 - 1
 
--- an archive that is built of a map with its metadata: it has exactly the tiles of the map, within its bound
+-- an archive that is built of a map: it has exactly the tiles of the map, within its bound, and the map's metadata as its text is written
 pub record IsPublishable (m : FeatureMap) (archive : List ℕ) : Type 0 where
   pub metadata : Data
   pub is_metadata : IsMetadata m metadata
-  pub built : IsBuiltFor m (length (compact_text metadata)) archive
+  pub reads : read_json (compact_text metadata) ≡ Some metadata
+  pub built : IsBuiltFor m (compact_text metadata) archive
 
 -- A publication of the map begins, and what is left is returned: its sectors, and one for the root.
 pub record Begins (old : ServiceState) (told : ℕ) (new : ServiceState) : Type 0 where
@@ -219,14 +221,19 @@ pub record Begins (old : ServiceState) (told : ℕ) (new : ServiceState) : Type 
 
 -- the snapshot of the map and the archive built from it need this many sectors, and the area has fewer
 abbrev pub IsAreaFull : ServiceState → (need free : ℕ) → Type 0
-IsAreaFull s need free = (d : Data) × IsMetadata s.features d × IsFull s.features (length (compact_text d)) (area_sectors s.size) need free
+IsAreaFull s need free = (d : Data) × IsMetadata s.features d × IsFull s.features (compact_text d) (area_sectors s.size) need free
 
--- The faults of a beginning, in order. A tile of 2^32 bytes or more is AreaFull, unless the tiles before it are TooManyTiles.
+-- the tiles of the map up to one are more than an archive takes, and those before it can fit in the area
+abbrev pub AreTooMany : ServiceState → Type 0
+AreTooMany s = (d : Data) × IsMetadata s.features d × HasManyTiles s.features (compact_text d) (area_sectors s.size)
+
+-- The faults of a beginning. Memory aside, Busy and NumbersSpent come first; of TooManyTiles and AreaFull the one of the first tile, by id,
+-- that has one.
 abbrev pub BeginFault : ServiceState → ServiceFault → Type 0
 BeginFault s Busy = IsSome s.publication
 BeginFault s NumbersSpent = (s.publication ≡ None) × (s.generation ≡ 2 ^ 64 - 1)
 BeginFault s Memory = CanBegin s
-BeginFault s TooManyTiles = CanBegin s × HasManyTiles s.features
+BeginFault s TooManyTiles = CanBegin s × AreTooMany s
 BeginFault s (AreaFull need free) = CanBegin s × IsAreaFull s need free
 BeginFault s fault = ⊥
 

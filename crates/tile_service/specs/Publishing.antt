@@ -7,8 +7,7 @@ use Rattle.generations.specs.Areas.{journal_sectors, area_sectors, area_start, s
 use Rattle.edit_journal.specs.Ring.{places_of}
 use Rattle.feature_store.specs.Store.{FeatureMap, IsMap, snapshot}
 use Rattle.tile_service.specs.After.{after}
-use Rattle.tile_service.specs.Stored.{Stored, HasBytes, stored_records}
-use Rattle.area_content.specs.Tiles.{IsArchiveOfMap}
+use Rattle.tile_service.specs.Stored.{Stored, HasBytes, IsMapArchive, stored_records}
 use Rattle.area_content.specs.Faults.{HasManyTiles, IsFull}
 use Rattle.area_content.specs.declared.fault.ContentFault.{ContentFault}
 use Rattle.area_content.specs.declared.fault.ContentFault.TheVariants as contents
@@ -39,7 +38,7 @@ published n stored count archive = record {
 pub record CanPublish (n : ℕ) (stored : Stored) (count : ℕ) (archive : List ℕ) : Type 0 where
   pub within : count ≤ length stored.since
   pub is_map : IsMap (map_at stored count)
-  pub is_archive : IsArchiveOfMap (map_at stored count) archive
+  pub is_archive : IsMapArchive (map_at stored count) archive
   pub area : sectors_of (length (snapshot (map_at stored count))) + sectors_of (length archive) ≤ area_sectors n
   pub generation : suc stored.generation < 2 ^ 64
 
@@ -95,7 +94,7 @@ HasNoContent m area (Limit fault) = ⊥
 HasNoContent m area NotFound = ⊥
 HasNoContent m area NumbersSpent = ⊥
 HasNoContent m area Memory = ⊤
-HasNoContent m area TooManyTiles = HasManyTiles m
-HasNoContent m area (AreaFull need free) = (d : Data) × IsMetadata m d × IsFull m (length (compact_text d)) area need free
+HasNoContent m area TooManyTiles = (d : Data) × IsMetadata m d × HasManyTiles m (compact_text d) area
+HasNoContent m area (AreaFull need free) = (d : Data) × IsMetadata m d × IsFull m (compact_text d) area need free
 HasNoContent m area (JournalFull need free) = ⊥
 HasNoContent m area Device = ⊥

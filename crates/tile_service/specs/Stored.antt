@@ -1,5 +1,5 @@
 -- What an image of a disk holds: a map as a snapshot and the edits since, and the archive of the snapshot's tiles.
-use Rattle.std.specs.Prelude.{◌≡◌, ◌⊎◌, ◌<◌, ◌≤◌, ◌+◌, ◌%◌, ℕ, List, [], ◌∷◌, ◌++◌, length, map, take, All}
+use Rattle.std.specs.Prelude.{◌≡◌, ◌⊎◌, ◌<◌, ◌≤◌, ◌+◌, ◌%◌, ℕ, List, [], ◌∷◌, ◌++◌, length, map, take, All, Some}
 use Rattle.std.proofs.Common.{suc}
 use Rattle.sector_disk.specs.Disk.{Image, History, MayLeave}
 use Rattle.sector_bytes.specs.Bytes.{sector_piece}
@@ -12,7 +12,18 @@ use Rattle.edit_journal.specs.Ring.{Ring, RecordStart, HoldsOnly}
 use Rattle.edit_text.specs.Recorded.{RecordedEdit, IsRecorded, recorded_text}
 use Rattle.feature_store.specs.Store.{FeatureMap, IsMap, snapshot}
 use Rattle.tile_service.specs.After.{after}
-use Rattle.area_content.specs.Tiles.{IsArchiveOfMap}
+use Rattle.area_content.specs.Tiles.{HasNoTile, IsArchiveOfMap}
+use Rattle.map_metadata.specs.Metadata.{IsMetadata}
+use Rattle.serde_json.specs.Data.{Data}
+use Rattle.serde_json.specs.Read.{read}
+
+-- the text reads as the metadata of the map
+abbrev pub TellsOf : FeatureMap → List ℕ → Type 0
+TellsOf m text = (d : Data) × IsMetadata m d × (read text ≡ Some d)
+
+-- the bytes are an archive of exactly the tiles of the map, with its metadata, or empty if the map has no tile
+abbrev pub IsMapArchive : FeatureMap → List ℕ → Type 0
+IsMapArchive m bytes = (HasNoTile m × (bytes ≡ [])) ⊎ ((metadata : List ℕ) × TellsOf m metadata × IsArchiveOfMap m metadata bytes)
 
 -- what a disk holds for a service
 pub record Stored : Type 0 where
@@ -95,7 +106,7 @@ pub record Holds (count n : ℕ) (stored : Stored) (image : Image) : Type 0 wher
   pub journal : HoldsOnly (journal_ring n) (journal_start stored) (stored_records stored) image
   pub is_map : IsMap stored.snapshot_map
   pub are_edits : All (CanRecord stored.version) stored.since
-  pub is_archive : IsArchiveOfMap stored.snapshot_map stored.archive
+  pub is_archive : IsMapArchive stored.snapshot_map stored.archive
 
 -- the state after a format, without edits
 abbrev pub first_state : Stored

@@ -1,6 +1,6 @@
 -- The archive of a service, as its disk is read.
 use Rattle.std.specs.Prelude.{Option, IfSome}
-use Rattle.std.proofs.Common.{◌≡◌, ℕ, ◌≤◌, ◌+◌, ◌-◌, List, length, take, slice_range, refl, sym, ap, ◌∙◌, subst, arith}
+use Rattle.std.proofs.Common.{◌≡◌, inl, inr, ℕ, ◌≤◌, ◌+◌, ◌-◌, List, [], length, take, slice_range, refl, sym, ap, ◌∙◌, subst, arith}
 use Rattle.std.proofs.lemmas.List.{take_all}
 use Rattle.sector_disk.specs.Disk.{History, seen}
 use Rattle.sector_disk.proofs.Laws.{seen_is_left}
@@ -15,7 +15,7 @@ use Rattle.feature_store.specs.Store.{FeatureMap, snapshot}
 use Rattle.published_tiles.specs.Published.{PublishedView, ArePublished}
 use Rattle.tile_cache.specs.Kept.{CacheView}
 use Rattle.tile_service.specs.Service.{PublicationView, ServiceView, Publishes, IsUp, archive_of, shown_archive, ShowsArchive}
-use Rattle.tile_service.specs.Stored.{Stored, Keeps}
+use Rattle.tile_service.specs.Stored.{Stored, IsMapArchive, Keeps}
 use Rattle.tile_service.proofs.Disk.SectorBytes.{each_stands}
 
 -- What is read in the archive's place is of the archive that is stored there.
@@ -91,8 +91,12 @@ module _ {D : Type 0} (count : ℕ) (history : History) (stored : Stored) (servi
   -- ---- tiles of the archive
 
   -- it is one of the tiles of the snapshot's map
-  pub archive_of_map : IsArchiveOfMap stored.snapshot_map stored.archive
-  archive_of_map = (up.keeps (seen history) (seen_is_left history)).is_archive
+  pub archive_of_map : (metadata : List ℕ) × IsArchiveOfMap stored.snapshot_map metadata stored.archive
+  archive_of_map = tiles_are (up.keeps (seen history) (seen_is_left history)).is_archive
+    where
+      tiles_are : IsMapArchive stored.snapshot_map stored.archive → (metadata : List ℕ) × IsArchiveOfMap stored.snapshot_map metadata stored.archive
+      tiles_are (inl none) = ([], inl none)
+      tiles_are (inr archive) = (archive.0, archive.2)
 
   -- and is stored at its place
   pub archive_there : AreItsBytes (archive_of service).first (archive_of service).len stored.archive (seen history)

@@ -28,10 +28,9 @@ use Rattle.cached_map.specs.Cached.{AreReadRight}
 use Rattle.published_tiles.specs.Published.{ArePublished}
 use Rattle.tile_service.specs.Publishing.{map_at, published, CanPublish, HasArea}
 use Rattle.tile_service.specs.Service.{ServiceView, PublicationView, Publishes, IsUp, archive_of}
-use Rattle.tile_service.specs.Stored.{Stored, Holds, HasBytes, HasEarlierRoot, Keeps}
+use Rattle.tile_service.specs.Stored.{Stored, Holds, HasBytes, HasEarlierRoot, IsMapArchive, Keeps}
 use Rattle.tile_service.specs.Stored.{map_of, last_of, root_of, CanRecord, record_for, stored_records, with_edit, journal_ring, journal_start}
 use Rattle.tile_service.specs.Tiles.{WereMaps}
-use Rattle.area_content.specs.Tiles.{IsArchiveOfMap}
 use Rattle.tile_service.proofs.Edits.JournalAppend.{records_with}
 use Rattle.tile_service.proofs.Publications.AfterWrites.{same_ring, live_can}
 
@@ -199,7 +198,7 @@ module _ (n : ℕ) (stored : Stored) (taken : ℕ) (archive : List ℕ) (edit : 
   can_still can = record {
     within = omega (arith, within, length-append stored.since (edit ∷ []));
     is_map = subst IsMap (sym map_stays) can.is_map;
-    is_archive = subst (λ (m : FeatureMap). IsArchiveOfMap m archive) (sym map_stays) can.is_archive;
+    is_archive = subst (λ (m : FeatureMap). IsMapArchive m archive) (sym map_stays) can.is_archive;
     area = subst (λ (m : FeatureMap). sectors_of (length (snapshot m)) + sectors_of (length archive) ≤ area_sectors n) (sym map_stays) can.area;
     generation = can.generation;
   }

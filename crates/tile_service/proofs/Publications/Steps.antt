@@ -22,7 +22,6 @@ use Rattle.edit_journal.specs.Ring.{Ring, places_of}
 use Rattle.edit_journal.specs.declared.journal.Journal.{Journal}
 use Rattle.area_content.specs.Content.{sectors_taken}
 use Rattle.area_content.specs.Faults.{IsBuiltFor}
-use Rattle.area_content.specs.Tiles.{IsArchiveOfMap}
 use Rattle.cached_map.specs.Cached.{CachedView, AreReadRight}
 use Rattle.edit_text.specs.Recorded.{RecordedEdit}
 use Rattle.feature_store.specs.Store.{FeatureMap, IsMap, snapshot}
@@ -39,7 +38,7 @@ use Rattle.tile_service.specs.Publishing.{HasNoContent, map_at, published, CanPu
 use Rattle.tile_service.specs.Service.{IsGoing, IsService, TellsDevice}
 use Rattle.tile_service.specs.Service.{PublicationView, ServiceView, Known, Publishes, IsUp, EventLeaves, count_at, left_of, archive_of}
 use Rattle.tile_service.specs.Service.{going_of, state_of, known_after, known_installed, installed, stored_after, with_publication}
-use Rattle.tile_service.specs.Stored.{Stored, Holds, Keeps, root_of, journal_ring, record_for, stored_records}
+use Rattle.tile_service.specs.Stored.{Stored, Holds, IsMapArchive, Keeps, root_of, journal_ring, record_for, stored_records}
 use Rattle.tile_service.specs.Tiles.{WereMaps}
 use Rattle.tile_service.specs.declared.fault.ServiceFault.{ServiceFault}
 use Rattle.tile_service.specs.declared.fault.ServiceFault.TheVariants.{Memory, TooManyTiles, AreaFull, Device}
@@ -126,12 +125,17 @@ pub metadata_is_text : (m : FeatureMap) (text : String Global) → HasText m (st
 metadata_is_text m text (d, (ls, are, is), same, reads) = (IsUtf8-string_bytes text, (_, reads ∙ ap Some is))
 
 -- An archive that is built with this text as its metadata is publishable.
-pub publishable : (m : FeatureMap) (text archive : List ℕ) → HasText m text → IsBuiltFor m (length text) archive → IsPublishable m archive
+pub publishable : (m : FeatureMap) (text archive : List ℕ) → HasText m text → IsBuiltFor m text archive → IsPublishable m archive
 publishable m text archive (d, is, same, reads) built = record {
   metadata = d;
   is_metadata = is;
-  built = subst (λ (bytes : List ℕ). IsBuiltFor m (length bytes) archive) same built;
+  reads = subst (λ (bytes : List ℕ). read bytes ≡ Some d) same reads;
+  built = subst (λ (bytes : List ℕ). IsBuiltFor m bytes archive) same built;
 }
+
+-- A publishable archive is one of the map.
+pub archive_of_publishable : (m : FeatureMap) (archive : List ℕ) → IsPublishable m archive → IsMapArchive m archive
+archive_of_publishable m archive is = inr (compact_text is.metadata, (is.metadata, is.is_metadata, is.reads), is.built.of_map)
 
 -- ---- its beginning and its end
 
@@ -141,7 +145,7 @@ module _ {D : Type 0} (sectors : ℕ) (h : History) (stored : Stored) (service :
   up_with p publishes = up_moved sectors h stored service up service.disk p service.published service.kept sectors h up.keeps publishes
       up.archived up.reads
 
-  module _ (p : PublicationView) (is_map : IsMap service.features) (is_archive : IsArchiveOfMap service.features p.content.archive)
+  module _ (p : PublicationView) (is_map : IsMap service.features) (is_archive : IsMapArchive service.features p.content.archive)
       (text : p.content.snapshot ≡ snapshot service.features) (area : sectors_taken p.content ≤ area_sectors service.size)
       (generation : service.generation < 2 ^ 64 - 1) (ring : ring_of service.journal ≡ journal_ring service.size)
       (place : p.start.place ≡ (service.journal.place + service.journal.used) % service.journal.places)
@@ -162,7 +166,7 @@ module _ {D : Type 0} (sectors : ℕ) (h : History) (stored : Stored) (service :
     can = record {
       within = omega (arith, count_is);
       is_map = subst IsMap (sym map) is_map;
-      is_archive = subst (λ (m : FeatureMap). IsArchiveOfMap m p.content.archive) (sym map) is_archive;
+      is_archive = subst (λ (m : FeatureMap). IsMapArchive m p.content.archive) (sym map) is_archive;
       area = omega (arith, area, ap length text, ap (λ (m : FeatureMap). length (snapshot m)) map);
       generation = omega (arith, generation, up.generation_is);
     }

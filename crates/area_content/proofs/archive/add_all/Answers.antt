@@ -1,4 +1,4 @@
-use Rattle.std.proofs.Common.{ℕ, [], List, length, inl, refl, sym, subst}
+use Rattle.std.proofs.Common.{ℕ, [], List, inl, refl, sym, subst}
 use Rattle.feature_store.specs.Store.{FeatureMap}
 use Rattle.pm_build.specs.Tiles.{Tile}
 use Rattle.area_content.specs.Faults.{AreAdded, CanFit, IsContentFault}
@@ -17,7 +17,7 @@ loop-fault-init c =
 
 pub returns-in-Err-clause-fault : goal.returns-in-Err-clause-fault
 returns-in-Err-clause-fault c =
-    let metadata = length c.args.metadata.now in
+    let metadata = c.args.metadata.now in
     let map = c.loop-fault.invariant.map in
     let can = subst (λ (m : FeatureMap). CanFit m metadata c.args.area c.loop-fault.builder) (sym map) c.loop-fault.invariant.can in
     subst (λ (m : FeatureMap). IsContentFault m metadata c.args.area c.in-Err.fault) map (c.in-Err.ensures.fault metadata can)

@@ -59,7 +59,7 @@ returns-clause-fault c metadata can =
     let short : length c.in-Ok-Some.tile.1.items < 2 ^ 32 = omega (arith, c.if-len.false, c.len.ensures, c.in-Ok-Some.tile.1.ok) in
     subst (IsContentFault old.features metadata c.args.area) (sym c.to_content_fault.ensures)
     (fault_told old.features metadata c.args.area c.in-Err-add.fault
-    (λ many. many_tiles old.features metadata c.args.area old.from c.args.builder.now tile c.requires.added next.0 short
+    (λ many. many_tiles old.features metadata c.args.area old.from c.args.builder.now tile c.requires.added can next.0 short
     ((rw c.deref.ensures.value at c.in-Err-add.ensures.many).0 (ap (λ f. Err f) many))))
 
 pub returns-in-Ok-None-clause-map : goal.returns-in-Ok-None-clause-map

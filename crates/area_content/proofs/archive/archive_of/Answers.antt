@@ -1,9 +1,9 @@
 use Rattle.std.proofs.lemmas.Grind.{common_steps}
-use Rattle.std.proofs.Common.{◌≡◌, ◌≢◌, true, ℕ, List, [], ◌++◌, sym, ap, ◌∙◌, arith, refl, length}
+use Rattle.std.proofs.Common.{◌≡◌, ◌≢◌, true, ℕ, List, [], ◌++◌, sym, ap, ◌∙◌, arith, refl}
 use Rattle.std.proofs.lemmas.Bool.{false≢true}
 use Rattle.std.proofs.lemmas.Result.{IfOk-weaker}
-use Rattle.pm_metadata.specs.Archive.{IsArchiveOf}
 use Rattle.pm_build.specs.Built.{archive_bytes, tile_content}
+use Rattle.pm_build.specs.Vector.{IsVectorArchive}
 use Rattle.area_content.specs.Tiles.{IsArchiveOfMap}
 use Rattle.area_content.proofs.MapTiles.{none_is_archive, some_are_archive}
 use Rattle.area_content.proofs.Bounds.{some_bounded}
@@ -13,15 +13,17 @@ pub returns-then-is_empty-clause-archive : goal.returns-then-is_empty-clause-arc
 returns-then-is_empty-clause-archive c m is_map are =
     let contents = c.new-then-is_empty.result.items in
     let empty : c.new.result.items ++ contents ≡ [] = ap (λ (bs : List ℕ). bs ++ contents) c.new.ensures.items ∙ c.new-then-is_empty.ensures.items in
-    none_is_archive m c.args.builder _ (c.is_empty.ensures.0 c.if-is_empty.true) empty are
+    none_is_archive m c.args.builder c.args.metadata.now _ (c.is_empty.ensures.0 c.if-is_empty.true) empty are
 
 pub returns-clause-archive : goal.returns-clause-archive
 returns-clause-archive c m is_map are =
     let some : c.args.builder ≢ [] = λ none.
     let yes : c.is_empty.result ≡ true = c.is_empty.ensures.1 none in
     false≢true (sym c.if-is_empty.false ∙ yes) in
-    IfOk-weaker c.finish.result (λ a. IsArchiveOf (archive_bytes a) (tile_content c.args.builder)) (λ a. IsArchiveOfMap m (archive_bytes a))
-    (λ a archive. some_are_archive m c.args.builder (archive_bytes a) some is_map are archive) c.finish.ensures.archive
+    let metadata = c.args.metadata.now in
+    IfOk-weaker c.finish.result (λ a. IsVectorArchive (archive_bytes a) metadata (tile_content c.args.builder))
+    (λ a. IsArchiveOfMap m metadata (archive_bytes a))
+    (λ a archive. some_are_archive m c.args.builder metadata (archive_bytes a) some is_map are archive) c.finish.ensures.archive
 
 pub returns-then-is_empty-clause-bounded : goal.returns-then-is_empty-clause-bounded
 returns-then-is_empty-clause-bounded c = grind (arith, common_steps)
@@ -48,4 +50,4 @@ pub returns-clause-least : goal.returns-clause-least
 returns-clause-least c some = c.finish.ensures.least
 
 pub returns-clause-bounded : goal.returns-clause-bounded
-returns-clause-bounded c = some_bounded c.args.builder (length c.args.metadata.now) c.finish.result c.finish.ensures.size
+returns-clause-bounded c = some_bounded c.args.builder c.args.metadata.now c.finish.result c.finish.ensures.size

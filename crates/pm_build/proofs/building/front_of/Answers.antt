@@ -21,12 +21,13 @@ returns-clause-archive c =
     let d = c.in_ok-directories.directories in
     let cs = c.args.contents.now in
     let ts = tiles_in (run_views cs c.args.runs.now) in
-    let (low, high, _, header) = c.header_for_runs-header.ensures in
+    let (low, high, zooms, header) = c.header_for_runs-header.ensures in
     let lengths = lengths_of d.root.items c.args.metadata.now d.leaves.items (concat cs) in
     let counted = ap (λ (n : ℕ). let k : Counts = record { addressed = length ts; entries = n; contents = length cs } in header_for lengths k low high)
     (sym c.requires.count) in
     archive_joined c.joined.result d.root.items c.args.metadata.now d.leaves.items ts c.args.entries.now cs c.header_for_runs-header.result low high
-    (header ∙ counted) c.requires.placed c.in_ok-directories.ensures.directories c.in_ok-directories.ensures.root c.requires.metadata c.joined.ensures
+    (header ∙ counted) zooms c.requires.tiles.0 c.requires.placed c.in_ok-directories.ensures.directories c.in_ok-directories.ensures.root
+    c.requires.metadata c.joined.ensures
 
 pub returns-clause-size : goal.returns-clause-size
 returns-clause-size c =

@@ -1,4 +1,4 @@
-use Rattle.std.proofs.Common.{ℕ, List, length, sym, subst}
+use Rattle.std.proofs.Common.{ℕ, List, sym, subst}
 use Rattle.std.specs.Prelude.{string_bytes}
 use Rattle.area_content.specs.Faults.{IsBuiltFor}
 use Rattle.pm_metadata.specs.Archive.{IsMetadata}
@@ -14,4 +14,4 @@ returns-in-Ok-content_of-clause-archive c =
     let m = c.args.store.now.features in
     let archive = c.in-Ok-content_of.content.archive in
     publishable m (string_bytes c.in-Ok.text) archive c.in-Ok.ensures
-    (subst (λ (text : List ℕ). IsBuiltFor m (length text) archive) c.as_bytes.ensures.value c.in-Ok-content_of.ensures.built)
+    (subst (λ (text : List ℕ). IsBuiltFor m text archive) c.as_bytes.ensures.value c.in-Ok-content_of.ensures.built)

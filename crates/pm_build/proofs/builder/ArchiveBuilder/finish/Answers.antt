@@ -1,7 +1,6 @@
 use Rattle.std.proofs.Common.{◌≡◌, ◌++◌, ℕ, List, [], length, map, sym, ap, subst, ◌∙◌, arith}
 use Rattle.std.specs.List.{AllByRecursion, Contains, concat}
 use Rattle.std.proofs.lemmas.List.{length-append, length-map}
-use Rattle.pm_metadata.specs.Archive.{IsArchiveOf}
 use Rattle.pm_build.specs.Built.{tile_content}
 use Rattle.pm_build.specs.Different.{contents_of, with_contents}
 use Rattle.pm_build.specs.Joined.{run_view, run_views}
@@ -9,13 +8,15 @@ use Rattle.pm_build.specs.Laid.{AreLaidOut}
 use Rattle.pm_build.specs.Placed.{AreDifferent}
 use Rattle.pm_build.specs.Runs.{AreLongestRuns}
 use Rattle.pm_build.specs.Tiles.{Tile}
+use Rattle.pm_build.specs.Vector.{IsVectorArchive}
 use Rattle.pm_build.proofs.Different.{contents_of_runs, different_all, used_all}
 use Rattle.pm_build.proofs.builder.ArchiveBuilder.finish.Goals as goal
 
 pub returns-clause-archive : goal.returns-clause-archive
 returns-clause-archive c =
-    subst (λ (bs : List ℕ). IsArchiveOf (c.in_ok-front.front.items ++ bs) (tile_content c.args.self)) (sym c.into_bytes.ensures)
-    (subst (λ (ts : List Tile). IsArchiveOf (c.in_ok-front.front.items ++ concat c.self.inside.contents) (tile_content ts)) c.self.view_is
+    let metadata = c.args.metadata.now in
+    subst (λ (bs : List ℕ). IsVectorArchive (c.in_ok-front.front.items ++ bs) metadata (tile_content c.args.self)) (sym c.into_bytes.ensures)
+    (subst (λ (ts : List Tile). IsVectorArchive (c.in_ok-front.front.items ++ concat c.self.inside.contents) metadata (tile_content ts)) c.self.view_is
     (rw c.deref.ensures.value at c.in_ok-front.ensures.archive))
 
 pub returns-clause-header : goal.returns-clause-header

@@ -3,10 +3,10 @@ use Rattle.published_tiles.proofs.PublishedLaws.{contents_of_map, tile_told}
 use Rattle.published_tiles.proofs.published_tiles.PublishedTiles.tile.Goals as goal
 
 pub returns-clause-tile : goal.returns-clause-tile
-returns-clause-tile g c = rw (← c.self.view_is) (λ m bytes honest are map published.
+returns-clause-tile g c = rw (← c.self.view_is) (λ m metadata bytes honest are map published.
     let at = c.args.at in
     let some : 0 < c.args.archive.len = omega (arith, c.if-archive-eq0.false) in
-    let archive = contents_of_map m bytes c.args.archive.len are.length_is some map in
+    let archive = contents_of_map m metadata bytes c.args.archive.len are.length_is some map in
     tile_told m at.z at.x at.y (archive.0 c.id_of.result) c.read_tile.result
     (c.read_tile.ensures.content bytes archive.0 honest are published.opened archive.2)
     (archive.1.each at.z at.x at.y c.id_of.result c.id_of.ensures.id))

@@ -16,10 +16,10 @@ returns-clause-tile g c = rw (← c.self.view_is) (λ stored up honest.
     let there = archive_there (g.D.Sectors.sectors c.self.inside.disk) (g.D.Sectors.history c.self.inside.disk) stored _ up in
     let is_map = archive_of_map (g.D.Sectors.sectors c.self.inside.disk) (g.D.Sectors.history c.self.inside.disk) stored _ up in
     shared_outcome (IsTileContent (layers stored.snapshot_map c.args.at.z c.args.at.x c.args.at.y)) c.tile.result c.share.result c.share.ensures
-    (c.tile.ensures.tile stored.snapshot_map stored.archive honest
+    (c.tile.ensures.tile stored.snapshot_map is_map.0 stored.archive honest
     (subst (λ (p : ArchivePlace). AreItsBytes p.first p.len stored.archive (seen (g.D.Sectors.history c.self.inside.disk))) (sym place)
     there)
-    is_map
+    is_map.1
     (subst (λ (p : ArchivePlace). ArePublished c.self.inside.published p stored.archive) (sym place) up.archived)))
 
 pub returns-clause-up : goal.returns-clause-up

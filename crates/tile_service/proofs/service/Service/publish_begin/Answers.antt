@@ -1,11 +1,11 @@
 use Rattle.std.proofs.Common.{◌≡◌, ◌+◌, ◌∙◌, refl, ap, subst, arith, Some, sym, ℕ}
 use Rattle.std.specs.Prelude.{None, option_map}
-use Rattle.area_content.specs.Tiles.{IsArchiveOfMap}
 use Rattle.feature_store.specs.Store.{IsMap, snapshot}
 use Rattle.tile_service.specs.Machine.{IsPublishable}
+use Rattle.tile_service.specs.Stored.{IsMapArchive}
 use Rattle.tile_service.specs.Inside.{service_view}
 use Rattle.tile_service.specs.Service.{PublicationView, going_of, state_of}
-use Rattle.tile_service.proofs.Publications.Steps.{up_with, begins_publishing, begins_told, begin_refused, none_there, still_there}
+use Rattle.tile_service.proofs.Publications.Steps.{archive_of_publishable, up_with, begins_publishing, begins_told, begin_refused, none_there, still_there}
 use Rattle.generations.specs.Areas.{area_sectors}
 use Rattle.tile_service.specs.Publishing.{HasNoContent}
 use Rattle.tile_service.proofs.service.Service.publish_begin.Goals as goal
@@ -25,7 +25,8 @@ pub returns-in-Ok-clause-up : goal.returns-in-Ok-clause-up
 returns-in-Ok-clause-up g c = rw (← c.self.view_is) (λ stored up.
     let p : PublicationView = record { content = c.in-Ok.content; start = c.next.result; places = c.self.inside.journal.used; written = 0 } in
     up_with _ _ stored _ up (Some p) (begins_publishing _ _ stored _ up p (subst (λ m. IsMap m) c.store.ensures.features c.content_for.ensures.map)
-    (subst (λ m. IsArchiveOfMap m c.in-Ok.content.archive) c.store.ensures.features c.in-Ok.ensures.archive.built.of_map)
+    (subst (λ m. IsMapArchive m c.in-Ok.content.archive) c.store.ensures.features
+    (archive_of_publishable c.store.result.now.features c.in-Ok.content.archive c.in-Ok.ensures.archive))
     (c.in-Ok.ensures.snapshot ∙ ap (λ m. snapshot m) c.store.ensures.features)
     (omega (arith, c.in-Ok.ensures.fits, c.self.inside.layout.area_is)) (omega arith) c.self.invariant.ring c.next.ensures.0 c.next.ensures.1 refl refl))
 
