@@ -11,7 +11,7 @@ use Rattle.sector_disk.specs.Disk.{HasFailed}
 use Rattle.tile_service.specs.Events.{Tells, AreTold, AsksTile}
 use Rattle.tile_service.specs.declared.event.Answer.TheVariants.{Refused}
 use Rattle.tile_service.specs.declared.fault.ServiceFault.TheVariants.{Device}
-use Rattle.tile_service.proofs.Runs.Callers.{run_begins, run_on, takes_run, was_before, broken_on}
+use Rattle.tile_service.proofs.Runs.Callers.{events_on, run_begins, run_on, takes_run, was_before, broken_on}
 use Rattle.tile_service.proofs.Runs.OneEvent.{true_or_false}
 use Rattle.tile_service.proofs.Runs.EventAnswers.{told_no_read, told_on, asks_before, asks_last}
 use Rattle.tile_service.proofs.service.Service.run.Goals as goal
@@ -64,6 +64,7 @@ loop-event-init g c = let none = c.in-Ok.ensures.items in record {
   so = (
     [],
     subst (λ l. AreTold c.args.self.now.version [] l []) (sym none) tt,
+    refl,
     run_begins g.D.Sectors.sectors g.D.Sectors.honest g.D.Sectors.history c.args.self.now,
   );
 }
@@ -115,8 +116,9 @@ loop-event-preserved g c =
         inv.so.0 ++ happening ∷ [],
         subst (λ l. AreTold c.args.self.now.version (yielded ++ event ∷ []) l (inv.so.0 ++ happening ∷ [])) (sym pushed)
             (told_on c.args.self.now.version yielded given inv.so.0 event answer happening inv.so.1
-            (subst (λ (v : ℕ). Tells v event answer happening) inv.so.2.version call.takes.1)),
-        run_on g.D.Sectors.sectors g.D.Sectors.honest g.D.Sectors.history c.args.self.now c.loop-event.self new inv.so.0 happening inv.so.2 goes,
+            (subst (λ (v : ℕ). Tells v event answer happening) inv.so.3.version call.takes.1)),
+        events_on g.D.Sectors.sectors g.D.Sectors.honest g.D.Sectors.history c.args.self.now c.loop-event.self new inv.so.0 happening inv.so.2 goes,
+        run_on g.D.Sectors.sectors g.D.Sectors.honest g.D.Sectors.history c.args.self.now c.loop-event.self new inv.so.0 happening inv.so.3 goes,
       );
     }
 
@@ -137,17 +139,18 @@ returns-clause-run g c =
     let so = c.loop-event.invariant.so in (
       so.0,
       subst (λ l. AreTold c.args.self.now.version l c.loop-event.answers.items so.0) (all_yielded g c) so.1,
-      takes_run g.D.Sectors.sectors g.D.Sectors.honest g.D.Sectors.history c.args.self.now so.0 c.loop-event.self so.2,
+      so.2,
+      takes_run g.D.Sectors.sectors g.D.Sectors.honest g.D.Sectors.history c.args.self.now so.0 c.loop-event.self so.3,
     )
 
 pub returns-clause-size : goal.returns-clause-size
-returns-clause-size g c = c.loop-event.invariant.so.2.size
+returns-clause-size g c = c.loop-event.invariant.so.3.size
 
 pub returns-clause-version : goal.returns-clause-version
-returns-clause-version g c = c.loop-event.invariant.so.2.version
+returns-clause-version g c = c.loop-event.invariant.so.3.version
 
 pub returns-clause-disk : goal.returns-clause-disk
-returns-clause-disk g c = c.loop-event.invariant.so.2.asked
+returns-clause-disk g c = c.loop-event.invariant.so.3.asked
 
 pub returns-clause-untouched : goal.returns-clause-untouched
 returns-clause-untouched g c = λ broken. (c.loop-event.invariant.untouched broken).1

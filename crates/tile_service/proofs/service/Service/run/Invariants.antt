@@ -6,6 +6,7 @@ use Rattle.sector_bytes.specs.Counts.{HasRisen, NeverFalls}
 use Rattle.sector_disk.specs.Disk.{HasFailed}
 use Rattle.tile_service.specs.Events.{AreTold, AsksTile}
 use Rattle.tile_service.specs.Machine.{Happening}
+use Rattle.tile_service.specs.Runs.{TakesAll}
 use Rattle.tile_service.specs.declared.event.Answer.TheVariants.{Refused}
 use Rattle.tile_service.specs.declared.fault.ServiceFault.TheVariants.{Device}
 use Rattle.tile_service.proofs.Runs.Callers.{HasRun}
@@ -28,5 +29,6 @@ invariant-loop-event g l = record {
       → HasFailed (g.D.Sectors.faults l.initial.self.disk) (g.D.Sectors.faults l.self.disk);
   untouched : l.initial.self.broken ≡ true → (l.self.broken ≡ true) × (l.self.disk ≡ l.initial.self.disk);
   so : (happenings : List Happening) × AreTold l.initial.self.version l.yielded l.answers.items happenings
+      × TakesAll g.D.Sectors.sectors g.D.Sectors.honest g.D.Sectors.history l.initial.self happenings l.self
       × HasRun g.D.Sectors.sectors g.D.Sectors.honest g.D.Sectors.history l.initial.self happenings l.self;
 }
