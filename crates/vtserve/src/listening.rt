@@ -1,6 +1,6 @@
 //! The connections of a port.
 ghost use Rattle.std.specs.Prelude.{◌≡◌, ◌≤◌, List, [], IfSome, OnOk};
-ghost use Rattle.http_listen.specs.Connections.{Event, Serves, begun};
+ghost use Rattle.http_listen.specs.Connections.{AreOverKnown, Event, Serves, begun};
 ghost use Rattle.map_replies.specs.State.{asked_service, Tells, TellsCut, TellsRead, course};
 ghost use Rattle.tile_service.specs.Machine.{Happening};
 ghost use Rattle.tile_service.specs.Runs.{TakesRun};
@@ -81,7 +81,7 @@ fn serve_log<D: Sectors + Drop, W: Write>(
     looks: &Looks<'_>,
     log: &mut W,
 ) -> Result<(), CommandFault>
-    ensures all { OnOk result ((served : List Event) × (begun served ≡ asked.connections) × (run : List Happening)
+    ensures all { OnOk result ((served : List Event) × (begun served ≡ asked.connections) × AreOverKnown served × (run : List Happening)
         × Serves (Tells D.sectors D.honest D.history D.faults) (TellsCut D.sectors D.honest D.history D.faults)
         (TellsRead D.sectors D.honest D.history D.faults) (course service.old []) served (course service.new run)
         × TakesRun D.sectors D.honest D.history (asked_service service.old) run (asked_service service.new)) }
@@ -113,7 +113,7 @@ pub(crate) fn serve_connections<D: Sectors + Drop>(
     service: &mut MapReplies<D>,
     looks: &Looks<'_>,
 ) -> Result<(), CommandFault>
-    ensures all { OnOk result ((served : List Event) × (begun served ≡ asked.connections) × (run : List Happening)
+    ensures all { OnOk result ((served : List Event) × (begun served ≡ asked.connections) × AreOverKnown served × (run : List Happening)
         × Serves (Tells D.sectors D.honest D.history D.faults) (TellsCut D.sectors D.honest D.history D.faults)
         (TellsRead D.sectors D.honest D.history D.faults) (course service.old []) served (course service.new run)
         × TakesRun D.sectors D.honest D.history (asked_service service.old) run (asked_service service.new)) }
