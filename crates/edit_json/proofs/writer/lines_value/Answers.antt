@@ -7,9 +7,9 @@ use Rattle.edit_json.proofs.writer.lines_value.Goals as goal
 pub loop-line-preserved : goal.loop-line-preserved
 loop-line-preserved c = record {
   room = omega (arith, c.loop-line.invariant.room, ap length c.in-Some.ensures.steps, c.push_reserved.ensures.len, c.push_reserved.ensures.capacity);
-  done = one_more points_json c.loop-line.list.items c.push_reserved.new.self.items c.in_ok-value.value (points_view c.in-Some.line) (lines_view c.next.new.self)
-      (lines_view c.loop-line.line-iterator) (lines_view c.args.lines) c.in-Some.ensures.steps c.push_reserved.ensures.items c.in_ok-value.ensures
-      c.loop-line.invariant.done;
+  done = one_more points_json c.loop-line.list.items c.push_reserved.new.self.items c.in_ok-value.value (points_view c.in-Some.line)
+      (lines_view c.next.new.self) (lines_view c.loop-line.line-iterator) (lines_view c.args.lines)
+      c.in-Some.ensures.steps c.push_reserved.ensures.items c.in_ok-value.ensures c.loop-line.invariant.done;
 }
 
 pub push_reserved-requires : goal.push_reserved-requires

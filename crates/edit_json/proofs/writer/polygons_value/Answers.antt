@@ -7,9 +7,9 @@ use Rattle.edit_json.proofs.writer.polygons_value.Goals as goal
 pub loop-rings-preserved : goal.loop-rings-preserved
 loop-rings-preserved c = record {
   room = omega (arith, c.loop-rings.invariant.room, ap length c.in-Some.ensures.steps, c.push_reserved.ensures.len, c.push_reserved.ensures.capacity);
-  done = one_more lines_json c.loop-rings.list.items c.push_reserved.new.self.items c.in_ok-value.value (lines_view c.in-Some.rings) (polygons_view c.next.new.self)
-      (polygons_view c.loop-rings.rings-iterator) (polygons_view c.args.polygons) c.in-Some.ensures.steps c.push_reserved.ensures.items c.in_ok-value.ensures
-      c.loop-rings.invariant.done;
+  done = one_more lines_json c.loop-rings.list.items c.push_reserved.new.self.items c.in_ok-value.value (lines_view c.in-Some.rings)
+      (polygons_view c.next.new.self) (polygons_view c.loop-rings.rings-iterator) (polygons_view c.args.polygons)
+      c.in-Some.ensures.steps c.push_reserved.ensures.items c.in_ok-value.ensures c.loop-rings.invariant.done;
 }
 
 pub push_reserved-requires : goal.push_reserved-requires

@@ -15,7 +15,8 @@ returns-in_err-feature c =
     let keys = bytes_of c.args.keys.now in
     let values = tag_views c.args.values.now in
     rw (p.1, p.2) (gives_on Memory c.in_err-feature.field-0.0 (feature_at keys values (part_at raw i)) _
-    (λ d. each_stop feature_view (feature_at keys values) raw i (map feature_view c.loop-part.features.items) d _ c.loop-part-test.true c.loop-part.invariant.read)
+    (λ d. each_stop feature_view (feature_at keys values) raw i (map feature_view c.loop-part.features.items) d _
+    c.loop-part-test.true c.loop-part.invariant.read)
     c.in_err-feature.ensures)
 
 pub loop-part-preserved : goal.loop-part-preserved
@@ -25,8 +26,8 @@ loop-part-preserved c =
     record {
       len = omega (arith, c.loop-part.invariant.len, c.push_reserved.ensures.len);
       room = omega (arith, c.loop-part.invariant.room, c.push_reserved.ensures.capacity);
-      read = each_on feature_view (feature_at keys values) c.args.raw.now c.loop-part.part-index c.loop-part.features.items c.push_reserved.new.self.items c.in_ok-feature.feature
-          _
+      read = each_on feature_view (feature_at keys values) c.args.raw.now c.loop-part.part-index
+          c.loop-part.features.items c.push_reserved.new.self.items c.in_ok-feature.feature _
           c.loop-part-test.true c.loop-part.invariant.read c.in_ok-feature.ensures c.push_reserved.ensures.items;
     }
 

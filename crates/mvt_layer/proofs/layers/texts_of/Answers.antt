@@ -19,7 +19,8 @@ pub loop-part-preserved : goal.loop-part-preserved
 loop-part-preserved c = record {
   len = omega (arith, c.loop-part.invariant.len, c.push_reserved.ensures.len);
   room = omega (arith, c.loop-part.invariant.room, c.push_reserved.ensures.capacity);
-  read = each_on (λ (t : Bor (List ℕ)). t.now) (text_at) c.args.raw.now c.loop-part.part-index c.loop-part.texts.items c.push_reserved.new.self.items c.in_ok-text.text _
+  read = each_on (λ (t : Bor (List ℕ)). t.now) (text_at) c.args.raw.now c.loop-part.part-index
+      c.loop-part.texts.items c.push_reserved.new.self.items c.in_ok-text.text _
       c.loop-part-test.true c.loop-part.invariant.read c.in_ok-text.ensures c.push_reserved.ensures.items;
 }
 
