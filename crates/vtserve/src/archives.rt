@@ -55,16 +55,12 @@ fn judged<S: Start>(rt: &HostRuntime, path: &str, start: S) -> Result<Verdict, C
         return Err(CommandFault::File(None));
     };
     let cause: Cell<Cause> = Cell::new(None);
-    let file = Noted {
-        file: ReadFile {
-            file,
-            bytes,
-            reads_ahead: true,
-        },
-        cause: &cause,
-        watched: None,
+    let file = ReadFile {
+        file,
+        bytes,
+        reads_ahead: true,
     };
-    let mut disk = FileDisk::new(file, rounded, start);
+    let mut disk = FileDisk::new(Noted::unwatched(file, &cause), rounded, start);
     let outcome = verify_stored(rt.alloc(), &mut disk, bytes);
     drop(disk);
     match outcome {

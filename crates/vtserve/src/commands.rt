@@ -208,41 +208,24 @@ fn arg_of<'a>(alloc: Global, word: Word) -> Arg<'a> {
     arg.required(true).action(ArgAction::Set)
 }
 
-/// Adds arguments to a command.
-fn with_words<'a>(
-    alloc: Global,
-    command: Command<'a>,
-    words: &[Word],
-) -> Result<Command<'a>, AllocError> {
-    let mut command = command;
+/// The command of a row in clap's terms.
+fn command_of<'a>(alloc: Global, row: Row) -> Result<Command<'a>, AllocError> {
+    let (name, words, about) = row;
+    let mut command = Command::new(alloc, name).about(about);
     for word in words {
         command = command.arg(arg_of(alloc, *word))?;
     }
     Ok(command)
 }
 
-/// Adds the command of a row as a subcommand.
-fn with_row<'a>(alloc: Global, command: Command<'a>, row: Row) -> Result<Command<'a>, AllocError> {
-    let (name, words, about) = row;
-    match with_words(alloc, Command::new(alloc, name).about(about), words) {
-        Ok(below) => command.subcommand(below),
-        Err(fault) => Err(fault),
-    }
-}
-
-/// The program, without commands.
-fn program<'a>(alloc: Global) -> Command<'a> {
-    Command::new(alloc, "vtserve")
-        .version("0.1.0")
-        .about("A vector tile server whose map is edited over HTTP")
-        .subcommand_required(true)
-}
-
 /// The command line of the program.
 pub(crate) fn command_line<'a>(alloc: Global) -> Result<Command<'a>, AllocError> {
-    let mut command = program(alloc);
+    let mut program = Command::new(alloc, "vtserve")
+        .version("0.1.0")
+        .about("A vector tile server whose map is edited over HTTP")
+        .subcommand_required(true);
     for row in &COMMANDS {
-        command = with_row(alloc, command, *row)?;
+        program = program.subcommand(command_of(alloc, *row)?)?;
     }
-    Ok(command)
+    Ok(program)
 }

@@ -27,11 +27,7 @@ fn copy_into<D: Sectors>(
         return Err(CommandFault::Output(Some(error)));
     }
     let cause: Cell<Cause> = Cell::new(None);
-    let file = Noted {
-        file: SystemFile::new(file),
-        cause: &cause,
-        watched: None,
-    };
+    let file = Noted::unwatched(SystemFile::new(file), &cause);
     let mut into = FileDisk::new(file, bytes, Zeros);
     let copied = copy_disk(rt.alloc(), disk, &mut into);
     drop(into);

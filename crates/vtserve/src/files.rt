@@ -32,11 +32,7 @@ pub(crate) fn format_file(rt: &HostRuntime, path: &str, sectors: u64) -> Result<
         Err(fault) => return Err(CommandFault::of_format(fault)),
     };
     let cause: Cell<Cause> = Cell::new(None);
-    let file = Noted {
-        file: SystemFile::new(file),
-        cause: &cause,
-        watched: None,
-    };
+    let file = Noted::unwatched(SystemFile::new(file), &cause);
     // The file is closed before the line is printed: where standard output was closed, the file may have its descriptor.
     match formatted_file(rt, path, file, bytes, Zeros) {
         Ok(disk) => drop(disk),
@@ -154,17 +150,13 @@ fn serve_disk<D: Sectors + Drop>(
     looks: &Looks<'_>,
 ) -> Result<(), CommandFault> {
     match opened_service(rt.alloc(), disk, access) {
-        Ok(mut map) => {
-            let served = serve(rt, &mut map, peers, looks);
-            drop(map.into_service().into_disk());
-            served
-        }
+        Ok(map) => serve(rt, map, peers, looks),
         Err((_, fault)) => Err(CommandFault::Store(fault)),
     }
 }
 
-/// Serves these paths of the map on the disk in a file, whatever the file had. While a port is served, the first write or sync of the
-/// file that fails is told of.
+/// Serves these paths of the map on the disk in a file, whatever the file had. The first write or sync of the file that fails while
+/// connections are served is reported at once.
 pub(crate) fn serve_file<S: Start>(
     rt: &HostRuntime,
     path: &str,

@@ -80,11 +80,7 @@ fn ended(
 /// Serves one connection on standard input and output, over the empty map on a disk in memory.
 fn demo(rt: &HostRuntime, sectors: u64, access: Access) -> Result<(), CommandFault> {
     match fresh_service(rt.alloc(), sectors, access) {
-        Ok(mut map) => {
-            let served = serve(rt, &mut map, Peers::Streams, &Looks::new(None));
-            drop(map.into_service().into_disk());
-            served
-        }
+        Ok(map) => serve(rt, map, Peers::Streams, &Looks::new(None)),
         Err(fault) => Err(CommandFault::Store(fault)),
     }
 }

@@ -16,7 +16,16 @@ pub(crate) struct Noted<'a, F> {
     pub(crate) watched: Option<Watched<'a>>,
 }
 
-impl<F> Noted<'_, F> {
+impl<'a, F> Noted<'a, F> {
+    /// A file that isn't watched.
+    pub(crate) fn unwatched(file: F, cause: &'a Cell<Cause>) -> Noted<'a, F> {
+        Noted {
+            file,
+            cause,
+            watched: None,
+        }
+    }
+
     /// What a call came to.
     fn noted(&self, outcome: io::Result<()>) -> io::Result<()> {
         if let Err(error) = outcome {

@@ -15,21 +15,23 @@ pub(crate) enum Peers {
     Port(Listening),
 }
 
-/// Serves a map, over a disk file that is watched meanwhile.
+/// Serves a map, over a disk file that is watched meanwhile, and closes its disk.
 pub(crate) fn serve<D: Sectors + Drop>(
     rt: &HostRuntime,
-    map: &mut MapReplies<D>,
+    mut map: MapReplies<D>,
     peers: Peers,
     looks: &Looks<'_>,
 ) -> Result<(), CommandFault> {
-    match peers {
+    let served = match peers {
         Peers::Streams => {
             looks.begin();
-            match serve_map(rt.alloc(), &mut rt.stdin(), &mut rt.stdout(), map) {
+            match serve_map(rt.alloc(), &mut rt.stdin(), &mut rt.stdout(), &mut map) {
                 Ok(_) => Ok(()),
                 Err(fault) => Err(CommandFault::Connection(fault)),
             }
         }
-        Peers::Port(asked) => serve_connections(rt, asked, map, looks),
-    }
+        Peers::Port(asked) => serve_connections(rt, asked, &mut map, looks),
+    };
+    drop(map.into_service().into_disk());
+    served
 }

@@ -39,12 +39,7 @@ pub(crate) fn done_with_file<S: Start>(
 ) -> Result<(), CommandFault> {
     let OpenedFile { file, place } = opened_file(rt, paths.path)?;
     let cause: Cell<Cause> = Cell::new(None);
-    let file = Noted {
-        file,
-        cause: &cause,
-        watched: None,
-    };
-    let mut disk = FileDisk::new(file, place.bytes, start);
+    let mut disk = FileDisk::new(Noted::unwatched(file, &cause), place.bytes, start);
     let outcome = match task {
         Task::Export => export(rt, &mut disk, place.identity, paths.goal),
         Task::Upgrade => upgrade(rt, &mut disk),
@@ -62,12 +57,7 @@ pub(crate) fn copy_file<S: Start>(
     let (file, mode) = shared_disk(rt, paths.path)?;
     let bytes = file.bytes;
     let cause: Cell<Cause> = Cell::new(None);
-    let file = Noted {
-        file,
-        cause: &cause,
-        watched: None,
-    };
-    let mut disk = FileDisk::new(file, bytes, start);
+    let mut disk = FileDisk::new(Noted::unwatched(file, &cause), bytes, start);
     let outcome = copy_beside(rt, &mut disk, paths.goal, mode);
     drop(disk);
     with_cause(outcome, &cause)
