@@ -50,6 +50,8 @@ def exports(cases, folder):
         for call, at, fault, name in rows:
             cases.show(f"export where {name} fails", failing(call, at, 1, words), refusal(fault))
             cases.show("the goal is as it was, with nothing beside", (content(goal)[0], os.path.exists(goal + ".part")), (b"old", False))
+            told = fault + b": " + goal.encode() + b": Input/output error (os error 5)"
+            cases.show(f"export -v where {name} fails", failing(call, at, 1, [*words, "-v"]), refusal(told))
         cases.show("export where each read of the disk fails", failing("pread64", disk, "1+", words), refusal(b"Device"))
         cases.show("the goal is as it was, with nothing beside", (content(goal)[0], os.path.exists(goal + ".part")), (b"old", False))
     cases.show("the disk is left as it is, and serves", (content(disk)[0] == before, vtserve(["pipe", disk], GET)), (True, (0, reply(TEXT, TILE), b"")))

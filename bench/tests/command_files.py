@@ -1,4 +1,5 @@
 """Cases of `commands.py` about what a file is: opened and locked, lost while it is open, not a regular one, and on a file system that is full."""
+import contextlib
 import os
 import shutil
 import socket
@@ -114,6 +115,7 @@ def small_file_systems(cases, folder):
     small = os.path.join(folder, "small")
     disk, other = os.path.join(small, "disk"), os.path.join(small, "other")
     os.mkdir(small)
+    source, _ = published(folder, "source")
 
     def told(word, path, cause):
         return refusal(word + b": " + path.encode() + b": " + cause)
@@ -131,6 +133,13 @@ def small_file_systems(cases, folder):
         full = told(b"Device", other, b"No space left on device (os error 28)")
         cases.show("format -v on a file system that is full", vtserve(["format", other, "--sectors", "4096", "-v"]), full)
         cases.show("it leaves no file", os.path.exists(other), False)
+        with contextlib.suppress(OSError), open(os.path.join(small, "filler"), "wb", buffering=0) as file:
+            while True:
+                file.write(bytes(4096))
+        full = told(b"File", other, b"No space left on device (os error 28)")
+        for word in ("export", "copy"):
+            cases.show(f"{word} -v on a file system that is full", vtserve([word, source, other, "-v"]), full)
+            cases.show("it leaves no file", (os.path.exists(other), os.path.exists(other + ".part")), (False, False))
         system("mount", "-o", "remount,ro", small)
         cause = b"Read-only file system (os error 30)"
         cases.show("format -v on one that isn't written", vtserve(["format", other, "--sectors", "64", "-v"]), told(b"File", other, cause))

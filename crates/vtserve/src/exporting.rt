@@ -2,13 +2,15 @@
 ghost use Rattle.std.specs.Prelude.{◌≤◌, ◌+◌};
 ghost use Rattle.generations.specs.Areas.{sectors_of};
 
-use crate::fault::CommandFault;
+use crate::fault::{Cause, CommandFault};
+use crate::noted::NotedWriter;
 use crate::place::{Identity, identity_of};
 use crate::printing::print_number;
 use archive_export::{ArchivePlace, CopyFault, copy_archive, find_archive};
 use generations::StoreFault;
 use map_server::sync_folder;
 use sector_disk::Sectors;
+use std::cell::Cell;
 use std::fs::{self, File, OpenOptions, Permissions};
 use std::io::{self, ErrorKind};
 use std::os::unix::fs::{OpenOptionsExt, PermissionsExt};
@@ -21,10 +23,15 @@ fn copy_into<D: Sectors>(
 ) -> Result<(), CommandFault>
     requires on_disk { archive.first + sectors_of archive.len ≤ D.sectors disk.old }
 {
-    match copy_archive(disk, archive, file) {
+    let cause: Cell<Cause> = Cell::new(None);
+    let mut into = NotedWriter {
+        writer: &mut *file,
+        cause: &cause,
+    };
+    match copy_archive(disk, archive, &mut into) {
         Ok(()) => {}
         Err(CopyFault::Device) => return Err(CommandFault::Store(StoreFault::Device)),
-        Err(CopyFault::Write) => return Err(CommandFault::Output(None)),
+        Err(CopyFault::Write) => return Err(CommandFault::Output(cause.get())),
     }
     match file.sync_all() {
         Ok(()) => Ok(()),

@@ -1,11 +1,25 @@
-//! A file of which the last error is noted.
+//! Files and writers of which the last error is noted.
+ghost use Rattle.std.specs.Prelude.{◌≡◌};
 
 use crate::fault::Cause;
 use crate::watching::Watched;
 use file_disk::SectorFile;
 use sector_disk::SECTOR_BYTES;
 use std::cell::Cell;
-use std::io::{self, ErrorKind};
+use std::io::{self, ErrorKind, Write};
+
+/// What a call came to, whose error is noted.
+pub(crate) fn note<T>(cause: &Cell<Cause>, outcome: io::Result<T>) -> io::Result<T>
+    ensures { result ≡ outcome }
+{
+    match outcome {
+        Ok(done) => Ok(done),
+        Err(error) => {
+            cause.set(Some(error));
+            Err(error)
+        }
+    }
+}
 
 /// A file that notes what the system said as a call of it failed, for the command that tells of it. While it is watched, its first write
 /// or sync that fails is told of, and nothing is written to it once it was lost: such a write or sync fails.
@@ -26,20 +40,12 @@ impl<'a, F> Noted<'a, F> {
         }
     }
 
-    /// What a call came to.
-    fn noted(&self, outcome: io::Result<()>) -> io::Result<()> {
-        if let Err(error) = outcome {
-            self.cause.set(Some(error));
-        }
-        outcome
-    }
-
     /// What a write or a sync came to.
     fn told(&self, call: &str, outcome: io::Result<()>) -> io::Result<()> {
         if let (Err(error), Some(watched)) = (outcome, self.watched) {
             watched.tell(format_args!("{call}: {error}"));
         }
-        self.noted(outcome)
+        note(self.cause, outcome)
     }
 
     /// Whether it was lost while it is watched.
@@ -53,13 +59,11 @@ impl<'a, F> Noted<'a, F> {
 
 impl<F: SectorFile> SectorFile for Noted<'_, F> {
     fn read_at(&mut self, into: &mut [u8; SECTOR_BYTES], offset: u64) -> io::Result<()> {
-        let outcome = self.file.read_at(into, offset);
-        self.noted(outcome)
+        note(self.cause, self.file.read_at(into, offset))
     }
 
     fn read_run_at(&mut self, into: &mut [[u8; SECTOR_BYTES]], offset: u64) -> io::Result<()> {
-        let outcome = self.file.read_run_at(into, offset);
-        self.noted(outcome)
+        note(self.cause, self.file.read_run_at(into, offset))
     }
 
     fn write_at(&mut self, from: &[[u8; SECTOR_BYTES]], offset: u64) -> io::Result<()> {
@@ -78,5 +82,22 @@ impl<F: SectorFile> SectorFile for Noted<'_, F> {
             self.file.sync_data()
         };
         self.told("sync", outcome)
+    }
+}
+
+/// A writer that notes what the system said as a write failed.
+#[derive(Drop)]
+pub(crate) struct NotedWriter<'a, W> {
+    pub(crate) writer: &'a mut W,
+    pub(crate) cause: &'a Cell<Cause>,
+}
+
+impl<W: Write> Write for NotedWriter<'_, W> {
+    fn write(&mut self, bytes: &[u8]) -> io::Result<usize> {
+        note(self.cause, self.writer.write(bytes))
+    }
+
+    fn flush(&mut self) -> io::Result<()> {
+        note(self.cause, self.writer.flush())
     }
 }
