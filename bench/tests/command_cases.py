@@ -81,11 +81,16 @@ def published(folder, name):
     return path, vtserve(["pipe", path], DOWNLOAD)[1].partition(b"\r\n\r\n")[2]
 
 
-def failing(call, at, number, words, requests=b"", error="EIO"):
-    """What the program does where the call of the system of this name and number fails, of those on the file or folder at a path.
+def system_call_fails(call, at, number, error="EIO"):
+    """The words before a command that have its call of the system of this name and number fail, of those on the file or folder at a path.
 
     A number with a plus stands for that call and all later ones."""
-    trace = ["strace", "-qq", "-o", os.devnull, "-P", at, "-e", f"trace={call}", "-e", f"inject={call}:error={error}:when={number}"]
+    return ["strace", "-qq", "-o", os.devnull, "-P", at, "-e", f"trace={call}", "-e", f"inject={call}:error={error}:when={number}"]
+
+
+def failing(call, at, number, words, requests=b"", error="EIO"):
+    """What the program does where the call of the system of this name and number fails, of those on the file or folder at a path."""
+    trace = system_call_fails(call, at, number, error)
     child = subprocess.run([*trace, PROGRAM, *words], input=requests, capture_output=True, timeout=60)
     return child.returncode, child.stdout, child.stderr
 

@@ -1,5 +1,5 @@
 #!/usr/bin/env python3
-"""What the commands over files do: `vtserve format`, `pipe`, `serve`, `export`, `upgrade` and `verify`, each case by processes of its own.
+"""What the commands over files do: `vtserve format`, `pipe`, `serve`, `export`, `copy`, `upgrade`, `show` and `verify`, each case by processes of its own.
 
     python3 bench/tests/commands.py [PROGRAM]       PROGRAM is crates/vtserve/out/vtserve, which `rt run` leaves there
 
@@ -14,6 +14,7 @@ import tempfile
 
 from command_archives import large_files, lengths, reads_that_fail
 from command_cases import Cases, published
+from command_copies import appears
 from command_disks import after_a_failed_sync, closed_streams, fails, formats, keeps, refuses, runs_out, stopped_formats
 from command_exports import damaged_exports, exports, stopped_exports
 from command_files import loses, opens, refuses_unusual_files, small_file_systems
@@ -39,6 +40,7 @@ def main():
         exports(cases, folder)
         damaged_exports(cases, folder)
         stopped_exports(cases, folder)
+        appears(cases, folder)
         stopped_formats(cases, folder)
         lengths(cases, folder)
         reads_that_fail(cases, folder)

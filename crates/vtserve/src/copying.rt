@@ -1,6 +1,6 @@
 //! Copies of a disk as of one moment.
 
-use crate::exporting::rename;
+use crate::exporting::settle_name;
 use crate::fault::{Cause, CommandFault};
 use crate::noted::Noted;
 use crate::printing::print_number;
@@ -10,7 +10,7 @@ use generations::{StoreFault, read_root};
 use sector_disk::{SECTOR_BYTES, Sectors};
 use std::cell::Cell;
 use std::fs::{self, File, OpenOptions};
-use std::io::ErrorKind;
+use std::io::{self, ErrorKind};
 use std::os::unix::fs::OpenOptionsExt;
 
 /// How many times a copy is begun at most, where publications pass it by.
@@ -83,27 +83,44 @@ fn copy_anew<D: Sectors>(
 }
 
 /// Refuses a path that leads to something.
-fn check_absent(rt: &HostRuntime, path: &str) -> Result<(), CommandFault> {
+fn check_absent(rt: &HostRuntime, path: &str) -> io::Result<()> {
     match fs::symlink_metadata(rt, path) {
-        Ok(_) => Err(CommandFault::Output(Some(ErrorKind::AlreadyExists.into()))),
+        Ok(_) => Err(ErrorKind::AlreadyExists.into()),
         Err(error) if error.kind() == ErrorKind::NotFound => Ok(()),
-        Err(error) => Err(CommandFault::Output(Some(error))),
+        Err(error) => Err(error),
     }
 }
 
-/// Copies a disk into a new file beside FILE, renames it to FILE, and says how many edits it has. A crash leaves no FILE or the whole
-/// copy.
+/// Moves a file to a path that leads to nothing. It is linked and not renamed, since a link fails where something is, and a rename would
+/// replace a file that appeared there a moment ago. A file system without hard links answers `EPERM` (FAT), `EOPNOTSUPP` or `ENOSYS`.
+fn move_to_absent(rt: &HostRuntime, part: &str, goal: &str) -> io::Result<()> {
+    match fs::hard_link(rt, part, goal) {
+        Ok(()) => fs::remove_file(rt, part),
+        Err(error) => match error.kind() {
+            ErrorKind::PermissionDenied | ErrorKind::Unsupported => {
+                check_absent(rt, goal)?;
+                fs::rename(rt, part, goal)
+            }
+            _ => Err(error),
+        },
+    }
+}
+
+/// Copies a disk into a new file beside FILE, moves it to FILE, and says how many edits it has. A crash leaves no FILE or the whole copy.
 pub(crate) fn copy_beside<D: Sectors>(
     rt: &HostRuntime,
     disk: &mut D,
     goal: &str,
     mode: u32,
 ) -> Result<(), CommandFault> {
-    check_absent(rt, goal)?;
+    if let Err(error) = check_absent(rt, goal) {
+        return Err(CommandFault::Output(Some(error)));
+    }
     let Ok(part) = format!(in rt.alloc(); "{goal}.part") else {
         return Err(CommandFault::Store(StoreFault::Memory));
     };
     let last = copy_anew(rt, disk, part.as_str(), mode)?;
-    rename(rt, part.as_str(), goal)?;
+    let moved = move_to_absent(rt, part.as_str(), goal);
+    settle_name(rt, part.as_str(), goal, moved)?;
     print_number(rt, "", last, " edits")
 }

@@ -39,13 +39,19 @@ fn copy_into<D: Sectors>(
     }
 }
 
-/// Gives a new file its name, which outlives a crash. A file that has this name is replaced. If it can't be given, the new file is removed.
-pub(crate) fn rename(rt: &HostRuntime, part: &str, goal: &str) -> Result<(), CommandFault> {
-    let renamed = match fs::rename(rt, part, goal) {
+/// Has the name that a new file was given outlive a crash. If it wasn't given or the folder can't be synced, the file is removed at its
+/// path before, `part`.
+pub(crate) fn settle_name(
+    rt: &HostRuntime,
+    part: &str,
+    goal: &str,
+    named: io::Result<()>,
+) -> Result<(), CommandFault> {
+    let settled = match named {
         Ok(()) => sync_folder(rt, goal),
         Err(error) => Err(error),
     };
-    match renamed {
+    match settled {
         Ok(()) => Ok(()),
         Err(error) => {
             let _ = fs::remove_file(rt, part);
@@ -109,7 +115,10 @@ fn write_beside<D: Sectors>(
     let copied = copy_into(disk, archive, &mut file);
     drop(file);
     match copied {
-        Ok(()) => rename(rt, part.as_str(), goal),
+        Ok(()) => {
+            let renamed = fs::rename(rt, part.as_str(), goal);
+            settle_name(rt, part.as_str(), goal, renamed)
+        }
         Err(fault) => {
             let _ = fs::remove_file(rt, part.as_str());
             Err(fault)
