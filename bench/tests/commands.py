@@ -12,7 +12,7 @@ import os
 import sys
 import tempfile
 
-from command_archives import large_files, lengths, reads_that_fail
+from command_archives import large_files, lengths, reads_that_fail, shows
 from command_cases import Cases, published
 from command_copies import appears
 from command_disks import after_a_failed_sync, closed_streams, fails, formats, keeps, refuses, runs_out, stopped_formats
@@ -45,6 +45,7 @@ def main():
         lengths(cases, folder)
         reads_that_fail(cases, folder)
         large_files(cases, folder)
+        shows(cases, folder)
         upgrades(cases, folder)
         stopped_upgrades(cases, folder)
         serves(cases, folder)

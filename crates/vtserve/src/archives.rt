@@ -6,6 +6,7 @@ use crate::regular::{ReadFile, open_regular};
 use crate::{Told, ended, refused, refused_file};
 use archive_commands::{ArchiveFault, Verdict, show, verify_stored};
 use file_disk::{FileDisk, Start};
+use pm_header::{HEADER_BYTES, Header, SectionSpan};
 use sector_disk::SECTOR_BYTES;
 use std::cell::Cell;
 use std::fs::{File, Metadata, OpenOptions};
@@ -19,19 +20,44 @@ fn opened_to_read(rt: &HostRuntime, path: &str) -> io::Result<(File, Metadata)> 
     open_regular(rt, path, &how)
 }
 
-/// The bytes of a regular file.
-fn read_regular(rt: &HostRuntime, path: &str) -> io::Result<Vec<u8>> {
-    let (mut file, _) = opened_to_read(rt, path)?;
+/// How many of the first bytes of an archive of this length have all that `show` prints of it, beside its header: those up to the end of
+/// the metadata. Metadata that are compressed or don't end inside the file aren't printed.
+fn shown_end(header: &Header, bytes: u64) -> u64 {
+    let SectionSpan { offset, length } = header.metadata;
+    match offset.checked_add(length) {
+        Some(end) if end <= bytes && header.has_plain_directories() => end,
+        _ => 0,
+    }
+}
+
+/// Reads the header of a file of this length, and what follows it up to the end of the metadata.
+///
+/// `show` prints of these bytes what it prints of the whole file (`IsShown` and `HeaderHas` of `archive_commands`). Fewer than 127 bytes
+/// are the whole file, and of 127 the faults of a header and its fields are those of the file. If the metadata are compressed, that is
+/// all. If they end inside the file, the bytes have all of them. If not, they end after 127 bytes too: `unreadable` of both.
+fn read_shown(file: &mut File, bytes: u64, into: &mut Vec<u8>) -> io::Result<()> {
+    let header_bytes = HEADER_BYTES as u64;
+    file.by_ref().take(header_bytes).read_to_end(into)?;
+    if let Ok(header) = Header::from_bytes(into.as_slice()) {
+        let rest = shown_end(&header, bytes).saturating_sub(header_bytes);
+        file.by_ref().take(rest).read_to_end(into)?;
+    }
+    Ok(())
+}
+
+/// The first bytes of a regular file, as many as `show` needs.
+fn opened_to_show(rt: &HostRuntime, path: &str) -> io::Result<Vec<u8>> {
+    let (mut file, metadata) = opened_to_read(rt, path)?;
     let mut bytes = Vec::new(rt.alloc());
-    match file.read_to_end(&mut bytes) {
-        Ok(_) => Ok(bytes),
+    match read_shown(&mut file, metadata.len(), &mut bytes) {
+        Ok(()) => Ok(bytes),
         Err(error) => Err(error),
     }
 }
 
 /// Prints the header and the metadata of an archive.
 pub(crate) fn show_file(rt: &HostRuntime, path: &str, told: Told) -> ExitCode {
-    let archive = match read_regular(rt, path) {
+    let archive = match opened_to_show(rt, path) {
         Ok(archive) => archive,
         Err(error) => {
             let fault = CommandFault::of_file(error);
