@@ -63,16 +63,17 @@ def damaged_exports(cases, folder):
     layout, goal, path = disks.Layout(64), os.path.join(folder, "saved.pmtiles"), os.path.join(folder, "damaged")
     saved, lost = (0, b"%d bytes\n" % ARCHIVE, b""), refusal(b"Damaged")
     rows = [
-        ("snapshot", layout.area_at(1), b"\xff" * disks.SECTOR, saved),
-        ("journal", layout.place(1), disks.front(0, 2, 0, disks.LAST_VERSION), saved),
-        ("format sector", 0, b"VTILEDSK\0", lost),
-        ("root", 2, b"VTROOT02", lost),
+        ("snapshot", layout.area_at(1), b"\xff" * disks.SECTOR, saved, b"a snapshot"),
+        ("journal", layout.place(1), disks.front(0, 2, 0, disks.LAST_VERSION), saved, b"the journal"),
+        ("format sector", 0, b"VTILEDSK\0", lost, b"its size"),
+        ("root", 2, b"VTROOT02", lost, b"the sector of a root"),
     ]
-    for name, sector, held, wanted in rows:
+    for name, sector, held, wanted, part in rows:
         found = bytearray(content(disk)[0])
         disks.put_at(found, sector, held)
         write(path, found)
         cases.show(f"pipe of a disk whose {name} is damaged", vtserve(["pipe", path], GET), refusal(b"Damaged"))
+        cases.show("pipe -v of it", vtserve(["pipe", path, "-v"], GET), refusal(b"Damaged: " + path.encode() + b": " + part))
         cases.show("export of it", vtserve(["export", path, goal]), wanted)
         there = content(goal)[0] if os.path.exists(goal) else None
         cases.show("what the file has then", there, archive if wanted == saved else None)

@@ -2,6 +2,7 @@
 import contextlib
 import os
 import re
+import resource
 import signal
 import socket
 import threading
@@ -31,6 +32,17 @@ def lost_while_served(folder):
     return read, status, b"vtserve: Device: the disk file was removed\n" in told, 50 <= seconds <= 75 or seconds
 
 
+def out_of_descriptors(disk):
+    """What a process says that may open no further descriptor as its first connection comes: its port, and its outcome."""
+    serving = Serving(disk, 1, "-v")
+    pid = serving.child.pid
+    free = min(set(range(1000)) - set(map(int, os.listdir(f"/proc/{pid}/fd"))))
+    resource.prlimit(pid, resource.RLIMIT_NOFILE, (free, free))
+    with contextlib.suppress(OSError):
+        serving.ask(GET)
+    return serving.port, serving.end()
+
+
 def serves(cases, folder):
     """Connections of a port."""
     disk = os.path.join(folder, "served")
@@ -53,6 +65,8 @@ def serves(cases, folder):
         taken.listen()
         words = ["serve", disk, "--port", str(taken.getsockname()[1]), "--connections", "1"]
         cases.show("serve on a port in use", vtserve(words), refusal(b"Listen"))
+    port, outcome = out_of_descriptors(disk)
+    cases.show("serve -v out of descriptors", outcome, refusal(b"Listen: 127.0.0.1:%d: Too many open files (os error 24)" % port))
     serving = Serving(disk, 1)
     with socket.create_connection(("127.0.0.1", serving.port), timeout=60) as peer:
         peer.sendall(DELETE)

@@ -1,5 +1,7 @@
 """Cases of `commands.py` about command lines: those that don't parse, what `-v` adds, and paths that aren't UTF-8."""
+import fcntl
 import os
+import shutil
 import socket
 
 from command_cases import vtserve
@@ -33,13 +35,17 @@ def words(cases, folder, disk):
 
 
 def told_more(cases, folder, disk):
-    """With `-v` the line of an error goes on with the path, and with the system's word where it is known. `disk` has an archive."""
+    """With `-v` the line of an error goes on with the path, and with the cause where it is known. `disk` has an archive."""
     absent, goal = os.path.join(folder, "absent"), os.path.join(folder, "nowhere", "goal")
     is_missing = b": No such file or directory (os error 2)"
+    limits = b": N is from 64 to 16777216"
+    used = os.path.join(folder, "used")
+    shutil.copy(disk, used)
     short = os.path.join(folder, "short.pmtiles")
     with open(short, "wb") as file:
         file.write(b"PMTiles")
-    with socket.socket() as taken:
+    with open(used, "rb") as lock, socket.socket() as taken:
+        fcntl.flock(lock, fcntl.LOCK_EX)
         taken.bind(("127.0.0.1", 0))
         taken.listen()
         port = str(taken.getsockname()[1])
@@ -52,11 +58,15 @@ def told_more(cases, folder, disk):
             (["upgrade", absent], b"File: " + absent.encode() + is_missing),
             (["export", absent, goal], b"File: " + absent.encode() + is_missing),
             (["export", disk, goal], b"File: " + goal.encode() + is_missing),
-            (["export", disk, disk], b"File: " + disk.encode()),
+            (["export", disk, disk], b"File: " + disk.encode() + b": not a regular file, or the disk itself"),
+            (["pipe", used], b"File: " + used.encode() + b": another process uses it"),
+            (["export", used, absent], b"File: " + used.encode() + b": another process uses it"),
             (["format", disk, "--sectors", "64"], b"File: " + disk.encode() + b": File exists (os error 17)"),
             (["format", os.path.join(absent, "disk"), "--sectors", "64"], b"File: " + os.path.join(absent, "disk").encode() + is_missing),
+            (["format", absent, "--sectors", "63"], b"TooSmall: " + absent.encode() + limits),
+            (["format", absent, "--sectors", "16777217"], b"Damaged: " + absent.encode() + limits),
             (["show", short], b"Short: " + short.encode()),
-            (["demo", "63"], b"TooSmall"),
+            (["demo", "63"], b"TooSmall" + limits),
         ]
         for line, told in rows:
             name = " ".join(word.replace(folder, "FOLDER").replace(port, "PORT") for word in line)

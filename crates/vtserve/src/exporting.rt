@@ -73,7 +73,10 @@ fn replaced_permissions(
         }
         Err(error) if error.kind() == ErrorKind::NotFound => Ok(None),
         Err(error) => Err(CommandFault::Output(Some(error))),
-        Ok(_) => Err(CommandFault::Output(None)),
+        Ok(_) => Err(CommandFault::Output(Some(io::Error::new(
+            ErrorKind::InvalidInput,
+            "not a regular file, or the disk itself",
+        )))),
     }
 }
 

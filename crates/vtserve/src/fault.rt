@@ -1,13 +1,13 @@
 //! Why a command fails.
 
-use generations::StoreFault;
+use generations::{MAX_SECTORS, MIN_SECTORS, StoreFault, What};
 use http_serve::ServeFault;
 use map_server::FileFault;
 use std::cell::Cell;
 use std::fmt;
 use std::io::{self, ErrorKind};
 
-/// What the system said, where it is known.
+/// What is known of a cause: what the system said, or our own words where it says too little.
 pub(crate) type Cause = Option<io::Error>;
 
 /// The faults of commands.
@@ -21,6 +21,10 @@ pub(crate) enum CommandFault {
     NoArchive,
     /// Publications passed by each copy that was begun.
     Busy,
+    /// A disk is to have fewer sectors than the least.
+    FewSectors,
+    /// A disk is to have more sectors than the most.
+    ManySectors,
     /// The disk isn't ready for a service, or can't be read.
     Store(StoreFault),
     /// A call of the disk's file failed.
@@ -48,7 +52,16 @@ impl CommandFault {
     pub(crate) fn of_format(fault: FileFault) -> CommandFault {
         match fault {
             FileFault::File(error) => CommandFault::File(Some(error)),
-            FileFault::Store(fault) => CommandFault::Store(fault),
+            FileFault::Store(fault) => CommandFault::of_new_disk(fault),
+        }
+    }
+
+    /// Why a new disk doesn't hold the empty map.
+    pub(crate) fn of_new_disk(fault: StoreFault) -> CommandFault {
+        match fault {
+            StoreFault::TooSmall => CommandFault::FewSectors,
+            StoreFault::Damaged(What::Size) => CommandFault::ManySectors,
+            _ => CommandFault::Store(fault),
         }
     }
 
@@ -59,8 +72,8 @@ impl CommandFault {
             CommandFault::NoArchive => "NoArchive",
             CommandFault::Busy => "Busy",
             CommandFault::Store(StoreFault::NotFormatted) => "NotFormatted",
-            CommandFault::Store(StoreFault::TooSmall) => "TooSmall",
-            CommandFault::Store(StoreFault::Damaged(_)) => "Damaged",
+            CommandFault::FewSectors | CommandFault::Store(StoreFault::TooSmall) => "TooSmall",
+            CommandFault::ManySectors | CommandFault::Store(StoreFault::Damaged(_)) => "Damaged",
             CommandFault::Store(StoreFault::Memory)
             | CommandFault::Connection(ServeFault::Memory) => "Memory",
             CommandFault::Store(StoreFault::Device)
@@ -74,7 +87,7 @@ impl CommandFault {
         }
     }
 
-    /// What the system said, where it is known.
+    /// What is known of its cause.
     fn cause(&self) -> Cause {
         match self {
             CommandFault::File(cause)
@@ -107,7 +120,7 @@ pub(crate) struct Paths<'a> {
     pub(crate) goal: &'a str,
 }
 
-/// A fault of a command over these paths, with what it is about, and what the system said where it is known.
+/// A fault of a command over these paths, with what it is about, and its cause where that is known.
 #[derive(Clone, Copy)]
 pub(crate) struct Report<'a> {
     pub(crate) fault: CommandFault,
@@ -128,9 +141,15 @@ impl fmt::Display for Report<'_> {
             _ => write!(f, "{name}: {path}"),
         };
         written?;
-        match self.fault.cause() {
-            Some(cause) => write!(f, ": {cause}"),
-            None => Ok(()),
+        match self.fault {
+            CommandFault::FewSectors | CommandFault::ManySectors => {
+                write!(f, ": N is from {MIN_SECTORS} to {MAX_SECTORS}")
+            }
+            CommandFault::Store(StoreFault::Damaged(what)) => write!(f, ": {what}"),
+            _ => match self.fault.cause() {
+                Some(cause) => write!(f, ": {cause}"),
+                None => Ok(()),
+            },
         }
     }
 }

@@ -74,7 +74,10 @@ fn lock(rt: &HostRuntime, file: &File) -> Result<(), CommandFault> {
             Ok(())
         }
         Err(TryLockError::Error(error)) => Err(CommandFault::File(Some(error))),
-        Err(TryLockError::WouldBlock) => Err(CommandFault::File(None)),
+        Err(TryLockError::WouldBlock) => {
+            let cause = io::Error::new(ErrorKind::WouldBlock, "another process uses it");
+            Err(CommandFault::File(Some(cause)))
+        }
     }
 }
 

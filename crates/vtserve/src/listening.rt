@@ -6,7 +6,7 @@ ghost use Rattle.tile_service.specs.Machine.{Happening};
 ghost use Rattle.tile_service.specs.Runs.{TakesRun};
 
 use crate::descriptors::max_connections;
-use crate::fault::CommandFault;
+use crate::fault::{Cause, CommandFault};
 use crate::looks::Looks;
 use crate::printing::print_number;
 use crate::watching::Halting;
@@ -17,6 +17,7 @@ use libc::net::listen;
 use map_replies::MapReplies;
 use map_server::serve_map_on;
 use sector_disk::Sectors;
+use std::cell::Cell;
 use std::io::{self, LineWriter, Write};
 use std::net::{Ipv4Addr, SocketAddr, TcpListener};
 use std::os::fd::AsRawFd;
@@ -86,10 +87,12 @@ fn serve_log<D: Sectors + Drop, W: Write>(
         (TellsRead D.sectors D.honest D.history D.faults) (course service.old []) served (course service.new run)
         × TakesRun D.sectors D.honest D.history (asked_service service.old) run (asked_service service.new)) }
 {
+    let cause: Cell<Cause> = Cell::new(None);
     let mut listener = Halting {
         listener: listener_on(rt, asked.port)?,
         halts: asked.stops,
         looks,
+        cause: &cause,
     };
     looks.begin();
     let connections = u64::from(asked.connections);
@@ -100,7 +103,7 @@ fn serve_log<D: Sectors + Drop, W: Write>(
         Ok(()) => Ok(()),
         Err(ListenFault::Accept) => Err(CommandFault::Listen {
             port: asked.port,
-            cause: None,
+            cause: cause.get(),
         }),
     }
 }

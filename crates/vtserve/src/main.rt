@@ -48,7 +48,7 @@ fn refused(rt: &HostRuntime, why: impl Display + Drop) -> ExitCode {
 pub(crate) enum Told {
     /// Its name.
     Name,
-    /// Its name, the path, and what the system said where it is known.
+    /// Its name, the path, and its cause where that is known.
     Cause,
 }
 
@@ -81,7 +81,7 @@ fn ended(
 fn demo(rt: &HostRuntime, sectors: u64, access: Access) -> Result<(), CommandFault> {
     match fresh_service(rt.alloc(), sectors, access) {
         Ok(map) => serve(rt, map, Peers::Streams, &Looks::new(None)),
-        Err(fault) => Err(CommandFault::Store(fault)),
+        Err(fault) => Err(CommandFault::of_new_disk(fault)),
     }
 }
 

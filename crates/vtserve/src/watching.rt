@@ -1,6 +1,8 @@
 //! A disk file that fails, and what follows.
 
+use crate::fault::Cause;
 use crate::looks::Looks;
+use crate::noted::note;
 use crate::place::OpenPath;
 use http_listen::{Places, Waits};
 use std::cell::Cell;
@@ -50,7 +52,8 @@ impl Watched<'_> {
     }
 }
 
-/// A listener that has the disk file looked at, and may stop once it has failed.
+/// A listener that has the disk file looked at, and may stop once it has failed. It notes what the system said as a connection couldn't be
+/// accepted or waited for.
 #[derive(Drop)]
 pub(crate) struct Halting<'a, 'b, L> {
     pub(crate) listener: L,
@@ -58,13 +61,14 @@ pub(crate) struct Halting<'a, 'b, L> {
     pub(crate) halts: bool,
     /// What looks at the file while requests come.
     pub(crate) looks: &'a Looks<'b>,
+    pub(crate) cause: &'a Cell<Cause>,
 }
 
 impl<L: Waits> Waits for Halting<'_, '_, L> {
     type Stream = L::Stream;
 
     fn accept(&self) -> io::Result<L::Stream> {
-        self.listener.accept()
+        note(self.cause, self.listener.accept())
     }
 
     fn max_open(&self) -> usize {
@@ -76,7 +80,7 @@ impl<L: Waits> Waits for Halting<'_, '_, L> {
     }
 
     fn wait(&mut self, longest: Duration, places: &mut Places<L::Stream>) -> io::Result<bool> {
-        self.listener.wait(longest, places)
+        note(self.cause, self.listener.wait(longest, places))
     }
 
     fn stops(&self) -> bool {
