@@ -116,7 +116,7 @@ const ADMIN: Word = Word {
     name: "ADMIN",
     given: Given::Long("admin"),
     takes: Takes::Nothing,
-    help: "Serves the paths under /admin/ too: the status, and the list of features",
+    help: "Serves the paths under /admin/ too: the status, the list of features, and checked edits",
 };
 
 /// Whether the first failure of the disk ends the command.
@@ -125,7 +125,7 @@ const STOPS: Word = Word {
     name: "STOPS",
     given: Given::Long("stop-when-broken"),
     takes: Takes::Nothing,
-    help: "Ends with status 1 after the current connection once a write or sync of the disk failed",
+    help: "Ends with status 1 once a write or sync of the disk failed, after the requests seen by then",
 };
 
 /// How much is told of an error.
@@ -134,7 +134,7 @@ const VERBOSE: Word = Word {
     name: "VERBOSE",
     given: Given::Short('v'),
     takes: Takes::Nothing,
-    help: "Tells the path and the system's word with an error",
+    help: "Tells the path and the cause with an error",
 };
 
 /// A command: its name, its arguments and its help.
