@@ -13,7 +13,8 @@ show a feature. A feature that the import has cut is one feature here.
 meanwhile is left as it is on the map, and listed with both changes as a conflict; --mine 7,9 puts what you changed of these over what others
 changed, and keeps what they changed beside it. What others changed elsewhere is listed too. New features get ids that are free. Large shapes
 are cut for that (needs GDAL's Python module: run it by /usr/bin/python3). What was sent is remembered in the file, so a second `checkin` sends
-the rest. --dry-run sends nothing and lists.
+the rest. What is sent for new features is noted before it is sent: if no reply comes, the next `checkin` finds what was made, also if it was
+edited since in the file. --dry-run sends nothing and lists.
 
 The server needs --admin. It ends with 1 if there are conflicts or refusals, with 2 if the file or the command is wrong, with 3 if the
 server doesn't answer, with 130 if it is interrupted.
@@ -27,7 +28,7 @@ from collections import Counter
 import geopackage
 from edits import checked, delete, put
 from ending import regular, run
-from gis_file import ZOOMS, Checkout, Unusable, write
+from gis_file import ZOOMS, Checkout, Unusable, there, write
 from map_client import Client, NoAnswer, Stopped
 from wholes import OUTLINE, PIECE, WHOLE, wholes_of
 
@@ -95,8 +96,8 @@ def needed(status):
 
 # ---- checkin
 
-def pieces_of(row):
-    """The features by their ids that a row is to be on the map. Raises `Unfit`."""
+def pieces_of(row, now):
+    """The features by their ids that a row is to be on the map. Raises `Unfit`. A new row has no id that is somebody else's."""
     base, feature = row.base, row.feature
     if feature is None:
         return {}
@@ -110,8 +111,9 @@ def pieces_of(row):
     ids = [row.number, *(number for number in (base.pieces if base else ()) if number != row.number)]
     step = 1
     while len(ids) < len(made):
-        if row.number + step * PIECE not in ids:
-            ids.append(row.number + step * PIECE)
+        number = row.number + step * PIECE
+        if number not in ids and (base is not None or number in row.seen or number not in now):
+            ids.append(number)
         step += 1
     return dict(zip(ids, made))
 
@@ -152,6 +154,11 @@ def seen_of(base, now):
     return whole and whole._replace(pieces=pieces)
 
 
+def there_of(row, now):
+    """What the map has of a row that is sent: of a new one, what was sent for it before, since its author has seen nothing else."""
+    return there([*row.base.pieces, *(number for number in row.wanted if number not in row.base.pieces)], now) if row.base else row.seen
+
+
 class Checkin:
     """Sends what was changed, and counts."""
 
@@ -164,6 +171,7 @@ class Checkin:
         """Sends what was changed in the file."""
         status = needed(self.client.status())
         now = dict(self.client.features())
+        self.adopt(now)
         rows = list(self.file.rows())
         for fault in self.file.unreadable:
             self.refused += 1
@@ -181,14 +189,24 @@ class Checkin:
         if len(gone) > max(MANY, len(self.file.base) // 2) and not self.words.delete_many:
             raise Unusable(f"{len(gone):,} of {len(self.file.base):,} features are gone from the file: give --delete-many if they are to be deleted")
 
+    def adopt(self, now):
+        """Finds the new features of an earlier checkin that are on the map, though no reply said so."""
+        self.file.part(now)
+        for row in self.file.adopt(now):
+            print(f"on the map already: {row}: new")
+            if not self.words.dry_run:
+                self.finish(row)
+
     def give_ids(self, rows, now, free):
-        """Gives new features ids that are free. Each is noted in the file, so that a feature is made once if this process ends before the reply."""
+        """Gives new features ids that are free, on the map and in the file. A row keeps the one that was noted for it, if nobody else has it."""
+        given, taken = set(), self.file.ids()
         for row in rows:
-            row.number = self.file.noted.get((row.table, row.fid))
-            if row.number is None or now.get(row.number, row.feature) != row.feature:
-                row.number, free = free, free + 1
-        if not self.words.dry_run:
-            self.file.note(rows)
+            if not self.file.keeps_id(row, now) or row.number in given:
+                while free in taken or free in now:
+                    free += 1
+                row.number, row.sent, row.seen = free, [], {}
+                taken.add(free)
+            given.add(row.number)
 
     def is_sent(self, row, now):
         """Whether a row is to be sent: what the map has of it is what was checked out, or its author says so."""
@@ -197,7 +215,7 @@ class Checkin:
         try:
             if base and str(row.number) in self.words.mine:
                 row.put_over(theirs)
-            row.wanted = pieces_of(row)
+            row.wanted = pieces_of(row, now)
         except Unfit as fault:
             self.refused += 1
             print(f"refused: {row}: {fault}")
@@ -206,9 +224,9 @@ class Checkin:
             self.conflicts += 1
             print(f"conflict: {row}: yours: {mine}; on the map now: {told_change(base.feature, theirs and theirs.feature)}")
             return False
-        there = {number: now[number] for number in {*(row.base.pieces if row.base else ()), *row.wanted} if number in now}
-        row.changes = [checked(put(number, feature), there.get(number)) for number, feature in row.wanted.items() if feature != there.get(number)]
-        row.changes += [checked(delete(number), feature) for number, feature in there.items() if number not in row.wanted]
+        was = there_of(row, now)
+        row.changes = [checked(put(number, feature), was.get(number)) for number, feature in row.wanted.items() if feature != was.get(number)]
+        row.changes += [checked(delete(number), feature) for number, feature in was.items() if number not in row.wanted]
         print(f"{'would be sent' if self.words.dry_run else 'sending' if row.changes else 'on the map already'}: {row}: {mine}")
         return True
 
@@ -218,8 +236,11 @@ class Checkin:
         return any(now.get(number) not in (row.base.pieces.get(number), row.wanted.get(number)) for number in ids)
 
     def send(self, rows):
-        """Sends rows, and remembers those that are made."""
+        """Sends rows, and remembers those that are made. What is sent for new ones is noted before: they are made once if no reply comes."""
         owners = {change.number: row for row in rows for change in row.changes}
+        if len({row.number for row in rows}) < len(rows) or len(owners) < sum(len(row.changes) for row in rows):
+            raise Unusable("two rows have one id, which is a fault of this program: nothing was sent")
+        self.file.note([row for row in rows if row.shown is None])
         left = Counter(row.number for row in owners.values())
         for change, refusal in self.client.make(change for row in rows for change in row.changes):
             row = owners[change.number]

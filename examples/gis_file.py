@@ -4,7 +4,7 @@ it was as it was checked out, and which tag each column is. Needs no package.
 import json
 import os
 import sqlite3
-from collections import Counter, defaultdict
+from collections import Counter, defaultdict, namedtuple
 
 import geopackage
 from wholes import wholes_of
@@ -20,6 +20,14 @@ MEMORY = """
     CREATE TABLE gpkg_vtserve_features (name TEXT NOT NULL, fid INTEGER NOT NULL, id INTEGER NOT NULL, pieces TEXT NOT NULL, shown TEXT,
         PRIMARY KEY (name, fid));
 """
+# What was sent for rows of which it isn't known whether they are on the map. Files of an earlier program have no such table.
+SENT = """
+    CREATE TABLE IF NOT EXISTS gpkg_vtserve_sent (name TEXT NOT NULL, fid INTEGER NOT NULL, id INTEGER NOT NULL, sent TEXT NOT NULL,
+        PRIMARY KEY (name, fid))
+"""
+
+# What was sent once for a new row: what the row `said`, and the features by their ids.
+Sent = namedtuple("Sent", "said pieces")
 
 
 class Unusable(Exception):
@@ -142,13 +150,14 @@ def write(path, wholes, told):
 
 class Row:
     """A feature of the file: what it `said` is now (None: deleted), what it `shown` was before, and the whole of the map that it was made of
-    (`base`). The latter two are None of a new one. `feature` is what it is to be on the map."""
+    (`base`). The latter two are None of a new one, of which the map may have some of what was `sent` before: `seen`, by the ids. `feature` is
+    what it is to be on the map."""
 
     def __init__(self, table, fid, base, shown, said):
         self.table, self.fid, self.base, self.shown, self.said = table, fid, base, shown, said
         self.feature = merged(shown, said, base.feature) if base else said
         self.number = base.number if base else None
-        self.wanted, self.refusals = {}, []
+        self.sent, self.seen, self.wanted, self.refusals = [], {}, {}, []
 
     def put_over(self, theirs):
         """Puts what was changed in the file over what somebody else has made of the feature, a whole or None."""
@@ -195,6 +204,7 @@ class Checkout:
         self.shown = {key: base.feature for key, base in self.base.items()}
         self.shown.update({(name, fid): json.loads(shown) for name, fid, _, _, shown in kept if shown})
         self.noted = {(name, fid): number for name, fid, number, pieces, _ in kept if pieces == NOTHING}
+        self.sent = self.sent_before()
         self.unreadable = []
 
     def lock(self, path):
@@ -204,6 +214,56 @@ class Checkout:
             self.file.rollback()
         except sqlite3.OperationalError as fault:
             raise Unusable(f"{path} can't be written ({fault}): save the edits in the other program, and close the file there") from fault
+
+    def sent_before(self):
+        """What was sent for new rows by the ids that are noted for them, by table and row."""
+        if not self.file.execute("SELECT 1 FROM sqlite_master WHERE name = 'gpkg_vtserve_sent'").fetchone():
+            return {}
+        found = self.file.execute("SELECT name, fid, id, sent FROM gpkg_vtserve_sent").fetchall()
+        return {(name, fid): [Sent(said, {int(piece): feature for piece, feature in pieces.items()}) for said, pieces in json.loads(sent)]
+                for name, fid, number, sent in found if self.noted.get((name, fid)) == number}
+
+    def ids(self):
+        """Each id that the file has of a feature."""
+        pieces = [*(base.pieces for base in self.base.values()), *(one.pieces for sent in self.sent.values() for one in sent)]
+        return {*self.noted.values(), *(number for features in pieces for number in features)}
+
+    def part(self, now):
+        """Leaves an id that an earlier program gave to several rows to one of them: the one that the map has, or the first. The others are new
+        rows without an id. A row whose own number is the id was checked out, and stays as it is."""
+        claims = defaultdict(list)
+        for key, number in sorted([*((key, base.number) for key, base in self.base.items()), *self.noted.items()]):
+            claims[number].append(key)
+        for number, keys in claims.items():
+            made = [key for key in keys if key in self.base and there(self.base[key].pieces, now) == self.base[key].pieces]
+            checked_out = [key for key in keys if key in self.base and key[1] == number]
+            owner = [*made, *checked_out, *keys][0]
+            for key in keys:
+                if key != owner and key not in checked_out:
+                    for known in (self.base, self.shown, self.noted, self.sent):
+                        known.pop(key, None)
+
+    def adopt(self, now):
+        """Takes new rows that the map has as they were sent for rows that were checked out. Returns each as it was sent."""
+        made = []
+        for (table, fid), sent in self.sent.items():
+            found = there([number for one in sent for number in one.pieces], now)
+            is_there = [one for one in sent if one.pieces == found]
+            if is_there:
+                row = Row(table, fid, None, None, is_there[-1].said)
+                row.number, row.wanted = self.noted.pop((table, fid)), found
+                self.base[table, fid], self.shown[table, fid] = base_of(found), row.said
+                made.append(row)
+        return made
+
+    def keeps_id(self, row, now):
+        """Gives a new row the id that is noted for it. Returns whether there is one, of which the map has nothing but what was sent."""
+        key = row.table, row.fid
+        row.number, row.sent = self.noted.get(key), self.sent.get(key, [])
+        # An earlier program noted the id alone.
+        sent = row.sent or [Sent(row.said, {row.number: row.feature})]
+        row.seen = there([number for one in sent for number in one.pieces], now)
+        return row.number is not None and all(any(one.pieces.get(number) == feature for one in sent) for number, feature in row.seen.items())
 
     def rows(self):
         """The rows that were changed, are new, or are gone."""
@@ -245,18 +305,28 @@ class Checkout:
         return Counter(tuple(zooms) for _, *zooms in self.layers.values()).most_common(1)[0][0]
 
     def note(self, rows):
-        """Notes the ids of new rows before they are sent."""
+        """Notes the ids of new rows, and what is sent for them, before it is sent. What was sent before may be made yet: it stays noted."""
         with self.file:
+            self.file.execute(SENT)
             remember(self.file, [(row.table, row.fid, row.number, {}, None) for row in rows])
+            for row in rows:
+                sent = [*(one for one in row.sent if one != (row.said, row.wanted)), (row.said, row.wanted)]
+                self.file.execute("INSERT OR REPLACE INTO gpkg_vtserve_sent VALUES (?, ?, ?, ?)", (row.table, row.fid, row.number, json.dumps(sent)))
 
     def remember(self, row):
         """Remembers what was sent."""
         with self.file:
+            self.file.execute("DELETE FROM gpkg_vtserve_sent WHERE name = ? AND fid = ?", (row.table, row.fid))
             if row.wanted:
                 shown = row.said if row.said != base_of(row.wanted).feature else None
                 remember(self.file, [(row.table, row.fid, row.number, row.wanted, shown)])
             else:
                 self.file.execute("DELETE FROM gpkg_vtserve_features WHERE name = ? AND fid = ?", (row.table, row.fid))
+
+
+def there(numbers, now):
+    """What the map has of these ids."""
+    return {number: now[number] for number in numbers if number in now}
 
 
 def base_of(pieces):

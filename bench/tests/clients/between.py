@@ -1,5 +1,5 @@
 """A stand-in for what happens between a script and the server: requests are passed on, some after something else has happened, some without
-a reply."""
+a reply, and some not at all, which a proxy may answer."""
 import http.client
 import http.server
 import threading
@@ -14,6 +14,11 @@ class Passes(http.server.BaseHTTPRequestHandler):
         body = self.rfile.read(int(self.headers.get("content-length", 0)))
         between = self.server.between
         between.before(self.command, self.path)
+        between.asked.append((self.command, self.path, self.headers.get("authorization")))
+        instead = between.instead(self.command, self.path)
+        if instead is not None:
+            self.answer(*instead)
+            return
         connection = http.client.HTTPConnection("127.0.0.1", between.port, timeout=120)
         connection.request(self.command, self.path, body)
         reply = connection.getresponse()
@@ -22,8 +27,15 @@ class Passes(http.server.BaseHTTPRequestHandler):
         if between.loses(self.command, self.path):
             self.close_connection = True
             return
-        self.send_response(reply.status)
-        if reply.status != 204:
+        self.answer(reply.status, content)
+
+    def answer(self, status, content):
+        """Sends a reply; status 0 is none."""
+        if status == 0:
+            self.close_connection = True
+            return
+        self.send_response(status)
+        if status != 204:
             self.send_header("content-length", str(len(content)))
         self.end_headers()
         self.wfile.write(content)
@@ -35,10 +47,11 @@ class Passes(http.server.BaseHTTPRequestHandler):
 
 
 class Between:
-    """A port whose requests are passed on to a server. `before(method, path)` is called first; a reply is lost if `loses(method, path)`."""
+    """A port whose requests are passed on to a server. `before(method, path)` is called first; a reply is lost if `loses(method, path)`. If
+    `instead(method, path)` is a status and a content, these are the reply, and the server isn't asked."""
 
-    def __init__(self, server, before=lambda *_: None, loses=lambda *_: False):
-        self.port, self.before, self.loses = server.port, before, loses
+    def __init__(self, server, before=lambda *_: None, loses=lambda *_: False, instead=lambda *_: None):
+        self.port, self.before, self.loses, self.instead, self.asked = server.port, before, loses, instead, []
 
     def __enter__(self):
         self.server = http.server.ThreadingHTTPServer(("127.0.0.1", 0), Passes)

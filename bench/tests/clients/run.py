@@ -24,6 +24,7 @@ import time
 
 from admin import admin
 from batches import batches
+from checkins import checkins
 from direct import direct
 from editors import editors
 from endings import endings
@@ -648,6 +649,7 @@ def main():
         "screens": screens,
         "page": page,
         "desktop": desktop,
+        "checkins": checkins,
         "gdal": gdal,
         "large": large,
         "import": imports,
