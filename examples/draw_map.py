@@ -16,6 +16,7 @@ try:
 except ImportError:
     sys.exit("Pillow is needed: install python3-pil, and run this by /usr/bin/python3")
 
+from address import shown
 from ending import run
 from map_client import Client, NoAnswer, Stopped, word
 from protobuf import fields, varint
@@ -246,7 +247,7 @@ def main():
     except (NoAnswer, Stopped) as fault:
         sys.exit(str(fault))
     except (LookupError, ValueError, struct.error):
-        sys.exit(f"what answers at {words.url} sends no tiles: is --url right?")
+        sys.exit(f"what answers at {shown(words.url)} sends no tiles: is --url right?")
     names = [*STYLES, *sorted({name for layers in tiles.values() for name in layers} - set(STYLES))]
     picture = Picture(words.zoom, left, top, words.size)
     for name in names:

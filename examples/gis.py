@@ -82,7 +82,7 @@ def checkout(words, client):
     wholes = [whole for whole in wholes_of(client.features()) if choice.has(whole)]
     if not wholes:
         raise Unusable("the map has no such features")
-    tables = write(words.file, wholes, {"url": words.url, "edit": status["edits"], "layers": words.layer, "bbox": words.bbox})
+    tables = write(words.file, wholes, {"url": client.address, "edit": status["edits"], "layers": words.layer, "bbox": words.bbox})
     print(f"{words.file}: {len(wholes):,} features in {tables} tables, of edit {status['edits']}")
     return 0
 

@@ -200,13 +200,13 @@ def tell_disk(client):
               f"{area['used']:,} of {area['sectors']:,} of an area by what was published last")
 
 
-def tell_place(words, client, plan):
+def tell_place(client, plan):
     """Prints where the data is."""
     if plan.box is None:
         return
     status, _ = client.ask("GET", "/pages/")
     place = f"/pages/#{plan.place()}"
-    print("look at it: " + (words.url.rstrip("/") + place if status == 200 else f"{place} at the address of the nginx in front of the server"))
+    print("look at it: " + (client.address + place if status == 200 else f"{place} at the address of the nginx in front of the server"))
 
 
 def work(words, client):
@@ -228,7 +228,7 @@ def work(words, client):
     try:
         send(client, changes)
         tell_disk(client)
-        tell_place(words, client, plan)
+        tell_place(client, plan)
     except NoAnswer as fault:
         print(f"feature {client.last}: {fault}")
         print(f"{changes.so_far()}, then the server didn't answer: {again(words, plan)}")

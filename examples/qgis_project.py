@@ -145,14 +145,15 @@ def main():
     words = parser.parse_args()
     url = words.url.rstrip("/")
     try:
-        layers, (west, south, east, north) = looked_at(Client(url), words)
+        client = Client(words.url)
+        layers, (west, south, east, north) = looked_at(client, words)
     except (NoAnswer, Stopped) as fault:
         sys.exit(str(fault))
     except (LookupError, TypeError):
-        sys.exit(f"what answers at {url} is no vtserve: is --url right?")
+        sys.exit(f"what answers at {client.address} is no vtserve: is --url right?")
     maxzoom = max(layers.values(), default=0) if words.maxzoom is None else words.maxzoom
     red, green, blue = background()
-    tiles = urllib.parse.quote(url + "/map/", safe=":/") + "{z}/{x}/{y}.mvt"
+    tiles = urllib.parse.quote(client.address + "/map/", safe=":/") + "{z}/{x}/{y}.mvt"
     source = f"type=xyz&url={tiles}&zmin=0&zmax={maxzoom}"
     project = PROJECT.format(
         name=escape(words.name, {'"': "&quot;"}),

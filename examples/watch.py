@@ -17,8 +17,10 @@ import json
 import os
 import time
 import urllib.error
+import urllib.parse
 import urllib.request
 
+from address import address, shown
 from ending import regular, run
 
 SECTOR, DAY = 512, 24 * 3600
@@ -32,6 +34,7 @@ SOON, NOW, UNKNOWN = 1, 2, 3
 LARGER = "move the map to a larger disk (docs/DEPLOYING.md): once it is full, nothing can be published, and when the journal is full too, nothing can be edited"
 IN_FRONT = "the proxy in front of the server answers, but the server doesn't: systemctl status vtserve"
 FAULTS = {
+    401: (UNKNOWN, "a name and a password are needed: in the URL, or in VTSERVE_USER and VTSERVE_PASSWORD"),
     403: (UNKNOWN, "the proxy in front of the server doesn't let this machine see it (`allow` in docs/nginx.conf)"),
     404: (UNKNOWN, "is the server started with --admin?"),
     421: (UNKNOWN, "the proxy in front of the server doesn't know this name (`server_name` in docs/nginx.conf)"),
@@ -66,16 +69,20 @@ class Unseen(Exception):
 def status_of(url):
     """What the server tells of itself."""
     try:
-        with urllib.request.urlopen(url, timeout=60) as reply:
+        parts, person = address(url)
+        request = urllib.request.Request(urllib.parse.urlunsplit(parts))
+        for name, value in person.items():
+            request.add_unredirected_header(name, value)
+        with urllib.request.urlopen(request, timeout=60) as reply:
             status = json.load(reply)
         if not isinstance(status, dict) or not {"journal", "area", "left", "generation"} <= set(status):
             raise ValueError("this isn't what a vtserve tells of itself")
         return status
     except urllib.error.HTTPError as error:
         level, text = FAULTS.get(error.code, (NOW, "it isn't the reply of a vtserve"))
-        raise Unseen(level, f"{url}: {error.code}: {text}") from error
+        raise Unseen(level, f"{shown(url)}: {error.code}: {text}") from error
     except (OSError, ValueError, http.client.HTTPException) as error:
-        raise Unseen(NOW, f"{url}: {getattr(error, 'reason', None) or error}") from error
+        raise Unseen(NOW, f"{shown(url)}: {getattr(error, 'reason', None) or error}") from error
 
 
 def replace(path, text):

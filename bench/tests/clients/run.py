@@ -26,6 +26,7 @@ from admin import admin
 from batches import batches
 from checkins import checkins
 from direct import direct
+from doors import doors
 from editors import editors
 from endings import endings
 from imports import disk_full, imports, kills, large
@@ -659,6 +660,7 @@ def main():
         "batches": batches,
         "editors": editors,
         "endings": endings,
+        "doors": doors,
         "steps": steps,
         "disk-full": disk_full,
         "kills": kills,
