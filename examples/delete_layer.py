@@ -21,7 +21,7 @@ from itertools import chain
 
 from edits import DELETES_OF_A_SECTOR, batches, checked, delete
 from ending import run
-from map_client import Client, NoAnswer, Stopped, ranges
+from map_client import Client, Full, NoAnswer, Stopped, ranges
 
 
 def found_in(client, layers, numbers):
@@ -45,7 +45,7 @@ def changes_for(client, found):
     if len(list(batches(made, client.most))) > status["journal"]["places"] - status["journal"]["used"]:
         try:
             client.publish()
-        except Stopped as fault:
+        except Full as fault:
             print(f"note: {fault}. Features are deleted without looking at them again", flush=True)
             return plain
     return made
@@ -62,8 +62,11 @@ def delete_all(client, found, deleted):
 
 
 def tell_rest(client, found, deleted):
-    """Says what is left, and what room the journal has."""
-    status = client.status()
+    """Says what is left, and what room the journal has, if the server tells it."""
+    try:
+        status = client.status()
+    except (NoAnswer, Stopped):
+        status = None
     room = "" if status is None else f"; the journal has {status['journal']['places'] - status['journal']['used']:,} of its sectors free"
     print(f"{len(found) - deleted.total():,} features are left{room}")
 

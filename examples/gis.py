@@ -90,7 +90,7 @@ def checkout(words, client):
 def needed(status):
     """The status, which a server without --admin doesn't tell."""
     if status is None:
-        raise Stopped("the server doesn't list its features: start it with --admin, or use an address from where that is allowed (docs/nginx.conf)")
+        raise Stopped("the server doesn't list its features: start it with --admin")
     return status
 
 

@@ -192,8 +192,11 @@ def send(client, changes):
 
 
 def tell_disk(client):
-    """Prints what of the disk is used after the import."""
-    status = client.status()
+    """Prints what of the disk is used after the import, if the server tells it."""
+    try:
+        status = client.status()
+    except Stopped:
+        return
     if status is not None:
         journal, area = status["journal"], status["area"]
         print(f"used: {journal['used']:,} of {journal['places']:,} sectors of the journal until the next publication, "
@@ -223,6 +226,9 @@ def work(words, client):
     if not has_room(words, client, status, changes):
         print("nothing was sent")
         return 1
+    # Without --admin nothing that is sent is checked.
+    if status is None and client.status() is not None:
+        raise Stopped("the server tells what the map has, which it didn't when it was asked first: run the same command again")
     if plan.ids:
         plan.ids.save()
     try:

@@ -37,7 +37,7 @@ from disk_file import Damaged, moment_of
 from edits import MOST_CHANGES, NOTHING, encoded, put
 from ending import regular, run
 from geojson import feature_of, geojson_of
-from map_client import Client, NoAnswer, Stopped, ranges
+from map_client import Client, NoAnswer, Stopped, ranges, word
 from wholes import wholes_of
 
 START, END = '{"type":"FeatureCollection","features":[', "\n]}\n"
@@ -59,7 +59,13 @@ def ids_of_archive(client):
     """The ids in the tiles of the map, which is published for it."""
     client.publish()
     status, archive = client.ask("GET", "/map.pmtiles")
-    return ids_in(archive if status == 200 else b"")
+    # A map without tiles has no archive.
+    if status == 404 and word(archive) == "NotFound":
+        return []
+    if status != 200:
+        client.stop_at(status, archive)
+        raise Stopped(f"GET /map.pmtiles: {status} {word(archive)}")
+    return ids_in(archive)
 
 
 def wanted(words, client):
