@@ -59,11 +59,12 @@ class Changes:
             self.kinds[planned.number], self.wholes[planned.number] = kind, planned.whole
             self.states[planned.whole].add(kind)
         planned_wholes, kept = set(self.states), self.plan.kept
+        deletes = self.words.delete_missing and not self.plan.unknown
         for number, found in (self.there or {}).items():
             if number in self.plan.ids_to_put or number in kept or found.whole in kept:
                 continue
             is_old_piece = found.whole in planned_wholes
-            if is_old_piece or (self.words.delete_missing and found.layer in self.missing_from()):
+            if is_old_piece or (deletes and found.layer in self.missing_from()):
                 self.kinds[number], self.wholes[number] = GONE, found.whole
                 self.states[found.whole].add(GONE)
 

@@ -16,8 +16,9 @@ own. Texts get their ids in the file that --ids names, which is the map's own: k
 Nothing is overwritten. Ids that another layer has are refused before anything is sent (--overwrite replaces its features), and so are ids
 of this layer that have another feature. What the map has already is not sent again. With --update the map is made as the file is: new and
 changed features are sent, and nothing else; --delete-missing deletes those of the layers that the file doesn't have, --replace LAYER is
-both for one layer. All are checked edits: a feature that somebody else changes meanwhile is left as it is, and reported. Without --admin on
-the server what the map has isn't known: then --first has to be named, and ids are taken as they come.
+both for one layer. A feature of the file that is refused keeps its id on the map; if that isn't known, nothing is deleted. All are checked
+edits: a feature that somebody else changes meanwhile is left as it is, and reported. Without --admin on the server what the map has isn't
+known: then --first has to be named, and ids are taken as they come.
 
 Large features. The server doesn't clip, and renderers misdraw what is larger than a tile (docs/HTTP.md, "Large features"). So lines and
 polygons that some renderer would draw wrong at a zoom of theirs are cut, along the middles of the tiles of zoom --maxzoom, into as few pieces

@@ -28,7 +28,9 @@ class Plan:
         self.spool = tempfile.TemporaryFile()
         # The layers of the features; the ids to put; the ids of features that aren't put, whose pieces stay as they are.
         self.layers, self.ids_to_put, self.kept = set(), set(), set()
-        self.next, self.refused, self.cut, self.nowhere, self.box = first, 0, 0, 0, None
+        # How many features are refused, and of how many of them the id isn't known.
+        self.refused, self.unknown = 0, 0
+        self.next, self.cut, self.nowhere, self.box = first, 0, 0, None
 
     def read(self):
         """Plans the features of all layers."""
@@ -38,6 +40,9 @@ class Plan:
                 self.add(feature, layer.GetName(), projection)
         if self.cut > MOST_NAMED:
             print(f"and {self.cut - MOST_NAMED:,} more features are cut", flush=True)
+        if self.unknown and self.words.delete_missing:
+            what = f"{self.unknown:,} feature{'s' if self.unknown > 1 else ''}"
+            print(f"note: nothing is deleted, since the map may have refused features whose ids aren't known: {what}", flush=True)
         if self.nowhere:
             print(f"note: they have no geometry, and aren't put: {self.nowhere:,} feature{'s' if self.nowhere > 1 else ''}", flush=True)
 
@@ -45,9 +50,12 @@ class Plan:
         """Plans a feature of the file's layer of this name."""
         number = None
         try:
+            # The id is read first, so that a feature that is refused keeps it on the map. By --ids it depends on the layer.
+            number = self.number(feature) if self.ids is None else None
             tags = self.reader.tags(feature)
             layer = self.layer(tags, name)
-            number = self.number(feature, layer)
+            number = self.number(feature, layer) if number is None else number
+            self.check(number)
             made = self.features(number, self.reader.shape(feature.GetGeometryRef(), projection), tags, layer)
         except Nowhere:
             self.nowhere += 1
@@ -66,10 +74,12 @@ class Plan:
         self.next = made[-1][0] + 1
 
     def keep(self, number):
-        """Leaves the id to a feature that isn't put."""
+        """Leaves the id to a feature that isn't put. If it isn't known, nothing is deleted: it may be that of any feature of the map."""
         if number is None and self.words.id is None:
             number = self.next
-        if number is not None:
+        if number is None:
+            self.unknown += 1
+        elif number not in self.ids_to_put:
             self.kept.add(number)
             self.next = number + 1
 
@@ -82,24 +92,25 @@ class Plan:
             raise Unfit(f"it has no attribute {self.words.layer_field}")
         return str(layer)
 
-    def number(self, feature, layer):
-        """The id of a feature: the next one, or by the field that --id names."""
+    def number(self, feature, layer=None):
+        """The id of a feature: the next one, or by the field that --id names, and with --ids by the layer."""
         if self.words.id is None:
             return self.next
         value = self.reader.identity(feature)
         if self.ids is not None:
-            number = self.ids.number(layer, str(value))
-        elif not str(value).isdecimal():
-            if not (self.ids_to_put or self.refused) and any(letter.isalpha() for letter in str(value)):
-                raise Unreadable(f"{self.words.id} has texts ({value!r}): --ids FILE keeps ids for them")
-            raise Unfit(f"its {self.words.id} is {value!r}, no number: --ids FILE keeps ids for texts")
-        else:
-            number = self.first + int(value)
-        if not number < PIECE:
-            raise Unfit(f"its {self.words.id} is {value!r}: ids are below {PIECE:,}")
+            return self.ids.number(layer, str(value))
+        if str(value).isdecimal():
+            return self.first + int(value)
+        if not (self.ids_to_put or self.refused) and any(letter.isalpha() for letter in str(value)):
+            raise Unreadable(f"{self.words.id} has texts ({value!r}): --ids FILE keeps ids for them")
+        raise Unfit(f"its {self.words.id} is {value!r}, no number: --ids FILE keeps ids for texts")
+
+    def check(self, number):
+        """Refuses an id that can't be used."""
+        if self.words.id is not None and not number < PIECE:
+            raise Unfit(f"its {self.words.id} makes the id {number:,}: ids are below {PIECE:,}")
         if number in self.ids_to_put or number in self.kept:
-            raise Unfit(f"its {self.words.id} is {value}, and an earlier feature has the same")
-        return number
+            raise Unfit(f"its {self.words.id} makes the id {number}, and an earlier feature has the same")
 
     def features(self, number, shape, tags, layer):
         """The features to put for one of the file, each with its id."""

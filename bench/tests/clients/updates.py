@@ -99,6 +99,46 @@ def differences(cases, folder):
         cases.show("updates: no geometry is no failure, and deletes nothing", (code, said, lines[-1]), (0, True, "0 new, 0 changed, 0 deleted, 210 unchanged"))
 
 
+def refused_ones(cases, folder):
+    """Features of the file that are refused: those that the map has stay. Where the id of one isn't known, nothing is deleted."""
+    def rows(*changes):
+        made = points(5)
+        for at, name, value in changes:
+            made[at]["properties"][name] = value
+        return [{**one, "properties": {"kind": "p", **one["properties"]}} for one in made]
+
+    def asked(name, *words, of):
+        code, lines = imported(written(folder, name, of), server.url, "--layer-field", "kind", "--update", "--delete-missing", *words)
+        notes = [line for line in lines if line.startswith("note: nothing is deleted")]
+        return code, lines[-1], notes, sorted(one["tags"]["name"] for one in listed(server).values())
+
+    names = [f"point {at}" for at in range(1, 6)]
+    note = "note: nothing is deleted, since the map may have refused features whose ids aren't known: 1 feature"
+    numbered, named = ["--id", "nr"], ["--id", "name", "--ids", os.path.join(folder, "refused.ids")]
+    with Server(folder, "refused", 65536) as server:
+        asked("all.geojson", *numbered, of=rows())
+        found = asked("no_layer.geojson", *numbered, of=rows((1, "kind", None))[:4])
+        cases.show("updates: one without a layer stays on the map, and one that is gone is deleted", found,
+                   (1, "0 new, 0 changed, 1 deleted, 3 unchanged, 1 refused", [], names[:4]))
+        for name, value in (("none", None), ("below 0", -1)):
+            found = asked("no_id.geojson", *numbered, of=rows((1, "nr", value))[:3])
+            cases.show(f"updates: one whose id is {name}: nothing is deleted", found,
+                       (1, "0 new, 0 changed, 0 deleted, 2 unchanged, 1 refused", [note], names[:4]))
+        found = asked("twice.geojson", *numbered, of=[*rows()[:3], *rows()[:1]])
+        cases.show("updates: one id twice is known", found, (1, "0 new, 0 changed, 1 deleted, 3 unchanged, 1 refused", [], names[:3]))
+        found = imported(written(folder, "replaced.geojson", rows((1, "kind", None))[:3]), server.url, "--layer-field", "kind", *numbered, "--replace", "p")
+        cases.show("updates: --replace, one without a layer stays", (found[1][-1], len(listed(server))),
+                   ("0 new, 0 changed, 0 deleted, 2 unchanged, 1 refused", 3))
+    with Server(folder, "refused_texts", 65536) as server:
+        asked("all.geojson", *named, of=rows())
+        found = asked("no_layer.geojson", *named, of=rows((1, "kind", None))[:4])
+        cases.show("updates: --ids, one without a layer: nothing is deleted", found,
+                   (1, "0 new, 0 changed, 0 deleted, 3 unchanged, 1 refused", [note], names))
+        found = asked("no_name.geojson", *named, of=rows((1, "name", None))[:4])
+        cases.show("updates: --ids, one without its text: nothing is deleted", found,
+                   (1, "0 new, 0 changed, 0 deleted, 3 unchanged, 1 refused", [note], names))
+
+
 def large_ones(cases, folder):
     """A large feature is one for people: its pieces are counted as one, and none is left when it becomes small."""
     words = ["--layer", "s", "--minzoom", "12", "--id", "nr", "--update"]
@@ -248,6 +288,7 @@ def updates(cases, folder):
     os.mkdir(place)
     six_files(cases, place)
     differences(cases, place)
+    refused_ones(cases, place)
     large_ones(cases, place)
     like_outlines(cases, place)
     by_texts(cases, place)
