@@ -7,16 +7,18 @@ Open the file with QGIS 3.14 or later. It opens where the published map is, or a
 have, which the server tells: QGIS enlarges the tiles of that zoom for greater ones. The colours are those of page/style.json; layers that it
 doesn't name get one each (qgis_styles.py). Pieces of areas that the import cut have no outlines, which would show the cuts: it has put them
 as lines of a layer of their own. --outlines draws outlines of the pieces too. With --maxzoom and --centre the server needn't answer; then all
-layers look the same. It ends with 1 if the server doesn't answer. Needs no package.
+layers look the same. A file that is there is replaced only with --force. It ends with 1 if it is there, or if the server doesn't answer. Needs
+no package.
 """
 import argparse
 import math
+import os
 import sys
 import time
 import urllib.parse
 from xml.sax.saxutils import escape
 
-from ending import run
+from ending import regular, run
 from map_client import Client, NoAnswer, Stopped
 from protobuf import varint
 from qgis_styles import background, styled
@@ -133,17 +135,26 @@ def box_at(centre, metres):
     return east - metres / 2, north - metres / 2, east + metres / 2, north + metres / 2
 
 
+def write(path, text):
+    """Writes a file, which has what it had until all of it is written."""
+    with open(path + ".part", "w", encoding="utf-8") as file:
+        file.write(text)
+    os.replace(path + ".part", path)
+
+
 def main():
     parser = argparse.ArgumentParser(description="Writes a QGIS project with the tiles of a running vtserve.")
     parser.add_argument("file", help="the .qgs file that is written")
     parser.add_argument("--url", default="http://127.0.0.1:8000", help="the server, as QGIS reaches it (http://127.0.0.1:8000)")
+    parser.add_argument("--force", action="store_true", help="replace the file if it is there")
     parser.add_argument("--name", default="vtserve", help="the name of the layer in QGIS (vtserve)")
     parser.add_argument("--maxzoom", type=int, help="the greatest zoom of the features (as the server tells it)")
     parser.add_argument("--outlines", action="store_true", help="draw outlines of the pieces of areas that the import cut")
     parser.add_argument("--centre", type=place, help="longitude and latitude that the map opens at, as in 7.5,54.5 (where the published map is)")
     parser.add_argument("--metres", type=float, default=5000, help="--centre: how wide and high the map opens, in metres of Web Mercator (5000)")
     words = parser.parse_args()
-    url = words.url.rstrip("/")
+    if os.path.exists(regular(words.file)) and not words.force:
+        sys.exit(f"{words.file} exists: give --force to write it anew")
     try:
         client = Client(words.url)
         layers, (west, south, east, north) = looked_at(client, words)
@@ -168,8 +179,7 @@ def main():
         green=green,
         blue=blue,
     )
-    with open(words.file, "w", encoding="utf-8") as file:
-        file.write(project)
+    write(words.file, project)
     print(f"{words.file}: {source}")
 
 

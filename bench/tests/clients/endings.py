@@ -103,9 +103,24 @@ def unwritable(cases, folder, url):
     for name, status, words in rows:
         shows(cases, f"{name} into no folder", ended(words(nowhere), url), status, "No such file|unable to open")
         shows(cases, f"{name} of a file that can't grow", ended(words(small), url, most=8), status, "too large|full|I/O")
-        if not name.startswith(("qgis", "draw")):
+        if not name.startswith("draw"):
             shows(cases, f"{name} over a pipe", ended(words(pipe), url), status, "no regular file")
     cases.show("endings: the pipe is one still", stat.S_ISFIFO(os.stat(pipe).st_mode), True)
+
+
+def there_already(cases, folder, url):
+    """Where a file is there already: it is replaced only if that is asked for, and not by a part."""
+    path = os.path.join(folder, "mine.qgs")
+    words = ["qgis_project.py", path, "--maxzoom", "2", "--centre", "7,54", "--url", "URL"]
+    with open(path, "w", encoding="utf-8") as file:
+        file.write("mine")
+    shows(cases, "qgis_project.py over a file that is there", ended(words, url), 1, f"{path} exists: give --force to write it anew")
+    shows(cases, "qgis_project.py --force of a file that can't grow", ended([*words, "--force"], url, most=8), 1, "too large")
+    with open(path, encoding="utf-8") as file:
+        cases.show("endings: the file is as it was", file.read(), "mine")
+    shows(cases, "qgis_project.py --force", ended([*words, "--force"], url), 0, "type=xyz")
+    with open(path, encoding="utf-8") as file:
+        cases.show("endings: the file is another one", file.read().startswith("<!DOCTYPE qgis"), True)
 
 
 def wrong_paths(cases, folder, url):
@@ -135,5 +150,5 @@ def endings(cases, folder):
     without_a_server(cases, folder)
     with Server(folder, "endings") as server:
         curl(server.url + "/features/7", "-X", "PUT", body=feature())
-        for part in (full_output, unwritable, wrong_paths):
+        for part in (full_output, unwritable, there_already, wrong_paths):
             part(cases, folder, server.url)
