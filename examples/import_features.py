@@ -42,6 +42,7 @@ for a wrong command; with 3 if the server doesn't answer; and with 130 if it was
 """
 import argparse
 import codecs
+import json
 import sys
 import time
 
@@ -55,6 +56,8 @@ from import_sizes import disk_for
 from map_client import NO_CHECKS, NUMBER_END, Client, NoAnswer, Stopped
 from world_shapes import GREATEST_ZOOM
 
+# The last zoom that shows features, if --maxzoom isn't given.
+MAXZOOM = 14
 UNKNOWN = "the server tells nothing of itself (start it with --admin): which ids are free isn't known"
 
 
@@ -65,7 +68,7 @@ def asked():
     parser.add_argument("--layer", help="the name of their layer in the map (that of the file's layer)")
     parser.add_argument("--layer-field", help="the attribute that holds the name of the layer, instead of --layer")
     parser.add_argument("--minzoom", type=int, default=0, help="the first zoom that shows them (0)")
-    parser.add_argument("--maxzoom", type=int, default=14, help="the last zoom that shows them (14)")
+    parser.add_argument("--maxzoom", type=int, help=f"the last zoom that shows them ({MAXZOOM})")
     parser.add_argument("--first", type=int, help="the id of the first feature (the next free one); with --id, what is added to the field (0)")
     parser.add_argument("--id", metavar="FIELD", help="the attribute that holds the id of each feature")
     parser.add_argument("--ids", metavar="FILE", help="the map's file of ids, if --id is an attribute with texts")
@@ -88,6 +91,8 @@ def asked():
     parser.add_argument("--anyway", action="store_true", help="send what can't be published, or doesn't fit into the journal, anyway")
     parser.add_argument("--no-batches", action="store_true", help="send each feature in a request of its own")
     words = parser.parse_args()
+    words.says_maxzoom = words.maxzoom is not None
+    words.maxzoom = words.maxzoom if words.says_maxzoom else MAXZOOM
     fault = fault_of(words)
     if fault:
         parser.error(fault)
@@ -162,6 +167,19 @@ def obstacles(words, client, status, changes):
     return found
 
 
+def tell_zooms(words, client):
+    """Says that features end at a zoom beyond which other clients show the map: they ask for tiles up to the greatest zoom of nginx's TileJSON."""
+    if words.says_maxzoom:
+        return
+    status, content = client.ask("GET", "/map.json")
+    try:
+        last = json.loads(content)["maxzoom"] if status == 200 else MAXZOOM
+    except (ValueError, LookupError, TypeError):
+        return
+    if isinstance(last, int) and last > MAXZOOM:
+        print(f"note: they are shown up to zoom {MAXZOOM}: give --maxzoom {last} to show them as far in as /map.json says", flush=True)
+
+
 def has_room(words, client, status, changes):
     """Whether the server's disk has room for the changes, as far as a client knows. Prints what is needed."""
     sums, journal = changes.sizes(client.most)
@@ -224,6 +242,7 @@ def work(words, client):
     if found:
         print("\n".join([*found, "nothing was sent"]))
         return 1
+    tell_zooms(words, client)
     if not has_room(words, client, status, changes):
         print("nothing was sent")
         return 1

@@ -376,6 +376,12 @@ def through_nginx(cases, folder, server):
         said = re.fullmatch(r"403 \(.* `allow` in docs/nginx.conf.*\): nothing was sent", lines[-1])
         cases.show("import: a 403 of nginx ends it", (status, said is not None), (1, True))
     shutil.rmtree(front.folder)
+    path = written(folder, "further.geojson", [row("Point", [1, 1])])
+    note = "note: they are shown up to zoom 14: give --maxzoom 16 to show them as far in as /map.json says"
+    with Nginx(nginx, folder, server) as front:
+        ways = [imported(path, url, "--layer", "further", *words)[1] for url, words in ((front.url, []), (front.url, ["--maxzoom", "14"]), (server.url, []))]
+        cases.show("import: features that end before the zooms of TileJSON", [note in lines for lines in ways], [True, False, False])
+    shutil.rmtree(front.folder)
 
 
 def imports(cases, folder):
