@@ -97,8 +97,24 @@ def tasks(cases, folder):
             cases.show(f"units: what {name} runs, and system calls that it doesn't allow", (ran.returncode, sorted(calls - filtered(name))), (0, []))
 
 
+def lines_of(name):
+    """The lines of a unit; one that goes on after a backslash is one."""
+    with open(unit(name), encoding="utf-8") as file:
+        return file.read().replace("\\\n", " ").splitlines()
+
+
+def causes(cases, folder):
+    """What the journal has of a server that can't start, by the command of its unit."""
+    command, = (line for line in lines_of("vtserve.service") if line.startswith("ExecStart="))
+    missing = os.path.join(folder, "missing.disk")
+    words = [{"/var/lib/vtserve/map.disk": missing, "8080": str(free_port())}.get(word, word) for word in command.split()[1:]]
+    told = subprocess.run([PROGRAM, *words], capture_output=True, text=True, timeout=60).stderr
+    cases.show("units: a server without its disk says what the system said", told, f"vtserve: File: {missing}: No such file or directory (os error 2)\n")
+
+
 def units(cases, folder):
     """The units, and whether the filter of system calls has all that the process needs."""
+    causes(cases, folder)
     if not shutil.which("systemd-analyze"):
         cases.say("no systemd-analyze: no unit is judged")
         return
