@@ -1,17 +1,21 @@
 #!/usr/bin/env python3
 """Looks at a running `vtserve serve --admin`, and says what an operator should do before it is too late.
 
-    python3 examples/watch.py [URL] [--at PERCENT] [--state FILE] [--record FILE] [--metrics FILE]     URL is http://127.0.0.1:8080
+    python3 examples/watch.py [URL] [--at PERCENT] [--state FILE] [--record FILE] [--backups FOLDER] [--metrics FILE]
+
+URL is http://127.0.0.1:8080.
 
 It prints a line for each thing to do, and with nothing to do one line. It ends with 0 if nothing is to be done, 1 if something is to be done
 soon, 2 if something doesn't work any more (no server, a failed disk, a full journal, a refused publication), and 3 if that isn't known:
 as monitors such as Nagios expect, and cron mails what is printed.
 
 --state FILE keeps what was seen, for the next look: whether the journal fills before the next publication. --record FILE is what
-publish.sh --record keeps: whether the last publication was refused, and when it was. --metrics FILE is written for Prometheus, by the
-textfile collector of node_exporter. Needs no package.
+publish.sh --record keeps: whether the last publication was refused, and when it was. --backups FOLDER is where vtserve-backup.service
+saves the map (map-2026-11-29.jsonl): whether the newest backup is older than --backup-hours. --metrics FILE is written for Prometheus, by
+the textfile collector of node_exporter. Needs no package.
 """
 import argparse
+import fnmatch
 import http.client
 import json
 import os
@@ -24,6 +28,8 @@ from address import address, shown
 from ending import regular, run
 
 SECTOR, DAY = 512, 24 * 3600
+# How docs/vtserve-backup.service names its files. A backup that isn't finished has another name.
+BACKUP = "map-*.jsonl"
 # Edits of less than this share of the journal say nothing of how fast it fills.
 MANY = 20
 # What a first publication takes for each sector of the journal, if nothing is known: a town takes five times, large areas more.
@@ -175,6 +181,21 @@ def recorded(path, now, every):
         yield SOON, f"the last publication was {hours:.1f} hours ago, and they are to come every {every:.1f} hours"
 
 
+def backed_up(folder, now, most):
+    """Whether the newest backup in a folder is older than so many hours."""
+    try:
+        with os.scandir(folder) as entries:
+            newest = max((entry.stat().st_mtime for entry in entries if fnmatch.fnmatch(entry.name, BACKUP) and entry.is_file()), default=None)
+    except OSError as fault:
+        yield UNKNOWN, f"--backups: {fault}"
+        return
+    if newest is None:
+        yield SOON, f"{folder} has no backup: is vtserve-backup.timer enabled? systemctl start vtserve-backup makes one"
+    elif now - newest > 3600 * most:
+        hours = (now - newest) / 3600
+        yield SOON, f"the newest backup in {folder} is {hours:.1f} hours old, and it may be {most:g}: journalctl -u vtserve-backup says why"
+
+
 def metrics(path, status, result):
     """Writes the metrics; without a status those that are known."""
     values = {"up": int(status is not None), "watch_result": result}
@@ -204,6 +225,7 @@ def metrics(path, status, result):
 def tasks(words, url, now):
     """The status, or None, and what is to be done, each with its level."""
     found = list(recorded(words.record, now, words.every)) if words.record else []
+    found += backed_up(words.backups, now, words.backup_hours) if words.backups else []
     try:
         status = status_of(url)
         found += [*fullness(status, words.at), *left(status, url, words.wait)]
@@ -221,6 +243,8 @@ def main():
     parser.add_argument("--wait", type=float, default=5, metavar="SECONDS", help="how long nothing is done of a publication that was left (5)")
     parser.add_argument("--state", metavar="FILE", help="keep what was seen for the next look")
     parser.add_argument("--record", metavar="FILE", help="what publish.sh --record keeps")
+    parser.add_argument("--backups", metavar="FOLDER", help="where backups of the map are, map-*.jsonl")
+    parser.add_argument("--backup-hours", type=float, default=26, metavar="HOURS", help="how old the newest of them may be (26)")
     parser.add_argument("--metrics", metavar="FILE", help="write metrics for Prometheus")
     words = parser.parse_args()
     status, found = tasks(words, words.url.rstrip("/") + "/admin/status", time.time())

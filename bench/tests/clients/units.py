@@ -6,6 +6,8 @@ import os
 import re
 import shutil
 import subprocess
+import sys
+import time
 
 from stand import EXAMPLES, PROGRAM, SYSTEM_PYTHON, TOP, Server, curl, feature, free_port, status_of
 
@@ -20,8 +22,10 @@ EXPOSURE = {
 # What the units with timers run, of examples/.
 TASKS = {
     "vtserve-publish.service": ["bash", "publish.sh", "URL", "--record", "record"],
-    "vtserve-watch.service": [SYSTEM_PYTHON, "watch.py", "URL", "--state", "state", "--record", "record", "--metrics", "metrics"],
-    "vtserve-backup.service": [SYSTEM_PYTHON, "map_backup.py", "save", "map.jsonl", "--disk", "DISK"],
+    "vtserve-backup.service": [SYSTEM_PYTHON, "map_backup.py", "save", "map-2026-11-29.jsonl", "--disk", "DISK"],
+    "vtserve-watch.service": [
+        SYSTEM_PYTHON, "watch.py", "URL", "--backups", ".", "--backup-hours", "26", "--state", "state", "--record", "record", "--metrics", "metrics",
+    ],
 }
 
 
@@ -110,11 +114,45 @@ def causes(cases, folder):
     words = [{"/var/lib/vtserve/map.disk": missing, "8080": str(free_port())}.get(word, word) for word in command.split()[1:]]
     told = subprocess.run([PROGRAM, *words], capture_output=True, text=True, timeout=60).stderr
     cases.show("units: a server without its disk says what the system said", told, f"vtserve: File: {missing}: No such file or directory (os error 2)\n")
+    for name in TASKS:
+        named = [line for line in lines_of(name) if re.match("# OnFailure=.*@%n", line)]
+        cases.show(f"units: {name} has a line for who is told when it fails", len(named), 1)
+
+
+def backups(cases, folder):
+    """What watch.py says of the folder of the backups."""
+    kept = os.path.join(folder, "backups")
+    os.mkdir(kept)
+    with Server(folder, "backed_up") as server:
+
+        def watched(*more):
+            words = [sys.executable, os.path.join(EXAMPLES, "watch.py"), server.url, "--backups", kept, *more]
+            told = subprocess.run(words, capture_output=True, text=True)
+            return told.returncode, [line.partition(":")[0] for line in told.stdout.splitlines()]
+
+        def made(name, hours):
+            path = os.path.join(kept, name)
+            with open(path, "w", encoding="utf-8"):
+                os.utime(path, times=(time.time() - 3600 * hours,) * 2)
+
+        for name, hours in [("map-2026-11-28.jsonl.part", 1), ("other.jsonl", 1)]:
+            made(name, hours)
+        cases.show("units: watch.py, a folder without a backup", watched(), (1, [f"{kept} has no backup"]))
+        made("map-2026-11-25.jsonl", 99)
+        made("map-2026-11-27.jsonl", 27)
+        old = f"the newest backup in {kept} is 27.0 hours old, and it may be "
+        cases.show("units: watch.py, an old backup", watched(), (1, [old + "26"]))
+        cases.show("units: watch.py, by --backup-hours", (watched("--backup-hours", "2.5"), watched("--backup-hours", "28")[0]), ((1, [old + "2.5"]), 0))
+        made("map-2026-11-28.jsonl", 25)
+        cases.show("units: watch.py, a new backup", watched()[0], 0)
+    kept += ".gone"
+    cases.show("units: watch.py, no folder of backups and no server", watched()[0], 2)
 
 
 def units(cases, folder):
     """The units, and whether the filter of system calls has all that the process needs."""
     causes(cases, folder)
+    backups(cases, folder)
     if not shutil.which("systemd-analyze"):
         cases.say("no systemd-analyze: no unit is judged")
         return
