@@ -14,7 +14,7 @@ import time
 
 from browser import Browser
 from screens import PLOTLY, Share, water_differs
-from stand import EXAMPLES, SYSTEM_PYTHON, Nginx, Server, curl, feature, status_of
+from stand import EXAMPLES, HERE, SYSTEM_PYTHON, Nginx, Server, curl, feature, field, status_of
 
 WIDE, HIGH = 1000, 640
 PAGE = os.path.join(EXAMPLES, "page")
@@ -58,6 +58,8 @@ def page(cases, folder):
         told = town(folder, front.url)
         cases.show("page: the import says where to look", re.findall(r"look at it: (\S+/pages/#)[0-9.]+/54.50\d+/7.50\d+", told), [f"{front.url}/pages/#"])
         maplibre(cases, folder, front)
+        door = [(status_of(reply), field(reply, "location")) for reply in (curl(front.url + path) for path in ("/", "/pages"))]
+        cases.show("page: the address alone leads to it", door, [(302, "/pages/")] * 2)
         with Browser(os.path.join(folder, "profile"), WIDE, HIGH) as browser:
             People(cases, browser, server, front, folder).all(nginx)
         cases.show("page: nginx has nothing in its log of errors but the server that was away", unexpected(front), [])
