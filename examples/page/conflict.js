@@ -26,7 +26,8 @@ function withParts(parts) {
 export function conflictOf({ was, theirs, mine }, save, leave) {
     const told = text => element("p", {}, `Somebody else has ${text}`);
     if (!theirs) {
-        return [told("deleted this feature meanwhile."), button("Put mine back", () => save(mine)), button("Leave it deleted", leave)];
+        const back = mine ? [button("Put mine back", () => save(mine))] : [];
+        return [told("deleted this feature meanwhile."), ...back, button("Leave it deleted", leave)];
     }
     if (!mine) {
         return [told("changed this feature meanwhile."), button("Delete it all the same", () => save(null)), button("Keep it", leave)];

@@ -3,17 +3,18 @@ import { conflictOf } from "./conflict.js";
 import { MINE, THEIRS, drawShape } from "./draw.js";
 import { formOf } from "./form.js";
 import { button, close, covered, element, open, table, tell } from "./panel.js";
-import { Changed, canonical, text } from "./server.js";
+import { Changed, canonical } from "./server.js";
 import { begun, chainsOf, described, grabbed, isLarge, isWhole, listsOf, pointsOf, remove } from "./shape.js";
 import { isOutline } from "./style.js";
 import { bounds, rounded } from "./world.js";
-import { PIECE, changeAll, piecesOf, wholeOf } from "./whole.js";
+import { PIECE, changeAll, changedOf, lost, piecesOf, wholeOf } from "./whole.js";
 
 const hint = text => element("p", { className: "hint" }, text);
 
 export class Editor {
-    // The draft, or null: the `feature` (null: it is to be deleted) and its `form`; its `id` (null: a new one), what it `was` (null: nothing),
-    // its `pieces` if it is cut, earlier geometries (`undo`), whether it `isDrawn` or `isSent` just now, and `theirs` in a conflict.
+    // The draft, or null: the `feature` (null: it is to be deleted) and its `form`; its `id` (null: not known yet), what it `was` (null:
+    // nothing), its `pieces` if it is cut, what was `sent` since then, earlier geometries (`undo`), whether it `isNew`, `isDrawn` just now or
+    // `isSent` just now, and `theirs` in a conflict (null: it was deleted).
     draft = null;
 
     /** `saved(edit)` is called after each edit. */
@@ -22,21 +23,25 @@ export class Editor {
     }
 
     /** Begins to edit a feature of a tile, or to delete it, as the map has it now. */
-    async begin({ id, tags: { whole } }, deletes) {
-        const pieces = whole === undefined ? null : await piecesOf(this.server, whole);
-        const was = pieces ? wholeOf(pieces) : await this.server.feature(id);
+    async begin({ id, own, tags: { whole } }, deletes) {
+        const found = Number.isSafeInteger(whole) ? await piecesOf(this.server, whole) : [], pieces = found.length ? found : null;
+        // Pieces without the first one, and what only has a tag `whole`, are features of their own.
+        const was = pieces ? wholeOf(pieces) : await this.server.feature(own);
         if (!was) {
             throw new Error("somebody else has deleted this feature");
         }
-        this.draft = { id, was, pieces, feature: deletes ? null : structuredClone(was), undo: [] };
-        deletes ? this.ask() : this.openForm();
+        // A new feature may have been begun meanwhile.
+        if (!this.draft) {
+            this.draft = { id: pieces ? id : own, was, pieces, sent: [], feature: deletes ? null : structuredClone(was), undo: [] };
+            deletes ? this.ask() : this.openForm();
+        }
     }
 
     /** Begins to draw a new feature. */
     draw(kind) {
         const layer = this.layers().find(({ id }) => !isOutline(id)) ?? { id: "", minzoom: 10, maxzoom: 16 };
         const feature = { layer: layer.id, minzoom: layer.minzoom, maxzoom: layer.maxzoom, geometry: begun(kind), tags: { name: "" } };
-        this.draft = { id: null, was: null, feature, undo: [], isDrawn: true };
+        this.draft = { id: null, isNew: true, was: null, sent: [], feature, undo: [], isDrawn: true };
         const how = hint("A double click or Enter ends it, Backspace removes the last point.");
         const more = kind === "points" ? [] : [how, button("Done", () => this.finish())];
         open("Click where it is", ...more, button("Cancel", () => this.drop()));
@@ -80,23 +85,45 @@ export class Editor {
         return { ...this.draft.feature, ...this.draft.form.read() };
     }
 
-    /** Saves a feature, or deletes it (null), as a checked edit. */
+    /** Saves a feature, or deletes it (null), as a checked edit. If that is refused, or no reply comes, it can be called again. */
     async send(feature) {
-        const draft = this.draft, { was, pieces } = draft;
+        const { draft } = this;
         Object.assign(draft, { feature, isSent: true });
         try {
-            const put = draft.id ?? await this.nextId();
-            const edit = pieces ? await changeAll(this.server, pieces, feature)
-                : await this.server.edit([feature ? { put, feature, was } : { delete: put, was }]);
+            const edit = draft.pieces ? await changeAll(this.server, draft.pieces, feature) : await this.put(draft, structuredClone(feature));
             this.drop();
-            tell(`feature ${put} saved, edit ${edit}`);
+            tell(`feature ${draft.id} saved, edit ${edit}`);
             await this.saved(edit);
         } catch (fault) {
-            draft.isSent = false;
             if (!(fault instanceof Changed)) {
                 throw fault;
             }
-            await (draft.id === null ? this.send(feature) : this.openConflict(draft));
+            await this.openConflict(draft);
+        } finally {
+            draft.isSent = false;
+        }
+    }
+
+    /**
+     * Makes the edit of a draft that isn't cut, and returns its number. A new feature keeps its id until somebody else takes it. If an earlier
+     * request of the draft was made and its reply was lost, the map has what was sent: then this is a change of that.
+     */
+    async put(draft, feature) {
+        draft.id ??= await this.nextId();
+        const { id, was, sent } = draft;
+        sent.push(feature);
+        try {
+            return await this.server.edit([feature ? { put: id, feature, was } : { delete: id, was }]);
+        } catch (fault) {
+            if (!(fault instanceof Changed)) {
+                throw fault;
+            }
+            const now = await this.server.feature(id), isOwn = now && sent.some(one => canonical(one) === canonical(now));
+            if (!isOwn && !draft.isNew) {
+                throw fault;
+            }
+            Object.assign(draft, isOwn ? { was: now, isNew: false } : { id: null, sent: [] });
+            return this.put(draft, feature);
         }
     }
 
@@ -111,24 +138,13 @@ export class Editor {
         return least;
     }
 
-    /** Shows both versions of a feature that somebody else has changed. */
+    /** Shows both versions of a feature that somebody else has changed. What is saved from here replaces what is shown as theirs. */
     async openConflict(draft) {
-        const { id, was } = draft;
-        let mine = draft.feature;
-        if (draft.pieces) {
-            const before = draft.pieces.map(piece => text(piece));
-            draft.pieces = await piecesOf(this.server, id);
-            draft.theirs = wholeOf([draft.pieces.find(piece => !before.includes(text(piece))) ?? draft.pieces[0]]);
-            mine &&= { ...mine, geometry: draft.theirs?.geometry ?? mine.geometry };
-        } else {
-            draft.theirs = await this.server.feature(id);
-        }
-        const save = chosen => {
-            const { theirs } = draft;
-            Object.assign(draft, { was: theirs, theirs: undefined });
-            return this.send(chosen);
-        };
-        open(`Changed by two: ${was.layer} ${id}`, ...conflictOf({ was, theirs: draft.theirs, mine }, save, () => this.drop()));
+        const { id, was } = draft, pieces = draft.pieces && await piecesOf(this.server, id);
+        const theirs = pieces ? changedOf(pieces, draft.pieces) : await this.server.feature(id);
+        const mine = draft.feature && { ...draft.feature, ...(pieces && theirs ? { geometry: theirs.geometry } : {}) };
+        Object.assign(draft, { was: theirs, theirs, sent: [], pieces: pieces && !theirs ? lost(draft.pieces) : pieces });
+        open(`Changed by two: ${(was ?? mine).layer} ${id}`, ...conflictOf({ was, theirs, mine }, chosen => this.send(chosen), () => this.drop()));
         this.uncover(mine ?? was);
     }
 
@@ -147,7 +163,10 @@ export class Editor {
 
     /** Whether something would be lost if the draft were dropped. */
     get hasChanges() {
-        const { isDrawn, form, was } = this.draft ?? {};
+        const { isDrawn, isSent, form, was } = this.draft ?? {};
+        if (isSent) {
+            return true;
+        }
         try {
             return isDrawn ? pointsOf(this.draft.feature.geometry).length > 0 : Boolean(form) && canonical(this.read()) !== canonical(was);
         } catch {
@@ -162,10 +181,10 @@ export class Editor {
         return isChanged && draft === this.draft && !draft.isSent;
     }
 
-    /** The geometry whose points the mouse moves, or undefined. */
+    /** The geometry whose points the mouse moves, or undefined: what is sent just now doesn't change. */
     get shape() {
-        const { form, pieces, theirs, feature } = this.draft ?? {};
-        return form && !pieces && theirs === undefined ? feature.geometry : undefined;
+        const { form, pieces, theirs, feature, isSent } = this.draft ?? {};
+        return form && !pieces && !isSent && theirs === undefined ? feature.geometry : undefined;
     }
 
     /** Changes the shape so that it can be undone. Returns what the change does. */

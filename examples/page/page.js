@@ -32,7 +32,7 @@ function select(point) {
         view.redraw();
         return;
     }
-    const found = view.near(point).map(feature => ({ ...feature, id: feature.tags.whole ?? feature.id, rank: rank(point, feature) }));
+    const found = view.near(point).map(feature => ({ ...feature, id: feature.tags.whole ?? feature.id, own: feature.id, rank: rank(point, feature) }));
     const hit = found.filter(({ rank }) => rank < Infinity).sort((one, other) => one.rank - other.rank);
     const before = Math.hypot(point[0] - clicked.at[0], point[1] - clicked.at[1]) < 4 ? clicked.ids : [];
     selected = hit.find(({ id }) => !before.includes(id)) ?? hit[0] ?? null;

@@ -14,13 +14,19 @@ export function table(rows) {
     return element("table", {}, ...rows.map(([name, ...cells]) => element("tr", {}, element("th", {}, name), ...cells.map(cell => element("td", {}, cell)))));
 }
 
-/** A button. While what it does goes on, no button works; if it fails, the panel tells why. */
+/** Shows at the end of the panel why something failed. */
+function complain(fault) {
+    panel.append(element("p", { className: "fault" }, fault.message));
+    panel.lastElementChild.scrollIntoView({ block: "nearest" });
+}
+
+/** A button. While what it does goes on, no button and no field of the panel works; if it fails, the panel tells why. */
 export function button(name, action) {
-    const switched = isOff => panel.querySelectorAll("button").forEach(each => each.disabled = isOff);
+    const switched = isOff => panel.querySelectorAll("button, input, select").forEach(each => each.disabled = isOff);
     const onclick = async () => {
         panel.querySelector("p.fault")?.remove();
         switched(true);
-        await Promise.resolve().then(action).catch(fault => panel.append(element("p", { className: "fault" }, fault.message)));
+        await Promise.resolve().then(action).catch(complain);
         switched(false);
     };
     return element("button", { type: "button", onclick }, name);

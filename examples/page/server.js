@@ -3,8 +3,8 @@ const WHY = {
     403: "this machine may not edit the map",
     404: "the server takes no checked edits: it needs --admin",
     413: "the feature is too long to be saved here: use examples/gis.py",
-    502: "the server doesn't run, or starts just now: save again",
-    504: "the server is busy: save again",
+    502: "the server doesn't run, or starts just now: try again",
+    504: "the server is busy: try again",
     "E3 Layer": "the layer's name needs 1 to 64 bytes",
     "E4 Zoom": "zooms go from 0 to 19, the first at most the last",
     "E6 Tags": "a feature has at most 64 tags, each with a name of 1 to 64 bytes",
@@ -18,7 +18,11 @@ const WHY = {
     Memory: "the server is out of memory: save again later",
 };
 const MAX_BODY = 65536;
-const bytesOf = text => new TextEncoder().encode(text).length;
+// Seconds without a reply after which none is awaited any more: nginx answers within 75.
+const PATIENCE = 80;
+
+/** The length of a text as UTF-8. */
+export const bytesOf = text => new TextEncoder().encode(text).length;
 
 /** A feature isn't what the author of an edit saw. Nothing was changed. */
 export class Changed extends Error {
@@ -62,10 +66,12 @@ export class Server {
     }
 
     async ask(path, words) {
-        const reply = await fetch(new URL(path, this.base), { cache: "no-store", ...words }).catch(fault => {
+        try {
+            const reply = await fetch(new URL(path, this.base), { cache: "no-store", signal: AbortSignal.timeout(PATIENCE * 1000), ...words });
+            return { status: reply.status, content: await reply.arrayBuffer() };
+        } catch (fault) {
             throw words?.signal?.aborted ? fault : new Error("the server doesn't answer");
-        });
-        return { status: reply.status, content: await reply.arrayBuffer() };
+        }
     }
 
     /** The value of a reply, or null if there is none. */
@@ -89,6 +95,11 @@ export class Server {
     /** What the server tells of itself, or null if it tells this machine nothing: then it may not edit. */
     status() {
         return this.value("admin/status").catch(() => null);
+    }
+
+    /** The number of the last edit. */
+    async lastEdit() {
+        return (await this.value("admin/status")).edits;
     }
 
     /** The layers of the map with this edit. */
@@ -119,7 +130,7 @@ export class Server {
         if (status === 409 && word.startsWith("Changed")) {
             // It may be this very edit that changed the feature, by a request whose reply was lost.
             if (await this.isMade(changes)) {
-                return (await this.value("admin/status")).edits;
+                return this.lastEdit();
             }
             throw new Changed(word);
         }

@@ -1,7 +1,8 @@
 """The part `page` of run.py: a real Chromium with the page of examples/page, by mouse and keyboard, through nginx with docs/nginx.conf.
 
-Two people edit one feature, a new feature's id is taken by somebody else, the server is away when somebody saves, a large feature is one,
-and a machine that may not edit sees the map. Pictures are kept in the folder that PICTURES names, if it does. What MapLibre would draw is
+Two people edit one feature, a new feature's id is taken by somebody else, saves are refused and replies are lost, the server is away when
+somebody saves or opens the page, a large feature is one, a machine that may not edit sees the map, and people log in. nginx limits downloads of
+the archive. Pictures are kept in the folder that PICTURES names, if it does. What MapLibre would draw is
 drawn by Mapbox GL JS 1.10.1, which Debian has within plotly.js (`python3-plotly`).
 """
 import json
@@ -14,6 +15,7 @@ import sys
 import time
 
 from browser import Browser
+from imports import world
 from screens import PLOTLY, Share, water_differs
 from stand import EXAMPLES, HERE, SYSTEM_PYTHON, Nginx, Server, curl, feature, field, status_of
 
@@ -31,6 +33,17 @@ RED = """(() => {
     const canvas = document.getElementById("map"), {data} = canvas.getContext("2d").getImageData(%d, %d, 8, 8);
     return [...data.keys()].filter(at => at %% 4 === 0 && data[at] === 0xb0 && data[at + 1] === 0x3a && data[at + 2] === 0x2e).length;
 })()"""
+# Of the POSTs of a page some pass, then so many are made and their replies are lost; or nginx answers so many, since the server doesn't run.
+LOSE = """(() => { const asked = window.fetch; let passed = %d, left = %d; window.fetch = async (url, words) => {
+    const reply = await asked(url, words);
+    if (words?.method === "POST" && passed-- <= 0 && left-- > 0) { throw new TypeError("lost"); }
+    return reply; }; })()"""
+REFUSE = """(() => { const asked = window.fetch; let passed = %d, left = %d; window.fetch = async (url, words) =>
+    words?.method === "POST" && passed-- <= 0 && left-- > 0 ? new Response("", {status: 502}) : asked(url, words); })()"""
+AWAY = "the server doesn't run, or starts just now: try again (502)"
+UNKNOWN = "the server doesn't answer: the edit may be made or not. Save again: it isn't made twice"
+# Ids of pieces after the first one, and a place without other features.
+PIECE, SEA = 2 ** 40, (54.6, 7.6)
 HIDE = "document.head.append(Object.assign(document.createElement('style'), {textContent: 'nav, details, aside, footer { visibility: hidden }'}))"
 # A stand-in for MapLibre: it keeps what it is given.
 STAND_IN = """
@@ -143,6 +156,17 @@ class People:
         made.type("#panel form tbody tr:last-child input[aria-label=tag]", name)
         made.type("#panel form tbody tr:last-child input[aria-label=value]", value)
 
+    def refused(self, made, name):
+        """Presses a button, and gives what the panel says then of why that failed."""
+        made.press(name)
+        made.wait("document.querySelector('#panel p.fault')", 30)
+        return made.text("#panel p.fault")
+
+    def edits_and_features(self):
+        """How many edits were made, and how many features there are."""
+        status = json.loads(curl(f"{self.server.url}/admin/status")[2])
+        return status["edits"], status["features"]
+
     def saved(self, made):
         """What the page tells once it has saved."""
         made.wait("document.getElementById('panel').hidden")
@@ -156,7 +180,14 @@ class People:
         self.deletion()
         self.lost_reply()
         self.late_look()
+        self.refused_conflict()
+        self.refused_return()
+        self.made_once()
+        self.taken_id()
         self.large_feature()
+        self.many_pieces()
+        self.deleted_pieces()
+        self.lonely_piece()
         self.view_only(nginx)
         self.elsewhere(nginx)
         self.away()
@@ -293,6 +324,162 @@ class People:
         self.saved(self.one)
         time.sleep(2)
         self.show("the page's own edit isn't taken for somebody else's", self.one.text("#told"), f"feature 453 saved, edit {before + 1}")
+
+    def refused_conflict(self):
+        """What two people chose of a feature is refused, first by the server, then since it doesn't run."""
+        self.one.value("location.hash = '#16/54.5/7.5'")
+        self.drawn(self.one)
+        self.edit(self.one, 452)
+        before = self.get(452)
+        self.one.type("#panel form input[aria-label='first zoom']", "15")
+        curl(f"{self.front.url}/features/452", "-X", "PUT", body=json.dumps({**before, "maxzoom": 14}))
+        self.one.press("Save")
+        self.one.wait("document.querySelector('#panel .differs')")
+        # The author's first zoom with the other's last one.
+        told = [self.refused(self.one, "Save what is chosen") for _ in range(2)]
+        self.one.value(REFUSE % (0, 1))
+        told.append(self.refused(self.one, "Save what is chosen"))
+        zooms = "zooms go from 0 to 19, the first at most the last (E4 Zoom)"
+        self.show("what is chosen of two versions, refused three times", told, [zooms, zooms, AWAY])
+        self.keep(self.one, "page-refused.png")
+        self.one.value("document.querySelectorAll('#panel input[name=\"last zoom\"]')[1].click()")
+        self.one.press("Save what is chosen")
+        self.saved(self.one)
+        self.show("is saved the fourth time", self.get(452), {**before, "minzoom": 15})
+
+    def refused_return(self):
+        """A feature that somebody else has deleted is put back, which is refused, and then somebody else puts one there."""
+        self.edit(self.one, 452)
+        before = self.get(452)
+        self.write(self.one, "name", "Mine")
+        curl(f"{self.front.url}/features/452", "-X", "DELETE")
+        self.one.press("Save")
+        self.one.wait("document.querySelector('#panel h2').textContent.startsWith('Changed')")
+        self.one.value(REFUSE % (0, 1))
+        told = self.refused(self.one, "Put mine back")
+        theirs = {**before, "tags": {"name": "Theirs"}}
+        curl(f"{self.front.url}/features/452", "-X", "PUT", body=json.dumps(theirs))
+        self.one.press("Put mine back")
+        self.one.wait("document.querySelector('#panel .differs')")
+        self.show("what is put back replaces nothing that its author hasn't seen", (told, self.get(452)), (AWAY, theirs))
+        self.one.value("document.querySelectorAll('#panel input[name=\"tag name\"]')[1].click()")
+        self.one.press("Save what is chosen")
+        self.saved(self.one)
+        self.show("until it is chosen", self.get(452), {**before, "tags": {"name": "Mine"}})
+
+    def drawn_point(self, name):
+        """Draws a new point."""
+        self.one.press("New point")
+        self.one.click(420, 420)
+        self.one.wait("document.querySelector('#panel form')")
+        self.one.type("#panel form input[aria-label=layer]", "plan")
+        self.write(self.one, "name", name)
+
+    def made_once(self):
+        """New features of which both replies are lost: one is saved again as it is, one after another change."""
+        for names in (["Well", "Well"], ["Pump", "Old Pump"]):
+            edits, features = self.edits_and_features()
+            free = json.loads(curl(f"{self.server.url}/admin/status")[2])["last"] + 1
+            self.drawn_point(names[0])
+            self.one.value(LOSE % (0, 2))
+            told = self.refused(self.one, "Save")
+            self.write(self.one, "name", names[1])
+            self.one.press("Save")
+            edits += len(set(names))
+            self.show(f"a new feature without replies, {' then '.join(names)}", (told, self.saved(self.one)), (UNKNOWN, f"feature {free} saved, edit {edits}"))
+            self.show("is there once", (self.edits_and_features(), self.get(free)["tags"]), ((edits, features + 1), {"name": names[1]}))
+
+    def taken_id(self):
+        """The id of a new feature is taken by somebody else while the server is away for its author."""
+        free = json.loads(curl(f"{self.server.url}/admin/status")[2])["last"] + 1
+        self.drawn_point("Bench")
+        self.one.value(REFUSE % (0, 1))
+        told = self.refused(self.one, "Save")
+        curl(f"{self.front.url}/features/{free}", "-X", "PUT", body=feature("place", tags={"name": "first"}))
+        self.one.press("Save")
+        self.saved(self.one)
+        found = [self.get(number)["tags"] for number in (free, free + 1)]
+        self.show("a new feature whose id is taken while its save is refused gets another", (told, found), (AWAY, [{"name": "first"}, {"name": "Bench"}]))
+
+    def cut(self, whole, places, tags):
+        """Puts pieces of a large feature, squares of ten pixels at zoom 16 in the sea, in rows of 14; their ids are as `--id` makes them."""
+        x, y = (int(part) for part in world(SEA[1], SEA[0]))
+        rows = []
+        for at in places:
+            west, north = x + 1280 * (at % 14 - 7), y + 1280 * (at // 14 - 5)
+            ring = [[west, north], [west + 1280, north], [west + 1280, north + 1280], [west, north + 1280]]
+            made = json.loads(feature("cut", 14, 16, {"polygons": [[ring]]}, {**tags, "whole": whole}))
+            rows.append({"put": whole + PIECE * at, "feature": made})
+        for at in range(0, len(rows), 20):
+            reply = curl(f"{self.server.url}/edits", body=json.dumps({"changes": rows[at:at + 20]}))
+            assert status_of(reply) == 200, reply
+
+    def names(self, whole, places):
+        """The names of pieces, None for those that aren't there; once if all have the same."""
+        pieces = [self.get(whole + PIECE * at) for at in places]
+        found = [piece and piece["tags"].get("name") for piece in pieces]
+        return found[:1] if len(set(found)) == 1 else found
+
+    def sea(self, place, button):
+        """A page at the place without other features, with the piece there selected and a button pressed."""
+        made = self.opened(f"#16/{SEA[0]}/{SEA[1]}")
+        made.click(WIDE / 2 + 10 * (place % 14 - 7) + 5, HIGH / 2 + 10 * (place // 14 - 5) + 5)
+        made.press(button)
+        return made
+
+    def many_pieces(self):
+        """A large feature that several edits change: the second one is refused, then replies are lost, then its author changes more."""
+        self.cut(600, range(140), {"name": "Cut", "note": "Ж" * 300})
+        made = self.sea(75, "Edit")
+        made.wait("document.querySelector('#panel form')")
+        named = "#panel form tbody tr:first-child input[aria-label=value]"
+        told = []
+        for name, words in [("One", REFUSE % (1, 1)), ("One", LOSE % (0, 2))]:
+            made.type(named, name)
+            made.value(words)
+            told.append(self.refused(made, "Save"))
+        self.show("many pieces, of which a part is saved", (told, sorted(set(self.names(600, range(140))))), ([AWAY, UNKNOWN], ["Cut", "One"]))
+        made.type(named, "Two")
+        made.press("Save")
+        self.saved(made)
+        self.show("are all saved by a further change", self.names(600, range(140)), ["Two"])
+
+    def deleted_pieces(self):
+        """The deletion of a large feature is interrupted twice, and ended in another page. Then one that somebody else deletes is put back."""
+        _, features = self.edits_and_features()
+        made = self.sea(75, "Delete")
+        made.wait("document.querySelector('#panel h2').textContent.endsWith('?')")
+        told = []
+        for _ in range(2):
+            made.value(REFUSE % (1, 1))
+            told.append(self.refused(made, "Delete it"))
+        self.show("a deletion that is interrupted twice leaves the first pieces", (told, self.names(600, range(11)), self.names(600, [139])),
+                  ([AWAY] * 2, ["Two"], [None]))
+        made = self.sea(5, "Delete")
+        made.press("Delete it")
+        self.saved(made)
+        self.show("which another page deletes", (self.names(600, range(140)), self.edits_and_features()[1]), ([None], features - 140))
+        self.cut(600, range(20), {"name": "Cut"})
+        made = self.sea(5, "Edit")
+        made.wait("document.querySelector('#panel form')")
+        made.type("#panel form tbody tr:first-child input[aria-label=value]", "Back")
+        before = [self.get(600 + PIECE * at) for at in range(20)]
+        curl(f"{self.server.url}/edits", body=json.dumps({"changes": [{"delete": 600 + PIECE * at} for at in range(20)]}))
+        made.press("Save")
+        made.press("Put mine back")
+        self.saved(made)
+        wanted = [{**piece, "tags": {"name": "Back", "whole": 600}} for piece in before]
+        self.show("a large feature that somebody else has deleted is put back", [self.get(600 + PIECE * at) for at in range(20)], wanted)
+
+    def lonely_piece(self):
+        """A piece whose first piece somebody has deleted."""
+        self.cut(700, [133], {"name": "Left"})
+        made = self.sea(133, "Edit")
+        made.wait("document.querySelector('#panel form')")
+        made.type("#panel form tbody tr:first-child input[aria-label=value]", "Alone")
+        made.press("Save")
+        self.saved(made)
+        self.show("a piece without the first one is a feature of its own", self.names(700, [133]), ["Alone"])
 
     def large_feature(self):
         self.one.value("location.hash = '#15/54.5/7.5'")
