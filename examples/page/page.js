@@ -11,7 +11,9 @@ import { WORLD, bounds, distance, isInside } from "./world.js";
 // Seconds between two looks at the map, of those who edit and of those who don't: nginx keeps tiles for these.
 const BETWEEN_LOOKS = { editor: 4, viewer: 30 };
 const server = new Server(new URL("../", location.href));
-let style, view, editor, layers, isEditor;
+let style, view, editor, layers;
+// Why this machine may not edit, as `Server.status` says it, or undefined; whether the first look is over; whether the last one got no answer.
+let refused, isBegun = false, isAway = false;
 // The feature that is selected, as a tile has it, and those that clicks at the same place have selected before.
 let selected = null, clicked = { at: [0, 0], ids: [] };
 
@@ -45,14 +47,14 @@ function select(point) {
 function show(feature) {
     const { whole, ...tags } = feature.tags, parts = [table(Object.entries(tags).map(([name, value]) => [name, String(value)]))];
     whole === undefined || parts.push(element("p", { className: "hint" }, "A large feature, which the import cut into pieces."));
-    isEditor && parts.push(button("Edit", () => editor.begin(feature, false)), button("Delete", () => editor.begin(feature, true)));
+    refused || parts.push(button("Edit", () => editor.begin(feature, false)), button("Delete", () => editor.begin(feature, true)));
     open(`${plain(feature.layer)} ${feature.id}`, ...parts);
 }
 
 /** Shows the map with an edit. */
 async function showEdit(edit) {
+    layers = await server.layers(Math.max(edit, view.edit));
     view.showEdit(edit);
-    layers = await server.layers(view.edit);
     view.maxzoom = Math.max(0, ...layers.map(layer => layer.maxzoom));
     const toggle = (id, isShown) => {
         isShown ? style.hidden.delete(id) : style.hidden.add(id);
@@ -63,14 +65,21 @@ async function showEdit(edit) {
         element("i", { style: `background: ${style.colourOf(id)}` }), id)));
 }
 
+/** Says what a look has seen. */
+function tellSeen({ features, edits }) {
+    tell(refused ? "view only: this machine may not edit the map" : `${features} features, edit ${edits}`);
+}
+
 /** Looks whether somebody else has edited the map, and shows it. Who may not edit isn't told of edits, and asks for the tiles again. */
 async function look() {
-    const status = document.hidden ? null : isEditor ? await server.status() : { edits: view.edit + 1 };
-    if (status?.edits > view.edit) {
-        await showEdit(status.edits);
-        isEditor && tell(`${status.features} features, edit ${status.edits}`);
-        await editor.isOvertaken() && tell("somebody else has just changed what you edit: when you save, you see both", true);
+    const status = refused ? { edits: view.edit + 1 } : await server.status(), isNew = status.edits > view.edit;
+    if (status.refused) {
+        throw new Error("this machine may not edit the map any more");
     }
+    isNew && await showEdit(status.edits);
+    (isAway || isNew && !refused) && tellSeen(status);
+    isAway = false;
+    isNew && await editor.isOvertaken() && tell("somebody else has just changed what you edit: when you save, you see both", true);
 }
 
 function listen() {
@@ -95,25 +104,49 @@ function listen() {
 
 /** The box of the published map, or of the first feature if nothing is published, or else of the world. */
 async function boxOfMap() {
-    const first = isEditor && await server.from(0);
+    const first = refused ? null : await server.from(0);
     return await publishedBox(server.base) ?? (first ? bounds(pointsOf(first.feature.geometry)) : [0, 0, WORLD, WORLD]);
+}
+
+/** Learns whether this machine may edit, and the layers of the map. */
+async function begin() {
+    const status = await server.status();
+    ({ refused } = status);
+    byId("adding").hidden = Boolean(refused);
+    await showEdit(status.edits ?? 0);
+    isAway = false;
+    return status;
+}
+
+/** The first look. */
+async function arrive() {
+    const status = await begin();
+    view.goTo(location.hash.slice(1)) || view.goTo(style.centre ?? "") || view.show(await boxOfMap());
+    isBegun = true;
+    tellSeen(status);
+}
+
+/** Looks, and again after a while. */
+async function watch() {
+    try {
+        await (!isBegun ? arrive() : document.hidden || look());
+    } catch (fault) {
+        isAway = true;
+        tell(isBegun ? fault.message : `${fault.message}: the page asks again`, true);
+    }
+    setTimeout(watch, BETWEEN_LOOKS[isBegun && refused ? "viewer" : "editor"] * 1000);
 }
 
 async function start() {
     style = new Style(await (await fetch("style.json")).json());
-    const status = await server.status();
-    isEditor = status !== null;
-    byId("adding").hidden = !isEditor;
     view = new View(byId("map"), server, style, {
-        select, grab: point => editor.grab(point), over: context => editor.over(context), failed: fault => tell(`a tile can't be read: ${fault.message}`, true),
+        select, grab: point => editor.grab(point), over: context => editor.over(context),
+        failed: fault => isAway || tell(`a tile can't be read: ${fault.message}`, true),
     });
     view.isSelected = ({ id, tags }) => !editor.draft && (tags.whole ?? id) === selected?.id && !byId("panel").hidden;
     editor = new Editor(view, server, () => layers, showEdit);
-    await showEdit(status?.edits ?? 0);
     listen();
-    view.goTo(location.hash.slice(1)) || view.goTo(style.centre ?? "") || view.show(await boxOfMap());
-    tell(isEditor ? `${status.features} features, edit ${status.edits}` : "view only: this machine may not edit the map");
-    setInterval(() => look().catch(fault => tell(fault.message, true)), BETWEEN_LOOKS[isEditor ? "editor" : "viewer"] * 1000);
+    await watch();
 }
 
 start().catch(fault => tell(fault.message, true));

@@ -17,6 +17,8 @@ const WHY = {
     Broken: "the server's disk has failed: tell the operator",
     Memory: "the server is out of memory: save again later",
 };
+// Why a machine may not edit: nobody has logged in, nginx doesn't let this address edit, or the server runs without --admin.
+const MAY_NOT = [401, 403, 404];
 const MAX_BODY = 65536;
 // Seconds without a reply after which none is awaited any more: nginx answers within 75.
 const PATIENCE = 80;
@@ -92,9 +94,16 @@ export class Server {
         return new Uint8Array(content);
     }
 
-    /** What the server tells of itself, or null if it tells this machine nothing: then it may not edit. */
-    status() {
-        return this.value("admin/status").catch(() => null);
+    /** What the server tells of itself. If this machine may not edit, only why: `refused` is the status of the refusal. */
+    async status() {
+        const { status, content } = await this.ask("admin/status");
+        if (MAY_NOT.includes(status)) {
+            return { refused: status };
+        }
+        if (status !== 200) {
+            throw new Error(`the server doesn't answer (${status})`);
+        }
+        return parse(new TextDecoder().decode(content));
     }
 
     /** The number of the last edit. */

@@ -525,8 +525,15 @@ class People:
         self.server.end()
         self.one.press("Save")
         self.one.wait("document.querySelector('#panel p.fault')", 70)
-        self.show("while the server is away, it says so", (self.one.text("#panel p.fault") or "").split(":")[0], "the server doesn't run, or starts just now")
+        self.show("while the server is away, it says so", self.one.text("#panel p.fault"), AWAY)
+        away = "document.getElementById('told').textContent.startsWith('the server doesn\\'t answer (502)')"
+        self.show("and at its foot", self.one.wait(away, 10), True)
+        late = self.browser.open(f"{self.front.url}/pages/#16/54.5/7.5")
+        late.wait(away, 10)
+        self.show("a page that is opened meanwhile says so too", late.text("#told"), "the server doesn't answer (502): the page asks again")
         with Server(self.folder, "town", port=self.server.port, more=["--admin"]):
+            self.show("and lets edit once it is back", late.wait("!document.getElementById('adding').hidden", 15), True)
+            self.show("as it says", bool(late.wait("/^[0-9]+ features, edit [0-9]+$/.test(document.getElementById('told').textContent)", 5)), True)
             self.one.press("Save")
             self.saved(self.one)
             self.show("and what was typed is saved when it is back", self.get(452)["tags"], {"name": "St Mary"})
