@@ -97,11 +97,11 @@ class Page:
         return told["result"].get("value")
 
     def wait(self, script, seconds=20):
-        """Waits until an expression is true. Returns its value."""
+        """Waits until an expression is true. Returns its value, {} for an element of the page."""
         end = time.monotonic() + seconds
         while True:
             value = self.value(script)
-            if value or time.monotonic() > end:
+            if value or value == {} or time.monotonic() > end:
                 return value
             time.sleep(0.05)
 
