@@ -14,6 +14,8 @@ const server = new Server(new URL("../", location.href));
 let style, view, editor, layers;
 // Why this machine may not edit, as `Server.status` says it, or undefined; whether the first look is over; whether the last one got no answer.
 let refused, isBegun = false, isAway = false;
+// The next look.
+let next;
 // The feature that is selected, as a tile has it, and those that clicks at the same place have selected before.
 let selected = null, clicked = { at: [0, 0], ids: [] };
 
@@ -67,12 +69,13 @@ async function showEdit(edit) {
 
 /** Says what a look has seen. */
 function tellSeen({ features, edits }) {
-    tell(refused ? "view only: this machine may not edit the map" : `${features} features, edit ${edits}`);
+    const why = refused === 401 ? "log in to edit the map" : "this machine may not edit the map";
+    tell(refused ? `view only: ${why}` : `${features} features, edit ${edits}`);
 }
 
 /** Looks whether somebody else has edited the map, and shows it. Who may not edit isn't told of edits, and asks for the tiles again. */
 async function look() {
-    const status = refused ? { edits: view.edit + 1 } : await server.status(), isNew = status.edits > view.edit;
+    const status = refused ? { edits: view.edit + 1 } : await server.status(true), isNew = status.edits > view.edit;
     if (status.refused) {
         throw new Error("this machine may not edit the map any more");
     }
@@ -99,6 +102,7 @@ function listen() {
         key === "z" && ctrlKey && !target.matches("input") && editor.undo();
         view.redraw();
     });
+    byId("login").onclick = () => logIn().catch(fault => tell(fault.message, true));
     addEventListener("beforeunload", event => editor.hasChanges && event.preventDefault());
 }
 
@@ -108,11 +112,12 @@ async function boxOfMap() {
     return await publishedBox(server.base) ?? (first ? bounds(pointsOf(first.feature.geometry)) : [0, 0, WORLD, WORLD]);
 }
 
-/** Learns whether this machine may edit, and the layers of the map. */
-async function begin() {
-    const status = await server.status();
+/** Learns whether this machine may edit, and the layers of the map. If the person `logsIn`, the browser asks for a password where nginx wants one. */
+async function begin(logsIn) {
+    const status = await server.status(logsIn);
     ({ refused } = status);
     byId("adding").hidden = Boolean(refused);
+    byId("login").hidden = refused !== 401;
     await showEdit(status.edits ?? 0);
     isAway = false;
     return status;
@@ -120,10 +125,15 @@ async function begin() {
 
 /** The first look. */
 async function arrive() {
-    const status = await begin();
+    const status = await begin(false);
     view.goTo(location.hash.slice(1)) || view.goTo(style.centre ?? "") || view.show(await boxOfMap());
     isBegun = true;
     tellSeen(status);
+}
+
+async function logIn() {
+    tellSeen(await begin(true));
+    lookLater();
 }
 
 /** Looks, and again after a while. */
@@ -134,7 +144,12 @@ async function watch() {
         isAway = true;
         tell(isBegun ? fault.message : `${fault.message}: the page asks again`, true);
     }
-    setTimeout(watch, BETWEEN_LOOKS[isBegun && refused ? "viewer" : "editor"] * 1000);
+    lookLater();
+}
+
+function lookLater() {
+    clearTimeout(next);
+    next = setTimeout(watch, BETWEEN_LOOKS[isBegun && refused ? "viewer" : "editor"] * 1000);
 }
 
 async function start() {

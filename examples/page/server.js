@@ -1,5 +1,6 @@
 // The server of the map: tiles, features, and checked edits, which are made only if each feature is what its author saw (docs/HTTP.md).
 const WHY = {
+    401: "the server asks for a password: try again, and give it",
     403: "this machine may not edit the map",
     404: "the server takes no checked edits: it needs --admin",
     413: "the feature is too long to be saved here: use examples/gis.py",
@@ -94,9 +95,12 @@ export class Server {
         return new Uint8Array(content);
     }
 
-    /** What the server tells of itself. If this machine may not edit, only why: `refused` is the status of the refusal. */
-    async status() {
-        const { status, content } = await this.ask("admin/status");
+    /**
+     * What the server tells of itself. If this machine may not edit, only why: `refused` is the status of the refusal. Without `logsIn` the
+     * browser sends no password and asks the person for none.
+     */
+    async status(logsIn) {
+        const { status, content } = await this.ask("admin/status", { credentials: logsIn ? "same-origin" : "omit" });
         if (MAY_NOT.includes(status)) {
             return { refused: status };
         }

@@ -190,6 +190,7 @@ class People:
         self.lonely_piece()
         self.view_only(nginx)
         self.elsewhere(nginx)
+        self.passwords(nginx)
         self.away()
         self.faults()
 
@@ -550,6 +551,37 @@ class People:
             self.show("a machine that may not edit reads why", made.text("#told"), "view only: this machine may not edit the map")
             made.click(*self.place(made, 453))
             self.show("and sees tags, without buttons", made.text("#panel").split("\n"), ["place 453", "name\tOlder School"])
+
+    def passwords(self, nginx):
+        """A machine that may edit with a password only: the browser asks for it only after a click on the button."""
+        if not shutil.which("openssl"):
+            self.cases.say("no openssl: nobody logs in")
+            return
+        folder = os.path.join(self.folder, "passwords")
+        os.mkdir(folder)
+        people = os.path.join(folder, "people")
+        hidden = subprocess.run(["openssl", "passwd", "-apr1", "secret"], capture_output=True, text=True, check=True).stdout
+        with open(people, "w", encoding="utf-8") as file:
+            file.write("ann:" + hidden)
+        os.chmod(people, 0o644)
+        block = [("# satisfy any;", "satisfy any;"), ("# auth_basic", "auth_basic"), ("/etc/vtserve/people", people), ("allow 127.0.0.1;", "")]
+        with Nginx(nginx, folder, self.server, block) as front:
+            shutil.copytree(PAGE, os.path.join(front.folder, "pages"))
+            made = self.browser.open(f"{front.url}/pages/#16/54.5/7.5")
+            made.wait("document.getElementById('told').textContent", 8)
+            self.show("with passwords, who only looks is asked for none", made.text("#told"), "view only: log in to edit the map")
+            self.drawn(made)
+            made.click(*self.place(made, 453))
+            self.show("and sees tags, without buttons to edit", made.text("#panel").split("\n"), ["place 453", "name\tOlder School"])
+            # Here the browser learns the password, as from its dialog.
+            self.browser.open(front.url.replace("//", "//ann:secret@") + "/admin/status")
+            made.press("Log in")
+            self.show("who logs in may edit", made.wait("!document.getElementById('adding').hidden", 8), True)
+            self.edit(made, 453)
+            self.write(made, "name", "Oldest School")
+            made.press("Save")
+            self.saved(made)
+            self.show("and saves", self.get(453)["tags"], {"name": "Oldest School"})
 
     def elsewhere(self, nginx):
         """An editor whose address isn't among those that nginx keeps tiles of each edit for, as one with a password from elsewhere."""
