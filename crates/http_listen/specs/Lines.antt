@@ -1,5 +1,5 @@
 -- The lines of the log.
-use Rattle.std.specs.Prelude.{ℕ, List, ◌++◌, codes, decimal, Result, Ok, Err}
+use Rattle.std.specs.Prelude.{ℕ, List, ◌++◌, ◌+◌, ◌-◌, ◌^◌, min, codes, decimal, Result, Ok, Err}
 use Rattle.http_serve.specs.declared.connection.End.{End}
 use Rattle.http_serve.specs.declared.connection.End.TheVariants.{Closed, Asked, Refused, Turns}
 use Rattle.http_serve.specs.declared.connection.ServeFault.{ServeFault}
@@ -22,7 +22,7 @@ result_word (Err (Write requests)) = codes "write"
 result_word (Err (Content requests)) = codes "device"
 result_word (Err (Rest requests close from size)) = codes "write"
 
--- how many requests got a whole reply
+-- how many requests of a stretch got a whole reply
 abbrev pub replied_requests : Result Served ServeFault → ℕ
 replied_requests (Ok served) = served.requests
 replied_requests (Err Memory) = 0
@@ -31,8 +31,12 @@ replied_requests (Err (Write requests)) = requests
 replied_requests (Err (Content requests)) = requests
 replied_requests (Err (Rest requests close from size)) = requests
 
+-- how many requests of a connection did: those of its last stretch, and the earlier ones, as far as 64 bits count
+abbrev pub all_requests : (earlier : ℕ) → Result Served ServeFault → ℕ
+all_requests earlier result = min (replied_requests result + earlier) (2 ^ 64 - 1)
+
 -- the line of a connection: its number, its requests, its end
-unfoldable pub line_of : ℕ → Result Served ServeFault → List ℕ
-line_of number result =
-    codes "connection " ++ (decimal number ++ (codes ": " ++ (decimal (replied_requests result)
+unfoldable pub line_of : (number earlier : ℕ) → Result Served ServeFault → List ℕ
+line_of number earlier result =
+    codes "connection " ++ (decimal number ++ (codes ": " ++ (decimal (all_requests earlier result)
     ++ (codes " requests, " ++ (result_word result ++ codes "\n")))))

@@ -160,7 +160,7 @@ where
 /// before; other requests are answered between two parts. While replies wait, or the rest of one, no further request of the connection is
 /// read or answered.
 ///
-/// Between two requests a connection holds no buffers. Otherwise it has at most `http_serve::MAX_REQUEST` bytes of input, and replies of
+/// Between two requests a connection holds no buffers. Otherwise it has at most `http_requests::MAX_REQUEST` bytes of input, and replies of
 /// at most 1 MiB, on four connections 32 MiB; a buffer takes at most twice as much as it has. Of a content that is read in parts one
 /// part is in memory. A larger reply that the handler holds whole is sent at once, up to its end: for that time its peer is waited for, and
 /// all others with it. Once all connections hold 256 MiB, so is each reply, and a connection that has begun a request and sends more of it

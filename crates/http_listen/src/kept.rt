@@ -1,7 +1,7 @@
 //! Connections between two of their turns.
-ghost use Rattle.std.specs.Prelude.{◌≡◌, ◌≢◌, ◌+◌, ◌-◌, ◌^◌, min, Err};
-ghost use Rattle.http_serve.specs.declared.connection.ServeFault.TheVariants.{Memory};
-ghost use Rattle.http_listen.specs.Lines.{result_word, replied_requests};
+ghost use Rattle.std.specs.Prelude.{OnOk};
+ghost use Rattle.std.specs.Io.KnownBytes.{Appends};
+ghost use Rattle.http_listen.specs.Lines.{line_of};
 
 use crate::inputs::Input;
 use crate::lines::write_line;
@@ -174,9 +174,14 @@ impl<S> Kept<S> {
     }
 
     /// Writes its line to the log: what its last stretch came to, with the requests that got a whole reply before.
-    pub(crate) fn log_end<W: Write>(&self, outcome: Result<Served, ServeFault>, log: &mut W) {
-        let outcome = with_earlier(outcome, self.turn.requests);
-        let _ = write_line(log, self.turn.number, outcome);
+    pub(crate) fn log_end<W: Write>(
+        &self,
+        outcome: Result<Served, ServeFault>,
+        log: &mut W,
+    ) -> io::Result<()>
+        ensures { OnOk result (Appends (W.contents log.old) (W.contents log.new) (line_of self.now.turn.number self.now.turn.requests outcome)) }
+    {
+        write_line(log, self.turn.number, self.turn.requests, outcome)
     }
 
     /// More bytes are waited for.
@@ -234,7 +239,7 @@ impl<S: OpenStream> Kept<S> {
         outcome: Result<Served, ServeFault>,
         log: &mut W,
     ) -> bool {
-        self.log_end(outcome, log);
+        let _ = self.log_end(outcome, log);
         if outcome.is_err() || self.turn.ended || self.stream.shutdown(Shutdown::Write).is_err() {
             return false;
         }
@@ -315,41 +320,5 @@ impl<S: Write> Kept<S> {
             }
             Err(_) => Err(ServeFault::Write { requests: 0 }),
         }
-    }
-}
-
-/// What a connection came to with its last stretch, before which this many requests got a whole reply.
-fn with_earlier(outcome: Result<Served, ServeFault>, earlier: u64) -> Result<Served, ServeFault>
-    ensures word { result_word result ≡ result_word outcome }
-    ensures requests { outcome ≢ Err Memory → replied_requests result ≡ min (replied_requests outcome + earlier) (2 ^ 64 - 1) }
-{
-    match outcome {
-        Ok(served) => Ok(Served {
-            requests: served.requests.saturating_add(earlier),
-            end: served.end,
-        }),
-        Err(ServeFault::Memory) => Err(ServeFault::Memory),
-        Err(ServeFault::Read { requests }) => Err(ServeFault::Read {
-            requests: requests.saturating_add(earlier),
-        }),
-        Err(ServeFault::Write { requests }) => Err(ServeFault::Write {
-            requests: requests.saturating_add(earlier),
-        }),
-        Err(ServeFault::Content { requests }) => Err(ServeFault::Content {
-            requests: requests.saturating_add(earlier),
-        }),
-        Err(
-            ServeFault::Rest {
-                requests,
-                close,
-                from,
-                length,
-            },
-        ) => Err(ServeFault::Rest {
-            requests: requests.saturating_add(earlier),
-            close,
-            from,
-            length,
-        }),
     }
 }

@@ -6,7 +6,7 @@ ghost use Rattle.http_listen.specs.Lines.{result_word, replied_requests, line_of
 use http_serve::{End, ServeFault, Served};
 use std::io::{self, Write};
 
-/// How many requests of a connection got a whole reply.
+/// How many requests of a stretch got a whole reply.
 fn replied_requests(outcome: Result<Served, ServeFault>) -> u64
     ensures { result ≡ replied_requests outcome }
 {
@@ -40,15 +40,18 @@ fn result_word(outcome: Result<Served, ServeFault>) -> &'static str
     }
 }
 
-/// Writes the line of a connection: its number, how many requests got a whole reply, and its end.
+/// Writes the line of a connection: its number, how many requests got a whole reply, and its end. They are those of its last stretch,
+/// which came to `outcome`, and the `earlier` ones.
 pub fn write_line<W: Write>(
     log: &mut W,
     number: u64,
+    earlier: u64,
     outcome: Result<Served, ServeFault>,
 ) -> io::Result<()>
-    ensures { OnOk result (Appends (W.contents log.old) (W.contents log.new) (line_of number outcome)) }
+    ensures { OnOk result (Appends (W.contents log.old) (W.contents log.new) (line_of number earlier outcome)) }
 {
-    let requests = replied_requests(outcome);
+    let last = replied_requests(outcome);
+    let requests = last.saturating_add(earlier);
     let word = result_word(outcome);
     writeln!(log, "connection {number}: {requests} requests, {word}")
 }

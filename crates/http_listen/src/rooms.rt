@@ -142,7 +142,7 @@ impl<S: OpenStream + Drop> Room<S> {
             Ok(key) => Some(key),
             Err(kept) => {
                 if kept.turn.drops.is_none() {
-                    kept.log_end(kept.given_up(), log);
+                    let _ = kept.log_end(kept.given_up(), log);
                 }
                 None
             }

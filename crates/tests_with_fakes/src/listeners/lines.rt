@@ -4,12 +4,13 @@ use http_listen::write_line;
 use http_serve::{End, ServeFault, Served};
 use std::alloc::Global;
 
-/// The number of a connection, what it came to, and its line.
-type Row = (u64, Result<Served, ServeFault>, &'static str);
+/// The number of a connection, how many replies it had before its last stretch, what that came to, and its line.
+type Row = (u64, u64, Result<Served, ServeFault>, &'static str);
 
 static ROWS: [Row; 8] = [
     (
         1,
+        0,
         Ok(Served {
             requests: 0,
             end: End::Closed,
@@ -18,6 +19,7 @@ static ROWS: [Row; 8] = [
     ),
     (
         2,
+        0,
         Ok(Served {
             requests: 1,
             end: End::Asked,
@@ -26,14 +28,16 @@ static ROWS: [Row; 8] = [
     ),
     (
         10,
+        7,
         Ok(Served {
-            requests: 12,
+            requests: 5,
             end: End::Refused,
         }),
         "connection 10: 12 requests, refused\n",
     ),
     (
         99,
+        1,
         Ok(Served {
             requests: u64::MAX,
             end: End::Turns,
@@ -42,38 +46,43 @@ static ROWS: [Row; 8] = [
     ),
     (
         u64::MAX,
+        3,
         Err(ServeFault::Memory),
-        "connection 18446744073709551615: 0 requests, memory\n",
+        "connection 18446744073709551615: 3 requests, memory\n",
     ),
     (
         3,
-        Err(ServeFault::Read { requests: 4 }),
+        1,
+        Err(ServeFault::Read { requests: 3 }),
         "connection 3: 4 requests, read\n",
     ),
     (
         4,
+        0,
         Err(ServeFault::Write { requests: 5 }),
         "connection 4: 5 requests, write\n",
     ),
     (
         5,
-        Err(ServeFault::Content { requests: 6 }),
+        2,
+        Err(ServeFault::Content { requests: 4 }),
         "connection 5: 6 requests, device\n",
     ),
 ];
 
-/// Whether this is the line of a connection.
-fn is_line(alloc: Global, number: u64, outcome: Result<Served, ServeFault>, line: &str) -> bool {
+/// Whether the line of a connection is as its row says.
+fn is_line(alloc: Global, row: &Row) -> bool {
+    let (number, earlier, outcome, line) = *row;
     let mut log = Vec::new(alloc);
-    let written = write_line(&mut log, number, outcome).is_ok();
+    let written = write_line(&mut log, number, earlier, outcome).is_ok();
     written && log.as_slice() == line.as_bytes()
 }
 
 /// The number of the first connection that has another line.
 fn other_line(alloc: Global) -> Option<u64> {
-    for (number, outcome, line) in &ROWS {
-        if !is_line(alloc, *number, *outcome, line) {
-            return Some(*number);
+    for row in &ROWS {
+        if !is_line(alloc, row) {
+            return Some(row.0);
         }
     }
     None
