@@ -30,17 +30,6 @@ places_apart ring x y small small_too near near_too apart same = ⊎_elim
 pub in_ring : (ring : Ring) (place : ℕ) → 0 < ring.places → IsInRing ring (sector_at ring place)
 in_ring ring place pos = (omega arith, omega (arith, mod_below place ring.places pos))
 
--- the sector of a place that isn't past the last one
-pub low_sector : (ring : Ring) (place index : ℕ) → place < ring.places → index ≡ place → ring.first + index ≡ sector_at ring place
-low_sector ring place index lt is = omega (arith, mod-eq_of_lt lt, is)
-
--- and of one that is
-pub high_sector : (ring : Ring) (place index : ℕ) → ring.places ≤ place → place < ring.places + ring.places → index ≡ place - ring.places
-    → ring.first + index ≡ sector_at ring place
-high_sector ring place index le lt is =
-    let below : place - ring.places < ring.places = omega (arith, lt, le) in
-    omega (arith, mod-eq-sub-mod le, mod-eq_of_lt below, is)
-
 -- the index of a place in the ring
 pub low_place : (n place index : ℕ) → place < n → index ≡ place → index ≡ place % n
 low_place n place index lt is = is ∙ sym (mod-eq_of_lt lt)

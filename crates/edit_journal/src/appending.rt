@@ -21,12 +21,7 @@ impl Journal {
         ensures is { result ≡ sector_at (ring_of self.now) (self.now.place + offset) }
         ensures within { result < self.now.first + self.now.places }
     {
-        let to_end = self.places - self.place;
-        if offset < to_end {
-            self.first + (self.place + offset)
-        } else {
-            self.first + (offset - to_end)
-        }
+        self.first + self.place_of(offset)
     }
 }
 

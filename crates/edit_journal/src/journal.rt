@@ -39,21 +39,27 @@ impl Journal {
         self.places - self.used
     }
 
+    /// The place that is `offset` places after the first record in use. Place 0 comes after the last one.
+    pub(crate) fn place_of(&self, offset: u64) -> u64
+        requires { offset ≤ self.now.places }
+        ensures is { result ≡ (self.now.place + offset) % self.now.places }
+        ensures within { result < self.now.places }
+    {
+        let to_end = self.places - self.place;
+        if offset < to_end {
+            self.place + offset
+        } else {
+            offset - to_end
+        }
+    }
+
     /// Where the next record begins.
     pub fn next(&self) -> JournalPosition
         ensures { (result.place ≡ (self.now.place + self.now.used) % self.now.places) × (result.edits ≡ self.now.last) }
     {
-        let to_end = self.places - self.place;
-        if self.used < to_end {
-            JournalPosition {
-                place: self.place + self.used,
-                edits: self.last,
-            }
-        } else {
-            JournalPosition {
-                place: self.used - to_end,
-                edits: self.last,
-            }
+        JournalPosition {
+            place: self.place_of(self.used),
+            edits: self.last,
         }
     }
 }
