@@ -4,7 +4,7 @@ ghost use Rattle.sector_disk.specs.Disk.{Image};
 ghost use Rattle.file_disk.specs.Runs.{Shows};
 ghost use Rattle.file_disk.specs.declared.run.TheConstants.{RUN_SECTORS};
 
-use crate::run::{FIRST_RUN, RUN_SECTORS, Run, index_in};
+use crate::run::{FIRST_RUN, RUN_SECTORS, Run, get_from, overlap};
 use sector_disk::SECTOR_BYTES;
 
 /// The consecutive sectors that the file's last read ahead gave, of which the first is sector `first`. It is empty where `len` is 0.
@@ -33,13 +33,7 @@ impl ReadAhead {
         ensures given { IsTrue result → (image : Image) → Shows image self.now.first self.now.len self.now.sectors → into.new ≡ image at }
         ensures other { result ≡ false → (at < self.now.first) ⊎ (self.now.first + self.now.len ≤ at) }
     {
-        match index_in(self.first, self.len, at) {
-            Some(index) => {
-                *into = self.sectors[index];
-                true
-            }
-            None => false,
-        }
+        get_from(&self.sectors, self.first, self.len, at, into)
     }
 
     /// How many sectors are read ahead from sector `at` on, which isn't in the buffer, on a disk with `rest` sectors from there on: `FIRST_RUN`
@@ -61,9 +55,7 @@ impl ReadAhead {
             → ((at : ℕ) → (at < first) ⊎ (first + len ≤ at) → new at ≡ old at)
             → Shows new self.new.first self.new.len self.new.sectors }
     {
-        let before = first < self.first && self.first - first >= len as u64;
-        let after = first >= self.first && first - self.first >= self.len as u64;
-        if !before && !after {
+        if overlap(first, len, self.first, self.len) {
             self.len = 0;
         }
     }

@@ -5,7 +5,7 @@ ghost use Rattle.sector_disk.specs.Disk.History.{wrote};
 ghost use Rattle.file_disk.specs.Runs.{wrote_first, Apart};
 ghost use Rattle.file_disk.specs.declared.run.TheConstants.{RUN_SECTORS};
 
-use crate::run::{RUN_SECTORS, Run, index_in};
+use crate::run::{RUN_SECTORS, Run, get_from};
 use sector_disk::SECTOR_BYTES;
 
 /// Consecutive sectors that were written, of which the first is sector `first`. The file wasn't asked to write them yet, or failed to.
@@ -37,22 +37,7 @@ impl WriteBehind {
         ensures other { result ≡ false → (h : History) → seen (wrote_first self.now.first self.now.len self.now.sectors h) at ≡ seen h at }
         ensures apart { result ≡ false → Apart at 1 self.now.first self.now.len }
     {
-        match index_in(self.first, self.len, at) {
-            Some(index) => {
-                *into = self.sectors[index];
-                true
-            }
-            None => false,
-        }
-    }
-
-    /// Whether one of these sectors is in the buffer.
-    pub fn overlaps(&self, first: u64, len: usize) -> bool
-        ensures { result ≡ false → Apart first len self.now.first self.now.len }
-    {
-        let before = first < self.first && self.first - first >= len as u64;
-        let after = first >= self.first && first - self.first >= self.len as u64;
-        self.len > 0 && !before && !after
+        get_from(&self.sectors, self.first, self.len, at, into)
     }
 
     /// Whether the sector is the next one, and there is room for it.

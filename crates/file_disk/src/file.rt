@@ -15,7 +15,7 @@ ghost use Rattle.file_disk.specs.declared.run.TheConstants.{RUN_SECTORS};
 use crate::ahead::ReadAhead;
 use crate::behind::WriteBehind;
 use crate::recorded::RecordedFile;
-use crate::run::RUN_SECTORS;
+use crate::run::{RUN_SECTORS, overlap};
 use crate::start::Start;
 use sector_disk::{DiskFault, Faults, SECTOR_BYTES, Sectors};
 use std::fs::{OpenFile, OpenOptions};
@@ -280,7 +280,7 @@ impl<F: SectorFile + Drop, S: Start> FileDisk<F, S> {
             return false;
         }
         let count = self.ahead.next_run(at, self.count - at);
-        if self.behind.overlaps(at, count) {
+        if overlap(at, count, self.behind.first, self.behind.len) {
             return false;
         }
         self.read_ahead(at, count, into)

@@ -1,5 +1,8 @@
 //! Runs of consecutive sectors.
-ghost use Rattle.std.specs.Prelude.{◌≡◌, ◌+◌, ◌<◌, ◌≤◌, ◌⊎◌, ◌≢◌, None, IfSome};
+ghost use Rattle.std.specs.Prelude.{◌≡◌, ◌+◌, ◌<◌, ◌≤◌, ◌⊎◌, IsTrue, false};
+ghost use Rattle.sector_disk.specs.Disk.{Image};
+ghost use Rattle.file_disk.specs.Runs.{Shows, Apart};
+ghost use Rattle.file_disk.specs.declared.run.TheConstants.{RUN_SECTORS};
 
 use sector_disk::SECTOR_BYTES;
 
@@ -12,18 +15,38 @@ pub(crate) const FIRST_RUN: usize = 8;
 /// `RUN_SECTORS` consecutive sectors.
 pub type Run = [[u8; SECTOR_BYTES]; RUN_SECTORS];
 
-/// The index of a sector in a run of `len` sectors from `first` on, if it is in that run.
-pub(crate) fn index_in(first: u64, len: usize, at: u64) -> Option<usize>
-    ensures found { IfSome result (λ index. (index < len) × (first + index ≡ at)) }
-    ensures none { result ≡ None → (at < first) ⊎ (first + len ≤ at) }
+/// Gives sector `at`, if it is one of the first `len` of these, which begin with sector `first`, and says whether it is.
+pub(crate) fn get_from(
+    sectors: &Run,
+    first: u64,
+    len: usize,
+    at: u64,
+    into: &mut [u8; SECTOR_BYTES],
+) -> bool
+    requires { len ≤ RUN_SECTORS }
+    ensures given { IsTrue result → (image : Image) → Shows image first len sectors.now → into.new ≡ image at }
+    ensures other { result ≡ false → (at < first) ⊎ (first + len ≤ at) }
 {
     if at < first {
-        return None;
+        return false;
     }
     let index = at - first;
     if index < len as u64 {
-        Some(index as usize)
+        *into = sectors[index as usize];
+        true
     } else {
-        None
+        false
+    }
+}
+
+/// Whether a sector is both among the `len` sectors from `first` on and among the `other_len` sectors from `other` on.
+pub(crate) fn overlap(first: u64, len: usize, other: u64, other_len: usize) -> bool
+    ensures apart { result ≡ false → Apart first len other other_len }
+    ensures common { IsTrue result → Apart first len other other_len → ⊥ }
+{
+    if first < other {
+        other - first < len as u64 && other_len > 0
+    } else {
+        first - other < other_len as u64 && len > 0
     }
 }
