@@ -1,7 +1,7 @@
 //! The map: features by number, and an index of their boxes.
 
 ghost use Rattle.std.specs.Prelude.{◌≡◌, ◌⊎◌, ℕ, [], ◌+◌, ◌<◌, ◌≤◌, ◌≢◌, ◌↔◌, length, map, Some, IsSome, IfSome, None, IfOk, IfErr};
-ghost use Rattle.std.specs.Prelude.{All, OnOk, OnErr, IsTrue, option_map};
+ghost use Rattle.std.specs.Prelude.{All, OnOk, OnErr, option_map};
 ghost use Rattle.feature_model.specs.Data.{change_data};
 ghost use Rattle.feature_model.specs.Limits.{IsAllowed, IsAllowedChange};
 ghost use Rattle.edit_text.specs.Views.{feature_view};
@@ -73,13 +73,6 @@ impl Store {
         ensures map { IsMap self.now.features }
     {
         self.features.len()
-    }
-
-    /// Whether there is no feature.
-    pub fn is_empty(&self) -> bool
-        ensures { IsTrue result ↔ (self.now.features ≡ []) }
-    {
-        self.features.is_empty()
     }
 
     /// The feature with this number, by two binary searches.
