@@ -66,10 +66,9 @@ fn feature_text(alloc: Global, feature: FeatureText<'_>) -> Result<Vec<u8>, Allo
 fn numbered_body(alloc: Global, feature: &[u8], id: u64) -> Result<Vec<u8>, AllocError>
     ensures { IfOk result (λ text. text.items ≡ numbered_body feature.now id) }
 {
-    let mut text = Vec::new(alloc);
-    text.extend_from_slice(b"{\"feature\":")?;
-    text.extend_from_slice(feature)?;
-    text.reserve(MAX_DIGITS + 7)?;
+    let mut text = Vec::with_capacity(alloc, feature.len() + MAX_DIGITS + 18)?;
+    push_text(&mut text, b"{\"feature\":");
+    push_text(&mut text, feature);
     push_text(&mut text, b",\"id\":");
     push_number(&mut text, id);
     push_text(&mut text, b"}");
