@@ -65,13 +65,10 @@ impl<D: Sectors + Drop> Calls<D> {
         ensures there { IsTrue result → IsThere self.now.service.size self.now.oldest ticket offset count }
         ensures gone { result ≡ false → IsThere self.now.service.size self.now.oldest ticket offset count → ⊥ }
     {
-        let Some(layout) = Layout::of(self.service.status().sectors) else {
-            return false;
-        };
         if ticket.generation < self.oldest {
             return false;
         }
-        if !is_inside(layout, place_of(ticket)) {
+        if !is_inside(self.service.layout(), place_of(ticket)) {
             return false;
         }
         is_within(ticket, offset, count)

@@ -47,6 +47,13 @@ impl<D: Sectors + Drop> Service<D> {
         self.version
     }
 
+    /// How the sectors of its disk are divided.
+    pub fn layout(&self) -> Layout
+        ensures { result.sectors ≡ self.now.size }
+    {
+        self.layout
+    }
+
     /// Returns the disk.
     pub fn into_disk(self) -> D
         ensures { result ≡ self.disk }
