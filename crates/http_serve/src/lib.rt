@@ -11,7 +11,7 @@ mod writes;
 
 pub use connection::{End, MAX_READS, ServeFault, Served, serve_fronts, serve_with};
 pub use handlers::{ContentFault, Downloads, Handler, PART_SIZE, Request, Ticket};
-pub use http_requests::{MAX_REQUEST, READ_SPACE, Scan, Scanned};
+pub use http_requests::READ_SPACE;
 pub use http_values::Status;
 pub use replies::{Content, ContentRange, MAX_WORD, Reply};
 pub use sessions::Buffers;

@@ -3,7 +3,7 @@ use feature_model::EditFault;
 
 /// Why a request is refused, other than by the service. Nothing is changed.
 #[derive(Clone, Copy)]
-pub enum RequestFault {
+pub(crate) enum RequestFault {
     /// The path isn't served, or nothing is stored there: no feature of that id, no archive.
     NotFound,
     /// The body isn't JSON.

@@ -17,5 +17,4 @@ mod telling;
 
 pub use checking::replaces_what_was_seen;
 pub use downloads::download_is_of_one_archive;
-pub use fault::RequestFault;
 pub use service::{MapReplies, serve_map, serve_map_turns};
