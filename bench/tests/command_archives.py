@@ -95,13 +95,15 @@ def shows(cases, folder):
         whole = maker.archive(root, order=order, metadata=b'{"a":"b"}', gaps={"metadata": 100})
         end = 127 + whole[127:].index(b'{"a":"b"}') + 9
         rows = [whole, whole[:end], whole[: end - 1], whole[:128], whole[:127], changed(whole, internal=0), changed(whole, internal=3)]
-        rows += [changed(whole, metadata_at=at, metadata=length) for at, length in
-                 [(0, 7), (100, 27), (0, 0), (end, 0), (len(whole), 0), (len(whole) + 1, 0), (0, len(whole) + 1), (2**64 - 1, 1), (2**64 - 1, 2**64 - 1), (126, 2)]]
+        size = len(whole)
+        places = [(0, 7), (100, 27), (0, 0), (end, 0), (size, 0), (size + 1, 0), (0, size + 1), (2**64 - 1, 1), (2**64 - 1, 2**64 - 1), (126, 2)]
+        rows += [changed(whole, metadata_at=at, metadata=length) for at, length in places]
         for held in rows:
             write(path, held)
             said = header_of(held)
             name = f"{len(held)} bytes with {said['metadata']} of metadata at {said['metadata_at']}, compression {said['internal']}"
             cases.show(f"show of {name}", vtserve(["show", path]), lines_of(held))
-    for held, fault in [(whole[:126], b"Short"), (b"", b"Short"), (b"x" + whole[1:], b"Magic"), (whole[:7] + b"\x02" + whole[8:], b"Version"), (b"x", b"Short")]:
+    faulty = [(b"x" + whole[1:], b"Magic"), (whole[:7] + b"\x02" + whole[8:], b"Version")]
+    for held, fault in [(whole[:126], b"Short"), (b"", b"Short"), (b"x", b"Short"), *faulty]:
         write(path, held)
         cases.show(f"show of {len(held)} bytes that begin with {held[:8]!r}", vtserve(["show", path]), refusal(fault))

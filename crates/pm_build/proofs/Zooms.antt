@@ -80,7 +80,8 @@ to_last from (t ∷ []) last id bytes there ascend is = by (eqb t.0 id) refl is
     by : (b : Bool) → eqb t.0 id ≡ b → cond b (Some t.1) None ≡ Some bytes → id ≤ last.0
     by true here found = omega (arith, eqb-true t.0 id here, same)
     by false other found = absurd (cc)
-to_last from (t ∷ u ∷ us) last id bytes there ascend is = by (eqb t.0 id) refl is (to_last (suc t.0) (u ∷ us) last id bytes (last_behind t u us last there) ascend.1)
+to_last from (t ∷ u ∷ us) last id bytes there ascend is =
+    by (eqb t.0 id) refl is (to_last (suc t.0) (u ∷ us) last id bytes (last_behind t u us last there) ascend.1)
   where
     above : suc t.0 ≤ last.0
     above =
