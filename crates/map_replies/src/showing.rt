@@ -1,11 +1,10 @@
 //! Reads of the map.
-ghost use Rattle.std.specs.Prelude.{◌≡◌, [], false, Some, IfOk, IfErr};
+ghost use Rattle.std.specs.Prelude.{◌≡◌, [], Some, IfOk, IfErr};
 ghost use Rattle.edit_json.specs.Json.{json_of};
 ghost use Rattle.feature_model.specs.Limits.{FeatureFits};
 ghost use Rattle.edit_text.specs.Views.{feature_view};
 ghost use Rattle.http_serve.specs.Reply.{reply_view, IsWhole};
-ghost use Rattle.serde_json.specs.View.{view};
-ghost use Rattle.serde_json.specs.Written.{has_float, compact_text};
+ghost use Rattle.serde_json.specs.Written.{compact_text};
 ghost use Rattle.tile_service.specs.Machine.{tile, look, look_from, metadata};
 ghost use Rattle.tile_service.specs.Service.{status_of};
 ghost use Rattle.map_replies.specs.Meanings.{MeansCall, MeansStatus, OrNoMemory, Answers, DiskFailed};
@@ -22,21 +21,16 @@ use hilbert_id::TileAt;
 use http_serve::Reply;
 use http_values::{MAX_DIGITS, push_number, push_text};
 use sector_disk::Sectors;
-use serde_json::Value;
 use std::alloc::{AllocError, Global};
 use tile_routes::TileFormat;
 
-/// The reply with a JSON value that has no float.
-fn json_value(alloc: Global, value: &Value) -> Result<Reply, RequestFault>
-    requires whole { has_float (view value.now) ≡ false }
-    ensures reply { IfOk result (λ reply. reply_view [] reply ≡ json_reply (compact_text (view value.now))) }
-    ensures writable { IfOk result IsWhole }
-    ensures fault { IfErr result (λ fault. fault ≡ RequestFault.Memory) }
+/// The text of a feature.
+fn feature_text(alloc: Global, feature: FeatureText<'_>) -> Result<Vec<u8>, AllocError>
+    requires { FeatureFits (feature_view feature) }
+    ensures { IfOk result (λ text. text.items ≡ compact_text (json_of (feature_view feature.entry))) }
 {
-    match value.to_vec(alloc) {
-        Ok(text) => Ok(replies::json(text)),
-        Err(AllocError) => Err(RequestFault::Memory),
-    }
+    let value = feature_to_json(alloc, feature)?;
+    Ok(value.to_vec(alloc)?)
 }
 
 /// The reply with a feature.
@@ -46,19 +40,10 @@ fn feature_value(alloc: Global, feature: FeatureText<'_>) -> Result<Reply, Reque
     ensures writable { IfOk result IsWhole }
     ensures fault { IfErr result (λ fault. fault ≡ RequestFault.Memory) }
 {
-    match feature_to_json(alloc, feature) {
-        Ok(value) => json_value(alloc, &value),
+    match feature_text(alloc, feature) {
+        Ok(text) => Ok(replies::json(text)),
         Err(AllocError) => Err(RequestFault::Memory),
     }
-}
-
-/// The text of a feature.
-fn feature_text(alloc: Global, feature: FeatureText<'_>) -> Result<Vec<u8>, AllocError>
-    requires { FeatureFits (feature_view feature) }
-    ensures { IfOk result (λ text. text.items ≡ compact_text (json_of (feature_view feature.entry))) }
-{
-    let value = feature_to_json(alloc, feature)?;
-    Ok(value.to_vec(alloc)?)
 }
 
 /// The text of a feature with its id.
