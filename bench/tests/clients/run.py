@@ -574,6 +574,9 @@ def in_front(cases, folder):
         tiles = json.loads(curl(url + "/map.json")[2])
         cases.show("nginx: TileJSON", (tiles["tilejson"], tiles["tiles"], tiles["vector_layers"]),
                    ("3.0.0", [url + "/map/{z}/{x}/{y}.mvt"], json.loads(METADATA)["vector_layers"]))
+        again = [curl(url + path) for path in ("/map.json", "/map/metadata")]
+        cases.show("nginx: TileJSON and metadata again, from what is kept", [field(reply, "x-cache") for reply in again], ["HIT", "HIT"])
+        cases.show("nginx: and each as it is", (json.loads(again[0][2]), again[1][2]), (tiles, METADATA.encode()))
         reply = curl(f"http://[::1]:{front.port}/map/0/0/0.mvt")
         cases.show("nginx: by IPv6", status_of(reply), 200)
         long = feature("long", 5, 5, tags={"k": "x" * 1024})
