@@ -65,12 +65,17 @@ class Editor(threading.Thread):
             else:
                 after[number] = version(self.name, count, number)
                 changes.append({"put": number, "feature": after[number], "was": was})
+        # What this edit says that was seen: a look after a refusal is no part of it, though the edit is sent again.
+        said = {number: self.seen[number] for number in numbers}
+        # Versions are made once, so an edit that saw one can't be made twice. Of nothing seen it could: if others delete what it made.
+        if self.times > 1 and not any(said.values()):
+            return False
         body, is_made = json.dumps({"changes": changes}), False
         for _ in range(self.times):
             status, content = self.ask("POST", "/admin/edits", body)
             self.replies[status] += 1
             if status == 200:
-                self.made.append((json.loads(content)["edit"], {number: self.seen[number] for number in numbers}, after))
+                self.made.append((json.loads(content)["edit"], said, after))
                 is_made = True
             elif status == 409 and not is_made:
                 self.look(int(content.split()[1]))
@@ -116,6 +121,8 @@ def editors(cases, folder):
     edit, was, after = notes[len(notes) // 2]
     number = next(iter(was))
     unseen = [*notes[:len(notes) // 2], (edit, {**was, number: version("nobody", 0, number)}, after), *notes[len(notes) // 2 + 1:]]
-    again = [*notes, (last + 1, *notes[-1][1:])]
+    # One that can't be made again at the end: the map has another version then.
+    late = next(note for note in notes if any(wanted.get(number) != seen for number, seen in note[1].items()))
+    again = [*notes, (last + 1, *late[1:])]
     cases.show("editors: the check finds an edit of an unseen version, one twice and one that is missing",
                [bool(checked(wrong, count)[0]) for wrong, count in ((unseen, last), (again, last + 1), (notes[1:], last))], [True] * 3)

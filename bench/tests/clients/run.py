@@ -620,6 +620,8 @@ def crowd(cases, front, server):
         cases.say("no wrk: fifty clients at once aren't tried")
         return
     time.sleep(2)
+    ends = {line.rpartition(", ")[2] for line in server.lines()}
+    cases.show("serve's lines: nginx ended each connection", ends, {"closed"})
     before, passed = len(front.errors()), asked_of(server)
     for name, path in [("a kept tile", "/map/0/0/0.mvt"), ("a feature, which is never kept", "/features/7")]:
         told = subprocess.run(["wrk", "-t", "2", "-c", "50", "-d", "3s", "--timeout", "10s", front.url + path], capture_output=True, text=True).stdout
@@ -633,8 +635,9 @@ def crowd(cases, front, server):
             cases.show("of those at most three reached the server", reached <= 3 or reached, True)
     cases.show("nginx: no line in its log of errors meanwhile", front.errors()[before:], [])
     server.end(signal.SIGTERM)
+    # nginx breaks off what a client asked that has gone, as wrk does at its end.
     ends = {line.rpartition(", ")[2] for line in server.lines()[-1000:]}
-    cases.show("serve's lines: nginx ended each connection", ends, {"closed"})
+    cases.show("serve's lines: of those of fifty clients too, or broke off a reply", ends - {"read", "write"}, {"closed"})
     many = max(int(line.split()[2]) for line in server.lines())
     cases.show("and uses one for several requests", many > 10, True)
 
