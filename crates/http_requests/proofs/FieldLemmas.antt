@@ -22,7 +22,7 @@ use Rattle.http_requests.specs.declared.fields.TheConstants.{MAX_BODY}
 use Rattle.http_requests.specs.declared.refusals.Refusal.{Refusal}
 use Rattle.http_requests.specs.declared.refusals.Refusal.TheVariants.{Host, Coding, Expect, Length, Body}
 use Rattle.http_requests.specs.Fields.{NamedValue, values_of, limited, stated_length, only_value, is_numeral, is_word, lists_close, is_close, says_close}
-use Rattle.http_requests.specs.Fields.{framing, body_length, is_hosted, has_field}
+use Rattle.http_requests.specs.Fields.{framing, body_length, is_hosted, has_expectation, has_field}
 
 -- more fields
 values-append : (word : List ℕ) (xs ys : List NamedValue) → values_of word (xs ++ ys) ≡ values_of word xs ++ values_of word ys
@@ -94,10 +94,10 @@ stated_bound (v ∷ w ∷ more) n e = cc
 pub framing_bound : (minor : ℕ) (fields : List NamedValue) (n : ℕ) → framing minor fields ≡ Ok n → n ≤ MAX_BODY
 framing_bound minor fields n e =
     let length : Result ℕ Refusal = body_length fields in
-    let behind_expect : Result ℕ Refusal = cond (has_field (codes "expect") fields) (Err Expect) length in
+    let behind_expect : Result ℕ Refusal = cond (has_expectation minor fields) (Err Expect) length in
     let behind_coding : Result ℕ Refusal = cond (has_field (codes "transfer-encoding") fields) (Err Coding) behind_expect in
     stated_bound (values_of (codes "content-length") fields) n (
-    spared (has_field (codes "expect") fields) Expect length n (
+    spared (has_expectation minor fields) Expect length n (
     spared (has_field (codes "transfer-encoding") fields) Coding behind_expect n (
     taken (is_hosted minor fields) behind_coding Host n e)))
 

@@ -16,7 +16,7 @@ use Rattle.http_requests.specs.declared.refusals.TheConstants.{NO_HEAD}
 use Rattle.http_requests.specs.declared.refusals.Refusal.{Refusal}
 use Rattle.http_requests.specs.declared.refusals.Rejection.{Rejection}
 use Rattle.http_requests.specs.declared.refusals.Refusal.TheVariants.{Short}
-use Rattle.http_requests.specs.Fields.{NamedValue, framing, range_of, says_close}
+use Rattle.http_requests.specs.Fields.{NamedValue, framing, range_of, is_conditional, says_close}
 use Rattle.http_requests.specs.Frame.{IsFrameOf}
 use Rattle.http_requests.specs.declared.frames.TheConstants.{MAX_REQUEST}
 use Rattle.http_requests.specs.Requests.{Request, IsHead, IsRequest, HasNoHead, HasFault, IsFault, IsRefused, fields_of, has_head_method}
@@ -151,14 +151,16 @@ module _ (bytes : List ℕ) (fields : List HeaderSpan) (spans : RequestSpans) (h
       → close ≡ spans.version == 0 || says_close (map (header_bytes bytes) (take spans.headers fields))
       → (range : Option Span) → IfSome range (IsWithin (length bytes))
       → option_map (span_bytes bytes) range ≡ range_of (map (header_bytes bytes) (take spans.headers fields))
+      → (conditional : Bool) → conditional ≡ is_conditional (map (header_bytes bytes) (take spans.headers fields))
       → (request : Request) × IsFrameOf bytes (record {
         method = spans.method;
         target = spans.path;
         body = record { start = spans.len; end = spans.len + n };
         range = range;
+        conditional = conditional;
         close = close;
       }) request
-  spans_frame within size room n e fits close closes range range_within range_is =
+  spans_frame within size room n e fits close closes range range_within range_is conditional conditional_is =
       let limit = within.section.len_fits in
       let method = within.method in
       let path = within.path in (
@@ -176,6 +178,7 @@ module _ (bytes : List ℕ) (fields : List HeaderSpan) (spans : RequestSpans) (h
               ap (λ (k : ℕ). take k (drop spans.len bytes)) same;
           range_within = range_within;
           range = range_is ∙ ap range_of at.fields;
+          conditional = conditional_is ∙ ap is_conditional at.fields;
           close = closes ∙ ap (λ (k : ℕ). k == 0 || says_close (map (header_bytes bytes) (take spans.headers fields))) at.version
               ∙ ap (λ (named : List NamedValue). h.minor == 0 || says_close named) at.fields;
         },

@@ -5,3 +5,4 @@ pub mod Laws
 mod LimitNumbers
 pub mod LineLemmas
 pub mod ReadingLemmas
+mod TargetForms

@@ -8,7 +8,7 @@ use Rattle.http_requests.specs.declared.frames.Next.{Next}
 use Rattle.http_requests.specs.declared.frames.Next.TheVariants.{Whole, Refused, More}
 use Rattle.http_requests.specs.declared.refusals.Rejection.{Rejection}
 use Rattle.http_requests.specs.Requests.{Request, IsRequest, IsRefused, fields_of, asks_to_close, has_head_method}
-use Rattle.http_requests.specs.Fields.{range_of}
+use Rattle.http_requests.specs.Fields.{range_of, is_conditional}
 
 -- bytes begin with this request, and the frame has its parts
 pub record IsFrameOf (bytes : List ℕ) (frame : Frame) (request : Request) : Type 0 where
@@ -22,6 +22,7 @@ pub record IsFrameOf (bytes : List ℕ) (frame : Frame) (request : Request) : Ty
   pub body : span_bytes bytes frame.body ≡ request.body
   pub range_within : IfSome frame.range (IsWithin (length bytes))
   pub range : option_map (span_bytes bytes) frame.range ≡ range_of (fields_of request.head)
+  pub conditional : frame.conditional ≡ is_conditional (fields_of request.head)
   pub close : frame.close ≡ asks_to_close request.head
 
 -- bytes begin with no request, nor do they with more bytes appended while the total length is below until

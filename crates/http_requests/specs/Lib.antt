@@ -5,3 +5,4 @@ pub mod Lines
 pub mod Requests
 pub mod Scans
 pub mod Search
+pub mod Targets

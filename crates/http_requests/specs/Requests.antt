@@ -2,14 +2,14 @@
 use Rattle.std.specs.Prelude.{◌≡◌, ℕ, ◌<◌, ◌≤◌, List, [], ◌∷◌, ◌++◌, Bool, true, false, ◌==◌, ◌||◌, length, map, Option, None, Some, option_map}
 use Rattle.std.specs.Prelude.{Result, Ok, Err, ⊤, nat_eq, codes}
 use Rattle.std.specs.Cmp.Lexicographic.{pointwise}
-use Rattle.std.specs.List.{before_first}
 use Rattle.httparse.specs.Grammar.{RequestHead, ReadsRequest, print_request}
 use Rattle.httparse.specs.Spans.{name_and_value, span_bytes}
 use Rattle.http_requests.specs.declared.frames.Frame.{Frame}
 use Rattle.http_requests.specs.declared.frames.TheConstants.{MAX_HEAD, MAX_FIELDS}
 use Rattle.http_requests.specs.declared.refusals.Refusal.{Refusal}
 use Rattle.http_requests.specs.declared.refusals.Refusal.TheVariants.{Head, Short}
-use Rattle.http_requests.specs.Fields.{NamedValue, framing, range_of, says_close}
+use Rattle.http_requests.specs.Fields.{NamedValue, framing, range_of, is_conditional, says_close}
+use Rattle.http_requests.specs.Targets.{path_of}
 
 -- a request: its head and its body
 pub record Request : Type 0 where
@@ -47,25 +47,20 @@ has_head_method (Some head) = is_head head.method
 pub record RequestView : Type 0 where
   pub method : List ℕ
   pub path : List ℕ
-  -- the value of the only range field
+  -- the value of the only range field, if no field is named if-range
   pub range : Option (List ℕ)
+  -- whether it comes under a condition on entity tags
+  pub conditional : Bool
   pub body : List ℕ
   -- whether the connection ends after the reply
   pub close : Bool
-
--- b'?'
-abbrev pub question_mark : ℕ
-question_mark = 63
-
--- a request's path: its target up to the first question mark
-abbrev pub path_of : List ℕ → List ℕ
-path_of target = before_first (λ byte. byte == question_mark) target
 
 abbrev pub request_view : Request → RequestView
 request_view request = record {
   method = request.head.method;
   path = path_of request.head.target;
   range = range_of (fields_of request.head);
+  conditional = is_conditional (fields_of request.head);
   body = request.body;
   close = asks_to_close request.head;
 }
@@ -76,6 +71,7 @@ request_view_at bytes frame = record {
   method = span_bytes bytes frame.method;
   path = path_of (span_bytes bytes frame.target);
   range = option_map (span_bytes bytes) frame.range;
+  conditional = frame.conditional;
   body = span_bytes bytes frame.body;
   close = frame.close;
 }

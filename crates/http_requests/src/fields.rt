@@ -1,12 +1,12 @@
-//! What the header fields say about the request, its body and the connection (RFC 9110, 7.6.1, 8.6 and 10.1.1; RFC 9112, 3.2 and 6).
-ghost use Rattle.std.specs.Prelude.{◌≡◌, ◌≤◌, ◌<◌, ◌&&◌, ◌==◌, ◌^◌, ℕ, true, length, map, reverse, codes, All, IfSome, MatchOption};
+//! What the header fields say about the request, its body and the connection (RFC 9110, 7.6.1, 8.6, 10.1.1 and 13.1; RFC 9112, 3.2 and 6).
+ghost use Rattle.std.specs.Prelude.{◌≡◌, ◌≤◌, ◌<◌, ◌&&◌, ◌||◌, ◌==◌, ◌^◌, ℕ, true, length, map, reverse, codes, All, IfSome, MatchOption};
 ghost use Rattle.std.specs.List.{position, position_or_len};
 ghost use Rattle.std.specs.Char.{to_ascii_lowercase};
 ghost use Rattle.std.specs.Option.{option_map};
 ghost use Rattle.httparse.specs.Spans.{IsHeaderWithin, IsWithin, header_bytes, span_bytes};
 ghost use Rattle.httparse.specs.Grammar.{is_ows, skip_ows, trim_ows};
 ghost use Rattle.http_requests.specs.Fields.{is_word, IsStated, values_of, limited, numeral_length, range_of, lists_close, says_close};
-ghost use Rattle.http_requests.specs.Fields.{body_length, has_field, is_hosted, framing};
+ghost use Rattle.http_requests.specs.Fields.{body_length, has_field, is_hosted, has_expectation, is_conditional, framing};
 
 use crate::refusals::Refusal;
 use http_values::{are_digits, digits_number};
@@ -27,7 +27,7 @@ pub(crate) enum Stated {
 }
 
 /// Whether a name equals the lower-case `word`, ignoring case.
-fn is_word(name: &[u8], word: &[u8]) -> bool
+pub(crate) fn is_word(name: &[u8], word: &[u8]) -> bool
     requires { map to_ascii_lowercase word.now ≡ word.now }
     ensures { result ≡ is_word word.now name.now }
 {
@@ -99,18 +99,24 @@ fn has_field(bytes: &[u8], fields: &[HeaderSpan], word: &[u8]) -> bool
     }
 }
 
-/// Whether an HTTP/1.1 head has exactly one host field. HTTP/1.0 needs none.
+/// Whether a head has exactly one host field. HTTP/1.0 needs none.
 fn is_hosted(bytes: &[u8], version: u8, fields: &[HeaderSpan]) -> bool
     requires { All (IsHeaderWithin (length bytes.now)) fields.now }
     ensures { result ≡ is_hosted version (map (header_bytes bytes.now) fields.now) }
 {
-    if version == 0 {
-        return true;
-    }
     match find_stated(bytes, fields, b"host") {
+        Stated::Never => version == 0,
         Stated::Once(_) => true,
-        _ => false,
+        Stated::Often => false,
     }
+}
+
+/// Whether an HTTP/1.1 head expects something. In HTTP/1.0 an expectation is ignored.
+fn has_expectation(bytes: &[u8], version: u8, fields: &[HeaderSpan]) -> bool
+    requires { All (IsHeaderWithin (length bytes.now)) fields.now }
+    ensures { result ≡ has_expectation version (map (header_bytes bytes.now) fields.now) }
+{
+    version != 0 && has_field(bytes, fields, b"expect")
 }
 
 /// The length of a request's body, or why its head is refused, by its version and its fields.
@@ -124,22 +130,33 @@ pub(crate) fn framing(bytes: &[u8], version: u8, fields: &[HeaderSpan]) -> Resul
     if has_field(bytes, fields, b"transfer-encoding") {
         return Err(Refusal::Coding);
     }
-    if has_field(bytes, fields, b"expect") {
+    if has_expectation(bytes, version, fields) {
         return Err(Refusal::Expect);
     }
     body_length(bytes, fields)
 }
 
-/// The value of the only range field, without surrounding white space.
+/// The value of the only range field, without surrounding white space, if there is no field if-range.
 pub(crate) fn range_of(bytes: &[u8], fields: &[HeaderSpan]) -> Option<Span>
     requires { All (IsHeaderWithin (length bytes.now)) fields.now }
     ensures value { option_map (span_bytes bytes.now) result ≡ range_of (map (header_bytes bytes.now) fields.now) }
     ensures within { IfSome result (IsWithin (length bytes.now)) }
 {
+    if has_field(bytes, fields, b"if-range") {
+        return None;
+    }
     match find_stated(bytes, fields, b"range") {
         Stated::Once(value) => Some(value),
         _ => None,
     }
+}
+
+/// Whether there is a condition on entity tags: a field if-match or if-none-match.
+pub(crate) fn is_conditional(bytes: &[u8], fields: &[HeaderSpan]) -> bool
+    requires { All (IsHeaderWithin (length bytes.now)) fields.now }
+    ensures { result ≡ is_conditional (map (header_bytes bytes.now) fields.now) }
+{
+    has_field(bytes, fields, b"if-match") || has_field(bytes, fields, b"if-none-match")
 }
 
 /// Whether a field name is connection.

@@ -4,9 +4,9 @@ ghost use Rattle.httparse.specs.Spans.{IsRequestWithin, IsRequestOf, IsHeaderWit
 ghost use Rattle.http_requests.specs.Fields.{says_close};
 ghost use Rattle.http_requests.specs.declared.frames.TheConstants.{MAX_HEAD, MAX_FIELDS};
 ghost use Rattle.http_requests.specs.Frame.{IsNext};
-ghost use Rattle.http_requests.specs.Requests.{is_head, path_of};
+ghost use Rattle.http_requests.specs.Requests.{is_head};
 
-use crate::fields::{MAX_BODY, framing, position_or_len, range_of, says_close};
+use crate::fields::{MAX_BODY, framing, is_conditional, range_of, says_close};
 use crate::refusals::{NO_HEAD, Refusal, Rejection};
 use httparse::Status;
 use httparse::spans::{EMPTY_HEADER_SPAN, HeaderSpan, RequestSpans, Span, parse_request};
@@ -26,8 +26,10 @@ pub struct Frame {
     pub target: Span,
     /// The body: the request ends where it does.
     pub body: Span,
-    /// The value of the only range field.
+    /// The value of the only range field, if there is no field if-range.
     pub range: Option<Span>,
+    /// Whether it comes under a condition on entity tags: it has a field if-match or if-none-match.
+    pub conditional: bool,
     /// Whether the request asks to close the connection.
     pub close: bool,
 }
@@ -92,13 +94,6 @@ pub fn is_head(method: &[u8]) -> bool
     method == b"HEAD".as_slice()
 }
 
-/// A request's path: its target up to the first question mark.
-pub fn path_of(target: &[u8]) -> &[u8]
-    ensures { result.now ≡ path_of target.now }
-{
-    &target[..position_or_len(target, b'?')]
-}
-
 /// What bytes begin with, given their head.
 fn framed(bytes: &[u8], head: &RequestSpans, fields: &[HeaderSpan]) -> Next
     requires within { IsRequestWithin bytes.now fields.now head.now }
@@ -130,6 +125,7 @@ fn framed(bytes: &[u8], head: &RequestSpans, fields: &[HeaderSpan]) -> Next
             end,
         },
         range: range_of(bytes, fields),
+        conditional: is_conditional(bytes, fields),
         close: asks_to_close(bytes, head.version, fields),
     })
 }

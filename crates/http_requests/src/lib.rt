@@ -9,9 +9,11 @@ mod positions;
 mod refusals;
 mod scans;
 mod searches;
+mod targets;
 
-pub use frames::{Frame, MAX_REQUEST, Missing, Next, is_head, path_of};
+pub use frames::{Frame, MAX_REQUEST, Missing, Next, is_head};
 pub use inputs::{Input, READ_SPACE, ReadFault};
 pub use refusals::{NO_HEAD, Refusal, Rejection};
 pub use scans::{Scan, Scanned};
 pub use searches::{START, Search, find_next};
+pub use targets::path_of;

@@ -5,11 +5,11 @@
 pub enum Refusal {
     /// There is no head.
     Head,
-    /// An HTTP/1.1 head has no host, or more than one.
+    /// The head has more than one host, or an HTTP/1.1 head has none.
     Host,
     /// The body has a coding.
     Coding,
-    /// The head expects something.
+    /// An HTTP/1.1 head expects something.
     Expect,
     /// There is more than one content-length, or it isn't digits alone.
     Length,

@@ -6,7 +6,8 @@ use Rattle.std.specs.Io.KnownBytes.{Appends}
 use Rattle.httparse.specs.Grammar.{RequestHead}
 use Rattle.http_requests.specs.declared.refusals.Refusal.{Refusal}
 use Rattle.http_requests.specs.Requests.{Request, IsHead, IsRequest, Begins, Ending, going, closed, asked, refused, EndsAs, IsRefused, asks_to_close}
-use Rattle.http_requests.specs.Requests.{RequestView, request_view, request_view_at, path_of, is_head}
+use Rattle.http_requests.specs.Requests.{RequestView, request_view, request_view_at, is_head}
+use Rattle.http_requests.specs.Targets.{path_of}
 use Rattle.http_requests.specs.declared.frames.Frame.{Frame}
 use Rattle.http_requests.specs.Frame.{IsFrameOf}
 use Rattle.http_serve.specs.Reply.{ReplyView, reply_bytes, reply_to, reply_at, refusal_bytes}
@@ -64,6 +65,7 @@ framed_view input frame request is = λ i. record {
   method = is.method i;
   path = path_of (is.target i);
   range = is.range i;
+  conditional = is.conditional i;
   body = is.body i;
   close = is.close i;
 }

@@ -192,6 +192,7 @@ same_head parts reply fits = λ i. record {
   status = code_of reply.status;
   kind = (head_view reply).kind;
   range = reply.range;
+  tag = reply.tag;
   allow = (head_view reply).allow;
   size = size_is parts reply.content fits i;
 }

@@ -11,6 +11,12 @@ pub four_added : (front a b c d w x y z : List ℕ) → w ≡ front ++ a → x �
 four_added front a b c d w x y z first second third fourth =
     fourth ∙ ap (λ (t : List ℕ). t ++ d) (three_added front a b c w x y first second third) ∙ simp append_assoc
 
+-- five texts are added in sequence
+pub five_added : (front a b c d e v w x y z : List ℕ) → v ≡ front ++ a → w ≡ v ++ b → x ≡ w ++ c → y ≡ x ++ d → z ≡ y ++ e
+    → z ≡ front ++ (a ++ b ++ c ++ d ++ e)
+five_added front a b c d e v w x y z first second third fourth fifth =
+    fifth ∙ ap (λ (t : List ℕ). t ++ e) (four_added front a b c d v w x y first second third fourth) ∙ simp append_assoc
+
 -- the second of two texts is added if a test fails
 pub others_added : (b : Bool) (front x y z : List ℕ) → b ≡ false → z ≡ front ++ y → z ≡ front ++ cond b x y
 others_added b front x y z fails is = is ∙ ap (λ (t : Bool). front ++ cond t x y) (sym fails)

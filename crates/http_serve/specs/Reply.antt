@@ -15,13 +15,15 @@ use Rattle.http_serve.specs.declared.replies.Content.{Content}
 use Rattle.http_serve.specs.declared.replies.Content.TheVariants.{Empty, Fixed, Whole, Shared, Parts}
 use Rattle.http_serve.specs.declared.replies.ContentRange.{ContentRange}
 use Rattle.http_serve.specs.declared.replies.ContentRange.TheVariants.{Part, Unsatisfied}
+use Rattle.http_serve.specs.declared.replies.EntityTag.{EntityTag}
 use Rattle.http_serve.specs.declared.replies.Reply.{Reply}
 
--- what a reply says: its status, the type and the range of its content, the allowed methods, and the content
+-- what a reply says: its status, the type and the range of its content, the entity tag, the allowed methods, and the content
 pub record ReplyView : Type 0 where
   pub status : ℕ
   pub kind : Option (List ℕ)
   pub range : Option ContentRange
+  pub tag : Option EntityTag
   pub allow : Option (List ℕ)
   pub content : List ℕ
 
@@ -30,15 +32,23 @@ pub record HeadView : Type 0 where
   pub status : ℕ
   pub kind : Option (List ℕ)
   pub range : Option ContentRange
+  pub tag : Option EntityTag
   pub allow : Option (List ℕ)
   pub size : ℕ
 
 abbrev pub head_of : ReplyView → HeadView
-head_of reply = record { status = reply.status; kind = reply.kind; range = reply.range; allow = reply.allow; size = length reply.content }
+head_of reply = record {
+  status = reply.status;
+  kind = reply.kind;
+  range = reply.range;
+  tag = reply.tag;
+  allow = reply.allow;
+  size = length reply.content;
+}
 
 -- a reply with only a status, a type and a content
 abbrev pub plain_reply : ℕ → Option (List ℕ) → List ℕ → ReplyView
-plain_reply status kind content = record { status = status; kind = kind; range = None; allow = None; content = content }
+plain_reply status kind content = record { status = status; kind = kind; range = None; tag = None; allow = None; content = content }
 
 -- ---- replies of a program
 
@@ -72,6 +82,7 @@ reply_view parts reply = record {
   status = code_of reply.status;
   kind = option_map (λ kind. kind.now) reply.kind;
   range = reply.range;
+  tag = reply.tag;
   allow = option_map (λ allow. allow.now) reply.allow;
   content = content_bytes parts reply.content;
 }
@@ -82,6 +93,7 @@ head_view reply = record {
   status = code_of reply.status;
   kind = option_map (λ kind. kind.now) reply.kind;
   range = reply.range;
+  tag = reply.tag;
   allow = option_map (λ allow. allow.now) reply.allow;
   size = content_size reply.content;
 }
@@ -144,6 +156,16 @@ range_line None = []
 range_line (Some (Part first last total)) = part_line first last total
 range_line (Some (Unsatisfied total)) = unsatisfied_line total
 
+-- the etag line: a strong entity tag, three numbers with dashes between them (RFC 9110, 8.8.3)
+unfoldable pub tag_line : EntityTag → List ℕ
+tag_line tag =
+    codes "etag: \"" ++ decimal tag.generation ++ codes "-" ++ decimal tag.edit ++ codes "-" ++ decimal tag.length ++ codes "\"\r\n"
+
+-- the etag line, if there is an entity tag
+abbrev pub tag_lines : Option EntityTag → List ℕ
+tag_lines None = []
+tag_lines (Some tag) = tag_line tag
+
 -- the content-length line
 unfoldable pub length_line : ℕ → List ℕ
 length_line size = codes "content-length: " ++ decimal size ++ line_end
@@ -161,7 +183,7 @@ has_no_content status = status == 204
 abbrev pub field_lines : HeadView → List ℕ
 field_lines head =
     cond (has_no_content head.status) (word_line allow_name head.allow)
-    (word_line type_name head.kind ++ range_line head.range ++ word_line allow_name head.allow ++ length_line head.size)
+    (word_line type_name head.kind ++ range_line head.range ++ tag_lines head.tag ++ word_line allow_name head.allow ++ length_line head.size)
 
 -- the head of a reply, with its empty line; it says whether the reply is the last one
 unfoldable pub reply_head : Bool → HeadView → List ℕ

@@ -142,6 +142,7 @@ fn answer_one<H: Handler, W: Write>(
         method,
         path: path_of(frame.target.of(bytes)),
         range: part_of(bytes, frame.range),
+        conditional: frame.conditional,
         body: frame.body.of(bytes),
         close: frame.close,
     };

@@ -23,10 +23,13 @@ pub struct ContentFault;
 pub struct Request<'a> {
     /// The method, as received.
     pub method: &'a [u8],
-    /// The target up to the first question mark.
+    /// The path of the target, without its query.
     pub path: &'a [u8],
-    /// The value of the only range field, without surrounding white space. `None` if there is no such field, or several.
+    /// The value of the only range field, without surrounding white space. `None` if there is no such field, or several, or a field
+    /// if-range.
     pub range: Option<&'a [u8]>,
+    /// Whether it comes under a condition on entity tags: it has a field if-match or if-none-match.
+    pub conditional: bool,
     /// The body, of at most 65,536 bytes.
     pub body: &'a [u8],
     /// Whether the connection ends after the reply.
@@ -55,12 +58,14 @@ pub trait Handler {
           method = request.now.method.now;
           path = request.now.path.now;
           range = option_map (λ range. range.now) request.now.range;
+          conditional = request.now.conditional;
           body = request.now.body.now;
           close = request.now.close;
         }) reply self.new × InParts result.content (sends self.old (record {
           method = request.now.method.now;
           path = request.now.path.now;
           range = option_map (λ range. range.now) request.now.range;
+          conditional = request.now.conditional;
           body = request.now.body.now;
           close = request.now.close;
         }) reply self.new × (size self.new ≡ length reply.content)) }

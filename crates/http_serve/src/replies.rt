@@ -5,7 +5,7 @@ ghost use Rattle.http_values.specs.Codes.{code_of};
 ghost use Rattle.http_values.specs.declared.digits.TheConstants.{MAX_DIGITS};
 ghost use Rattle.http_serve.specs.Parts.{front_content, front_bytes};
 ghost use Rattle.http_serve.specs.Reply.{HasShortWords, head_view, content_size, part_line, unsatisfied_line};
-ghost use Rattle.http_serve.specs.Reply.{range_line, word_line, length_line, closing_line, field_lines, reply_head, has_no_content};
+ghost use Rattle.http_serve.specs.Reply.{range_line, tag_line, tag_lines, word_line, length_line, closing_line, field_lines, reply_head, has_no_content};
 ghost use Rattle.http_serve.specs.Sent.{Sends};
 ghost use Rattle.http_serve.specs.declared.replies.TheConstants.{MAX_REPLY_HEAD, MAX_WORD, REPLY_SPACE};
 
@@ -69,7 +69,19 @@ pub enum ContentRange {
     Unsatisfied { total: u64 },
 }
 
-/// A reply to a request. A 204 reply is sent without its content, its type and its range.
+/// A strong entity tag: three numbers that together tell one state of a resource from another (RFC 9110, 8.8.3). It is sent as
+/// `"GENERATION-EDIT-LENGTH"`.
+#[derive(Clone, Copy)]
+pub struct EntityTag {
+    /// How often the resource was replaced.
+    pub generation: u64,
+    /// The number of the last edit in it.
+    pub edit: u64,
+    /// Its length in bytes.
+    pub length: u64,
+}
+
+/// A reply to a request. A 204 reply is sent without its content, its type, its range and its entity tag.
 #[derive(Drop)]
 pub struct Reply {
     pub status: Status,
@@ -77,6 +89,8 @@ pub struct Reply {
     pub kind: Option<&'static str>,
     /// Which part of a whole the content is.
     pub range: Option<ContentRange>,
+    /// The entity tag of the whole.
+    pub tag: Option<EntityTag>,
     /// The allowed methods, such as `GET, HEAD`: at most `MAX_WORD` bytes.
     pub allow: Option<&'static str>,
     pub content: Content,
@@ -85,12 +99,13 @@ pub struct Reply {
 impl Reply {
     /// A reply with only a status, a type and a content.
     pub fn plain(status: Status, kind: Option<&'static str>, content: Content) -> Reply
-        ensures { result ≡ record { status = status; kind = kind.entry; range = None; allow = None; content = content } }
+        ensures { result ≡ record { status = status; kind = kind.entry; range = None; tag = None; allow = None; content = content } }
     {
         Reply {
             status,
             kind,
             range: None,
+            tag: None,
             allow: None,
             content,
         }
@@ -164,6 +179,36 @@ fn put_range_line(out: &mut Vec<u8>, range: Option<ContentRange>)
     }
 }
 
+/// Adds the line of an entity tag.
+#[tactic(auto, unfolding(crate::specs::Reply::tag_line))]
+fn put_tag_line(out: &mut Vec<u8>, tag: EntityTag)
+    requires room { vec_len out.old + 3 * MAX_DIGITS + 12 ≤ vec_capacity out.old }
+    ensures items { out.new.items ≡ out.old.items ++ tag_line tag }
+    ensures len { vec_len out.new ≤ vec_len out.old + 3 * MAX_DIGITS + 12 }
+    ensures capacity { vec_capacity out.old ≤ vec_capacity out.new }
+{
+    push_text(out, b"etag: \"");
+    push_number(out, tag.generation);
+    push_text(out, b"-");
+    push_number(out, tag.edit);
+    push_text(out, b"-");
+    push_number(out, tag.length);
+    push_text(out, b"\"\r\n");
+}
+
+/// Adds the line of the entity tag, if there is one.
+fn put_tag_lines(out: &mut Vec<u8>, tag: Option<EntityTag>)
+    requires room { vec_len out.old + 3 * MAX_DIGITS + 12 ≤ vec_capacity out.old }
+    ensures items { out.new.items ≡ out.old.items ++ tag_lines tag }
+    ensures len { vec_len out.new ≤ vec_len out.old + 3 * MAX_DIGITS + 12 }
+    ensures capacity { vec_capacity out.old ≤ vec_capacity out.new }
+{
+    match tag {
+        Some(tag) => put_tag_line(out, tag),
+        None => {}
+    }
+}
+
 /// Adds the line of a field whose value is `word`, if there is one. `name` ends with a colon and a space.
 #[tactic(auto, unfolding(crate::specs::Reply::word_line))]
 fn put_word_line(out: &mut Vec<u8>, name: &[u8], word: Option<&str>)
@@ -198,9 +243,9 @@ fn put_length_line(out: &mut Vec<u8>, size: u64)
 #[tactic(auto, unfolding(crate::specs::Reply::type_name, crate::specs::Reply::allow_name))]
 fn put_field_lines(out: &mut Vec<u8>, reply: &Reply)
     requires words { HasShortWords (head_view reply.now) }
-    requires room { vec_len out.old + 4 * MAX_DIGITS + 196 ≤ vec_capacity out.old }
+    requires room { vec_len out.old + 7 * MAX_DIGITS + 208 ≤ vec_capacity out.old }
     ensures items { out.new.items ≡ out.old.items ++ field_lines (head_view reply.now) }
-    ensures len { vec_len out.new ≤ vec_len out.old + 4 * MAX_DIGITS + 196 }
+    ensures len { vec_len out.new ≤ vec_len out.old + 7 * MAX_DIGITS + 208 }
     ensures capacity { vec_capacity out.old ≤ vec_capacity out.new }
 {
     if reply.has_no_content() {
@@ -209,6 +254,7 @@ fn put_field_lines(out: &mut Vec<u8>, reply: &Reply)
     }
     put_word_line(out, b"content-type: ", reply.kind);
     put_range_line(out, reply.range);
+    put_tag_lines(out, reply.tag);
     put_word_line(out, b"allow: ", reply.allow);
     put_length_line(out, reply.content.size());
 }

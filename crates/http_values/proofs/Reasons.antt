@@ -14,6 +14,7 @@ is_short statuses.BadRequest = lit≤ tt
 is_short statuses.NotFound = lit≤ tt
 is_short statuses.MethodNotAllowed = lit≤ tt
 is_short statuses.Conflict = lit≤ tt
+is_short statuses.PreconditionFailed = lit≤ tt
 is_short statuses.PayloadTooLarge = lit≤ tt
 is_short statuses.RangeNotSatisfiable = lit≤ tt
 is_short statuses.ExpectationFailed = lit≤ tt

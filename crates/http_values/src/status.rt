@@ -23,6 +23,8 @@ pub enum Status {
     MethodNotAllowed,
     /// 409
     Conflict,
+    /// 412
+    PreconditionFailed,
     /// 413
     PayloadTooLarge,
     /// 416
@@ -52,6 +54,7 @@ impl Status {
             Status::NotFound => StatusCode::NOT_FOUND,
             Status::MethodNotAllowed => StatusCode::METHOD_NOT_ALLOWED,
             Status::Conflict => StatusCode::CONFLICT,
+            Status::PreconditionFailed => StatusCode::PRECONDITION_FAILED,
             Status::PayloadTooLarge => StatusCode::PAYLOAD_TOO_LARGE,
             Status::RangeNotSatisfiable => StatusCode::RANGE_NOT_SATISFIABLE,
             Status::ExpectationFailed => StatusCode::EXPECTATION_FAILED,

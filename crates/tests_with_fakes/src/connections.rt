@@ -9,8 +9,8 @@ mod fields;
 
 use crate::streams::{Gives, Takes, take_from};
 use http_serve::{
-    Buffers, Content, ContentFault, ContentRange, Handler, Reply, Request, ServeFault, Served,
-    Status, serve_with,
+    Buffers, Content, ContentFault, ContentRange, EntityTag, Handler, Reply, Request, ServeFault,
+    Served, Status, serve_with,
 };
 use std::alloc::{AllocError, Global};
 use std::cell::Cell;
@@ -107,6 +107,11 @@ fn part_of_all() -> Reply
             last: 43,
             total: 1_234,
         }),
+        tag: Some(EntityTag {
+            generation: 3,
+            edit: 42,
+            length: 1_234,
+        }),
         allow: None,
         content: Content::Fixed(b"42"),
     }
@@ -120,6 +125,7 @@ fn outside_all() -> Reply
         status: Status::RangeNotSatisfiable,
         kind: Some("text/plain"),
         range: Some(ContentRange::Unsatisfied { total: 1_234 }),
+        tag: None,
         allow: Some("GET, HEAD"),
         content: Content::Empty,
     }

@@ -1,5 +1,6 @@
 use Rattle.std.proofs.Common.{◌≡◌, ◌∙◌, ap, option_map, subst}
-use Rattle.http_requests.specs.Requests.{RequestView, path_of, request_view_at, is_head}
+use Rattle.http_requests.specs.Requests.{RequestView, request_view_at, is_head}
+use Rattle.http_requests.specs.Targets.{path_of}
 use Rattle.http_serve.specs.Parts.{GivesOrFails, IsStopped}
 use Rattle.http_serve.specs.Reply.{reply_bytes}
 use Rattle.http_serve.specs.Sent.{Sends}
@@ -13,6 +14,7 @@ returns-clause-reply g c =
       method = c.of-method.result.now;
       path = c.path_of.result.now;
       range = option_map (λ range. range.now) c.part_of.result;
+      conditional = c.args.frame.now.conditional;
       body = c.of-2.result.now;
       close = c.args.frame.now.close;
     } in
@@ -20,6 +22,7 @@ returns-clause-reply g c =
       method = c.of-method.ensures i;
       path = (c.path_of.ensures ∙ ap path_of c.of.ensures) i;
       range = c.part_of.ensures i;
+      conditional = c.args.frame.now.conditional;
       body = c.of-2.ensures i;
       close = c.args.frame.now.close;
     } in
@@ -43,6 +46,7 @@ returns-clause-stopped g c =
       method = c.of-method.result.now;
       path = c.path_of.result.now;
       range = option_map (λ range. range.now) c.part_of.result;
+      conditional = c.args.frame.now.conditional;
       body = c.of-2.result.now;
       close = c.args.frame.now.close;
     } in
@@ -50,6 +54,7 @@ returns-clause-stopped g c =
       method = c.of-method.ensures i;
       path = (c.path_of.ensures ∙ ap path_of c.of.ensures) i;
       range = c.part_of.ensures i;
+      conditional = c.args.frame.now.conditional;
       body = c.of-2.ensures i;
       close = c.args.frame.now.close;
     } in
