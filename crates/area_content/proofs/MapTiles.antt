@@ -6,6 +6,7 @@ use Rattle.std.specs.Map.{keys_of}
 use Rattle.std.proofs.lemmas.Bool.{cases_lt, eqb-true, eqb-false}
 use Rattle.std.proofs.lemmas.Bool.Decides.{nat_tests}
 use Rattle.std.proofs.lemmas.List.{nil_from_length}
+use Rattle.std.proofs.lemmas.Option.{slice_get_within}
 use Rattle.std.proofs.lemmas.List.Elements.{All-nil, All-cons, All-head, All-append, All-weaker, All-contains, Contains-append_right, Contains-get_or}
 use Rattle.feature_model.specs.declared.limits.TheConstants.{MAX_ZOOM}
 use Rattle.feature_store.specs.Layers.{is_tile, layers}
@@ -23,12 +24,13 @@ use Rattle.mvt_write.specs.Written.{written}
 use Rattle.pb_wire.specs.Varint.{varint, shortest_in}
 use Rattle.pm_build.specs.Built.{tile_content}
 use Rattle.pm_build.specs.Building.{CanAdd, AreFew}
+use Rattle.pm_build.specs.Laid.{AreLaidOut}
 use Rattle.pm_build.specs.Tiles.{Tile}
 use Rattle.pm_build.specs.Vector.{IsVectorArchive}
 use Rattle.area_content.specs.Faults.{IsShort, AreAdded}
 use Rattle.area_content.proofs.Bounds.{no_runs}
 use Rattle.feature_store.specs.Content.{IsTileContent}
-use Rattle.area_content.specs.Tiles.{AreTilesOf, HasNoTile, IsArchiveOfMap}
+use Rattle.area_content.specs.Tiles.{AreTilesOf, HasNoTile, IsArchiveOfMap, IsArchiveOfTiles}
 
 -- ---- ids and contents as an archive requires them
 
@@ -70,6 +72,12 @@ content_there (t ∷ ts) id there is = by (eqb t.0 id) refl there is (content_th
     by true here listed found behind = cc
     by false other (zero, within, same) found behind = absurd (eqb-false t.0 id other same)
     by false other (suc k, within, same) found behind = behind (k, omega (arith, within), same) found
+
+-- an archive that is laid out has a first tile
+laid_some : (ts : List Tile) (metadata bytes : List ℕ) → AreLaidOut bytes ts metadata → ts ≢ []
+laid_some ts metadata bytes laid none =
+    let first : 0 < length ts = slice_get_within ts 0 laid.zooms.0 laid.zooms.2 in
+    absurd (omega (arith, first, ap (λ (us : List Tile). length us) none))
 
 module _ (m : FeatureMap) where
   -- a tile that shows something is one of the world
@@ -177,12 +185,19 @@ module _ (m : FeatureMap) where
       absurd (omega (arith, tile.4, ap (λ (ls : List LayerView). length ls) (none tile.0 tile.1 tile.2)))
 
   -- no bytes are the archive of no tiles
-  pub none_is_archive : (ts : List Tile) (metadata bytes : List ℕ) → ts ≡ [] → bytes ≡ [] → AreTiles m ts → IsArchiveOfMap m metadata bytes
+  none_is_archive : (ts : List Tile) (metadata bytes : List ℕ) → ts ≡ [] → bytes ≡ [] → AreTiles m ts → IsArchiveOfMap m metadata bytes
   none_is_archive ts metadata bytes none empty are = inl (no_tile (subst (AreTiles m) none are), empty)
 
   -- an archive of tiles is one of their map
-  pub some_are_archive : (ts : List Tile) (metadata bytes : List ℕ) → ts ≢ [] → IsMap m → AreTiles m ts
+  some_are_archive : (ts : List Tile) (metadata bytes : List ℕ) → ts ≢ [] → IsMap m → AreTiles m ts
       → IsVectorArchive bytes metadata (tile_content ts) → IsArchiveOfMap m metadata bytes
   some_are_archive [] metadata bytes some is_map are archive = absurd (some refl)
   some_are_archive (t ∷ ts) metadata bytes some is_map are archive =
       inr (a_tile t ts are, (tile_content (t ∷ ts), tiles_of_map is_map (t ∷ ts) are, archive))
+
+  -- an archive of all tiles of a map is one of the map
+  pub all_are_archive : (ts : List Tile) (metadata bytes : List ℕ) → IsMap m → AreTiles m ts → IsArchiveOfTiles ts metadata bytes
+      → IsArchiveOfMap m metadata bytes
+  all_are_archive ts metadata bytes is_map are (inl (none, empty)) = none_is_archive ts metadata bytes none empty are
+  all_are_archive ts metadata bytes is_map are (inr (laid, archive)) =
+      some_are_archive ts metadata bytes (laid_some ts metadata bytes laid) is_map are archive

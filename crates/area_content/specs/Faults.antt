@@ -11,11 +11,12 @@ use Rattle.pm_build.specs.declared.limit.TheConstants.{MAX_ENTRIES}
 use Rattle.pm_build.specs.Building.{AreFew, AreTooMany}
 use Rattle.pm_build.specs.Built.{tile_content}
 use Rattle.pm_build.specs.Different.{contents_of}
+use Rattle.pm_build.specs.Laid.{AreLaidOut}
 use Rattle.pm_build.specs.Placed.{AreDifferent}
 use Rattle.pm_build.specs.Runs.{TileRun, AreLongestRuns}
 use Rattle.pm_build.specs.Tiles.{Tile}
 use Rattle.pm_build.specs.Vector.{IsVectorArchive}
-use Rattle.area_content.specs.Tiles.{IsArchiveOfMap}
+use Rattle.area_content.specs.Tiles.{IsArchiveOfMap, IsArchiveOfTiles}
 use Rattle.area_content.specs.declared.fault.ContentFault.{ContentFault}
 use Rattle.area_content.specs.declared.fault.ContentFault.TheVariants.{TooManyTiles, AreaFull, Memory}
 
@@ -40,14 +41,15 @@ pub record IsBounded (tiles : List Tile) (metadata archive : List ℕ) : Type 0 
   pub used : AllByRecursion (λ c. Contains (map (λ r. r.content) runs) c) contents
   pub size : length archive ≤ HEADER_BYTES + length metadata + 64 * length runs + length (concat contents)
 
--- the tiles of the map are short, and bound the archive
-abbrev pub IsBoundedFor : FeatureMap → (metadata archive : List ℕ) → Type 0
-IsBoundedFor m metadata archive = (tiles : List Tile) × AreTiles m tiles × All IsShort tiles × IsBounded tiles metadata archive
-
--- an archive of exactly the tiles of the map, with this metadata, within its bound
+-- An archive of exactly the tiles of the map, each as a tile is written, laid out as an archive is written, with this metadata, within its
+-- bound. It is empty if the map has no tile.
 pub record IsBuiltFor (m : FeatureMap) (metadata archive : List ℕ) : Type 0 where
   pub of_map : IsArchiveOfMap m metadata archive
-  pub bounded : IsBoundedFor m metadata archive
+  pub tiles : List Tile
+  pub all : AreTiles m tiles
+  pub short : All IsShort tiles
+  pub of_tiles : IsArchiveOfTiles tiles metadata archive
+  pub bounded : IsBounded tiles metadata archive
 
 -- ---- what fits
 
@@ -94,19 +96,19 @@ pub record NoLongerFit (m : FeatureMap) (metadata : List ℕ) (area : ℕ) (tile
   pub can : CanFit m metadata area before
   pub above : area < least_sectors m metadata tiles
 
--- an archive of the tiles of the map up to the first that no longer fits, with this metadata, within its bound
+-- an archive of the tiles of the map up to the first that no longer fits, laid out as an archive is written, with this metadata, within
+-- its bound
 pub record IsCutFor (m : FeatureMap) (metadata : List ℕ) (area : ℕ) (archive : List ℕ) : Type 0 where
   pub tiles : List Tile
   pub cut : NoLongerFit m metadata area tiles
+  pub laid : AreLaidOut archive tiles metadata
   pub of_tiles : IsVectorArchive archive metadata (tile_content tiles)
   pub bounded : IsBounded tiles metadata archive
 
 -- an archive of all tiles of the map, of which each can fit
 pub record IsWholeFor (m : FeatureMap) (metadata : List ℕ) (area : ℕ) (archive : List ℕ) : Type 0 where
   pub built : IsBuiltFor m metadata archive
-  pub tiles : List Tile
-  pub all : AreTiles m tiles
-  pub can : CanFit m metadata area tiles
+  pub can : CanFit m metadata area built.tiles
 
 -- ---- what is written
 

@@ -4,6 +4,9 @@ use Rattle.feature_store.specs.Content.{IsTileContent}
 use Rattle.feature_store.specs.Layers.{layers}
 use Rattle.feature_store.specs.Store.{FeatureMap}
 use Rattle.hilbert_id.specs.Curve.{IsTileId}
+use Rattle.pm_build.specs.Built.{tile_content}
+use Rattle.pm_build.specs.Laid.{AreLaidOut}
+use Rattle.pm_build.specs.Tiles.{Tile}
 use Rattle.pm_build.specs.Vector.{IsVectorArchive}
 
 -- the contents of tile ids are the tiles of the map, and no other id has one
@@ -20,3 +23,8 @@ abbrev pub IsArchiveOfMap : FeatureMap → (metadata bytes : List ℕ) → Type 
 IsArchiveOfMap m metadata bytes =
     (HasNoTile m × (bytes ≡ []))
     ⊎ ((HasNoTile m → ⊥) × ((content : ℕ → Option (List ℕ)) × AreTilesOf m content × IsVectorArchive bytes metadata content))
+
+-- the bytes are the archive of these tiles, laid out as an archive is written, with this metadata, or empty if there are no tiles
+abbrev pub IsArchiveOfTiles : List Tile → (metadata bytes : List ℕ) → Type 0
+IsArchiveOfTiles tiles metadata bytes =
+    ((tiles ≡ []) × (bytes ≡ [])) ⊎ (AreLaidOut bytes tiles metadata × IsVectorArchive bytes metadata (tile_content tiles))

@@ -3,15 +3,14 @@ ghost use Rattle.pm_header.specs.declared.header.TheConstants.{HEADER_BYTES};
 ghost use Rattle.std.specs.Prelude.{◌≡◌, ◌≢◌, ◌<◌, ◌≤◌, ◌^◌, ◌+◌, ◌++◌, ◌∷◌, [], ℕ, List, Ok, true, false, length, OnOk, IfOk, IfErr};
 ghost use Rattle.std.specs.List.{concat};
 ghost use Rattle.hilbert_id.specs.declared.number.TheConstants.{TILE_IDS};
-ghost use Rattle.feature_store.specs.Store.{FeatureMap, IsMap, snapshot};
+ghost use Rattle.feature_store.specs.Store.{FeatureMap, snapshot};
 ghost use Rattle.feature_store.specs.Tiles.{AreTiles};
 ghost use Rattle.pm_metadata.specs.Archive.{IsMetadata};
-ghost use Rattle.pm_build.specs.Built.{archive_bytes, tile_content};
+ghost use Rattle.pm_build.specs.Built.{archive_bytes};
 ghost use Rattle.pm_build.specs.Different.{contents_of};
 ghost use Rattle.pm_build.specs.Tiles.{Tile};
-ghost use Rattle.pm_build.specs.Vector.{IsVectorArchive};
 ghost use Rattle.area_content.specs.Faults.{AreAdded, CanFit, AreWritten, IsBounded, IsContentFault, least_sectors, told_as};
-ghost use Rattle.area_content.specs.Tiles.{IsArchiveOfMap};
+ghost use Rattle.area_content.specs.Tiles.{IsArchiveOfTiles};
 
 use crate::content::sectors_for;
 use crate::fault::ContentFault;
@@ -107,8 +106,7 @@ pub(crate) fn archive_of(
     metadata: &[u8],
 ) -> Result<BuiltArchive, AllocError>
     requires metadata { IsMetadata metadata.now }
-    ensures archive { (m : FeatureMap) → IsMap m → AreTiles m builder → IfOk result (λ a. IsArchiveOfMap m metadata.now (archive_bytes a)) }
-    ensures of_tiles { builder ≢ [] → IfOk result (λ a. IsVectorArchive (archive_bytes a) metadata.now (tile_content builder)) }
+    ensures of_tiles { IfOk result (λ a. IsArchiveOfTiles builder metadata.now (archive_bytes a)) }
     ensures least { builder ≢ [] → IfOk result (λ a. HEADER_BYTES + length metadata.now + length (concat (contents_of builder)) ≤ length (archive_bytes a)) }
     ensures bounded { IfOk result (λ a. IsBounded builder metadata.now (archive_bytes a)) }
 {

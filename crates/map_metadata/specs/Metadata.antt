@@ -1,11 +1,13 @@
 -- The metadata of a map.
-use Rattle.std.specs.Prelude.{◌≡◌, ◌↔◌, ℕ, List, [], ◌∷◌, map, All, Contains}
+use Rattle.std.specs.Prelude.{◌≡◌, ◌↔◌, ℕ, List, [], ◌∷◌, map, All, Contains, Some}
 use Rattle.std.specs.Ordering.{nat_cmp}
 use Rattle.std.specs.Cmp.Lexicographic.{slice_cmp}
 use Rattle.std.specs.List.Sorted.{IsStrictlySortedBy}
 use Rattle.std.specs.Map.{keys_of}
 use Rattle.serde_json.specs.Data.{unsigned, Data, number, string, array, object, Members, no_members, member}
+use Rattle.serde_json.specs.Read.{read}
 use Rattle.serde_json.specs.View.{items_of}
+use Rattle.serde_json.specs.Written.{compact_text}
 use Rattle.feature_store.specs.Store.{FeatureMap}
 use Rattle.map_metadata.specs.declared.field_kind.FieldKind.{FieldKind}
 use Rattle.map_metadata.specs.Fields.{name_bytes, kind_name, features_in, IsLayerName, kinds_in, IsKey, IsFieldKind, IsLeast, IsGreatest}
@@ -62,3 +64,7 @@ layers_json ls = object (member (name_bytes "vector_layers") (array (items_of (m
 -- the metadata of a map: its layers as JSON
 abbrev pub IsMetadata : FeatureMap → Data → Type 0
 IsMetadata m d = (ls : List LayerData) × AreLayers m ls × (d ≡ layers_json ls)
+
+-- the metadata of a map as text: as JSON is written, and it reads as them
+abbrev pub IsMetadataOf : FeatureMap → List ℕ → Type 0
+IsMetadataOf m text = (d : Data) × IsMetadata m d × (text ≡ compact_text d) × (read text ≡ Some d)

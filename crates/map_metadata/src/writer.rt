@@ -1,15 +1,13 @@
 //! The metadata of a map, as a JSON value and as text.
 
-ghost use Rattle.std.specs.Prelude.{◌≡◌, map, Some, IfOk, OnOk, string_bytes, All};
+ghost use Rattle.std.specs.Prelude.{◌≡◌, map, IfOk, OnOk, string_bytes, All};
 ghost use Rattle.std.specs.BTreeMap.{IsOrdered};
 ghost use Rattle.std.specs.Ordering.{nat_cmp};
 ghost use Rattle.std.specs.Cmp.Lexicographic.{slice_cmp};
-ghost use Rattle.serde_json.specs.Data.{Data, object, array, member, no_members};
-ghost use Rattle.serde_json.specs.Read.{read};
+ghost use Rattle.serde_json.specs.Data.{object, array, member, no_members};
 ghost use Rattle.serde_json.specs.View.{view, items_of, members_view};
-ghost use Rattle.serde_json.specs.Written.{compact_text};
 ghost use Rattle.map_metadata.specs.Fields.{name_bytes};
-ghost use Rattle.map_metadata.specs.Metadata.{fields_json, layer_json, IsMetadata};
+ghost use Rattle.map_metadata.specs.Metadata.{fields_json, layer_json, IsMetadata, IsMetadataOf};
 ghost use Rattle.map_metadata.specs.Summaries.{fields_data, layer_data, HasOrder};
 
 use crate::summary::{Fields, LayerSummary, Layers, summed_up};
@@ -105,8 +103,7 @@ fn metadata(alloc: Global, store: &Store) -> Result<Value, AllocError>
 
 /// The metadata of a map as compact text, which reads as it. The only error is out of memory.
 pub fn metadata_text(alloc: Global, store: &Store) -> Result<String, AllocError>
-    ensures { IfOk result (λ text. (d : Data) × IsMetadata store.now.features d × (string_bytes text ≡ compact_text d)
-        × (read (string_bytes text) ≡ Some d)) }
+    ensures { IfOk result (λ text. IsMetadataOf store.now.features (string_bytes text)) }
 {
     let value = metadata(alloc, store)?;
     value.to_string(alloc)

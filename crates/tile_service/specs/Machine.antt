@@ -195,7 +195,8 @@ pub record CanBegin (s : ServiceState) : Type 0 where
   pub none : s.publication ≡ None
   pub generation : s.generation < 2 ^ 64 - 1
 
--- an archive that is built of a map: it has exactly the tiles of the map, within its bound, and the map's metadata as its text is written
+-- an archive that is built of a map: of exactly its tiles, each as a tile is written, laid out as an archive is written, with the map's
+-- metadata as their text is written, within its bound
 pub record IsPublishable (m : FeatureMap) (archive : List ℕ) : Type 0 where
   pub metadata : Data
   pub is_metadata : IsMetadata m metadata

@@ -22,6 +22,7 @@ use Rattle.edit_journal.specs.declared.sizes.TheConstants.{PART_BYTES}
 use Rattle.cached_map.specs.Cached.{CachedView, AreReadRight, shared_bytes}
 use Rattle.area_content.specs.Content.{ContentView, sectors_taken}
 use Rattle.feature_store.specs.Store.{FeatureMap, greatest_id, snapshot}
+use Rattle.map_metadata.specs.Metadata.{IsMetadataOf}
 use Rattle.pm_archive.specs.declared.fault.ArchiveFault.{ArchiveFault}
 use Rattle.pm_archive.specs.declared.fault.ArchiveFault.TheVariants as archives
 use Rattle.published_tiles.specs.Published.{PublishedView, ArePublished}
@@ -86,8 +87,9 @@ pub record IsGoing (size : ℕ) (root : Root) (journal : Journal) (features : Fe
   -- the texts of the features came from an area and from the records after those
   pub texts : length (snapshot features) ≤ SECTOR_BYTES * area_sectors size + PART_BYTES * (journal.used - p.places)
 
--- the invariants of a service whose disk has this many sectors
-pub record IsService (sectors size version : ℕ) (root : Root) (journal : Journal) (map : CachedView) (publication : Option PublicationView) : Type 0 where
+-- the invariants of a service whose disk has this many sectors, and that keeps this text of its map's metadata, if any
+pub record IsService (sectors size version : ℕ) (root : Root) (journal : Journal) (map : CachedView) (publication : Option PublicationView)
+    (text : Option (List ℕ)) : Type 0 where
   pub within : size ≤ sectors
   pub version_is : IsVersion version
   pub ring : ring_of journal ≡ journal_ring size
@@ -100,6 +102,7 @@ pub record IsService (sectors size version : ℕ) (root : Root) (journal : Journ
   -- the last edit of the journal is that of the map
   pub last_is : map.last ≡ journal.last
   pub going : IfSome publication (IsGoing size root journal map.features)
+  pub told : IfSome text (IsMetadataOf map.features)
 
 -- the service with this publication under way
 abbrev pub with_publication : {D : Type 0} → ServiceView D → PublicationView → ServiceView D

@@ -197,6 +197,7 @@ impl<D: Sectors + Drop> Service<D> {
         match self.journal.append(&mut self.disk, self.version, &text) {
             Ok(number) => {
                 self.map.make_edit(changes, number);
+                self.metadata = None;
                 Ok(number)
             }
             Err(fault) => Err(self.fail(fault)),
@@ -286,6 +287,7 @@ impl<D: Sectors + Drop> Service<D> {
         match self.journal.append(&mut self.disk, self.version, text) {
             Ok(last) => {
                 self.map.remove(id, last);
+                self.metadata = None;
                 Ok(last)
             }
             Err(fault) => Err(self.fail(fault)),

@@ -226,6 +226,7 @@ impl<D: Sectors + Drop> Service<D> {
                 version: found.version,
                 journal: found.journal,
                 map: found.map,
+                metadata: None,
                 root: found.root,
                 publication: None,
                 published: found.published,

@@ -10,6 +10,7 @@ use published_tiles::PublishedTiles;
 use sector_disk::Sectors;
 use std::alloc::Global;
 use std::marker::Model;
+use std::rc::RcSlice;
 
 /// A map on a disk that nobody else writes.
 #[derive(Drop)]
@@ -20,6 +21,8 @@ pub struct Service<D: Sectors + Drop> {
     pub(crate) version: u32,
     pub(crate) journal: Journal,
     pub(crate) map: CachedMap,
+    /// The text of the map's metadata, if somebody has asked for it since the last edit.
+    pub(crate) metadata: Option<RcSlice<u8>>,
     pub(crate) root: Root,
     pub(crate) publication: Option<Publication>,
     pub(crate) published: PublishedTiles,
@@ -27,6 +30,7 @@ pub struct Service<D: Sectors + Drop> {
 }
 
 impl<D: Sectors + Drop> Model for Service<D> {
+    ghost use Rattle.cached_map.specs.Cached.{shared_bytes};
     ghost use Rattle.tile_service.specs.Service.{ServiceView, IsService};
 
     ghost Value = { ServiceView D };
@@ -35,7 +39,7 @@ impl<D: Sectors + Drop> Model for Service<D> {
 
     ghost view = { service_view };
 
-    ghost invariant = { λ s. IsService (D.sectors s.disk) s.layout.sectors s.version s.root s.journal s.map s.publication };
+    ghost invariant = { λ s. IsService (D.sectors s.disk) s.layout.sectors s.version s.root s.journal s.map s.publication (shared_bytes s.metadata) };
 }
 
 impl<D: Sectors + Drop> Service<D> {
@@ -65,6 +69,7 @@ impl<D: Sectors + Drop> Service<D> {
             version: _,
             journal: _,
             map: _,
+            metadata: _,
             root: _,
             publication: _,
             published: _,

@@ -1,18 +1,16 @@
 //! What a service shows.
-ghost use Rattle.std.specs.Prelude.{◌≡◌, ℕ, List, Some, not, false, true, IfErr, IfOk, IfSome, MatchResult, option_map, string_bytes};
+ghost use Rattle.std.specs.Prelude.{◌≡◌, ℕ, List, Some, not, false, true, IfErr, IfOk, IfSome, MatchResult, option_map};
+ghost use Rattle.std.specs.Rc.{rc_slice_items};
 ghost use Rattle.cached_map.specs.Cached.{shared_bytes};
 ghost use Rattle.feature_model.specs.Limits.{IsAllowed};
 ghost use Rattle.feature_store.specs.Content.{IsTileContent};
 ghost use Rattle.feature_store.specs.Layers.{layers};
 ghost use Rattle.feature_store.specs.Store.{feature_at, feature_from};
 ghost use Rattle.edit_text.specs.Views.{feature_view};
-ghost use Rattle.map_metadata.specs.Metadata.{IsMetadata};
+ghost use Rattle.map_metadata.specs.Metadata.{IsMetadataOf};
 ghost use Rattle.pm_archive.specs.Answers.{IsOutside};
 ghost use Rattle.sector_bytes.specs.Counts.{NeverFalls};
 ghost use Rattle.sector_disk.specs.Asked.{OnlyReads};
-ghost use Rattle.serde_json.specs.Data.{Data};
-ghost use Rattle.serde_json.specs.Read.{read};
-ghost use Rattle.serde_json.specs.Written.{compact_text};
 ghost use Rattle.tile_cache.specs.Kept.{kept_at, fresh};
 ghost use Rattle.tile_cache.specs.Touched.{IsNewestOf};
 ghost use Rattle.tile_service.specs.Machine.{tile, Happens};
@@ -24,11 +22,12 @@ ghost use Rattle.tile_service.specs.declared.fault.ServiceFault.TheVariants.{Mem
 use crate::fault::ServiceFault;
 use crate::service::Service;
 use edit_text::FeatureText;
+use feature_store::Store;
 use hilbert_id::TileAt;
 use map_metadata::metadata_text;
 use pm_archive::ArchiveFault;
 use sector_disk::Sectors;
-use std::alloc::AllocError;
+use std::alloc::{AllocError, Global};
 use std::rc::RcSlice;
 
 /// What was read, with bytes that can be shared.
@@ -41,6 +40,26 @@ fn share(found: Result<Option<Vec<u8>>, ArchiveFault>) -> Result<Option<RcSlice<
             Err(_) => Err(ArchiveFault::Memory),
         },
         None => Ok(None),
+    }
+}
+
+/// The text of the metadata of a map, made of all its features.
+fn text_of_metadata(alloc: Global, store: &Store) -> Result<RcSlice<u8>, AllocError>
+    ensures { IfOk result (λ text. IsMetadataOf store.now.features (rc_slice_items text)) }
+{
+    let mut bytes = metadata_text(alloc, store)?.into_bytes();
+    bytes.shrink_to_fit();
+    RcSlice::from_vec(bytes)
+}
+
+/// The same bytes, shared with the caller.
+fn shared(bytes: &RcSlice<u8>) -> Result<RcSlice<u8>, ServiceFault>
+    ensures same { IfOk result (λ other. rc_slice_items other ≡ rc_slice_items bytes.now) }
+    ensures fault { IfErr result (λ fault. fault ≡ Memory) }
+{
+    match bytes.clone() {
+        Ok(bytes) => Ok(bytes),
+        Err(_) => Err(ServiceFault::Memory),
     }
 }
 
@@ -144,14 +163,21 @@ impl<D: Sectors + Drop> Service<D> {
     }
 
     /// The JSON metadata of the map after the last acknowledged edit, as in an archive of its tiles: as compact text, which reads as it.
-    /// The only error is `Memory`.
-    pub fn metadata(&self) -> Result<String, ServiceFault>
-        ensures metadata { IfOk result (λ text. (d : Data) × IsMetadata self.now.features d × (string_bytes text ≡ compact_text d)
-            × (read (string_bytes text) ≡ Some d)) }
+    /// It is made of all features by the first call after an edit, and shared by those that follow. The only error is `Memory`.
+    pub fn metadata(&mut self) -> Result<RcSlice<u8>, ServiceFault>
+        ensures metadata { IfOk result (λ text. IsMetadataOf self.old.features (rc_slice_items text)) }
         ensures fault { IfErr result (λ fault. fault ≡ Memory) }
+        ensures same { self.new ≡ self.old }
     {
-        match metadata_text(self.alloc, self.map.store()) {
-            Ok(text) => Ok(text),
+        if let Some(text) = &self.metadata {
+            return shared(text);
+        }
+        match text_of_metadata(self.alloc, self.map.store()) {
+            Ok(text) => {
+                let result = shared(&text);
+                self.metadata = Some(text);
+                result
+            }
             Err(AllocError) => Err(ServiceFault::Memory),
         }
     }

@@ -1,6 +1,6 @@
 -- The invariants of a service are preserved when its journal gets one more record, and when it gets none.
 use Rattle.std.specs.Prelude.{Option, None, Some, IfSome}
-use Rattle.std.proofs.Common.{◌≡◌, ◌≢◌, Bool, true, false, Err, refl, ap, ℕ, ◌<◌, ◌≤◌, ◌+◌, ◌-◌, ◌*◌, length, ◌∙◌, sym, subst, arith}
+use Rattle.std.proofs.Common.{◌≡◌, ◌≢◌, Bool, true, false, Err, refl, ap, ℕ, ◌<◌, ◌≤◌, ◌+◌, ◌-◌, ◌*◌, List, length, ◌∙◌, sym, subst, arith}
 use Rattle.sector_disk.specs.declared.disk.TheConstants.{SECTOR_BYTES}
 use Rattle.generations.specs.Areas.{area_sectors}
 use Rattle.generations.specs.declared.root.Root.{Root}
@@ -47,9 +47,9 @@ module _ (size version : ℕ) (root : Root) (old new : Journal) (ring : ring_of 
     texts = texts_on (old.used - p.places) (new.used - p.places) (omega (arith, used, was.behind.in_use)) was.texts;
   }
 
-  pub service_on : (sectors now : ℕ) (publication : Option PublicationView) → now ≡ sectors → IsService sectors size version root old map publication
-      → IsService now size version root new later publication
-  service_on sectors now publication same was = record {
+  pub service_on : (sectors now : ℕ) (publication : Option PublicationView) (text : Option (List ℕ)) → now ≡ sectors
+      → IsService sectors size version root old map publication text → IsService now size version root new later publication None
+  service_on sectors now publication text same was = record {
     within = omega (arith, was.within, same);
     version_is = was.version_is;
     ring = ring ∙ was.ring;
@@ -58,16 +58,17 @@ module _ (size version : ℕ) (root : Root) (old new : Journal) (ring : ring_of 
     counted = append_counted old new ring from bytes version fits used last was.counted;
     last_is = numbered;
     going = going_on publication was.going;
+    told = tt;
   }
 
 -- After an edit that is refused the invariants hold as before, with more memory for features.
-pub refused_service : {sectors now size version : ℕ} {root : Root} {old : Journal} {publication : Option PublicationView} (new : Journal)
-    (map later : CachedView) → now ≡ sectors → new ≡ old → later ≡ record map { spare = later.spare } → IsService sectors size version root old map publication
-    → IsService now size version root new later publication
-refused_service {sectors} {now} {size} {version} {root} {old} {publication} new map later count kept same is =
-    subst (λ (n : ℕ). IsService n size version root new later publication) (sym count)
-    (subst (λ (j : Journal). IsService sectors size version root j later publication) (sym kept)
-    (subst (λ (m : CachedView). IsService sectors size version root old m publication) (sym same) (record {
+pub refused_service : {sectors now size version : ℕ} {root : Root} {old : Journal} {publication : Option PublicationView} {text : Option (List ℕ)}
+    (new : Journal) (map later : CachedView) → now ≡ sectors → new ≡ old → later ≡ record map { spare = later.spare }
+    → IsService sectors size version root old map publication text → IsService now size version root new later publication text
+refused_service {sectors} {now} {size} {version} {root} {old} {publication} {text} new map later count kept same is =
+    subst (λ (n : ℕ). IsService n size version root new later publication text) (sym count)
+    (subst (λ (j : Journal). IsService sectors size version root j later publication text) (sym kept)
+    (subst (λ (m : CachedView). IsService sectors size version root old m publication text) (sym same) (record {
       within = is.within;
       version_is = is.version_is;
       ring = is.ring;
@@ -76,6 +77,7 @@ refused_service {sectors} {now} {size} {version} {root} {old} {publication} new 
       counted = is.counted;
       last_is = is.last_is;
       going = is.going;
+      told = is.told;
     })))
 
 -- ---- the numbers of an append

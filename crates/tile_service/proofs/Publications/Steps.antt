@@ -25,11 +25,10 @@ use Rattle.area_content.specs.Faults.{IsBuiltFor}
 use Rattle.cached_map.specs.Cached.{CachedView, AreReadRight}
 use Rattle.edit_text.specs.Recorded.{RecordedEdit}
 use Rattle.feature_store.specs.Store.{FeatureMap, IsMap, snapshot}
-use Rattle.map_metadata.specs.Metadata.{IsMetadata}
+use Rattle.map_metadata.specs.Metadata.{IsMetadataOf}
 use Rattle.pm_metadata.specs.Archive.{IsMetadata as IsMetadataText}
 use Rattle.published_tiles.specs.Published.{PublishedView, ArePublished}
 use Rattle.published_tiles.proofs.PublishedLaws.{published_next}
-use Rattle.serde_json.specs.Data.{Data}
 use Rattle.serde_json.specs.Read.{read}
 use Rattle.serde_json.specs.Written.{compact_text}
 use Rattle.tile_cache.specs.Kept.{CacheView}
@@ -52,14 +51,15 @@ use Rattle.tile_service.proofs.Publications.DuringEdits.{begins, all_written}
 
 -- A service on another disk with as many sectors has the invariants as before,
 pub service_on_disk : {sectors now size version : ℕ} {root : Root} {journal : Journal} {map : CachedView} {publication : Option PublicationView}
-    → now ≡ sectors → IsService sectors size version root journal map publication → IsService now size version root journal map publication
-service_on_disk {size = size} {version} {root} {journal} {map} {publication} same is =
-    subst (λ (n : ℕ). IsService n size version root journal map publication) (sym same) is
+    {text : Option (List ℕ)} → now ≡ sectors → IsService sectors size version root journal map publication text
+    → IsService now size version root journal map publication text
+service_on_disk {size = size} {version} {root} {journal} {map} {publication} {text} same is =
+    subst (λ (n : ℕ). IsService n size version root journal map publication text) (sym same) is
 
 -- and one with another publication under way if that is going,
 pub service_with : {sectors size version : ℕ} {root : Root} {journal : Journal} {map : CachedView} {publication : Option PublicationView}
-    (later : Option PublicationView) → IfSome later (IsGoing size root journal map.features)
-    → IsService sectors size version root journal map publication → IsService sectors size version root journal map later
+    {text : Option (List ℕ)} (later : Option PublicationView) → IfSome later (IsGoing size root journal map.features)
+    → IsService sectors size version root journal map publication text → IsService sectors size version root journal map later text
 service_with later going is = record {
   within = is.within;
   version_is = is.version_is;
@@ -69,12 +69,13 @@ service_with later going is = record {
   counted = is.counted;
   last_is = is.last_is;
   going = going;
+  told = is.told;
 }
 
 -- or without one.
 pub service_idle : {sectors size version : ℕ} {root : Root} {journal : Journal} {map : CachedView} {publication : Option PublicationView}
-    (later : Option PublicationView) → later ≡ None
-    → IsService sectors size version root journal map publication → IsService sectors size version root journal map later
+    {text : Option (List ℕ)} (later : Option PublicationView) → later ≡ None
+    → IsService sectors size version root journal map publication text → IsService sectors size version root journal map later text
 service_idle {size = size} {root = root} {journal} {map} later none is =
     service_with later (subst (λ (o : Option PublicationView). IfSome o (IsGoing size root journal map.features)) (sym none) tt) is
 
@@ -116,16 +117,12 @@ no_other_fault (Err fault) Then is = λ other. absurd (other is)
 
 -- ---- the content
 
--- the metadata of a map, with its text
-abbrev pub HasText : FeatureMap → List ℕ → Type 0
-HasText m text = (d : Data) × IsMetadata m d × (text ≡ compact_text d) × (read text ≡ Some d)
-
--- It is one for an archive.
-pub metadata_is_text : (m : FeatureMap) (text : String Global) → HasText m (string_bytes text) → IsMetadataText (string_bytes text)
+-- The metadata of a map are metadata of an archive.
+pub metadata_is_text : (m : FeatureMap) (text : String Global) → IsMetadataOf m (string_bytes text) → IsMetadataText (string_bytes text)
 metadata_is_text m text (d, (ls, are, is), same, reads) = (IsUtf8-string_bytes text, (_, reads ∙ ap Some is))
 
 -- An archive that is built with this text as its metadata is publishable.
-pub publishable : (m : FeatureMap) (text archive : List ℕ) → HasText m text → IsBuiltFor m text archive → IsPublishable m archive
+pub publishable : (m : FeatureMap) (text archive : List ℕ) → IsMetadataOf m text → IsBuiltFor m text archive → IsPublishable m archive
 publishable m text archive (d, is, same, reads) built = record {
   metadata = d;
   is_metadata = is;

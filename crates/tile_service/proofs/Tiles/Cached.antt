@@ -87,11 +87,11 @@ pub nothing_given : (bytes : List ℕ) → None ≡ Some bytes → ⊥
 nothing_given bytes is = cc
 
 -- With other tiles cached the invariants of a service hold as before.
-pub service_cached : {sectors size version : ℕ} {root : Root} {journal : Journal} {publication : Option PublicationView} (map later : CachedView)
-    → later ≡ record map { kept = later.kept } → IsService sectors size version root journal map publication
-    → IsService sectors size version root journal later publication
-service_cached {sectors} {size} {version} {root} {journal} {publication} map later same is =
-    subst (λ (m : CachedView). IsService sectors size version root journal m publication) (sym same) (record {
+pub service_cached : {sectors size version : ℕ} {root : Root} {journal : Journal} {publication : Option PublicationView} {text : Option (List ℕ)}
+    (map later : CachedView) → later ≡ record map { kept = later.kept } → IsService sectors size version root journal map publication text
+    → IsService sectors size version root journal later publication text
+service_cached {sectors} {size} {version} {root} {journal} {publication} {text} map later same is =
+    subst (λ (m : CachedView). IsService sectors size version root journal m publication text) (sym same) (record {
       within = is.within;
       version_is = is.version_is;
       ring = is.ring;
@@ -100,6 +100,7 @@ service_cached {sectors} {size} {version} {root} {journal} {publication} map lat
       counted = is.counted;
       last_is = is.last_is;
       going = is.going;
+      told = is.told;
     })
 
 module _ {D : Type 0} where

@@ -1,35 +1,21 @@
 use Rattle.std.proofs.lemmas.Grind.{common_steps}
-use Rattle.std.proofs.Common.{◌≡◌, ◌≢◌, true, ℕ, List, [], ◌++◌, sym, ap, ◌∙◌, arith, refl}
+use Rattle.std.proofs.Common.{◌≡◌, ℕ, List, [], ◌++◌, inl, sym, ap, ◌∙◌, arith, refl}
 use Rattle.std.proofs.lemmas.Bool.{false≢true}
-use Rattle.std.proofs.lemmas.Result.{IfOk-weaker}
-use Rattle.pm_build.specs.Built.{archive_bytes, tile_content}
-use Rattle.pm_build.specs.Vector.{IsVectorArchive}
-use Rattle.area_content.specs.Tiles.{IsArchiveOfMap}
-use Rattle.area_content.proofs.MapTiles.{none_is_archive, some_are_archive}
 use Rattle.area_content.proofs.Bounds.{some_bounded}
+use Rattle.area_content.proofs.Written.{archive_built}
 use Rattle.area_content.proofs.archive.archive_of.Goals as goal
 
-pub returns-then-is_empty-clause-archive : goal.returns-then-is_empty-clause-archive
-returns-then-is_empty-clause-archive c m is_map are =
+pub returns-then-is_empty-clause-of_tiles : goal.returns-then-is_empty-clause-of_tiles
+returns-then-is_empty-clause-of_tiles c =
     let contents = c.new-then-is_empty.result.items in
     let empty : c.new.result.items ++ contents ≡ [] = ap (λ (bs : List ℕ). bs ++ contents) c.new.ensures.items ∙ c.new-then-is_empty.ensures.items in
-    none_is_archive m c.args.builder c.args.metadata.now _ (c.is_empty.ensures.0 c.if-is_empty.true) empty are
+    inl (c.is_empty.ensures.0 c.if-is_empty.true, empty)
 
-pub returns-clause-archive : goal.returns-clause-archive
-returns-clause-archive c m is_map are =
-    let some : c.args.builder ≢ [] = λ none.
-    let yes : c.is_empty.result ≡ true = c.is_empty.ensures.1 none in
-    false≢true (sym c.if-is_empty.false ∙ yes) in
-    let metadata = c.args.metadata.now in
-    IfOk-weaker c.finish.result (λ a. IsVectorArchive (archive_bytes a) metadata (tile_content c.args.builder))
-    (λ a. IsArchiveOfMap m metadata (archive_bytes a))
-    (λ a archive. some_are_archive m c.args.builder metadata (archive_bytes a) some is_map are archive) c.finish.ensures.archive
+pub returns-clause-of_tiles : goal.returns-clause-of_tiles
+returns-clause-of_tiles c = archive_built c.finish.result c.args.builder c.args.metadata.now c.finish.ensures.header c.finish.ensures.archive
 
 pub returns-then-is_empty-clause-bounded : goal.returns-then-is_empty-clause-bounded
 returns-then-is_empty-clause-bounded c = grind (arith, common_steps)
-
-pub returns-then-is_empty-clause-of_tiles : goal.returns-then-is_empty-clause-of_tiles
-returns-then-is_empty-clause-of_tiles c some = absurd (some (c.is_empty.ensures.0 c.if-is_empty.true))
 
 pub returns-then-is_empty-clause-least : goal.returns-then-is_empty-clause-least
 returns-then-is_empty-clause-least c some = absurd (some (c.is_empty.ensures.0 c.if-is_empty.true))
@@ -42,9 +28,6 @@ finish-requires-clause-some c none = false≢true (sym c.if-is_empty.false ∙ c
 
 pub finish-requires-clause-metadata : goal.finish-requires-clause-metadata
 finish-requires-clause-metadata c = c.requires.metadata
-
-pub returns-clause-of_tiles : goal.returns-clause-of_tiles
-returns-clause-of_tiles c some = c.finish.ensures.archive
 
 pub returns-clause-least : goal.returns-clause-least
 returns-clause-least c some = c.finish.ensures.least

@@ -13,5 +13,5 @@ returns-in-Ok-archive_of-clause-built c =
     let written = subst (λ (n : FeatureMap). AreWritten n metadata c.args.area c.add_all.new.builder) c.in-Ok.ensures.map c.in-Ok-add_all.ensures.tiles in
     let is_map : IsMap m = search rules in
     subst (λ r. IfOk r (λ a. IsArchiveFor m metadata c.args.area (archive_bytes a))) c.in-Ok-archive_of.is
-    (archive_written m metadata c.args.area c.archive_of.result c.add_all.new.builder written (c.archive_of.ensures.archive m is_map)
+    (archive_written m metadata c.args.area c.archive_of.result c.add_all.new.builder is_map written
     c.archive_of.ensures.of_tiles c.archive_of.ensures.least c.archive_of.ensures.bounded)

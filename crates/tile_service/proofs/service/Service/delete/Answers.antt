@@ -55,7 +55,7 @@ invariant_of-self g c =
       ap (λ (t : List ℕ). parts_of (length t)) text,
       short_after_edit version c.self.inside.map.features (delete c.args.id ∷ []) area places c.self.invariant.version_is was,
     ))
-    _ _ _ c.append.ensures.disk.same_count c.self.invariant
+    _ _ _ _ c.append.ensures.disk.same_count c.self.invariant
 
 pub returns-in-Ok-clause-takes : goal.returns-in-Ok-clause-takes
 returns-in-Ok-clause-takes g c = rw (← c.self.view_is) (record {

@@ -84,4 +84,5 @@ invariant_of-result g c = record {
   counted = c.in-Ok.ensures.counted;
   last_is = c.in-Ok.ensures.last;
   going = tt;
+  told = tt;
 }

@@ -56,7 +56,7 @@ invariant_of-self-in-Ok-append g c =
       ap (λ (t : List ℕ). parts_of (length t)) text,
       short_after_edit version c.self.inside.map.features (edit_data c.args.requested) area places c.self.invariant.version_is was,
     ))
-    _ _ _ c.append.ensures.disk.same_count c.self.invariant
+    _ _ _ _ c.append.ensures.disk.same_count c.self.invariant
 
 pub returns-in-Ok-append-clause-takes : goal.returns-in-Ok-append-clause-takes
 returns-in-Ok-append-clause-takes g c = rw (← c.self.view_is) (λ call. record {
