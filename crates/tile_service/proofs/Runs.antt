@@ -5,3 +5,4 @@ pub mod DiskAfter
 pub mod EventAnswers
 pub mod OneEvent
 pub mod Progress
+pub mod States

@@ -154,10 +154,8 @@ NoneInDoubt happenings = (index : ℕ) → index < length happenings → ¬ IsDo
 abbrev pub published_by : Stored → Option Way → List Happening → ℕ
 published_by start way happenings = (progress_of (starts start way) happenings).published
 
--- What a run leaves of a disk, from one history to another.
-pub record RunFits (sectors n : ℕ) (start : Stored) (way : Option Way) (happenings : List Happening) (old new : History) : Type 0 where
-  -- the history when the first k calls had returned
-  pub by : ℕ → History
+-- What a run leaves of a disk, from one history to another: `by k` is the history when the first k calls had returned.
+pub record RunFits (sectors n : ℕ) (start : Stored) (way : Option Way) (happenings : List Happening) (old new : History) (by : ℕ → History) : Type 0 where
   pub begins : by 0 ≡ old
   pub goes_on : (k : ℕ) → k < length happenings → Follows (by k) (by (suc k))
   pub ends : by (length happenings) ≡ new
@@ -283,12 +281,24 @@ module _ {D : Type 0} (sectors : D → ℕ) (honest : D → Type 0) (history : D
   pub record TakesRun (old : ServiceView D) (happenings : List Happening) (new : ServiceView D) : Type 0 where
     pub machine : (known : Known) → (then_known : Known) × Runs (IsTrusted old new) (state_of known old) happenings (state_of then_known new)
     pub any_moment : (stored : Stored) → honest new.disk → IsUp (sectors old.disk) (history old.disk) stored old
-        → RunFits (sectors old.disk) old.size stored (way_of stored.edits old.publication) happenings (history old.disk) (history new.disk)
+        → (by : ℕ → History)
+        × RunFits (sectors old.disk) old.size stored (way_of stored.edits old.publication) happenings (history old.disk) (history new.disk) by
     pub after : (stored : Stored) → honest new.disk → IsUp (sectors old.disk) (history old.disk) stored old → new.broken ≡ false
         → (reached : Stored) × IsUp (sectors new.disk) (history new.disk) reached new
         × Reaches stored (way_of stored.edits old.publication) happenings reached
     -- the archive is unchanged, unless another one was installed
     pub keeps_archive : ¬ Contains happenings (step (Ok 0)) → KeepsArchive honest history old new
+
+  -- The happenings in order, each from one state of the service to the next: `at k` is the state when the first k calls had returned. What a
+  -- crash leaves is by the histories of the disks of these states.
+  pub record TakesStates (old : ServiceView D) (happenings : List Happening) (new : ServiceView D) : Type 0 where
+    pub at : ℕ → ServiceView D
+    pub begins : at 0 ≡ old
+    pub takes : (k : ℕ) → k < length happenings → Takes (at k) (happening_at happenings k) (at (suc k))
+    pub ends : at (length happenings) ≡ new
+    pub any_moment : (stored : Stored) → honest new.disk → IsUp (sectors old.disk) (history old.disk) stored old
+        → RunFits (sectors old.disk) old.size stored (way_of stored.edits old.publication) happenings (history old.disk) (history new.disk)
+        (λ k. history (at k).disk)
 
   -- The service begins a publication and continues this one until it is installed or a call is refused: each call before the last is
   -- made and leaves something.
@@ -298,4 +308,5 @@ module _ {D : Type 0} (sectors : D → ℕ) (honest : D → Type 0) (history : D
     pub last : Result ℕ ServiceFault
     pub takes : TakesAll old (begin_and_steps (before ++ last ∷ [])) new
     pub run : TakesRun old (begin_and_steps (before ++ last ∷ [])) new
+    pub states : TakesStates old (begin_and_steps (before ++ last ∷ [])) new
     pub ends : EndsAs result old new last

@@ -7,7 +7,7 @@ ghost use Rattle.sector_disk.specs.Disk.{HasFailed};
 ghost use Rattle.feature_store.specs.Store.{feature_at};
 ghost use Rattle.tile_service.specs.Events.{Tells, AreTold, IsTile, AsksTile, edit_answer, left_answer};
 ghost use Rattle.tile_service.specs.Machine.{OrMemory, Happening, look, IfTold};
-ghost use Rattle.tile_service.specs.Runs.{Takes, TakesAll, TakesRun};
+ghost use Rattle.tile_service.specs.Runs.{Takes, TakesAll, TakesRun, TakesStates};
 ghost use Rattle.tile_service.specs.declared.event.Answer.TheVariants.{Refused};
 ghost use Rattle.tile_service.specs.declared.event.Event.TheVariants as events;
 ghost use Rattle.tile_service.specs.declared.fault.ServiceFault.TheVariants.{Memory, Device};
@@ -86,7 +86,8 @@ impl<D: Sectors + Drop> Service<D> {
         ensures run { IfOk result (λ answers.
             (happenings : List Happening) × AreTold self.old.version events.items answers.items happenings
             × TakesAll D.sectors D.honest D.history self.old happenings self.new
-            × TakesRun D.sectors D.honest D.history self.old happenings self.new) }
+            × TakesRun D.sectors D.honest D.history self.old happenings self.new
+            × TakesStates D.sectors D.honest D.history self.old happenings self.new) }
         ensures memory { IfErr result (λ fault. (fault ≡ Memory) × (self.new ≡ self.old)) }
         ensures size { self.new.size ≡ self.old.size }
         ensures version { self.new.version ≡ self.old.version }

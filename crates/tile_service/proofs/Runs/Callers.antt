@@ -24,7 +24,8 @@ use Rattle.tile_service.specs.Stored.{Stored, Holds, Keeps, last_of}
 use Rattle.tile_service.specs.declared.fault.ServiceFault.{ServiceFault}
 use Rattle.tile_service.specs.declared.fault.ServiceFault.TheVariants.{Device}
 use Rattle.tile_service.proofs.Archive.Read.{archive_there, archive_is_shown, shown_is_seen}
-use Rattle.tile_service.proofs.Runs.DiskAfter.{RunLeaves, IsHere, doubt_breaks, run_starts, run_goes_on, run_fits, reaches_on, published_within, sized_as}
+use Rattle.tile_service.proofs.Runs.DiskAfter.{RunLeaves, IsHere, by_next, doubt_breaks, goes_on_by, run_starts, run_goes_on, run_fits, reaches_on}
+use Rattle.tile_service.proofs.Runs.DiskAfter.{published_within, sized_as, starts_by}
 use Rattle.tile_service.proofs.Runs.Progress.{Within, IsSince, has_start, has_last, progress_on, progress_edits, way_seen, way_after}
 use Rattle.tile_service.proofs.Archive.Unchanged.{keeps_on}
 use Rattle.tile_service.proofs.Publications.WholePublication.{steps_more}
@@ -98,6 +99,11 @@ module _ {D : Type 0} (sectors : D → ℕ) (honest : D → Type 0) (history : D
     leaves = λ stored is_honest up. run_starts (sectors old.disk) old.size stored (way_of stored.edits old.publication) (history old.disk)
         (within_of stored old.publication (up_since stored old up)) up.keeps;
   }
+
+  pub begins_by : (old : ServiceView D) (stored : Stored) (is_honest : honest old.disk) (up : IsUp (sectors old.disk) (history old.disk) stored old) (k : ℕ)
+      → ((run_begins old).leaves stored is_honest up).by k ≡ history old.disk
+  unfolding run_begins
+  begins_by old stored is_honest up k = starts_by (sectors old.disk) old.size stored (way_of stored.edits old.publication) (history old.disk) _ _ k
 
   -- the archive that is shown stays where nothing is written, and neither its place nor its lengths change
   same_archive : (old new : ServiceView D)
@@ -479,6 +485,15 @@ module _ {D : Type 0} (sectors : D → ℕ) (honest : D → Type 0) (history : D
       leaves = leaves_on;
     }
 
+    -- by the history after it
+    pub on_by : (stored : Stored) (is_honest : honest new.disk) (up : IsUp (sectors old.disk) (history old.disk) stored old) (k : ℕ)
+        → (run_on.leaves stored is_honest up).by k
+        ≡ by_next (so.leaves stored (goes.asked.was_honest is_honest) up).by (length events + 1) (history new.disk) k
+    unfolding run_on leaves_on
+    on_by stored is_honest up k =
+        goes_on_by (sectors old.disk) old.size stored (way stored) events event (history old.disk) (history now.disk) (history new.disk)
+        (so.leaves stored (goes.asked.was_honest is_honest) up) now.broken _ _ _ k
+
   -- some more
   pub run_on_all : (old now new : ServiceView D) (events more : List Happening) → HasRun old events now
       → TakesAll sectors honest history now more new → HasRun old (events ++ more) new
@@ -512,8 +527,10 @@ module _ {D : Type 0} (sectors : D → ℕ) (honest : D → Type 0) (history : D
       → TakesRun sectors honest history old events now
   takes_run old events now so = record {
     machine = so.machine;
-    any_moment = λ stored is_honest up. run_fits (sectors old.disk) old.size stored (way_of stored.edits old.publication) events
-        (history old.disk) (history now.disk) (so.leaves stored is_honest up);
+    any_moment = λ stored is_honest up. let leaves = so.leaves stored is_honest up in (
+      leaves.by,
+      run_fits (sectors old.disk) old.size stored (way_of stored.edits old.publication) events (history old.disk) (history now.disk) leaves,
+    );
     after = λ stored is_honest up unbroken. let then_up = so.up stored is_honest up unbroken in (then_up.reached, then_up.is_up, then_up.reaches);
     keeps_archive = so.keeps_archive;
   }

@@ -24,18 +24,18 @@ use Rattle.tile_service.proofs.Runs.OneEvent.{doubtful_or_not, IsQuiet}
 
 -- ---- an event in doubt
 
-below : {A : Type 0} (xs ys : List A) (i : ℕ) (d : A) → i < length xs → get_or (xs ++ ys) i d ≡ get_or xs i d
+pub below : {A : Type 0} (xs ys : List A) (i : ℕ) (d : A) → i < length xs → get_or (xs ++ ys) i d ≡ get_or xs i d
 below [] ys i d lt = absurd (omega (arith, lt))
 below (x ∷ xs) ys zero d lt = refl
 below (x ∷ xs) ys (suc i) d lt = below xs ys i d (omega (arith, lt))
 
-last_is : {A : Type 0} (xs : List A) (x d : A) (i : ℕ) → i ≡ length xs → get_or (xs ++ x ∷ []) i d ≡ x
+pub last_is : {A : Type 0} (xs : List A) (x d : A) (i : ℕ) → i ≡ length xs → get_or (xs ++ x ∷ []) i d ≡ x
 last_is [] x d zero is = refl
 last_is [] x d (suc i) is = absurd (omega (arith, is))
 last_is (y ∷ xs) x d zero is = absurd (omega (arith, is))
 last_is (y ∷ xs) x d (suc i) is = last_is xs x d i (omega (arith, is))
 
-one_more : {A : Type 0} (xs : List A) (x : A) → length (xs ++ x ∷ []) ≡ length xs + 1
+pub one_more : {A : Type 0} (xs : List A) (x : A) → length (xs ++ x ∷ []) ≡ length xs + 1
 one_more xs x = length-append xs (x ∷ [])
 
 -- The disk failed at one of them says that the service is broken.
@@ -232,9 +232,8 @@ pub record RunLeaves (sectors n : ℕ) (start : Stored) (way : Option Way) (even
       → RunImage sectors n start way (take m events) k image
 
 pub run_fits : (sectors n : ℕ) (start : Stored) (way : Option Way) (events : List Happening) (old new : History)
-    → RunLeaves sectors n start way events old new → RunFits sectors n start way events old new
+    → (run : RunLeaves sectors n start way events old new) → RunFits sectors n start way events old new run.by
 run_fits sectors n start way events old new run = record {
-  by = run.by;
   begins = run.begins;
   goes_on = run.goes_on;
   ends = run.ends;
@@ -273,19 +272,35 @@ run_starts sectors n start way h within keeps = record {
     starts_with zero le image holds = settles image holds
     starts_with (suc k) le image holds = absurd (omega (arith, le))
 
+-- the history is that before the first event all along
+pub starts_by : (sectors n : ℕ) (start : Stored) (way : Option Way) (h : History) (within : Within (starts start way)) (keeps : Keeps sectors n start h)
+    (k : ℕ) → (run_starts sectors n start way h within keeps).by k ≡ h
+unfolding run_starts
+starts_by sectors n start way h within keeps k = refl
+
 -- ---- one event more
 
--- the history by each number of events, and by one more
-by_next : (ℕ → History) → ℕ → History → ℕ → History
+-- what there is by each number of events, and by one more
+pub by_next : {A : Type 0} → (ℕ → A) → ℕ → A → ℕ → A
 by_next by done new k = if k == done then new else by k
 
-by_next_last : (by : ℕ → History) (done : ℕ) (new : History) (k : ℕ) → k ≡ done → by_next by done new k ≡ new
+pub by_next_last : {A : Type 0} (by : ℕ → A) (done : ℕ) (new : A) (k : ℕ) → k ≡ done → by_next by done new k ≡ new
 unfolding by_next
 by_next_last by done new k is = grind (arith, nat_tests)
 
-by_next_before : (by : ℕ → History) (done : ℕ) (new : History) (k : ℕ) → (k ≡ done → ⊥) → by_next by done new k ≡ by k
+pub by_next_before : {A : Type 0} (by : ℕ → A) (done : ℕ) (new : A) (k : ℕ) → (k ≡ done → ⊥) → by_next by done new k ≡ by k
 unfolding by_next
 by_next_before by done new k apart = grind (arith, nat_tests)
+
+-- it is so of a part of it
+pub by_next_part : {A B : Type 0} (part : A → B) (by : ℕ → B) (at : ℕ → A) (done : ℕ) (new : A) → ((k : ℕ) → by k ≡ part (at k))
+    → (k : ℕ) → by_next by done (part new) k ≡ part (by_next at done new k)
+unfolding by_next
+by_next_part {A} {B} part by at done new same k = either (k == done)
+  where
+    either : (b : Bool) → (if b then part new else by k) ≡ part (if b then new else at k)
+    either true = refl
+    either false = same k
 
 -- the same events, stated differently
 pub told_as : (P : List Happening → Type 0) {events events' : List Happening} → events' ≡ events → P events → P events'
@@ -613,6 +628,16 @@ run_goes_on sectors n start way events event old h new so_far true quiet none he
     (subst (λ (x : History). Follows h x) (sym (quiet refl).1) (follows_itself h)) (quiet refl).0 (quiet refl).1
 run_goes_on sectors n start way events event old h new so_far false quiet none here =
     run_unbroken sectors n start way events event old h new so_far (here refl).call.follows (none refl) (here refl)
+
+-- the histories by each number of events are those so far, and the new one
+pub goes_on_by : (sectors n : ℕ) (start : Stored) (way : Option Way) (events : List Happening) (event : Happening)
+    (old h new : History) (so_far : RunLeaves sectors n start way events old h) (broken : Bool)
+    (quiet : broken ≡ true → IsQuiet event × (new ≡ h)) (none : broken ≡ false → NoneInDoubt events)
+    (here : broken ≡ false → IsHere sectors n start way events event h new) (k : ℕ)
+    → (run_goes_on sectors n start way events event old h new so_far broken quiet none here).by k ≡ by_next so_far.by (length events + 1) new k
+unfolding run_goes_on run_broken run_unbroken run_step
+goes_on_by sectors n start way events event old h new so_far true quiet none here k = refl
+goes_on_by sectors n start way events event old h new so_far false quiet none here k = refl
 
 -- the same sizes, stated differently
 pub sized_as : (P : ℕ → ℕ → Type 0) {sectors sectors' n n' : ℕ} → sectors' ≡ sectors → n' ≡ n → P sectors' n' → P sectors n

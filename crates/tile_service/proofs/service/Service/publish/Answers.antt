@@ -6,6 +6,7 @@ use Rattle.tile_service.specs.Runs.{begin_and_steps, IsUnfinished, Takes}
 use Rattle.tile_service.specs.declared.fault.ServiceFault.{ServiceFault}
 use Rattle.tile_service.specs.Service.{state_of, known_after, KeepsArea, CountsDevice}
 use Rattle.tile_service.proofs.Runs.Callers.{begin_step, step_step, run_begins, run_on, one_step_more, takes_run}
+use Rattle.tile_service.proofs.Runs.States.{takes_states}
 use Rattle.tile_service.proofs.Runs.OneEvent.{no_known}
 use Rattle.tile_service.proofs.Archive.Unchanged.{keeps_on, area_on}
 use Rattle.tile_service.proofs.Publications.WholePublication.{Stands, begun_stands, on_stands, falls, only_device, device_gives_up, begin_counts}
@@ -90,6 +91,7 @@ returns-in-Err-clause-run g c =
       last = Err c.in-Err.refusal;
       takes = (new, goes, refl);
       run = takes_run g.D.Sectors.sectors g.D.Sectors.honest g.D.Sectors.history old (begin (Err c.in-Err.refusal) ∷ []) new run;
+      states = takes_states g.D.Sectors.sectors g.D.Sectors.honest g.D.Sectors.history old (begin (Err c.in-Err.refusal) ∷ []) new (new, goes, refl);
       ends = refl;
     }
 
@@ -144,6 +146,8 @@ returns-in-Err-publish_step-clause-run g c =
       takes = more.1;
       run = takes_run g.D.Sectors.sectors g.D.Sectors.honest g.D.Sectors.history c.args.self.now
           (begin_and_steps ((inv.run.0 ++ Ok rest ∷ []) ++ outcome ∷ [])) new more.0;
+      states = takes_states g.D.Sectors.sectors g.D.Sectors.honest g.D.Sectors.history c.args.self.now
+          (begin_and_steps ((inv.run.0 ++ Ok rest ∷ []) ++ outcome ∷ [])) new more.1;
       ends = refl;
     }
 
@@ -183,6 +187,8 @@ returns-clause-run g c =
       takes = inv.run.2;
       run = takes_run g.D.Sectors.sectors g.D.Sectors.honest g.D.Sectors.history c.args.self.now
           (begin_and_steps (inv.run.0 ++ Ok c.loop-rest.rest ∷ [])) c.loop-rest.self inv.run.1;
+      states = takes_states g.D.Sectors.sectors g.D.Sectors.honest g.D.Sectors.history c.args.self.now
+          (begin_and_steps (inv.run.0 ++ Ok c.loop-rest.rest ∷ [])) c.loop-rest.self inv.run.2;
       ends = (
         ap (λ (n : ℕ). Ok n) done,
         ap (λ s. s.generation) c.self-2.view_is,

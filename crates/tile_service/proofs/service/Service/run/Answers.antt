@@ -13,6 +13,7 @@ use Rattle.tile_service.specs.declared.event.Answer.TheVariants.{Refused}
 use Rattle.tile_service.specs.declared.fault.ServiceFault.TheVariants.{Device}
 use Rattle.tile_service.proofs.Runs.Callers.{events_on, run_begins, run_on, takes_run, was_before, broken_on}
 use Rattle.tile_service.proofs.Runs.OneEvent.{true_or_false}
+use Rattle.tile_service.proofs.Runs.States.{takes_states}
 use Rattle.tile_service.proofs.Runs.EventAnswers.{told_no_read, told_on, asks_before, asks_last}
 use Rattle.tile_service.proofs.service.Service.run.Goals as goal
 
@@ -141,6 +142,7 @@ returns-clause-run g c =
       subst (λ l. AreTold c.args.self.now.version l c.loop-event.answers.items so.0) (all_yielded g c) so.1,
       so.2,
       takes_run g.D.Sectors.sectors g.D.Sectors.honest g.D.Sectors.history c.args.self.now so.0 c.loop-event.self so.3,
+      takes_states g.D.Sectors.sectors g.D.Sectors.honest g.D.Sectors.history c.args.self.now so.0 c.loop-event.self so.2,
     )
 
 pub returns-clause-size : goal.returns-clause-size
