@@ -50,7 +50,7 @@ KNOWN_LINE = re.compile(
     r"section: (root|metadata|leaves|tiles)|(bad directory at|order|place|bad tile): \d+|count: (addressed|entries|contents)")
 KNOWN_REPLY = re.compile(
     rb"HTTP/1\.1 (200 OK|204 No Content|206 Partial Content|400 Bad Request|404 Not Found|405 Method Not Allowed|409 Conflict|"
-    rb"413 Payload Too Large|416 Range Not Satisfiable|417 Expectation Failed|500 Internal Server Error|501 Not Implemented|"
+    rb"412 Precondition Failed|413 Payload Too Large|416 Range Not Satisfiable|417 Expectation Failed|500 Internal Server Error|501 Not Implemented|"
     rb"507 Insufficient Storage)\r\n")
 
 
@@ -131,14 +131,27 @@ BODIES = [joined(parts) for parts in reply_hostile.bodies() if not isinstance(pa
 OTHERS = [held for held in reply_hostile.of_other_protocols() if not isinstance(held, str)]
 
 
+FIELDS = [b"if-match: *", b'If-None-Match: "1-1-223"', b"if-range: x", b"expect: 100-continue", b"host: y", b"range: bytes=0-6", b"connection: close"]
+
+
+def with_field(chance, asked):
+    """A request with one more field in its head, some of them of HTTP/1.0."""
+    first, end, rest = asked.partition(b"\r\n")
+    if chance.randrange(4) == 0:
+        first = first.replace(b"HTTP/1.1", b"HTTP/1.0")
+    return first + end + chance.choice(FIELDS) + end + rest
+
+
 def one_request(chance):
-    kind = chance.randrange(14)
+    kind = chance.randrange(16)
     if kind == 0:
         return request("PUT", f"/features/{chance.randrange(4)}", chance.choice(BODIES))
     if kind == 1:
         return chance.choice(OTHERS)
     if kind < 4:
         return odd_edit(chance)
+    if kind < 6:
+        return with_field(chance, random_request(chance))
     return random_request(chance)
 
 

@@ -27,6 +27,7 @@ PHRASES = {
     404: "Not Found",
     405: "Method Not Allowed",
     409: "Conflict",
+    412: "Precondition Failed",
     413: "Payload Too Large",
     416: "Range Not Satisfiable",
     417: "Expectation Failed",
@@ -39,7 +40,8 @@ STATUS_OF = {"Head": 400, "Host": 400, "Coding": 501, "Expect": 417, "Length": 4
 
 # A head: its version as its last digit, its fields as pairs of a name in lower case and a value, and how many bytes it has.
 Head = namedtuple("Head", "method target minor fields size")
-Request = namedtuple("Request", "method path range body close size")
+# A request: `conditional` is whether it is to be done only if an entity tag is, or isn't, what its sender says.
+Request = namedtuple("Request", "method path range conditional body close size")
 
 
 class Fault(Exception):
@@ -144,11 +146,13 @@ def values(head, name):
 
 def body_size(head):
     """How many bytes the body has, or the word of the first rule that the fields break."""
-    if head.minor == 1 and len(values(head, b"host")) != 1:
+    hosts = len(values(head, b"host"))
+    if hosts > 1 or hosts == 0 and head.minor == 1:
         raise Rejected("Host")
-    for name, word in [(b"transfer-encoding", "Coding"), (b"expect", "Expect")]:
-        if values(head, name):
-            raise Rejected(word)
+    if values(head, b"transfer-encoding"):
+        raise Rejected("Coding")
+    if values(head, b"expect") and head.minor == 1:
+        raise Rejected("Expect")
     lengths = values(head, b"content-length")
     if len(lengths) > 1 or lengths and not re.fullmatch(rb"[0-9]+", lengths[0]):
         raise Rejected("Length")
@@ -156,6 +160,23 @@ def body_size(head):
     if size > MAX_BODY:
         raise Rejected("Body")
     return size
+
+
+def range_of(head):
+    """The value of the one range, or None. A range under a condition counts as none: the whole is right whether the condition holds or not."""
+    ranges = values(head, b"range")
+    return ranges[0] if len(ranges) == 1 and not values(head, b"if-range") else None
+
+
+def is_conditional(head):
+    return bool(values(head, b"if-match") or values(head, b"if-none-match"))
+
+
+def path_of(target):
+    """The path of a target, without scheme and authority in absolute form (RFC 9112, 3.2.2) if that names a host (RFC 9110, 4.2.1)."""
+    path = target.split(b"?")[0]
+    absolute = re.fullmatch(rb"(?i:https?)://[^/:][^/]*(/.*)?", path, re.DOTALL)
+    return (absolute[1] or b"/") if absolute else path
 
 
 def asks_to_close(head):
@@ -190,9 +211,8 @@ def request_of(taken, held):
         raise Rejected(rejected.args[0], bare, head.size) from None
     if size > len(held):
         raise Rejected("Short", bare, None)
-    ranges = values(head, b"range")
-    path = head.target.split(b"?")[0]
-    return Request(head.method, path, ranges[0] if len(ranges) == 1 else None, held[head.size : size], asks_to_close(head), size)
+    path = path_of(head.target)
+    return Request(head.method, path, range_of(head), is_conditional(head), held[head.size : size], asks_to_close(head), size)
 
 
 # ---- replies
@@ -201,14 +221,14 @@ def request_of(taken, held):
 class Reply:
     """A reply. `parts` is the content as it is sent; they end early where a read fails."""
 
-    def __init__(self, status, kind=None, content=b"", content_range=None, allow=None, parts=None, length=None):
-        self.status, self.kind, self.content_range, self.allow = status, kind, content_range, allow
+    def __init__(self, status, kind=None, content=b"", content_range=None, allow=None, parts=None, length=None, tag=None):
+        self.status, self.kind, self.content_range, self.allow, self.tag = status, kind, content_range, allow, tag
         self.parts = [content] if parts is None else parts
         self.length = len(content) if length is None else length
 
     def front(self, close):
         """Its head."""
-        fields = [("content-type", self.kind), ("content-range", self.content_range), ("allow", self.allow)]
+        fields = [("content-type", self.kind), ("content-range", self.content_range), ("etag", self.tag), ("allow", self.allow)]
         fields += [("content-length", self.length if self.status != 204 else None), ("connection", "close" if close else None)]
         lines = [f"HTTP/1.1 {self.status} {PHRASES[self.status]}"] + [f"{name}: {value}" for name, value in fields if value is not None]
         return "".join(line + "\r\n" for line in lines + [""]).encode()
@@ -258,6 +278,8 @@ ADMIN_ROUTES = [
     (rb"/admin/features/from/" + NUMBER, "from", "GET, HEAD"),
     (rb"/admin/edits", "checked", "POST"),
 ]
+# Methods that change something, of which nothing has an entity tag.
+CHANGING = (b"PUT", b"DELETE", b"POST")
 
 
 def is_in_range(name, numbers):
@@ -332,14 +354,19 @@ def parts_read(service, first, count):
     return parts
 
 
+def tag_of(root):
+    """The entity tag of the published archive. Each publication has a generation of its own."""
+    return f'"{root.generation}-{root.edits}-{root.archive_len}"'
+
+
 def archive_reply(service, request):
     """The archive or the part of it that a GET asks for. A HEAD reads nothing."""
-    total = service.root.archive_len
+    total, tag = service.root.archive_len, tag_of(service.root)
     if total == 0:
         raise Refused("NotFound")
     kind = "application/octet-stream"
     if request.method == b"HEAD":
-        return Reply(200, kind, length=total)
+        return Reply(200, kind, length=total, tag=tag)
     asked = re.fullmatch(rb"bytes=([0-9]{1,18})-([0-9]{1,18})", request.range or b"")
     first, last = (int(asked[1]), int(asked[2])) if asked else (0, total - 1)
     if asked is None or first > last:
@@ -352,7 +379,7 @@ def archive_reply(service, request):
     parts = parts_read(service, first, last - first + 1)
     if not parts:
         raise Refused("Device")
-    return Reply(status, kind, content_range=said, parts=parts, length=last - first + 1)
+    return Reply(status, kind, content_range=said, parts=parts, length=last - first + 1, tag=tag)
 
 
 def on_feature(service, number, request):
@@ -399,6 +426,8 @@ def reply_to(service, request, is_admin):
     name, numbers, ending, allow = route
     if request.method not in allow.encode().split(b", "):
         return refusal(405, "Method", allow=allow)
+    if request.conditional and request.method in CHANGING:
+        return refusal(412, "Condition")
     try:
         if name == "feature":
             return on_feature(service, numbers[0], request)

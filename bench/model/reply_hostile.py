@@ -29,7 +29,8 @@ def of_other_protocols():
 
 def odd_targets():
     """Targets in their other forms, and paths with marks."""
-    return ["http://x/map/0/0/0.hex", "HTTP://X/map/0/0/0.hex", "https://x/", "x:443", "*", "//x/map/0/0/0.hex", "/map/0/0/0.hex#a", "/map/../map/0/0/0.hex",
+    return ["http://x/map/0/0/0.hex", "HTTP://X/map/0/0/0.hex", "https://x/", "hTTps://u@x:443/features/7?/8", "http://x?/features/7", "http:///features/7",
+            "http://:80/features/7", "httpx://x/features/7", "x:443", "*", "//x/map/0/0/0.hex", "/map/0/0/0.hex#a", "/map/../map/0/0/0.hex",
             "/./map/0/0/0.hex", "/map//0/0/0.hex", "/map/0/0/0.hex%00", "/map/0/0/0%2Ehex", "/map/0/0/0.hex;a", "\\map\\0\\0\\0.hex",
             "/map/18446744073709551616/0/0.hex", "/map/0/340282366920938463463374607431768211456/0.hex", "/features/9223372036854775808",
             "/features/-7", "/features/7e0", "/features/0x7", "/features/7%20", "/features/\u0667", "/features/7\u00a0"]

@@ -136,6 +136,48 @@ def ranges(script):
     script.ask(request("GET", "/map/metadata", b"", "RANGE: bytes=0-1"), request("GET", "/features/7", b"", "range: bytes=500-600"))
 
 
+def part_of(first, last, *fields):
+    return request("GET", "/map.pmtiles", b"", f"range: bytes={first}-{last}", *fields)
+
+
+HEAD_OF_ARCHIVE = request("HEAD", "/map.pmtiles")
+
+
+def tags(script):
+    script.say("Entity tags: a whole archive has one, and so has its head, and a part of it; a refusal has none.")
+    with_point(script)
+    script.ask(GET_ARCHIVE, PUBLISH)
+    shows = [GET_ARCHIVE, HEAD_OF_ARCHIVE, part_of(0, 6), part_of(999, 1000)]
+    script.ask(*shows, sizes="4096,1")
+    script.note("An edit, a beginning and a cancellation leave it as it is. The next publication has another one, also of the same bytes.")
+    script.ask(put(8), BEGIN, HEAD_OF_ARCHIVE, CANCEL, HEAD_OF_ARCHIVE)
+    script.ask(BEGIN, HEAD_OF_ARCHIVE, STEP, *shows)
+    script.ask(PUBLISH, HEAD_OF_ARCHIVE, request("DELETE", "/features/8"), PUBLISH, *shows)
+    script.note("It is the same after a restart. A map without tiles is published without an archive, and so without a tag.")
+    script.again()
+    script.ask(HEAD_OF_ARCHIVE, request("DELETE", "/features/7"), PUBLISH, HEAD_OF_ARCHIVE, put(7), PUBLISH, HEAD_OF_ARCHIVE)
+    script.note("It isn't looked at on other paths, nor by GET and HEAD: what a client has already is sent again.")
+    script.ask(A, request("GET", "/features/7"), request("GET", "/map/metadata"))
+    for method in ("GET", "HEAD"):
+        script.ask(*(request(method, "/map.pmtiles", b"", field) for field in ('if-none-match: "6-5-223"', "if-none-match: *", 'if-match: "1-1-1"')))
+
+
+# Values of `if-range`: the archive's tag, another one, a weak one, a date, none.
+OF_IF_RANGE = ['"1-1-223"', '"0-0-0"', 'W/"1-1-223"', "Sun, 06 Nov 1994 08:49:37 GMT", ""]
+
+
+def conditions_of_ranges(script):
+    script.say("A range under a condition is as none: the whole is sent, whatever the condition is.")
+    with_point(script)
+    script.ask(PUBLISH)
+    for value in OF_IF_RANGE:
+        script.ask(part_of(0, 6, f"if-range: {value}"), part_of(999, 1000, f"if-range: {value}"))
+    script.note("In front of the range, in other letters, twice, on HEAD, and without a range; fields of other names are none.")
+    script.ask(request("GET", "/map.pmtiles", b"", "IF-RANGE: x", "range: bytes=0-6"), part_of(0, 6, "If-Range: x", "If-Range: y"), sizes="4096,1")
+    script.ask(request("HEAD", "/map.pmtiles", b"", "range: bytes=0-6", "if-range: x"), request("GET", "/map.pmtiles", b"", "if-range: x"))
+    script.ask(part_of(0, 6, "if-ranges: x"), part_of(0, 6, "x-if-range: x"), part_of(0, 6, "if_range: x"))
+
+
 # ---- disks and writers that fail
 
 
@@ -246,4 +288,4 @@ def too_many_tiles(script):
     script.ask(request("DELETE", "/features/7"), PUBLISH)
 
 
-BLOCKS = [full_journal, publications, ranges, downloads, devices, writers, too_many_tiles]
+BLOCKS = [full_journal, publications, ranges, tags, conditions_of_ranges, downloads, devices, writers, too_many_tiles]

@@ -38,13 +38,14 @@ def found(kind, content, status="200 OK", more=""):
     return f"HTTP/1.1 {status}\r\ncontent-type: {kind}\r\n{more}content-length: {len(content)}\r\n\r\n".encode() + content
 
 
-def part(more, content, kind="application/octet-stream", status="206 Partial Content"):
-    return found(kind, content, status, f"content-range: bytes {more}\r\n")
+def part(asked, content, kind="application/octet-stream", status="206 Partial Content", more=""):
+    return found(kind, content, status, f"content-range: bytes {asked}\r\n{more}")
 
 
 OCTETS, JSON = "application/octet-stream", "application/json"
 TWO_POINTS = b'{"changes":[{"put":7,"feature":%s},{"put":8,"feature":%s}]}' % (BODY, BODY)
 NO_CONTENT = b"HTTP/1.1 204 No Content\r\n\r\n"
+TAG = 'etag: "1-1-223"\r\n'
 EXAMPLES = [
     (request("GET", "/map/0/0/0.mvt"), NO_CONTENT),
     (request("GET", "/map.pmtiles"), found("text/plain", "NotFound\n", "404 Not Found")),
@@ -55,9 +56,10 @@ EXAMPLES = [
     (request("GET", "/map/0/0/0.mvt"), found("application/vnd.mapbox-vector-tile", bytes.fromhex(TILE))),
     (request("GET", "/map/metadata"), found(JSON, METADATA)),
     (request("POST", "/publish"), found(JSON, '{"archive":223,"edits":1,"generation":1}')),
-    (request("GET", "/map.pmtiles"), found(OCTETS, ARCHIVE)),
-    (request("GET", "/map.pmtiles", b"", "range: bytes=0-126"), part("0-126/223", ARCHIVE[:127])),
-    (request("GET", "/map.pmtiles", b"", "range: bytes=223-"), found(OCTETS, ARCHIVE)),
+    (request("GET", "/map.pmtiles"), found(OCTETS, ARCHIVE, more=TAG)),
+    (request("GET", "/map.pmtiles", b"", "range: bytes=0-126"), part("0-126/223", ARCHIVE[:127], more=TAG)),
+    (request("GET", "/map.pmtiles", b"", "range: bytes=0-126", 'if-range: "1-1-223"'), found(OCTETS, ARCHIVE, more=TAG)),
+    (request("GET", "/map.pmtiles", b"", "range: bytes=223-"), found(OCTETS, ARCHIVE, more=TAG)),
     (request("GET", "/map.pmtiles", b"", "range: bytes=223-300"), part("*/223", "Range\n", "text/plain", "416 Range Not Satisfiable")),
     (request("POST", "/publish/begin"), found(JSON, '{"left":3}')),
     (request("PUT", "/features/8", BODY), found(JSON, '{"edit":2}')),
@@ -71,6 +73,8 @@ EXAMPLES = [
     (request("GET", "/features/9"), found("text/plain", "NotFound\n", "404 Not Found")),
     (request("POST", "/edits", b'{"changes":[]}'), found("text/plain", "E10 Batch\n", "400 Bad Request")),
     (request("POST", "/edits", b'{"changes":[{"put":7,"feature":%s},{"delete":7}]}' % BODY), found("text/plain", "E11 Twice\n", "400 Bad Request")),
+    (request("PUT", "/features/7", BODY, 'if-match: "1"'), found("text/plain", "Condition\n", "412 Precondition Failed")),
+    (request("DELETE", "/features/7", b"", "if-match: *"), found("text/plain", "Condition\n", "412 Precondition Failed")),
     (request("GET", "/edits"), found("text/plain", "Method\n", "405 Method Not Allowed", "allow: POST\r\n")),
     (request("POST", "/map/metadata"), found("text/plain", "Method\n", "405 Method Not Allowed", "allow: GET, HEAD\r\n")),
     (request("PUT", "/features/7", BODY.replace(b'"minzoom":0', b'"minzoom":3')), found("text/plain", "E4 Zoom\n", "400 Bad Request")),

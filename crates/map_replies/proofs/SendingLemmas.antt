@@ -7,6 +7,7 @@ use Rattle.std.proofs.Common.{Global}
 use Rattle.std.specs.Prelude.{Vec, Result, Ok, Err, IfOk, IfErr, OnOk, OnErr}
 use Rattle.http_serve.specs.declared.replies.Content.{Content}
 use Rattle.http_serve.specs.declared.replies.Content.TheVariants as contents
+use Rattle.http_serve.specs.declared.replies.EntityTag.{EntityTag}
 use Rattle.http_serve.specs.declared.replies.Reply.{Reply}
 use Rattle.http_serve.specs.Reply.{ReplyView, IsWhole, HasShortWords, head_view, InParts, FitsParts, content_bytes, reply_view, with_part}
 use Rattle.http_serve.proofs.HandlerLemmas.{shown_reply, whole_reply, none_in_parts}
@@ -17,7 +18,7 @@ use Rattle.sector_disk.specs.Disk.{History, seen, HasFailed}
 use Rattle.sector_disk.proofs.AskedLaws as disks
 use Rattle.tile_service.specs.Machine.{read}
 use Rattle.tile_service.specs.Runs.{Takes}
-use Rattle.tile_service.specs.Service.{ServiceView, IsUp, ShowsArchive, ReadsFrom, shown_archive}
+use Rattle.tile_service.specs.Service.{ServiceView, IsUp, ShowsArchive, ReadsFrom, shown_archive, status_of}
 use Rattle.tile_service.specs.Stored.{Stored}
 use Rattle.tile_service.proofs.Runs.Callers.{read_step, shown_seen}
 use Rattle.tile_service.specs.declared.fault.ServiceFault.TheVariants.{Device}
@@ -30,7 +31,7 @@ use Rattle.map_replies.specs.declared.parts.ArchiveRange.{ArchiveRange}
 use Rattle.map_replies.specs.declared.parts.ArchiveRange.TheVariants.{Whole, Between, Beyond}
 use Rattle.map_replies.specs.declared.parts.Sending.{Sending}
 use Rattle.map_replies.specs.Meanings.{OrNoMemory, MeansPart, MeansArchive, Answers, AnswersAllowed, AnswersMethod, DiskFailed}
-use Rattle.map_replies.specs.Parts.{range_for, IsPart, start_of, size_of, part_reply}
+use Rattle.map_replies.specs.Parts.{range_for, IsPart, start_of, size_of, archive_tag, part_reply}
 use Rattle.map_replies.specs.Sending.{IsAnswered, IsAnswer, IsAnsweredInParts, IsInside, Begins, SendsPart, AnswersPart, IsSending, SendsMethod}
 use Rattle.map_replies.specs.Words.{refusal_of, service_refusal}
 use Rattle.map_replies.proofs.Answering.{no_memory_first}
@@ -124,16 +125,16 @@ inside_end Whole total inside = omega arith
 inside_end (Between first last) total inside = omega (arith, inside.0, inside.1)
 inside_end Beyond total inside = absurd inside
 
-pub content_of : (part : ArchiveRange) (total : ℕ) (a : List ℕ) → IsInside part total → (part_reply part total a).content ≡ a
-content_of Whole total a inside = refl
-content_of (Between first last) total a inside = refl
-content_of Beyond total a inside = absurd inside
+pub content_of : (part : ArchiveRange) (tag : EntityTag) (a : List ℕ) → IsInside part tag.length → (part_reply part tag a).content ≡ a
+content_of Whole tag a inside = refl
+content_of (Between first last) tag a inside = refl
+content_of Beyond tag a inside = absurd inside
 
-with_content : (part : ArchiveRange) (total : ℕ) (a b : List ℕ) → IsInside part total
-    → record (part_reply part total a) { content = b } ≡ part_reply part total b
-with_content Whole total a b inside = refl
-with_content (Between first last) total a b inside = refl
-with_content Beyond total a b inside = absurd inside
+with_content : (part : ArchiveRange) (tag : EntityTag) (a b : List ℕ) → IsInside part tag.length
+    → record (part_reply part tag a) { content = b } ≡ part_reply part tag b
+with_content Whole tag a b inside = refl
+with_content (Between first last) tag a b inside = refl
+with_content Beyond tag a b inside = absurd inside
 
 module _ {D : Type 0} (sectors : D → ℕ) (honest : D → Type 0) (history : D → History) where
   -- ---- reads
@@ -231,9 +232,9 @@ module _ {D : Type 0} (sectors : D → ℕ) (honest : D → Type 0) (history : D
   -- ---- a part that is sent
 
   answers_read : (part : ArchiveRange) (old new : ServiceView D) (reply : ReplyView) (content : List ℕ) → IsInside part old.archive_len
-      → length content ≡ size_of part old.archive_len → reply ≡ part_reply part old.archive_len content
+      → length content ≡ size_of part old.archive_len → reply ≡ part_reply part (archive_tag (status_of old)) content
       → Takes sectors honest history old (read (start_of part) (Some content)) new
-      → Answers sectors honest history (MeansPart (DiskFailed faults old new) old.archive_len part) old new reply
+      → Answers sectors honest history (MeansPart (DiskFailed faults old new) (archive_tag (status_of old)) part) old new reply
   answers_read Whole old new reply content inside long shows takes =
       (read 0 (Some content) ∷ [], (Some content, long, (λ none. absurd (none-some content (sym none))), shows, refl), (new, takes, refl))
   answers_read (Between first last) old new reply content inside long shows takes =
@@ -242,13 +243,14 @@ module _ {D : Type 0} (sectors : D → ℕ) (honest : D → Type 0) (history : D
 
   answers_part : (part : ArchiveRange) (old : ServiceView D) (sending : Sending) (new : ServiceView D) (reply : ReplyView)
       → SendsPart sectors honest history faults part old sending new reply
-      → Answers sectors honest history (MeansPart (DiskFailed faults old new) old.archive_len part) old new reply
+      → Answers sectors honest history (MeansPart (DiskFailed faults old new) (archive_tag (status_of old)) part) old new reply
   answers_part part old sending new reply sends = answers_read part old new reply sends.content sends.sent.0 sends.long sends.shows sends.reads
 
   -- the reply with such a content
   pub part_sent : (old new : ServiceView D) (part : ArchiveRange) (sending : Sending) (reply : Reply) (content : Content) → IsInside part old.archive_len
       → Begins sectors honest history old new (start_of part) (size_of part old.archive_len) content → faults new.disk ≡ faults old.disk
-      → reply.content ≡ content → ((bytes : List ℕ) → reply_view bytes reply ≡ part_reply part old.archive_len (content_bytes bytes content))
+      → reply.content ≡ content
+      → ((bytes : List ℕ) → reply_view bytes reply ≡ part_reply part (archive_tag (status_of old)) (content_bytes bytes content))
       → sending ≡ record { first = start_of part; length = size_of part old.archive_len }
       → AnswersPart sectors honest history faults part old sending new reply
   part_sent old new part sending reply content inside begun unfailed is shows sent =
@@ -257,7 +259,7 @@ module _ {D : Type 0} (sectors : D → ℕ) (honest : D → Type 0) (history : D
         sent = (inside, sent);
         content = bytes;
         long = begun.3;
-        shows = shows bytes ∙ ap (part_reply part old.archive_len) begun.2;
+        shows = shows bytes ∙ ap (part_reply part (archive_tag (status_of old))) begun.2;
         reads = begun.4;
         unfailed = unfailed;
       } in (
@@ -281,11 +283,12 @@ module _ {D : Type 0} (sectors : D → ℕ) (honest : D → Type 0) (history : D
 
   module _ (range : Option (List ℕ)) (old : ServiceView D) (sending : Sending) (new : ServiceView D) where
     abbrev AnswersArchive : ReplyView → Type 0
-    AnswersArchive reply = Answers sectors honest history (OrNoMemory (MeansArchive (DiskFailed faults old new) old.archive_len range)) old new reply
+    AnswersArchive reply =
+        Answers sectors honest history (OrNoMemory (MeansArchive (DiskFailed faults old new) (archive_tag (status_of old)) range)) old new reply
 
     -- a part of it
     asked_part : (part : ArchiveRange) (reply : ReplyView) → 0 < old.archive_len → IsPart range old.archive_len part
-        → Answers sectors honest history (MeansPart (DiskFailed faults old new) old.archive_len part) old new reply → AnswersArchive reply
+        → Answers sectors honest history (MeansPart (DiskFailed faults old new) (archive_tag (status_of old)) part) old new reply → AnswersArchive reply
     asked_part part reply some asked is = (is.0, inl (inr (some, part, asked, is.1)), is.2)
 
     pub archive_answered : (part : ArchiveRange) (r : Result Reply RequestFault) → 0 < old.archive_len → IsPart range old.archive_len part
@@ -294,7 +297,7 @@ module _ {D : Type 0} (sectors : D → ℕ) (honest : D → Type 0) (history : D
     archive_answered part (Ok reply) some asked is refused = answer_on _ _ _ _ reply (λ view. asked_part part view some asked)
         (λ view sends. record { some = some; part = part; asked = asked; sends = sends }) is
     archive_answered part (Err fault) some asked is refused = subst (λ (f : RequestFault). AnswersArchive (refusal_of f)) (sym refused.1)
-        (no_memory_first sectors honest history (MeansArchive (DiskFailed faults old new) old.archive_len range) old new refused.0)
+        (no_memory_first sectors honest history (MeansArchive (DiskFailed faults old new) (archive_tag (status_of old)) range) old new refused.0)
 
   module _ (range : Option (List ℕ)) (old : ServiceView D) (sending : Sending) (new : ServiceView D) (reply : ReplyView)
       (is : IsSending sectors honest history faults range old sending new reply) where
@@ -308,7 +311,7 @@ module _ {D : Type 0} (sectors : D → ℕ) (honest : D → Type 0) (history : D
         let first : sending.first ≡ start_of is.part = ap (λ (s : Sending). s.first) is.sends.sent.1 in
         let size : sending.length ≡ size_of is.part total = ap (λ (s : Sending). s.length) is.sends.sent.1 in
         let long : length reply.content ≡ length is.sends.content =
-        ap length (ap (λ (r : ReplyView). r.content) is.sends.shows ∙ content_of is.part total is.sends.content is.sends.sent.0) in
+        ap length (ap (λ (r : ReplyView). r.content) is.sends.shows ∙ content_of is.part (archive_tag (status_of old)) is.sends.content is.sends.sent.0) in
         omega (arith, same, first, size, long, is.sends.long, inside_end is.part total is.sends.sent.0)
 
     pub sent_answers : AnswersArchive range old sending new reply
@@ -332,7 +335,7 @@ module _ {D : Type 0} (sectors : D → ℕ) (honest : D → Type 0) (history : D
         let start : ℕ = start_of is.part in
         let more : List ℕ = take offset content ++ piece ++ drop (offset + length piece) content in
         let content_is : reply.content ≡ content =
-        ap (λ (r : ReplyView). r.content) is.sends.shows ∙ content_of is.part total content is.sends.sent.0 in
+        ap (λ (r : ReplyView). r.content) is.sends.shows ∙ content_of is.part (archive_tag (status_of old)) content is.sends.sent.0 in
         let first : sending.first ≡ start = ap (λ (s : Sending). s.first) is.sends.sent.1 in
         let size : sending.length ≡ size_of is.part total = ap (λ (s : Sending). s.length) is.sends.sent.1 in
         let fits : offset + length piece ≤ length content = omega (arith, within, size, is.sends.long) in
@@ -354,7 +357,7 @@ module _ {D : Type 0} (sectors : D → ℕ) (honest : D → Type 0) (history : D
             long = long ∙ is.sends.long;
             shows = (λ i. record (is.sends.shows i) {
               content = take offset (content_is i) ++ piece ++ drop (offset + length piece) (content_is i);
-            }) ∙ with_content is.part total content more is.sends.sent.0;
+            }) ∙ with_content is.part (archive_tag (status_of old)) content more is.sends.sent.0;
             reads = reads_on sectors honest history old new next start (sending.first + offset) start (Some content) (Some piece) (Some more)
                 is.sends.reads takes
                 (λ archive shows is_honest.

@@ -9,7 +9,7 @@ use Rattle.sector_disk.proofs.AskedLaws.{writes_on, reads_may, reads_none}
 use Rattle.published_tiles.specs.declared.place.ArchivePlace.{ArchivePlace}
 use Rattle.tile_service.specs.Machine.{Happening, Runs}
 use Rattle.tile_service.specs.Runs.{IsTrusted, way_of}
-use Rattle.tile_service.specs.Service.{ServiceView, Known, IsUp, IsPlaceIn, HasArchive, ShowsArchive, state_of, archive_of}
+use Rattle.tile_service.specs.Service.{ServiceView, Known, IsUp, IsPlaceIn, HasArchive, ShowsArchive, state_of, status_of, archive_of}
 use Rattle.tile_service.specs.Stored.{Stored}
 use Rattle.tile_service.specs.Tickets.{IsHeld}
 use Rattle.tile_service.proofs.Runs.Callers.{HasRun}
@@ -21,7 +21,7 @@ use Rattle.tile_service.proofs.Archive.Tickets as tickets
 use Rattle.http_serve.specs.declared.handlers.Ticket.{Ticket}
 use Rattle.map_replies.specs.declared.calls.Calls.{Calls}
 use Rattle.map_replies.specs.declared.service.MapReplies.{MapReplies}
-use Rattle.map_replies.specs.Parts.{start_of}
+use Rattle.map_replies.specs.Parts.{start_of, archive_tag}
 use Rattle.map_replies.specs.State.{asked_service, ServiceSends}
 use Rattle.map_replies.specs.Tickets.{place_of, ticket_for, oldest_after, IsThere, KeepsTickets, ReadsRest}
 use Rattle.map_replies.proofs.SendingLemmas.{content_of, slice_inner, shows_on}
@@ -179,7 +179,7 @@ module _ {D : Type 0} (sectors : D → ℕ) (honest : D → Type 0) (history : D
       let read = reads.shown archive now is_honest in
       let from : at.calls.sending.first ≡ start = ap (λ s. s.first) begun.sent.1 in
       let content : reply.content ≡ begun.content =
-      ap (λ (r : ReplyView). r.content) begun.shows ∙ content_of sent.part (asked_service old).archive_len begun.content begun.sent.0 in
+      ap (λ (r : ReplyView). r.content) begun.shows ∙ content_of sent.part (archive_tag (status_of (asked_service old))) begun.content begun.sent.0 in
       let whole = begun.reads.archive archive shows honest_at in
       let fits : offset + length bytes ≤ length begun.content = omega (arith, within, ap length content) in
       slice_inner archive bytes start (length begun.content) offset fits

@@ -7,7 +7,7 @@ use Rattle.edit_json.specs.Batches.{IsFirstBatchFault}
 use Rattle.edit_json.specs.Checked.{IsFirstCheckedFault}
 use Rattle.edit_json.specs.Faults.{IsFirstJsonFault}
 use Rattle.map_replies.specs.declared.fault.RequestFault.{RequestFault}
-use Rattle.map_replies.specs.declared.fault.RequestFault.TheVariants.{NotFound, Json, Edit, Memory}
+use Rattle.map_replies.specs.declared.fault.RequestFault.TheVariants.{NotFound, Json, Edit, Condition, Memory}
 use Rattle.map_replies.specs.Bodies.{told_as, IsEditFault, IsJson, HasFault, HasBodyFault, HasBatchFault, HasCheckedFault}
 
 -- a fault that satisfies P is reported as out of memory or as itself
@@ -31,6 +31,7 @@ at_value : (IsFirst : Data → EditFault → Type 0) (body : List ℕ) (d : Data
 at_value IsFirst body d (Edit e) json is = (is.0, (d, json, is.1))
 at_value IsFirst body d NotFound json is = absurd is
 at_value IsFirst body d Json json is = absurd is
+at_value IsFirst body d Condition json is = absurd is
 at_value IsFirst body d Memory json is = absurd is
 
 -- a value in a body that isn't a feature

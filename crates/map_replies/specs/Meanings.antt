@@ -2,6 +2,7 @@
 use Rattle.std.specs.Prelude.{◌≡◌, ◌≢◌, ◌<◌, ◌⊎◌, ℕ, List, [], ◌∷◌, ◌++◌, length, map, All, Option, None, IfSome, Result, Ok, Err, IfOk, IfErr}
 use Rattle.http_requests.specs.Requests.{RequestView}
 use Rattle.http_serve.specs.Reply.{ReplyView}
+use Rattle.http_serve.specs.declared.replies.EntityTag.{EntityTag}
 use Rattle.sector_disk.specs.Disk.{History, HasFailed}
 use Rattle.tile_routes.specs.declared.method.Method.{Method}
 use Rattle.tile_routes.specs.declared.method.Method.TheVariants.{Put, Delete}
@@ -27,11 +28,11 @@ use Rattle.tile_service.specs.declared.status.Status.{Status}
 use Rattle.tile_service.specs.declared.fault.ServiceFault.{ServiceFault}
 use Rattle.tile_service.specs.declared.fault.ServiceFault.TheVariants.{Device}
 use Rattle.map_replies.specs.declared.fault.RequestFault.{RequestFault}
-use Rattle.map_replies.specs.declared.fault.RequestFault.TheVariants.{NotFound, Memory}
+use Rattle.map_replies.specs.declared.fault.RequestFault.TheVariants.{NotFound, Condition, Memory}
 use Rattle.map_replies.specs.declared.parts.ArchiveRange.{ArchiveRange}
 use Rattle.map_replies.specs.declared.parts.ArchiveRange.TheVariants.{Beyond}
 use Rattle.map_replies.specs.Bodies.{SaysFeature, SaysChanges, CheckedEdit, SaysChecked, HasBodyFault, HasBatchFault, HasCheckedFault}
-use Rattle.map_replies.specs.Parts.{range_for, IsPart, start_of, size_of, part_reply, bytes_reply}
+use Rattle.map_replies.specs.Parts.{range_for, IsPart, start_of, size_of, archive_tag, part_reply, bytes_reply}
 use Rattle.map_replies.specs.Words.{refusal_of, not_allowed_reply, outcome_reply, changed_reply, left_reply, published_reply, cancel_reply}
 use Rattle.map_replies.specs.Words.{shown_reply, content_reply, found_reply, numbered_reply, metadata_reply, status_reply}
 
@@ -133,15 +134,15 @@ MeansPublish failed old new reply happenings = (outcome : Result Published Servi
 
 -- A part is read in full, or the disk has failed. Bytes that are never sent count as read: for HEAD, and after a fault of the disk or of the
 -- connection. For a range that starts after the archive's last byte nothing is read.
-abbrev pub MeansPart : (failed : Type 0) → (total : ℕ) → ArchiveRange → ReplyView → List Happening → Type 0
-MeansPart failed total Beyond reply happenings = (reply ≡ part_reply Beyond total []) × (happenings ≡ [])
-MeansPart failed total part reply happenings = (outcome : Option (List ℕ)) × IfSome outcome (λ content. length content ≡ size_of part total)
-    × (outcome ≡ None → failed) × (reply ≡ bytes_reply part total outcome) × (happenings ≡ read (start_of part) outcome ∷ [])
+abbrev pub MeansPart : (failed : Type 0) → (tag : EntityTag) → ArchiveRange → ReplyView → List Happening → Type 0
+MeansPart failed tag Beyond reply happenings = (reply ≡ part_reply Beyond tag []) × (happenings ≡ [])
+MeansPart failed tag part reply happenings = (outcome : Option (List ℕ)) × IfSome outcome (λ content. length content ≡ size_of part tag.length)
+    × (outcome ≡ None → failed) × (reply ≡ bytes_reply part tag outcome) × (happenings ≡ read (start_of part) outcome ∷ [])
 
--- The part that a range selects of an archive of total bytes. There is no archive exactly if total is 0.
-abbrev pub MeansArchive : (failed : Type 0) → (total : ℕ) → Option (List ℕ) → ReplyView → List Happening → Type 0
-MeansArchive failed total range reply happenings = ((total ≡ 0) × MeansRefusal NotFound reply happenings)
-    ⊎ ((0 < total) × (part : ArchiveRange) × IsPart range total part × MeansPart failed total part reply happenings)
+-- The part that a range selects of the archive with this tag. There is no archive exactly if its length is 0.
+abbrev pub MeansArchive : (failed : Type 0) → (tag : EntityTag) → Option (List ℕ) → ReplyView → List Happening → Type 0
+MeansArchive failed tag range reply happenings = ((tag.length ≡ 0) × MeansRefusal NotFound reply happenings)
+    ⊎ ((0 < tag.length) × (part : ArchiveRange) × IsPart range tag.length part × MeansPart failed tag part reply happenings)
 
 -- ---- routed requests: old and new are what the service tells of itself before and after, failed says that its disk has failed meanwhile
 
@@ -158,7 +159,7 @@ MeansStatus failed new = MeansChange failed check (λ outcome. status_reply new)
 -- what GET and HEAD show
 abbrev pub MeansView : (failed : Type 0) → (old new : Status) → View → Method → Option (List ℕ) → ReplyView → List Happening → Type 0
 MeansView failed old new views.Metadata method range = MeansCall metadata (shown_reply metadata_reply)
-MeansView failed old new views.Archive method range = OrNoMemory (MeansArchive failed old.archive_len (range_for method range))
+MeansView failed old new views.Archive method range = OrNoMemory (MeansArchive failed (archive_tag old) (range_for method range))
 MeansView failed old new views.Status method range = OrNoMemory (MeansStatus failed new)
 
 -- what POST does
@@ -187,15 +188,17 @@ MeansMethod failed old new asked (Ok method) range body reply happenings =
     MeansAllowed failed old new asked method range body reply happenings
 MeansMethod failed old new asked (Err routes.NotFound) range body reply happenings = MeansRefusal NotFound reply happenings
 MeansMethod failed old new asked (Err routes.NotAllowed) range body reply happenings = (reply ≡ not_allowed_reply asked) × (happenings ≡ [])
+MeansMethod failed old new asked (Err routes.Conditional) range body reply happenings = MeansRefusal Condition reply happenings
 
 -- what a request asks for by its path, where that is served
 abbrev pub asked_for : Access → RequestView → Asked
 asked_for access request = granted access (asked_by request.path)
 
--- the reply to a request, which is routed by its method and its path
+-- the reply to a request, which is routed by its method, its condition and its path
 abbrev pub Means : Access → (failed : Type 0) → (old new : Status) → RequestView → ReplyView → List Happening → Type 0
 Means access failed old new request =
-    MeansMethod failed old new (asked_for access request) (method_on request.method (asked_for access request)) request.range request.body
+    MeansMethod failed old new (asked_for access request) (method_on request.method request.conditional (asked_for access request))
+    request.range request.body
 
 -- ---- a single reply
 

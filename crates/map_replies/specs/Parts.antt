@@ -1,11 +1,13 @@
 -- Parts of the published archive, selected by the header field Range (RFC 9110, 14), and the replies with them.
 use Rattle.std.specs.Prelude.{◌≡◌, ◌<◌, ◌≤◌, ◌+◌, ◌-◌, ℕ, min, List, codes, Option, Some, None}
 use Rattle.http_values.specs.Ranges.{IsRange}
-use Rattle.http_serve.specs.Reply.{ReplyView, plain_reply}
+use Rattle.http_serve.specs.Reply.{ReplyView}
+use Rattle.http_serve.specs.declared.replies.EntityTag.{EntityTag}
 use Rattle.http_serve.specs.declared.replies.ContentRange.TheVariants as ranges
 use Rattle.tile_routes.specs.declared.method.Method.{Method}
 use Rattle.tile_routes.specs.declared.method.Method.TheVariants.{Get}
 use Rattle.tile_service.specs.declared.fault.ServiceFault.TheVariants.{Device}
+use Rattle.tile_service.specs.declared.status.Status.{Status}
 use Rattle.map_replies.specs.declared.parts.ArchiveRange.{ArchiveRange}
 use Rattle.map_replies.specs.declared.parts.ArchiveRange.TheVariants.{Whole, Between, Beyond}
 use Rattle.map_replies.specs.Words.{text_type, service_refusal}
@@ -45,15 +47,22 @@ octets_type = codes "application/octet-stream"
 unfoldable pub range_word : List ℕ
 range_word = codes "Range\n"
 
--- the reply with a part of total bytes: 200 OK, 206 Partial Content, or 416 Range Not Satisfiable
-abbrev pub part_reply : ArchiveRange → (total : ℕ) → (content : List ℕ) → ReplyView
-part_reply Whole total content = plain_reply 200 (Some octets_type) content
-part_reply (Between first last) total content =
-    record { status = 206; kind = Some octets_type; range = Some (ranges.Part first last total); allow = None; content = content }
-part_reply Beyond total content =
-    record { status = 416; kind = Some text_type; range = Some (ranges.Unsatisfied total); allow = None; content = range_word }
+-- The entity tag of the published archive: how often one was published, the number of its last edit, and its length. Of archives that were
+-- published on one disk no two have the same.
+abbrev pub archive_tag : Status → EntityTag
+archive_tag status = record { generation = status.generation; edit = status.published; length = status.archive_len }
+
+-- The reply with a part of an archive with this tag: 200 OK, 206 Partial Content, or 416 Range Not Satisfiable. Where it has bytes of the
+-- archive it has the tag.
+abbrev pub part_reply : ArchiveRange → (tag : EntityTag) → (content : List ℕ) → ReplyView
+part_reply Whole tag content =
+    record { status = 200; kind = Some octets_type; range = None; tag = Some tag; allow = None; content = content }
+part_reply (Between first last) tag content =
+    record { status = 206; kind = Some octets_type; range = Some (ranges.Part first last tag.length); tag = Some tag; allow = None; content = content }
+part_reply Beyond tag content =
+    record { status = 416; kind = Some text_type; range = Some (ranges.Unsatisfied tag.length); tag = None; allow = None; content = range_word }
 
 -- the same if its bytes were read, or the refusal Device if the disk failed
-abbrev pub bytes_reply : ArchiveRange → (total : ℕ) → Option (List ℕ) → ReplyView
-bytes_reply part total None = service_refusal Device
-bytes_reply part total (Some content) = part_reply part total content
+abbrev pub bytes_reply : ArchiveRange → (tag : EntityTag) → Option (List ℕ) → ReplyView
+bytes_reply part tag None = service_refusal Device
+bytes_reply part tag (Some content) = part_reply part tag content

@@ -10,13 +10,13 @@ use Rattle.tile_routes.specs.declared.target.View.TheVariants.{Archive}
 use Rattle.tile_routes.specs.Paths.{Asked, asked_view}
 use Rattle.tile_service.specs.Machine.{read}
 use Rattle.tile_service.specs.Runs.{Takes}
-use Rattle.tile_service.specs.Service.{ServiceView}
+use Rattle.tile_service.specs.Service.{ServiceView, status_of}
 use Rattle.map_replies.specs.declared.fault.RequestFault.{RequestFault}
 use Rattle.map_replies.specs.declared.parts.ArchiveRange.{ArchiveRange}
 use Rattle.map_replies.specs.declared.parts.ArchiveRange.TheVariants.{Whole, Between, Beyond}
 use Rattle.map_replies.specs.declared.parts.Sending.{Sending}
 use Rattle.map_replies.specs.Meanings.{MeansPart, Answers, DiskFailed}
-use Rattle.map_replies.specs.Parts.{range_for, IsPart, start_of, size_of, part_reply}
+use Rattle.map_replies.specs.Parts.{range_for, IsPart, start_of, size_of, archive_tag, part_reply}
 use Rattle.map_replies.specs.Words.{refusal_of}
 
 -- a result is a reply that isn't sent in parts and satisfies P, or a fault whose refusal satisfies P
@@ -61,14 +61,15 @@ module _ {D : Type 0} (sectors : D → ℕ) (honest : D → Type 0) (history : D
       pub sent : IsSent part old.archive_len sending
       pub content : List ℕ
       pub long : length content ≡ size_of part old.archive_len
-      pub shows : reply ≡ part_reply part old.archive_len content
+      pub shows : reply ≡ part_reply part (archive_tag (status_of old)) content
       pub reads : Takes sectors honest history old (read (start_of part) (Some content)) new
       pub unfailed : faults new.disk ≡ faults old.disk
 
     -- a part is read, and is being sent, or the disk failed
     abbrev pub AnswersPart : ArchiveRange → (old : ServiceView D) → Sending → (new : ServiceView D) → Reply → Type 0
     AnswersPart part old sending new =
-        IsAnswer (Answers sectors honest history (MeansPart (DiskFailed faults old new) old.archive_len part) old new) (SendsPart part old sending new)
+        IsAnswer (Answers sectors honest history (MeansPart (DiskFailed faults old new) (archive_tag (status_of old)) part) old new)
+        (SendsPart part old sending new)
 
     -- the part that a range selects is being sent
     pub record IsSending (range : Option (List ℕ)) (old : ServiceView D) (sending : Sending) (new : ServiceView D) (reply : ReplyView) : Type 0 where

@@ -45,8 +45,9 @@ module _ {D : Type 0} (sectors : D → ℕ) (honest : D → Type 0) (history : D
   -- the same for a reply whose content is being read in parts: the request is for the archive
   abbrev pub ServiceSends : MapReplies D → RequestView → ReplyView → MapReplies D → Type 0
   ServiceSends old request reply new =
-      SendsMethod sectors honest history faults (asked_for (access_of old) request) (method_on request.method (asked_for (access_of old) request))
-      request.range (asked_service old) new.calls.sending (asked_service new) reply
+      SendsMethod sectors honest history faults (asked_for (access_of old) request)
+      (method_on request.method request.conditional (asked_for (access_of old) request)) request.range
+      (asked_service old) new.calls.sending (asked_service new) reply
       × (access_of new ≡ access_of old) × KeepsTickets honest history old.calls new.calls
 
   -- the same for a reply whose content couldn't be read to its end: the disk has failed

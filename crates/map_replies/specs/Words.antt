@@ -18,7 +18,7 @@ use Rattle.tile_service.specs.declared.status.Status.{Status}
 use Rattle.tile_service.specs.declared.fault.ServiceFault.{ServiceFault}
 use Rattle.tile_service.specs.declared.fault.ServiceFault.TheVariants as services
 use Rattle.map_replies.specs.declared.fault.RequestFault.{RequestFault}
-use Rattle.map_replies.specs.declared.fault.RequestFault.TheVariants.{NotFound, Json, Edit, Memory}
+use Rattle.map_replies.specs.declared.fault.RequestFault.TheVariants.{NotFound, Json, Edit, Condition, Memory}
 
 unfoldable pub text_type : List ℕ
 text_type = codes "text/plain"
@@ -70,6 +70,7 @@ unfoldable pub fault_word : RequestFault → List ℕ
 fault_word NotFound = codes "NotFound\n"
 fault_word Json = codes "Json\n"
 fault_word (Edit fault) = edit_word fault
+fault_word Condition = codes "Condition\n"
 fault_word Memory = codes "Memory\n"
 
 abbrev pub edit_status : EditFault → ℕ
@@ -80,6 +81,7 @@ abbrev pub fault_status : RequestFault → ℕ
 fault_status NotFound = 404
 fault_status Json = 400
 fault_status (Edit fault) = edit_status fault
+fault_status Condition = 412
 fault_status Memory = 503
 
 abbrev pub service_status : ServiceFault → ℕ
@@ -110,7 +112,7 @@ method_word = codes "Method\n"
 
 -- 405 Method Not Allowed, with the methods that the path allows (RFC 9110, 15.5.6)
 abbrev pub not_allowed_reply : Asked → ReplyView
-not_allowed_reply asked = record { status = 405; kind = Some text_type; range = None; allow = Some (allow_of asked); content = method_word }
+not_allowed_reply asked = record { status = 405; kind = Some text_type; range = None; tag = None; allow = Some (allow_of asked); content = method_word }
 
 -- ---- answers
 

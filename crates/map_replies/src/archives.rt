@@ -4,16 +4,18 @@ ghost use Rattle.http_serve.specs.Reply.{head_view, HasShortWords};
 ghost use Rattle.sector_disk.specs.Disk.{HasFailed};
 ghost use Rattle.tile_service.specs.Machine.{read};
 ghost use Rattle.tile_service.specs.Runs.{Takes};
+ghost use Rattle.tile_service.specs.Service.{status_of};
 ghost use Rattle.map_replies.specs.Meanings.{OrNoMemory, MeansArchive, Answers, DiskFailed};
 ghost use Rattle.http_serve.specs.Parts.{read_outcome};
 ghost use Rattle.map_replies.specs.Sending.{IsAnsweredInParts, BeginsOrFails, AnswersPart, IsSending};
+ghost use Rattle.map_replies.specs.Parts.{archive_tag};
 ghost use Rattle.map_replies.specs.State.{sent_by};
 ghost use Rattle.map_replies.specs.Tickets.{KeepsTickets};
 
 use crate::calls::Calls;
 use crate::fault::RequestFault;
 use crate::parts::{self, ArchiveRange, Sending, begin_size, part_of};
-use http_serve::{Content, ContentFault, Reply};
+use http_serve::{Content, ContentFault, EntityTag, Reply};
 use sector_disk::Sectors;
 use std::alloc::AllocError;
 
@@ -66,33 +68,45 @@ impl<D: Sectors + Drop> Calls<D> {
         }
     }
 
-    /// The whole archive, `total` bytes.
-    fn whole_archive(&mut self, total: u64, bare: bool) -> Result<Reply, RequestFault>
-        requires { total ≡ self.old.service.archive_len }
+    /// The tag of the archive.
+    fn archive_tag(&self) -> EntityTag
+        ensures { result ≡ archive_tag (status_of self.now.service) }
+    {
+        let place = self.service.archive();
+        EntityTag {
+            generation: place.generation,
+            edit: self.service.published(),
+            length: place.len,
+        }
+    }
+
+    /// The whole archive, which has this tag.
+    fn whole_archive(&mut self, tag: EntityTag, bare: bool) -> Result<Reply, RequestFault>
+        requires { tag ≡ archive_tag (status_of self.old.service) }
         ensures answered { IfOk result (AnswersPart D.sectors D.honest D.history D.faults ArchiveRange.Whole
             self.old.service self.new.sending self.new.service) }
         ensures words { IfOk result (λ reply. HasShortWords (head_view reply)) }
         ensures refused { IfErr result (λ fault. (self.new.service ≡ self.old.service) × (fault ≡ RequestFault.Memory)) }
         ensures held { KeepsTickets D.honest D.history self.old self.new }
     {
-        match self.send(0, total, bare) {
-            Ok(Some(content)) => Ok(parts::whole(content)),
+        match self.send(0, tag.length, bare) {
+            Ok(Some(content)) => Ok(parts::whole(tag, content)),
             Ok(None) => Ok(parts::unread()),
             Err(fault) => Err(fault),
         }
     }
 
-    /// The bytes of the archive from `first` to `last` inclusive, of `total`.
+    /// The bytes from `first` to `last` inclusive of the archive, which has this tag.
     fn archive_part(
         &mut self,
         first: u64,
         last: u64,
-        total: u64,
+        tag: EntityTag,
         bare: bool,
     ) -> Result<Reply, RequestFault>
-        requires total { total ≡ self.old.service.archive_len }
+        requires tag { tag ≡ archive_tag (status_of self.old.service) }
         requires order { first ≤ last }
-        requires within { last < total }
+        requires within { last < tag.length }
         ensures answered { IfOk result (AnswersPart D.sectors D.honest D.history D.faults (ArchiveRange.Between first last)
             self.old.service self.new.sending self.new.service) }
         ensures words { IfOk result (λ reply. HasShortWords (head_view reply)) }
@@ -100,7 +114,7 @@ impl<D: Sectors + Drop> Calls<D> {
         ensures held { KeepsTickets D.honest D.history self.old self.new }
     {
         match self.send(first, last + 1 - first, bare) {
-            Ok(Some(content)) => Ok(parts::between(first, last, total, content)),
+            Ok(Some(content)) => Ok(parts::between(first, last, tag, content)),
             Ok(None) => Ok(parts::unread()),
             Err(fault) => Err(fault),
         }
@@ -114,7 +128,7 @@ impl<D: Sectors + Drop> Calls<D> {
     ) -> Result<Reply, RequestFault>
         ensures answered { IsAnsweredInParts
             (Answers D.sectors D.honest D.history
-            (OrNoMemory (MeansArchive (DiskFailed D.faults self.old.service self.new.service) self.old.service.archive_len
+            (OrNoMemory (MeansArchive (DiskFailed D.faults self.old.service self.new.service) (archive_tag (status_of self.old.service))
             (option_map (λ value. value.now) range.entry)))
             self.old.service self.new.service)
             (IsSending D.sectors D.honest D.history D.faults (option_map (λ value. value.now) range.entry)
@@ -122,14 +136,14 @@ impl<D: Sectors + Drop> Calls<D> {
         ensures words { IfOk result (λ reply. HasShortWords (head_view reply)) }
         ensures held { KeepsTickets D.honest D.history self.old self.new }
     {
-        let total = self.service.archive_len();
-        if total == 0 {
+        let tag = self.archive_tag();
+        if tag.length == 0 {
             return Err(RequestFault::NotFound);
         }
-        match part_of(range, total) {
-            ArchiveRange::Whole => self.whole_archive(total, bare),
-            ArchiveRange::Between { first, last } => self.archive_part(first, last, total, bare),
-            ArchiveRange::Beyond => Ok(parts::beyond(total)),
+        match part_of(range, tag.length) {
+            ArchiveRange::Whole => self.whole_archive(tag, bare),
+            ArchiveRange::Between { first, last } => self.archive_part(first, last, tag, bare),
+            ArchiveRange::Beyond => Ok(parts::beyond(tag)),
         }
     }
 

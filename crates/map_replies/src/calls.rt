@@ -134,6 +134,7 @@ impl<D: Sectors + Drop> Calls<D> {
             Ok(method) => self.allowed(target, method, range, body),
             Err(RouteFault::NotFound) => Err(RequestFault::NotFound),
             Err(RouteFault::NotAllowed) => Ok(replies::not_allowed(target)),
+            Err(RouteFault::Conditional) => Err(RequestFault::Condition),
         }
     }
 }

@@ -10,6 +10,8 @@ pub(crate) enum RequestFault {
     Json,
     /// An invalid feature, or an invalid batch.
     Edit(EditFault),
+    /// The request would change something, and comes under a condition.
+    Condition,
     /// An allocation failed.
     Memory,
 }

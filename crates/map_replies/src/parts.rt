@@ -6,7 +6,7 @@ ghost use Rattle.map_replies.specs.declared.parts.TheConstants.{FIRST_BYTES};
 ghost use Rattle.map_replies.specs.Parts.{range_for, IsPart, octets_type, range_word, part_reply};
 ghost use Rattle.map_replies.specs.Words.{text_type, service_refusal};
 
-use http_serve::{Content, ContentRange, Reply, Status};
+use http_serve::{Content, ContentRange, EntityTag, Reply, Status};
 use http_values::byte_range;
 use sector_disk::SECTOR_BYTES;
 use tile_routes::Method;
@@ -80,25 +80,37 @@ pub(crate) fn begin_size(first: u64, length: u64, bare: bool) -> u64
 
 /// The reply with the whole archive.
 #[tactic(auto, unfolding(crate::specs::Parts::octets_type))]
-pub(crate) fn whole(content: Content) -> Reply
-    ensures reply { (bytes : List ℕ) → reply_view bytes result ≡ part_reply ArchiveRange.Whole 0 (content_bytes bytes content) }
+pub(crate) fn whole(tag: EntityTag, content: Content) -> Reply
+    ensures reply { (bytes : List ℕ) → reply_view bytes result ≡ part_reply ArchiveRange.Whole tag (content_bytes bytes content) }
     ensures content { result.content ≡ content }
     ensures words { HasShortWords (head_view result) }
 {
-    Reply::plain(Status::Ok, Some("application/octet-stream"), content)
+    Reply {
+        status: Status::Ok,
+        kind: Some("application/octet-stream"),
+        range: None,
+        tag: Some(tag),
+        allow: None,
+        content,
+    }
 }
 
 /// The reply with a part of the archive.
 #[tactic(auto, unfolding(crate::specs::Parts::octets_type))]
-pub(crate) fn between(first: u64, last: u64, total: u64, content: Content) -> Reply
-    ensures reply { (bytes : List ℕ) → reply_view bytes result ≡ part_reply (ArchiveRange.Between first last) total (content_bytes bytes content) }
+pub(crate) fn between(first: u64, last: u64, tag: EntityTag, content: Content) -> Reply
+    ensures reply { (bytes : List ℕ) → reply_view bytes result ≡ part_reply (ArchiveRange.Between first last) tag (content_bytes bytes content) }
     ensures content { result.content ≡ content }
     ensures words { HasShortWords (head_view result) }
 {
     Reply {
         status: Status::PartialContent,
         kind: Some("application/octet-stream"),
-        range: Some(ContentRange::Part { first, last, total }),
+        range: Some(ContentRange::Part {
+            first,
+            last,
+            total: tag.length,
+        }),
+        tag: Some(tag),
         allow: None,
         content,
     }
@@ -106,14 +118,15 @@ pub(crate) fn between(first: u64, last: u64, total: u64, content: Content) -> Re
 
 /// The reply to a range after the last byte.
 #[tactic(auto, unfolding(crate::specs::Words::text_type, crate::specs::Parts::range_word))]
-pub(crate) fn beyond(total: u64) -> Reply
-    ensures reply { reply_view [] result ≡ part_reply ArchiveRange.Beyond total [] }
+pub(crate) fn beyond(tag: EntityTag) -> Reply
+    ensures reply { reply_view [] result ≡ part_reply ArchiveRange.Beyond tag [] }
     ensures writable { IsWhole result }
 {
     Reply {
         status: Status::RangeNotSatisfiable,
         kind: Some("text/plain"),
-        range: Some(ContentRange::Unsatisfied { total }),
+        range: Some(ContentRange::Unsatisfied { total: tag.length }),
+        tag: None,
         allow: None,
         content: Content::Fixed(b"Range\n"),
     }

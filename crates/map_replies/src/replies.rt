@@ -106,6 +106,7 @@ fn fault_word(fault: RequestFault) -> &'static [u8]
         RequestFault::NotFound => b"NotFound\n",
         RequestFault::Json => b"Json\n",
         RequestFault::Edit(fault) => edit_word(fault),
+        RequestFault::Condition => b"Condition\n",
         RequestFault::Memory => b"Memory\n",
     }
 }
@@ -145,6 +146,7 @@ fn fault_status(fault: RequestFault) -> Status
         RequestFault::NotFound => Status::NotFound,
         RequestFault::Json => Status::BadRequest,
         RequestFault::Edit(fault) => edit_status(fault),
+        RequestFault::Condition => Status::PreconditionFailed,
         RequestFault::Memory => Status::ServiceUnavailable,
     }
 }
@@ -187,6 +189,7 @@ pub(crate) fn not_allowed(target: Target) -> Reply
         status: Status::MethodNotAllowed,
         kind: Some("text/plain"),
         range: None,
+        tag: None,
         allow: Some(target.allow()),
         content: Content::Fixed(b"Method\n"),
     }
@@ -199,6 +202,15 @@ pub(crate) fn json(text: Vec<u8>) -> Reply
     ensures writable { IsWhole result }
 {
     Reply::plain(Status::Ok, Some("application/json"), Content::Whole(text))
+}
+
+/// The reply with a text in JSON that others may hold as well.
+#[tactic(auto, unfolding(crate::specs::Words::json_type))]
+pub(crate) fn shared_json(text: RcSlice<u8>) -> Reply
+    ensures reply { reply_view [] result ≡ json_reply (rc_slice_items text) }
+    ensures writable { IsWhole result }
+{
+    Reply::plain(Status::Ok, Some("application/json"), Content::Shared(text))
 }
 
 /// The reply without content.

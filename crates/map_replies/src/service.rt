@@ -69,7 +69,7 @@ impl<D: Sectors + Drop> Handler for MapReplies<D> {
 
     fn answer(&mut self, request: &Request<'_>) -> Reply {
         let target = self.routes.target(request.path).granted(self.access);
-        let method = target.method(request.method);
+        let method = target.method(request.method, request.conditional);
         match self
             .calls
             .respond(target, method, request.range, request.body)

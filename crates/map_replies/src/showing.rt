@@ -143,7 +143,7 @@ impl<D: Sectors + Drop> Calls<D> {
         ensures held { KeepsTickets D.honest D.history self.old self.new }
     {
         match self.service.metadata() {
-            Ok(text) => Ok(replies::json(text.into_bytes())),
+            Ok(text) => Ok(replies::shared_json(text)),
             Err(_) => Err(RequestFault::Memory),
         }
     }

@@ -19,6 +19,13 @@ impl<D: Sectors + Drop> Service<D> {
         self.root.archive_len
     }
 
+    /// The number of the last edit in the published archive, 0 if none.
+    pub fn published(&self) -> u64
+        ensures { result ≡ self.now.journal.edits }
+    {
+        self.journal.edits
+    }
+
     /// Where the published archive is.
     pub fn archive(&self) -> ArchivePlace
         ensures is { result ≡ archive_of self.now }

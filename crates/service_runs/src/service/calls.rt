@@ -72,9 +72,13 @@ fn verify(alloc: Global, service: &mut Served, len: u64, answer: &mut Answer) {
     }
 }
 
-fn metadata(service: &Served, answer: &mut Answer) {
+fn metadata(alloc: Global, service: &mut Served, answer: &mut Answer) {
     match service.metadata() {
-        Ok(text) => tell_briefly(&text, answer),
+        Ok(text) => {
+            if let Some(text) = answer.granted(String::from_utf8_lossy(alloc, &text)) {
+                tell_briefly(&text, answer);
+            }
+        }
         Err(fault) => answer.show(&fault),
     }
 }
@@ -108,7 +112,7 @@ pub(crate) fn run(
         OfService::Archive => archive(alloc, service, 0, len, answer),
         OfService::ArchivePart => archive(alloc, service, at, count, answer),
         OfService::Verify => verify(alloc, service, len, answer),
-        OfService::Metadata => metadata(service, answer),
+        OfService::Metadata => metadata(alloc, service, answer),
         OfService::Version => answer.show(&service.version()),
     }
 }

@@ -1,5 +1,8 @@
 use Rattle.std.proofs.Common.{◌∙◌, ℕ, ap, subst}
+use Rattle.http_serve.specs.Reply.{content_bytes}
+use Rattle.http_serve.specs.declared.replies.EntityTag.{EntityTag}
 use Rattle.map_replies.specs.declared.parts.ArchiveRange.TheVariants.{Whole}
+use Rattle.map_replies.specs.Parts.{part_reply}
 use Rattle.map_replies.specs.Sending.{Begins}
 use Rattle.map_replies.proofs.SendingLemmas.{part_sent, part_failed}
 use Rattle.map_replies.proofs.calls.Calls.whole_archive.Goals as goal
@@ -13,9 +16,10 @@ returns-in-Ok-Some-clause-answered g c =
     part_sent d.sectors d.honest d.history d.faults c.args.self.now.service c.send.new.self.service Whole _
     c.whole.result c.in-Ok-Some.content tt
     (subst (λ (n : ℕ). Begins d.sectors d.honest d.history c.args.self.now.service c.send.new.self.service 0 n
-    c.in-Ok-Some.content) c.requires begun)
-    unfailed c.whole.ensures.content c.whole.ensures.reply
-    (sending ∙ ap (λ (n : ℕ). record { first = 0; length = n }) c.requires)
+    c.in-Ok-Some.content) (ap (λ (t : EntityTag). t.length) c.requires) begun)
+    unfailed c.whole.ensures.content
+    (λ bytes. c.whole.ensures.reply bytes ∙ ap (λ (t : EntityTag). part_reply Whole t (content_bytes bytes c.in-Ok-Some.content)) c.requires)
+    (sending ∙ ap (λ (t : EntityTag). record { first = 0; length = t.length }) c.requires)
 
 pub returns-in-Ok-None-clause-answered : goal.returns-in-Ok-None-clause-answered
 returns-in-Ok-None-clause-answered g c =

@@ -1,5 +1,5 @@
 use Rattle.std.proofs.Common.{◌≡◌, ◌∙◌, ℕ, List, Result, refl, sym, ap, subst}
-use Rattle.std.specs.Prelude.{option_map}
+use Rattle.std.specs.Prelude.{Bool, option_map}
 use Rattle.http_serve.proofs.PartLemmas.{in_parts}
 use Rattle.http_serve.specs.Reply.{ReplyView}
 use Rattle.tile_routes.specs.declared.fault.RouteFault.{RouteFault}
@@ -14,10 +14,10 @@ use Rattle.map_replies.proofs.SendingLemmas.{whole_is, sent_size}
 use Rattle.map_replies.proofs.service.MapRepliesHandler.answer.Goals as goal
 
 -- what holds of the target and its method holds of the path and the method's name
-by_path : (P : Asked → Result Method RouteFault → Type 0) (name : List ℕ) (target path : Asked) (method : Result Method RouteFault)
-    → method ≡ method_on name target → target ≡ path → P target method → P path (method_on name path)
-by_path P name target path method is same holds =
-    subst (λ (a : Asked). P a (method_on name a)) same (subst (P target) is holds)
+by_path : (P : Asked → Result Method RouteFault → Type 0) (name : List ℕ) (conditional : Bool) (target path : Asked) (method : Result Method RouteFault)
+    → method ≡ method_on name conditional target → target ≡ path → P target method → P path (method_on name conditional path)
+by_path P name conditional target path method is same holds =
+    subst (λ (a : Asked). P a (method_on name conditional a)) same (subst (P target) is holds)
 
 pub returns-in-Ok-clause-replied : goal.returns-in-Ok-clause-replied
 returns-in-Ok-clause-replied g c =
@@ -33,13 +33,13 @@ returns-in-Ok-clause-replied g c =
       told.0,
       told.1,
       (
-        by_path (λ a m. AnswersMethod d.sectors d.honest d.history d.faults a m range body old new told.0) _ _ _ _ method asked told.2,
+        by_path (λ a m. AnswersMethod d.sectors d.honest d.history d.faults a m range body old new told.0) _ _ _ _ _ method asked told.2,
         refl,
         c.respond.ensures.held,
       ),
       in_parts c.in-Ok.reply.content _ _ (λ sent. (
         (
-          by_path (λ a m. SendsMethod d.sectors d.honest d.history d.faults a m range old sending new told.0) _ _ _ _ method asked sent,
+          by_path (λ a m. SendsMethod d.sectors d.honest d.history d.faults a m range old sending new told.0) _ _ _ _ _ method asked sent,
           refl,
           c.respond.ensures.held,
         ),
@@ -55,11 +55,11 @@ returns-in-Err-clause-replied g c =
     let range = option_map (λ range. range.now) c.args.request.now.range in
     let body = c.args.request.now.body.now in
     let path = granted c.args.self.now.access (asked_by c.args.request.now.path.now) in
-    let method = method_on c.args.request.now.method.now path in
+    let method = method_on c.args.request.now.method.now c.args.request.now.conditional path in
     let asked = c.granted-target.ensures.asked ∙ ap (granted c.args.self.now.access) c.target.ensures.asked in
     whole_is _ _ c.refusal.result c.refusal.ensures.writable (
       subst (λ (view : ReplyView). AnswersMethod d.sectors d.honest d.history d.faults path method range body old new view) (sym c.refusal.ensures.reply)
-          (by_path (λ a m. AnswersMethod d.sectors d.honest d.history d.faults a m range body old new (refusal_of c.in-Err.fault)) _ _ _ _
+          (by_path (λ a m. AnswersMethod d.sectors d.honest d.history d.faults a m range body old new (refusal_of c.in-Err.fault)) _ _ _ _ _
           c.method-method.ensures asked c.in-Err.ensures.answered),
       refl,
       c.respond.ensures.held,
