@@ -67,7 +67,7 @@ fn check_tile<B: Bytes + Drop>(
     }
 }
 
-/// Decodes the tile of an entry, unless its bytes were decoded before, and remembers where they are.
+/// Remembers where the bytes of an entry's tile are, and decodes them unless they were remembered before.
 fn check_once<B: Bytes + Drop>(
     alloc: Global,
     archive: &mut Archive<B>,
@@ -85,13 +85,9 @@ fn check_once<B: Bytes + Drop>(
         → AreRead bytes archive.old.header spans.old → IfErr result (UnlessOutside (IsTileFault bytes archive.old.header entry)) }
     ensures read { result ≡ Err ArchiveFault.Read → B.failed archive.old.source archive.new.source }
 {
-    let span = (entry.offset, entry.length);
-    if spans.contains(&span) {
-        return Ok(());
-    }
-    check_tile(alloc, archive, entry)?;
-    match spans.insert(span) {
-        Ok(_) => Ok(()),
+    match spans.insert((entry.offset, entry.length)) {
+        Ok(true) => check_tile(alloc, archive, entry),
+        Ok(false) => Ok(()),
         Err(_) => Err(ArchiveFault::Memory),
     }
 }
