@@ -19,7 +19,7 @@ def world(place):
 
 
 def geojson_of(number, feature):
-    """A feature of the map as one of GeoJSON."""
+    """A feature of the map as one of GeoJSON, its rings in their directions."""
     (kind, parts), = feature["geometry"].items()
     if kind == "points":
         name, places = "Point", [degrees(point) for point in parts]

@@ -19,7 +19,8 @@ Of a server without it the ids have to be known:
                                   tile shows (for instance polygons too small to have an area at their greatest zoom) are missed
 
 `save --wholes` is for other programs: a feature that the import cut is one again, the union of its pieces, without the lines of its
-outline. Such a file is no backup: `load` refuses it, and `import_features.py` puts it into a map.
+outline, and rings have the directions that GeoJSON asks for. Such a file is no backup: `load` refuses it, and `import_features.py` puts it
+into a map. Without --wholes each ring is saved in the direction that it has in the map, so that `load` puts back the same.
 
 `load` replaces nothing of a map that has other features of these ids, unless --overwrite says so. With --publish it frees the journal by a
 publication whenever it is full; it puts up to 64 features in a request, and with --no-batches one. It ends with 1 if a request is refused.
@@ -38,7 +39,7 @@ from edits import MOST_CHANGES, NOTHING, encoded, put
 from ending import regular, run
 from geojson import feature_of, geojson_of
 from map_client import Client, NoAnswer, Stopped, ranges, word
-from wholes import wholes_of
+from wholes import right_handed, wholes_of
 
 START, END = '{"type":"FeatureCollection","features":[', "\n]}\n"
 START_OF_WHOLES = '{"type":"FeatureCollection","wholes":true,"features":['
@@ -115,7 +116,7 @@ def save(words):
             else:
                 yield number, feature
 
-    features = ((whole.number, whole.feature) for whole in wholes_of(there())) if words.wholes else there()
+    features = ((whole.number, right_handed(whole.feature)) for whole in wholes_of(there())) if words.wholes else there()
     saved = written(words.file, features, START_OF_WHOLES if words.wholes else START)
     of_moment = f", of the map after edit {moment.edit:,}" if moment else ""
     of_ids = f", {len(missing)} ids without one" if words.numbers or words.archive else ""

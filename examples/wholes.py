@@ -128,6 +128,15 @@ def oriented(ring, is_outer):
     return ring if (twice_area(ring) > 0) == is_outer else ring[::-1]
 
 
+def right_handed(feature):
+    """The feature with its rings as GeoJSON has them (RFC 7946, 3.1.6): outer ones counterclockwise in longitude and latitude, inner ones clockwise.
+    In the map, whose rows go down, that is the other way round."""
+    polygons = feature["geometry"].get("polygons")
+    if polygons is None:
+        return feature
+    return {**feature, "geometry": {"polygons": [[oriented(ring, at > 0) for at, ring in enumerate(rings)] for rings in polygons]}}
+
+
 def uncancelled(edges):
     """What is left of edges on one column or row, each from one place to another, and whether some cancelled out."""
     places = sorted({place for edge in edges for place in edge})
