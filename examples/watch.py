@@ -26,6 +26,7 @@ import urllib.request
 
 from address import address, shown
 from ending import regular, run
+from map_client import word
 
 SECTOR, DAY = 512, 24 * 3600
 # How docs/vtserve-backup.service names its files. A backup that isn't finished has another name.
@@ -39,6 +40,8 @@ MUCH = 50
 SOON, NOW, UNKNOWN = 1, 2, 3
 LARGER = "move the map to a larger disk (docs/DEPLOYING.md): once it is full, nothing can be published, and when the journal is full too, nothing can be edited"
 IN_FRONT = "the proxy in front of the server answers, but the server doesn't: systemctl status vtserve"
+# What the server itself says, by the word of its reply.
+WORDS = {"Memory": (NOW, "the server's memory ran out: it serves on, but may refuse more (docs/DEPLOYING.md has how much a map takes)")}
 FAULTS = {
     401: (UNKNOWN, "a name and a password are needed: in the URL, or in VTSERVE_USER and VTSERVE_PASSWORD"),
     403: (UNKNOWN, "the proxy in front of the server doesn't let this machine see it (`allow` in docs/nginx.conf)"),
@@ -85,10 +88,18 @@ def status_of(url):
             raise ValueError("this isn't what a vtserve tells of itself")
         return status
     except urllib.error.HTTPError as error:
-        level, text = FAULTS.get(error.code, (NOW, "it isn't the reply of a vtserve"))
+        level, text = WORDS.get(said(error)) or FAULTS.get(error.code, (NOW, "it isn't the reply of a vtserve"))
         raise Unseen(level, f"{shown(url)}: {error.code}: {text}") from error
     except (OSError, ValueError, http.client.HTTPException) as error:
         raise Unseen(NOW, f"{shown(url)}: {getattr(error, 'reason', None) or error}") from error
+
+
+def said(error):
+    """The word of a reply: of the server, or of a proxy in front of it."""
+    try:
+        return word(error.read(200))
+    except (OSError, http.client.HTTPException):
+        return ""
 
 
 def replace(path, text):
