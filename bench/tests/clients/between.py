@@ -27,9 +27,9 @@ class Passes(http.server.BaseHTTPRequestHandler):
         if between.loses(self.command, self.path):
             self.close_connection = True
             return
-        self.answer(reply.status, content)
+        self.answer(reply.status, content, reply.headers.get("etag"))
 
-    def answer(self, status, content):
+    def answer(self, status, content, tag=None):
         """Sends a reply; status 0 is none."""
         if status == 0:
             self.close_connection = True
@@ -37,10 +37,13 @@ class Passes(http.server.BaseHTTPRequestHandler):
         self.send_response(status)
         if status != 204:
             self.send_header("content-length", str(len(content)))
+        if tag is not None:
+            self.send_header("etag", tag)
         self.end_headers()
-        self.wfile.write(content)
+        if self.command != "HEAD":
+            self.wfile.write(content)
 
-    do_GET = do_PUT = do_POST = do_DELETE = pass_on
+    do_GET = do_HEAD = do_PUT = do_POST = do_DELETE = pass_on
 
     def log_message(self, *_):
         pass

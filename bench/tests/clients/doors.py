@@ -64,6 +64,15 @@ def answered_by_others(cases, folder):
         cases.show("doors: the map is as it was", listed(server), {7: json.loads(OURS)})
 
 
+def unavailable(cases, folder):
+    """What watch.py says of a 503: of the server itself, and of a proxy in front of it."""
+    with Server(folder, "unavailable") as server:
+        for content, said in ((b"Memory\n", "the server's memory ran out"), (PAGE, "the proxy in front of the server answers, but the server doesn't")):
+            with Between(server, instead=lambda *_, content=content: (503, content)) as between:
+                code, told = tool("watch.py", between.url)
+            cases.show(f"doors: watch.py, {said}", (code, said in told or told), (2, True))
+
+
 def without_admin(cases, folder):
     """The server says itself that it has no /admin/: a map is edited, and a note says that nothing is checked. If it has one later, it isn't."""
     commands, _ = editing(cases, folder)
@@ -136,10 +145,61 @@ def passwords(cases, folder):
         cases.show(f"doors: a password isn't shown where nobody answers at {url}", found, [False] * 4)
 
 
+def published(url, record, path, person=()):
+    """The status of publish.sh, what it prints and records, and the words of the processes of curl that it runs."""
+    words = {"PATH": f"{os.path.dirname(path)}:{os.environ['PATH']}", **dict(zip(("VTSERVE_USER", "VTSERVE_PASSWORD"), person))}
+    with open(path + ".words", "w", encoding="utf-8"):
+        pass
+    child = subprocess.run(["bash", os.path.join(EXAMPLES, "publish.sh"), url, "--record", record], capture_output=True, text=True, timeout=100,
+                           env={**os.environ, **words})
+    with open(path + ".words", encoding="utf-8") as lines, open(record, encoding="utf-8") as said:
+        return child.returncode, child.stdout + child.stderr, said.read() + lines.read()
+
+
+def publish_script(cases, folder):
+    """publish.sh with a password, which is in no word of a process, and with a proxy that refuses a step or answers none."""
+    place, record = os.path.join(folder, "bin"), os.path.join(folder, "record")
+    os.mkdir(place)
+    path = os.path.join(place, "curl")
+    with open(path, "w", encoding="utf-8") as script:
+        script.write(f'#!/bin/sh\necho "$@" >> "$0.words"\nexec {shutil.which("curl")} "$@"\n')
+    os.chmod(path, 0o755)
+    wanted = "Basic " + base64.b64encode(f"ann:{PASSWORD}".encode()).decode()
+    with Server(folder, "publish", 16384) as server:
+        for at in range(0, 600, 30):
+            changes = [{"put": number, "feature": json.loads(feature("p", 0, 0, tags={"k": f"{number}" + "x" * 1000}))} for number in range(at, at + 30)]
+            curl(server.url + "/edits", "-X", "POST", body=json.dumps({"changes": changes}))
+        with Between(server, instead=lambda *_: (401, PAGE) if between.asked[-1][2] != wanted else None) as between:
+            plain = between.url
+            for url, person in [(plain.replace("//", f"//ann:{CODED}@"), ()), (plain, ("ann", PASSWORD)), (plain.replace("//", "//ann@"), ("bob", PASSWORD))]:
+                between.asked.clear()
+                code, told, kept = published(url, record, path, person)
+                found = [part in told + kept for part in (PASSWORD, CODED, "ann:", "Basic")]
+                cases.show("doors: publish.sh with a password", (code, {field for _, _, field in between.asked}, found), (0, {wanted}, [False] * 4))
+            code, told, _ = published(plain, record, path)
+            cases.show("doors: publish.sh without one", (code, "401" in told), (1, True))
+        for status, ends in ((502, 1), (503, 1), (0, 3)):
+            def refuses(_, asked, status=status):
+                return (status, b"Memory\n") if asked.startswith("/publish/step") and len(between.asked) > 3 else None
+
+            with Between(server, instead=refuses) as between:
+                code, told, kept = published(between.url, record, path)
+            # (curl itself asks once more on a new connection, where one that was kept has no reply)
+            after = [asked for _, asked, _ in between.asked[4:] if status or not asked.startswith("/publish/step")]
+            cases.show(f"doors: publish.sh, and a step that gets {status or 'no reply'}: no step more",
+                       (code, "published" in told, '"published"' in kept, after), (ends, False, False, ["/publish/cancel"] if status else []))
+            curl(server.url + "/publish/cancel", "-X", "POST")
+        with Between(server, loses=lambda _, asked: asked.startswith("/publish/step") and len(between.asked) == 5) as between:
+            code, told, kept = published(between.url, record, path)
+        cases.show("doors: publish.sh, and a step whose reply is lost", (code, told.splitlines()[-1], '"published"' in kept), (0, "published", True))
+        count = sum(asked.startswith("/publish/step") for _, asked, _ in between.asked)
+        cases.show("doors: publish.sh does several steps by one process of curl", (count > 30, kept.count("--request POST") < 6), (True, True))
+
+
 def doors(cases, folder):
     """Proxies that answer for the server."""
     place = os.path.join(folder, "doors")
     os.mkdir(place)
-    for part in (answered_by_others, without_admin, publications, passwords):
+    for part in (answered_by_others, unavailable, without_admin, publications, passwords, publish_script):
         part(cases, place)
     shutil.rmtree(place)

@@ -319,21 +319,44 @@ def digest(path):
 
 # ---- cut features
 
+def turn_of(ring):
+    """The direction of a ring of longitudes and latitudes."""
+    area = sum((b[0] - a[0]) * (b[1] + a[1] - 2 * ring[0][1]) for a, b in zip(ring, ring[1:]))
+    return "counterclockwise" if area < 0 else "clockwise"
+
+
+def rings_as_they_are(cases, folder, server):
+    """A backup that isn't of wholes has the rings of the map: put back, each feature is the same."""
+    path = os.path.join(folder, "rings.geojson")
+    subprocess.run([*BACKUP, "save", path, "--url", server.url], check=True, capture_output=True)
+    with Server(folder, "rings", 65536) as other:
+        subprocess.run([*BACKUP, "load", path, "--url", other.url, "--publish"], check=True, capture_output=True)
+        files = [os.path.join(folder, f"rings{at}.jsonl") for at in range(2)]
+        for file, one in zip(files, (server, other)):
+            subprocess.run([*BACKUP, "save", file, "--url", one.url], check=True, capture_output=True)
+        cases.show("operation: a backup puts back each ring in its direction", digest(files[0]), digest(files[1]))
+
+
 def wholes(cases, folder):
     """A county that the import cuts is one feature again, and is cut into the same pieces when it is put back."""
     if not has_gdal(cases):
         return
     rings = [round_ring(11, 50, 20000, 900), round_ring(11, 50, 5000, 100)]
     rows = [row("Polygon", rings, name="county"), row("LineString", [[8, 49], [12, 50]], name="line"), row("Point", [1, 1], name="point", whole=7)]
+    garden = [round_ring(10, 50, 90, 12), round_ring(10, 50, 30, 7)]
+    rows += [row("Polygon", [ring[::turn] for ring in garden], name=name) for name, turn in (("garden", 1), ("mirrored", -1))]
     path, saved, kept = written(folder, "county.geojson", rows), os.path.join(folder, "wholes.geojson"), []
     with Server(folder, "wholes", 65536) as server, Server(folder, "wholes_again", 65536) as other:
         imported(path, server.url, "--layer", "area", "--minzoom", "6")
         code, lines = tool("map_backup.py", "save", saved, "--wholes", "--url", server.url)
-        cases.show("operation: --wholes", (code, lines), (0, ["3 features saved"]))
+        cases.show("operation: --wholes", (code, lines), (0, ["5 features saved"]))
         with open(saved, encoding="utf-8") as file:
             found = json.load(file)["features"]
         county = next(one for one in found if one["properties"]["name"] == "county")
         cases.show("operation: the county is one, with its lake and its points", [len(ring) for ring in county["geometry"]["coordinates"]], [901, 101])
+        turns = {name: [turn_of(ring) for one in found if one["properties"]["name"] == name for ring in one["geometry"]["coordinates"]]
+                 for name in ("county", "garden", "mirrored")}
+        cases.show("operation: outer rings counterclockwise, inner ones clockwise", turns, dict.fromkeys(turns, ["counterclockwise", "clockwise"]))
         given = area_of([[world(*place) for place in ring[:-1]] for ring in rings])
         cases.show("operation: its area", abs(area_of(lists_of(county, 2)[0]) / given - 1) < 1e-6, True)
         line = next(one for one in found if one["properties"]["name"] == "line")
@@ -343,6 +366,7 @@ def wholes(cases, folder):
         code, lines = tool("map_backup.py", "load", saved, "--url", other.url)
         cases.show("operation: it is no backup", (code, status(other)["features"]), (1, 0))
         imported(saved, other.url, "--layer", "area", "--minzoom", "6")
+        rings_as_they_are(cases, folder, server)
         for one in (server, other):
             file = os.path.join(folder, f"wholes{len(kept)}.jsonl")
             subprocess.run([*BACKUP, "save", file, "--url", one.url], check=True, capture_output=True)

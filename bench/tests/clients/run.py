@@ -81,16 +81,24 @@ def routes(cases, folder):
         whole = archive()
         said = '{"archive":%d,"edits":1,"generation":1}' % len(whole)
         same(cases, "a publication", curl(url + "/publish", "-X", "POST"), wanted(200, JSON, said))
-        same(cases, "the archive, as the standard has it", curl(url + "/map.pmtiles"), wanted(200, BYTES, whole))
+        tag = [("etag", f'"1-1-{len(whole)}"')]
+        same(cases, "the archive, as the standard has it", curl(url + "/map.pmtiles"), wanted(200, BYTES, whole, more=tag))
+        head = ("HTTP/1.1 200 OK", [("content-type", BYTES), *tag, ("content-length", str(len(whole)))], b"")
+        cases.show("HEAD of it", curl(url + "/map.pmtiles", "--head"), head)
         parts = [("0-6", 0, 7), ("0-126", 0, 127), ("00-000", 0, 1), ("200-999", 200, len(whole)), ("222-222", 222, 223)]
         for asked, first, end in parts:
-            more = [("content-range", f"bytes {first}-{end - 1}/{len(whole)}")]
+            more = [("content-range", f"bytes {first}-{end - 1}/{len(whole)}"), *tag]
             reply = curl(url + "/map.pmtiles", "-H", f"Range: bytes={asked}")
             same(cases, f"bytes {asked} of it", reply, wanted(206, BYTES, whole[first:end], more=more))
         beyond = refusal(416, "Range", more=[("content-range", f"bytes */{len(whole)}")])
         same(cases, "bytes behind its end", curl(url + "/map.pmtiles", "-H", f"Range: bytes={len(whole)}-999"), beyond)
         for asked in ["bytes=-5", "bytes=0-", "bytes=9-8", "bytes=0-1,3-4", "Bytes=0-1", "bytes = 0-1"]:
-            same(cases, f"range: {asked} is as none", curl(url + "/map.pmtiles", "-H", f"Range: {asked}"), wanted(200, BYTES, whole))
+            reply = curl(url + "/map.pmtiles", "-H", f"Range: {asked}")
+            same(cases, f"range: {asked} is as none", reply, wanted(200, BYTES, whole, more=tag))
+        for value in (tag[0][1], '"1-1-1"'):
+            reply = curl(url + "/map.pmtiles", "-H", "Range: bytes=0-6", "-H", f"If-Range: {value}")
+            same(cases, f"a part under if-range: {value}", reply, wanted(200, BYTES, whole, more=tag))
+        same(cases, "the archive under if-none-match", curl(url + "/map.pmtiles", "-H", "If-None-Match: *"), wanted(200, BYTES, whole, more=tag))
         same(cases, "a step of no publication", curl(url + "/publish/step", "-X", "POST"), refusal(409, "Idle"))
         same(cases, "a cancellation of none", curl(url + "/publish/cancel", "-X", "POST"), refusal(409, "Idle"))
         begun = curl(url + "/publish/begin", "-X", "POST")
@@ -101,7 +109,8 @@ def routes(cases, folder):
         curl(url + "/publish/begin", "-X", "POST")
         same(cases, "an edit between the steps", curl(url + "/features/8", "-X", "PUT", body=feature("q")), wanted(200, JSON, '{"edit":2}'))
         same(cases, "the last step", curl(url + "/publish/step", "-X", "POST"), wanted(200, JSON, '{"left":0}'))
-        same(cases, "the archive is that of the beginning", curl(url + "/map.pmtiles"), wanted(200, BYTES, whole))
+        tag = [("etag", f'"2-1-{len(whole)}"')]
+        same(cases, "the archive is that of the beginning, by another tag", curl(url + "/map.pmtiles"), wanted(200, BYTES, whole, more=tag))
         same(cases, "DELETE", curl(url + "/features/8", "-X", "DELETE"), wanted(200, JSON, '{"edit":3}'))
         same(cases, "it is gone", curl(url + "/features/8"), refusal(404, "NotFound"))
         path = os.path.join(folder, "map.pmtiles")
@@ -132,12 +141,14 @@ def refused_requests(cases, folder):
         same(cases, "a body of 65,537 bytes", curl(url + "/features/7", "-X", "PUT", body="x" * 65537), refusal(413, "Body", closes=True))
         same(cases, "a body of 65,536 bytes is read", curl(url + "/features/7", "-X", "PUT", body="x" * 65536), refusal(400, "Json"))
         same(cases, "HTTP/1.0 without a host", curl(tile, "--http1.0", "-H", "Host:"), wanted(204, closes=True))
+        same(cases, "an expectation in HTTP/1.0", curl(tile, "--http1.0", "-H", "Expect: 100-continue"), wanted(204, closes=True))
         same(cases, "connection: close", curl(tile, "-H", "Connection: Close"), wanted(204, closes=True))
         for name, sent, word in [
             ("a head cut short", b"GET / HTTP/1.1\r\nhost: x\r\n", "Head"),
             ("a body cut short", b"PUT /features/7 HTTP/1.1\r\nhost: x\r\ncontent-length: 9\r\n\r\nabc", "Short"),
             ("two lengths", b"PUT /features/7 HTTP/1.1\r\nhost: x\r\ncontent-length: 3\r\ncontent-length: 3\r\n\r\nabc", "Length"),
             ("two hosts", b"GET / HTTP/1.1\r\nhost: x\r\nhost: x\r\n\r\n", "Host"),
+            ("two hosts in HTTP/1.0", b"GET / HTTP/1.0\r\nhost: x\r\nhost: x\r\n\r\n", "Host"),
         ]:
             same(cases, f"{name} (a bare socket)", parsed(bare(server.port, sent)), refusal(400, word, closes=True))
         features = ["/features", "/features/", "/features/07", "/features/9223372036854775808", "/features/%37"]
@@ -156,6 +167,11 @@ def refused_requests(cases, folder):
             ("/publish/cancel", "DELETE", "POST"),
         ]:
             same(cases, f"{method} {path}", methods(curl(url + path, "-X", method)), refusal(405, "Method", more=[("allow", allowed)]))
+        for condition in ("If-Match: *", 'If-None-Match: "a"'):
+            for path, method in (("/features/7", "PUT"), ("/features/7", "DELETE"), ("/edits", "POST"), ("/publish", "POST"), ("/admin/edits", "POST")):
+                reply = curl(url + path, "-X", method, "-H", condition, body=feature())
+                same(cases, f"{method} {path} under {condition}", reply, refusal(412, "Condition"))
+            same(cases, f"a GET under {condition}", curl(tile, "-H", condition), wanted(204))
         big = "x" * 3000000
         replies = [curl(url + "/features/7", "-X", "PUT", "-H", "Expect:", body=big) for _ in range(60)]
         whole = [reply for reply in replies if (status_of(reply), reply[2]) == (413, b"Body\n")]
@@ -269,7 +285,8 @@ def restarts(cases, folder):
         curl(server.url + "/publish", "-X", "POST")
         server.end(signal.SIGKILL)
     with Server(folder, "stopped", connections=3) as server:
-        same(cases, "the archive outlives a kill -9", curl(server.url + "/map.pmtiles"), wanted(200, BYTES, archive()))
+        whole = wanted(200, BYTES, archive(), more=[("etag", '"1-1-223"')])
+        same(cases, "the archive outlives a kill -9", curl(server.url + "/map.pmtiles"), whole)
         curl(server.url + "/map/0/0/0.mvt", "-H", "Connection: close")
         curl(server.url + "/map/0/0/0.mvt", "-H", "Expect: x")
         cases.show("--connections 3 ends behind the third, with status 0", server.child.wait(30), 0)
@@ -479,6 +496,12 @@ def steps(cases, folder):
         cases.show("publish.sh interrupted", (child.returncode, told, "published" in lines), (130, "the publication is cancelled\n", False))
         same(cases, "none is under way", curl(server.url + "/publish/step", "-X", "POST"), refusal(409, "Idle"))
         same(cases, "no archive stands", curl(server.url + "/map.pmtiles"), refusal(404, "NotFound"))
+        child = subprocess.Popen([*tool, server.url], stdout=subprocess.PIPE, stderr=subprocess.PIPE, text=True)
+        child.stdout.readline()
+        curl(server.url + "/publish/cancel", "-X", "POST")
+        rest, told = child.communicate(timeout=120)
+        cases.show("publish.sh, whose publication somebody else cancels", (child.returncode, told.split(",")[0], "published" in rest),
+                   (1, "the publication is gone", False))
         child = subprocess.run([*tool, server.url], capture_output=True, text=True)
         left = [int(line.split()[0]) for line in child.stdout.splitlines()[1:-1]]
         cases.show("publish.sh", (child.returncode, child.stderr, child.stdout.splitlines()[-1:]), (0, "", ["published"]))
@@ -538,17 +561,32 @@ def in_front(cases, folder):
         cases.show("nginx: sixty fields of a client stay in front", status_of(curl(url + "/features/7", *many)), 200)
         reply = curl(url + "/features/9", "-X", "PUT", "-H", "Transfer-Encoding: chunked", body=feature("c"))
         cases.show("nginx: a body in chunks is put together", (status_of(reply), reply[2]), (200, b'{"edit":4}'))
+        reply = curl(url + "/features/9", "-X", "PUT", "-H", "Expect: 100-continue", body=feature("c"))
+        cases.show("nginx: and answers an expectation", reply[0], "HTTP/1.1 100 Continue")
         curl(url + "/features/9", "-X", "DELETE")
         reply = curl(url + "/features/9", "-X", "PUT", body="x" * 65536)
         cases.show("nginx: a body of 65,536 bytes gets to the server", (status_of(reply), reply[2]), (400, b"Json\n"))
         cases.show("nginx: one of 65,537 doesn't", status_of(curl(url + "/features/9", "-X", "PUT", body="x" * 65537)), 413)
         reply = curl(url + "/publish", "-X", "POST")
-        cases.show("nginx: a publication", (status_of(reply), reply[2]), (200, b'{"archive":223,"edits":5,"generation":1}'))
+        cases.show("nginx: a publication", (status_of(reply), reply[2]), (200, b'{"archive":223,"edits":6,"generation":1}'))
         cases.show("nginx: the archive", curl(url + "/map.pmtiles")[2] == archive(), True)
         reply = curl(url + "/map.pmtiles", "-H", "Range: bytes=0-6")
         cases.show("nginx: a part of it", (status_of(reply), field(reply, "content-range"), reply[2]), (206, "bytes 0-6/223", b"PMTiles"))
-        reply = curl(url + "/map.pmtiles", "-X", "OPTIONS")
-        cases.show("nginx: what a browser asks before a part", (status_of(reply), field(reply, "access-control-allow-headers")), (204, "Range"))
+        fields = [field(reply, name) for name in ("etag", "cache-control", "access-control-expose-headers")]
+        cases.show("nginx: and its fields", fields, ['"1-6-223"', "no-store", "Content-Length, Content-Range, ETag"])
+        for value in ('"1-6-223"', "x"):
+            reply = curl(url + "/map.pmtiles", "-H", "Range: bytes=0-6", "-H", f"If-Range: {value}")
+            cases.show(f"nginx: a part under if-range: {value}", (status_of(reply), field(reply, "etag"), reply[2]), (200, '"1-6-223"', archive()))
+        conditions(cases, url)
+        for path in ("/map.pmtiles", "/map/0/0/0.mvt", "/map.json"):
+            reply = curl(url + path, "-X", "OPTIONS")
+            fields = [field(reply, "access-control-allow-" + name) for name in ("origin", "headers")]
+            cases.show(f"nginx: what a browser asks before {path}", (status_of(reply), fields), (204, ["*", "*"]))
+        found = {path: field(curl(url + path), "cache-control") for path in ("/map.pmtiles", "/features/7", "/admin/status", "/other", "/map/20/0/0.mvt")}
+        cases.show("nginx: what isn't cached says so", found, dict.fromkeys(found, "no-store"))
+        spelled = ["//map/0/0/0.hex", "/map//0/0/0.hex", "/map/%30/0/0.hex", "/map/./0/0/0.hex"]
+        found = [status_of(curl(url + path, "--path-as-is")) for path in ["/map/0/0/0.hex", *spelled]]
+        cases.show("nginx: a kept tile isn't served in another spelling", found, [200, 404, 404, 404, 404])
         for path, method in [("/features/7", "GET"), ("/features/7", "DELETE"), ("/publish", "POST"), ("/publish/begin", "POST")]:
             cases.show(f"nginx: {method} {path} from another address", status_of(curl(url + path, "-X", method, "--interface", "127.0.0.2")), 403)
         cases.show("nginx: a tile from another address", status_of(curl(url + "/map/0/0/0.mvt", "--interface", "127.0.0.2")), 200)
@@ -588,6 +626,18 @@ def in_front(cases, folder):
         crowd(cases, front, server)
     shutil.rmtree(front.folder)
     passwords(cases, folder)
+
+
+def conditions(cases, url):
+    """Edits under a condition get to the server, which refuses them; what reads is answered."""
+    for field_of_it in ("If-Match: *", 'If-None-Match: "x"'):
+        words = ["-H", field_of_it, "-H", "Content-Type: application/json"]
+        for path, method in (("/features/7", "PUT"), ("/features/7", "DELETE"), ("/edits", "POST"), ("/admin/edits", "POST"), ("/publish", "POST")):
+            reply = curl(url + path, "-X", method, *words, body=feature("other"))
+            cases.show(f"nginx: {method} {path} under {field_of_it}", (status_of(reply), reply[2]), (412, b"Condition\n"))
+        found = [status_of(curl(url + path, *words)) for path in ("/features/7", "/map/0/0/0.mvt", "/map.pmtiles", "/map.json")]
+        cases.show(f"nginx: what reads under {field_of_it}", found, [200, 200, 200, 200])
+    cases.show("nginx: feature 7 is as it was", curl(url + "/features/7")[2], SHOWN.encode())
 
 
 def passwords(cases, folder):

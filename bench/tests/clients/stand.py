@@ -27,6 +27,7 @@ PHRASES = {
     404: "Not Found",
     405: "Method Not Allowed",
     409: "Conflict",
+    412: "Precondition Failed",
     413: None,
     416: None,
     417: "Expectation Failed",

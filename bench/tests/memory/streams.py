@@ -28,8 +28,9 @@ NOT_KEPT = (0, b"", b"connection 1: 0 requests, closed\n")
 NO_LISTENER = (1, b"", b"vtserve: Listen\n")
 REFUSED = b"Memory\n"
 # What may answer as with memory: a tile, which is cut where the archive can't be read or the cache can't keep it; and a publication, since a list that
-# is collected asks for more room than it needs, and for less where that is refused.
-PASSES = re.compile(r"(GET|HEAD) /map/\d+/\d+/\d+\.|POST /publish(/begin)?$")
+# is collected asks for more room than it needs, and for less where that is refused. And the metadata, whose text is kept with room to spare where a
+# shorter list is refused.
+PASSES = re.compile(r"(GET|HEAD) /map/(\d+/\d+/\d+\.|metadata$)|POST /publish(/begin)?$")
 
 
 def request(method, path, content=None, fields=""):
@@ -83,6 +84,11 @@ BAD = ["", "{", "[]", '{"layer":1}', feature().replace("2", "20"), feature((("k"
 TILES = [get(path) for path in ("/map/0/0/0.mvt", "/map/0/0/0.hex", "/map/2/3/3.mvt", "/map/2/1/2.mvt", "/map/16/9/9.hex")]
 READS = [*map(get, ("/features/8", "/features/9", "/features/77", "/map/metadata", "/map.pmtiles", "/other", "/features/x")), request("POST", "/map.pmtiles")]
 RANGES = [get("/map.pmtiles", f"range: bytes={part}\r\n") for part in ("0-126", "127-", "100-9999", "9999-10000")]
+METADATA = get("/map/metadata")
+# Changes under a condition, which are refused, and a range under one.
+CONDITION = 'if-match: "1-6-420"\r\n'
+CONDITIONS = [request("PUT", "/features/7", feature(), CONDITION), request("DELETE", "/features/8", fields=CONDITION),
+              request("POST", "/publish", fields=CONDITION), get("/features/8", CONDITION), get("/map.pmtiles", "range: bytes=0-1\r\nif-range: x\r\n")]
 HEADS = [request("HEAD", path) for path in ("/map/0/0/0.mvt", "/map.pmtiles", "/map/metadata")]
 PUBLISH = [post("/publish"), put(11), post("/publish"), *TILES[:2]]
 STEPS = [post("/publish/begin"), put(12), post("/publish/step"), request("DELETE", "/features/8"), post("/publish/step"), TILES[0], post("/publish/cancel")]
@@ -121,6 +127,8 @@ SERIES = [
     ("tiles, published disk", 256, PUBLISHED[:4], twice(TILES)),
     ("tiles after edits", 256, PUBLISHED, twice(TILES)),
     ("reads, published disk", 256, PUBLISHED, twice([*READS, *RANGES, *HEADS])),
+    ("conditions, published disk", 256, PUBLISHED, twice(CONDITIONS)),
+    ("metadata between edits", 256, PUBLISHED, twice([METADATA, put(7, KINDS), METADATA, request("DELETE", "/features/8"), METADATA])),
     ("publication, published disk", 256, PUBLISHED, twice(PUBLISH)),
     ("publication by steps", 1024, PUBLISHED + STEPPED, twice(STEPS)),
     ("publication cancelled", 256, PUBLISHED, twice([*STEPS[:2], STEPS[6], STEPS[0], STEPS[2], TILES[0]])),
