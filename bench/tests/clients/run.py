@@ -512,6 +512,14 @@ def steps(cases, folder):
         said = [line for line in rest.stdout.splitlines() if not line.endswith(" left")]
         cases.show("publish.sh finishes a publication that was left", (rest.returncode, rest.stderr, said[0], said[-1]),
                    (0, "", "a publication is under way: it is finished first", "published"))
+        tags = curl(server.url + "/map.pmtiles", "-I")
+        known = subprocess.run([*tool, server.url, "--changed", "--record", record], capture_output=True, text=True)
+        cases.show("publish.sh --changed, with each edit in the archive", (known.returncode, known.stderr, known.stdout),
+                   (0, "", "the archive has each edit already\n"))
+        cases.show("it leaves the archive", curl(server.url + "/map.pmtiles", "-I"), tags)
+        curl(server.url + "/features/0", "-X", "PUT", body=feature(last=0))
+        later = subprocess.run([*tool, server.url, "--changed", "--record", record], capture_output=True, text=True)
+        cases.show("publish.sh --changed, with an edit more", (later.returncode, later.stderr, later.stdout.splitlines()[-1:]), (0, "", ["published"]))
         curl(server.url + "/publish/begin", "-X", "POST")
         rest = subprocess.run([*tool, server.url, "--cancel"], capture_output=True, text=True)
         cases.show("publish.sh --cancel drops it", (rest.returncode, rest.stderr), (0, "the publication is cancelled\n"))
