@@ -39,7 +39,7 @@ from disk import Change
 from machine import Service
 from odd_edits import odd_edit
 from reply_random import random_feature, random_request
-from reply_stand import request
+from reply_stand import PUBLISH, put, request
 from wire import varint
 
 TARGETS = ["verify", "show", "demo", "pipe", "upgrade"]
@@ -49,7 +49,7 @@ KNOWN_LINE = re.compile(
     r"ok: \d+ tiles, \d+ entries, \d+ contents|short header|bad magic|bad metadata|leaf depth|version: \d+|compressed directories: \d+|"
     r"section: (root|metadata|leaves|tiles)|(bad directory at|order|place|bad tile): \d+|count: (addressed|entries|contents)")
 KNOWN_REPLY = re.compile(
-    rb"HTTP/1\.1 (200 OK|204 No Content|206 Partial Content|400 Bad Request|404 Not Found|405 Method Not Allowed|409 Conflict|"
+    rb"HTTP/1\.1 (200 OK|204 No Content|206 Partial Content|304 Not Modified|400 Bad Request|404 Not Found|405 Method Not Allowed|409 Conflict|"
     rb"412 Precondition Failed|413 Payload Too Large|416 Range Not Satisfiable|417 Expectation Failed|500 Internal Server Error|501 Not Implemented|"
     rb"507 Insufficient Storage)\r\n")
 
@@ -132,6 +132,9 @@ OTHERS = [held for held in reply_hostile.of_other_protocols() if not isinstance(
 
 
 FIELDS = [b"if-match: *", b'If-None-Match: "1-1-223"', b"if-range: x", b"expect: 100-continue", b"host: y", b"range: bytes=0-6", b"connection: close"]
+# Conditions of reads of the archive of a map with the worked point alone.
+TAGS = [b"*", b'"1-1-223"', b'W/"1-1-223"', b'"2-2-234"', b'"a", \t"1-1-223" ,', b'"a",,W/"1-1-223"', b"", b", *"]
+NAMES = [b"if-match: ", b"IF-NONE-MATCH:", b"If-Match:\t", b"if-none-match: ", b"if-none-match:"]
 
 
 def with_field(chance, asked):
@@ -140,6 +143,22 @@ def with_field(chance, asked):
     if chance.randrange(4) == 0:
         first = first.replace(b"HTTP/1.1", b"HTTP/1.0")
     return first + end + chance.choice(FIELDS) + end + rest
+
+
+def read_of_archive(chance):
+    """A request for the archive under up to three conditions."""
+    asked = request(chance.choice(["GET", "GET", "HEAD"]), "/map.pmtiles", b"", *chance.choice([[], [], ["range: bytes=0-6"]]))
+    fields = [chance.choice(NAMES) + chance.choice(TAGS) for _ in range(chance.randrange(4))]
+    first, end, rest = asked.partition(b"\r\n")
+    return end.join([first, *fields, rest])
+
+
+def reads_of_archive(chance):
+    """A map with the worked point, its archive, and requests for it, some of them behind another publication."""
+    made = [put(7), PUBLISH] + [read_of_archive(chance) for _ in range(chance.randrange(1, 7))]
+    if chance.randrange(3) == 0:
+        made[chance.randrange(2, len(made)):2] = [put(8), PUBLISH]
+    return b"".join(made)
 
 
 def one_request(chance):
@@ -152,6 +171,8 @@ def one_request(chance):
         return odd_edit(chance)
     if kind < 6:
         return with_field(chance, random_request(chance))
+    if kind == 6:
+        return read_of_archive(chance)
     return random_request(chance)
 
 
@@ -161,7 +182,7 @@ class Corpus:
     def __init__(self):
         self.archives, self.tiles = all_archives(), all_tiles()
         chance = random.Random(7)
-        self.streams = [stream(chance) for _ in range(60)] + OTHERS + BODIES[:20]
+        self.streams = [stream(chance) for _ in range(60)] + [reads_of_archive(chance) for _ in range(20)] + OTHERS + BODIES[:20]
         self.disks = [disk_after(chance, rounds, version) for version in disks.VERSIONS for rounds in (0, 1, 1, 2, 3, 4)]
         self.disks += [upgraded(chance, rounds) for rounds in (1, 2, 3)]
 

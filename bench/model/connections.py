@@ -23,6 +23,7 @@ PHRASES = {
     200: "OK",
     204: "No Content",
     206: "Partial Content",
+    304: "Not Modified",
     400: "Bad Request",
     404: "Not Found",
     405: "Method Not Allowed",
@@ -40,8 +41,9 @@ STATUS_OF = {"Head": 400, "Host": 400, "Coding": 501, "Expect": 417, "Length": 4
 
 # A head: its version as its last digit, its fields as pairs of a name in lower case and a value, and how many bytes it has.
 Head = namedtuple("Head", "method target minor fields size")
-# A request: `conditional` is whether it is to be done only if an entity tag is, or isn't, what its sender says.
-Request = namedtuple("Request", "method path range conditional body close size")
+# A request: `conditional` is whether it is to be done only if an entity tag is, or isn't, what its sender says. `if_match` and `if_none_match`
+# are the values of these fields where there is one, or None.
+Request = namedtuple("Request", "method path range conditional if_match if_none_match body close size")
 
 
 class Fault(Exception):
@@ -162,10 +164,15 @@ def body_size(head):
     return size
 
 
+def only(head, name):
+    """The value of the one field of a name, or None."""
+    found = values(head, name)
+    return found[0] if len(found) == 1 else None
+
+
 def range_of(head):
     """The value of the one range, or None. A range under a condition counts as none: the whole is right whether the condition holds or not."""
-    ranges = values(head, b"range")
-    return ranges[0] if len(ranges) == 1 and not values(head, b"if-range") else None
+    return None if values(head, b"if-range") else only(head, b"range")
 
 
 def is_conditional(head):
@@ -211,8 +218,8 @@ def request_of(taken, held):
         raise Rejected(rejected.args[0], bare, head.size) from None
     if size > len(held):
         raise Rejected("Short", bare, None)
-    path = path_of(head.target)
-    return Request(head.method, path, range_of(head), is_conditional(head), held[head.size : size], asks_to_close(head), size)
+    tags = is_conditional(head), only(head, b"if-match"), only(head, b"if-none-match")
+    return Request(head.method, path_of(head.target), range_of(head), *tags, held[head.size : size], asks_to_close(head), size)
 
 
 # ---- replies
@@ -229,7 +236,7 @@ class Reply:
     def front(self, close):
         """Its head."""
         fields = [("content-type", self.kind), ("content-range", self.content_range), ("etag", self.tag), ("allow", self.allow)]
-        fields += [("content-length", self.length if self.status != 204 else None), ("connection", "close" if close else None)]
+        fields += [("content-length", None if self.status in (204, 304) else self.length), ("connection", "close" if close else None)]
         lines = [f"HTTP/1.1 {self.status} {PHRASES[self.status]}"] + [f"{name}: {value}" for name, value in fields if value is not None]
         return "".join(line + "\r\n" for line in lines + [""]).encode()
 
@@ -359,11 +366,31 @@ def tag_of(root):
     return f'"{root.generation}-{root.edits}-{root.archive_len}"'
 
 
+def names(value, *tags):
+    """Whether the value of a condition is an asterisk, or has one of these entity tags in its list (RFC 9110, 13.1.1, 13.1.2, 5.6.1)."""
+    return value == b"*" or any(member.strip(b" \t") in tags for member in value.split(b","))
+
+
+def refused_condition(request, tag):
+    """The reply to a GET or HEAD of what has this entity tag, where a condition doesn't hold, or None. The tag is compared strongly for
+    `if-match`, weakly for `if-none-match` (RFC 9110, 13.2.2, 8.8.3.2).
+    """
+    text = tag.encode()
+    if request.if_match is not None and not names(request.if_match, text):
+        return refusal(412, "Condition")
+    if request.if_none_match is not None and names(request.if_none_match, text, b"W/" + text):
+        return Reply(304, tag=tag)
+    return None
+
+
 def archive_reply(service, request):
-    """The archive or the part of it that a GET asks for. A HEAD reads nothing."""
+    """The archive or the part of it that a GET asks for. A HEAD reads nothing, and nothing is read where a condition doesn't hold."""
     total, tag = service.root.archive_len, tag_of(service.root)
     if total == 0:
         raise Refused("NotFound")
+    refused = refused_condition(request, tag)
+    if refused is not None:
+        return refused
     kind = "application/octet-stream"
     if request.method == b"HEAD":
         return Reply(200, kind, length=total, tag=tag)

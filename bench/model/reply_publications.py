@@ -156,10 +156,8 @@ def tags(script):
     script.note("It is the same after a restart. A map without tiles is published without an archive, and so without a tag.")
     script.again()
     script.ask(HEAD_OF_ARCHIVE, request("DELETE", "/features/7"), PUBLISH, HEAD_OF_ARCHIVE, put(7), PUBLISH, HEAD_OF_ARCHIVE)
-    script.note("It isn't looked at on other paths, nor by GET and HEAD: what a client has already is sent again.")
+    script.note("Nothing else has one.")
     script.ask(A, request("GET", "/features/7"), request("GET", "/map/metadata"))
-    for method in ("GET", "HEAD"):
-        script.ask(*(request(method, "/map.pmtiles", b"", field) for field in ('if-none-match: "6-5-223"', "if-none-match: *", 'if-match: "1-1-1"')))
 
 
 # Values of `if-range`: the archive's tag, another one, a weak one, a date, none.
@@ -176,6 +174,88 @@ def conditions_of_ranges(script):
     script.ask(request("GET", "/map.pmtiles", b"", "IF-RANGE: x", "range: bytes=0-6"), part_of(0, 6, "If-Range: x", "If-Range: y"), sizes="4096,1")
     script.ask(request("HEAD", "/map.pmtiles", b"", "range: bytes=0-6", "if-range: x"), request("GET", "/map.pmtiles", b"", "if-range: x"))
     script.ask(part_of(0, 6, "if-ranges: x"), part_of(0, 6, "x-if-range: x"), part_of(0, 6, "if_range: x"))
+
+
+# Values that name the tag of the archive, those that do so in the weak comparison alone, and those that don't.
+NAMED = ["*", '"1-1-223"', '"a", "1-1-223"', '"1-1-223","b"', ' \t, ,W/"a" ,\t"1-1-223" \t,x', '*, "1-1-223"']
+WEAKLY_NAMED = ['W/"1-1-223"', '"a" ,\tW/"1-1-223"\t, "b"']
+NOT_NAMED = ["", ",", '"1-1-222"', '"01-1-223"', "1-1-223", "'1-1-223'", '"1-1-223', '"1-1-223""', '"1-1-223" "1-1-223"', '"1-1-223";"a"', '"1-1-223\u00a0"',
+             '"1-1-223"\u00a0', '" 1-1-223 "', 'w/"1-1-223"', 'W/ "1-1-223"', 'W"1-1-223"', 'W/W/"1-1-223"', "**", "*,*", '*, "a"', '"*"', "W/*"]
+MATCH, NONE_MATCH = 'if-match: "1-1-223"', 'if-none-match: "1-1-223"'
+OTHER_MATCH, OTHER_NONE_MATCH = 'if-match: "1-1-222"', 'if-none-match: "1-1-222"'
+
+
+def of_archive(*fields, method="GET"):
+    return request(method, "/map.pmtiles", b"", *fields)
+
+
+def named_tags(script):
+    script.say("Conditions of reads of the archive: if-match that doesn't name its tag is 412, if-none-match that does, also weakly, is 304.")
+    with_point(script)
+    script.ask(PUBLISH)
+    for value in NAMED + WEAKLY_NAMED + NOT_NAMED:
+        script.ask(of_archive(f"if-match: {value}"), of_archive(f"if-none-match: {value}"))
+    script.note("On HEAD; in other letters; of a request with a body.")
+    for value in (NAMED[1], WEAKLY_NAMED[0], NOT_NAMED[2]):
+        script.ask(*(of_archive(f"{name}: {value}", method="HEAD") for name in ("if-match", "if-none-match")), sizes="4096,1")
+    script.ask(of_archive("IF-MATCH: x"), of_archive("If-None-Match:*"), request("GET", "/map.pmtiles", BODY, NONE_MATCH), sizes="4096,1")
+    script.note("A field of which there are several is as none; so are fields of other names, and dates.")
+    script.ask(of_archive(OTHER_MATCH, OTHER_MATCH), of_archive(NONE_MATCH, NONE_MATCH), of_archive(OTHER_MATCH, "If-Match:"))
+    script.ask(of_archive(OTHER_MATCH, OTHER_MATCH, NONE_MATCH), of_archive(NONE_MATCH, OTHER_MATCH, "If-None-Match: *"))
+    script.ask(of_archive("if-matches: x", "x-if-match: x", "if_match: x"), of_archive("if-none: *", "x-if-none-match: *", "if_none_match: *"))
+    script.ask(of_archive("if-modified-since: Sun, 06 Nov 2044 08:49:37 GMT", "if-unmodified-since: Sun, 06 Nov 1994 08:49:37 GMT"))
+
+
+def ordered_conditions(script):
+    script.say("Several conditions: first if-match, then if-none-match, then if-range, then the range.")
+    with_point(script)
+    script.ask(PUBLISH)
+    for fields in [(MATCH, NONE_MATCH), (OTHER_MATCH, NONE_MATCH), (MATCH, OTHER_NONE_MATCH), (OTHER_MATCH, OTHER_NONE_MATCH)]:
+        script.ask(of_archive(*fields), of_archive(*fields[::-1]), of_archive(*fields, method="HEAD"))
+        script.ask(part_of(0, 6, *fields), part_of(999, 1000, *fields), part_of(0, 6, *fields, "if-range: x"))
+    for field in (MATCH, NONE_MATCH, OTHER_MATCH, OTHER_NONE_MATCH):
+        script.ask(part_of(0, 6, field), part_of(999, 1000, field), part_of(0, 6, field, 'if-range: "1-1-223"'), sizes="4096,1")
+    script.note("A connection stays behind such a reply, unless it is to be closed.")
+    for fields in ([OTHER_MATCH], [NONE_MATCH]):
+        for method in ("GET", "HEAD"):
+            script.ask(*(of_archive(*fields, *more, method=method) for more in ([], [], ["connection: close"], [])), sizes="4096,1")
+        script.ask(of_archive(*fields).replace(b"HTTP/1.1", b"HTTP/1.0"), A)
+    script.note("A path, a method and what is wrong with a head are named before.")
+    for field in (OTHER_MATCH, NONE_MATCH):
+        script.ask(request("GET", "/map.pmtiles/", b"", field), *(of_archive(field, method=method) for method in ("PUT", "POST", "OPTIONS")))
+        script.wait(of_archive(field, "host: y"))
+    script.note("Neither reply reads the disk, and one that can't be written is broken off.")
+    script.again("from", 1)
+    script.ask(of_archive(OTHER_MATCH), of_archive(NONE_MATCH), of_archive(MATCH), of_archive(OTHER_NONE_MATCH))
+    script.again()
+    size = len(connections.outcome(script.stand.service, of_archive(NONE_MATCH), 4096).written)
+    for room in (0, 30, size - 1, size):
+        script.writer(10**9, room)
+        script.ask(of_archive(NONE_MATCH), A)
+    script.writer()
+
+
+def conditions_in_time(script):
+    script.say("Conditions of reads before and behind publications.")
+    with_point(script)
+    fields = ["if-match: *", "if-none-match: *", 'if-match: "0-0-0"', 'if-none-match: "0-0-0"']
+    script.ask(*map(of_archive, fields), of_archive(fields[1], method="HEAD"))
+    script.note("Also where a publication had no tiles, and so no archive.")
+    script.ask(request("DELETE", "/features/7"), PUBLISH, *map(of_archive, fields[:2]), of_archive('if-none-match: "1-2-0"'), of_archive('if-match: "1-2-0"'))
+    script.note("A client that has the archive gets it again only behind the next publication, not behind an edit, a beginning, or a restart.")
+    with_point(script)
+    script.ask(PUBLISH)
+    shows = [of_archive(NONE_MATCH), of_archive(MATCH, method="HEAD"), part_of(0, 6, MATCH)]
+    script.ask(*shows, put(8), *shows, BEGIN, *shows, CANCEL, *shows)
+    script.again()
+    script.ask(*shows, PUBLISH, *shows, of_archive('if-none-match: "1-1-223", "2-2-234"'), of_archive('if-match: "2-2-234"', method="HEAD"))
+    script.note("Another archive of the same bytes has another tag.")
+    script.ask(request("DELETE", "/features/8"), PUBLISH, *shows, of_archive('if-none-match: "3-3-223"'), of_archive('if-match: "3-3-223"', method="HEAD"))
+    script.note("Tiles, features, metadata and the status have no tag: they are sent whatever the condition is.")
+    script.admin()
+    paths = ["/features/7", "/map/0/0/0.hex", "/map/0/0/0.mvt", "/map/metadata", "/admin/status", "/admin/features/from/0"]
+    for field in ('if-match: "1-1-222"', 'if-none-match: "3-3-223"', "if-none-match: *"):
+        script.ask(*(request(method, path, b"", field) for path in paths for method in ("GET", "HEAD")))
 
 
 # ---- disks and writers that fail
@@ -288,4 +368,5 @@ def too_many_tiles(script):
     script.ask(request("DELETE", "/features/7"), PUBLISH)
 
 
-BLOCKS = [full_journal, publications, ranges, tags, conditions_of_ranges, downloads, devices, writers, too_many_tiles]
+BLOCKS = [full_journal, publications, ranges, tags, conditions_of_ranges, named_tags, ordered_conditions, conditions_in_time, downloads, devices, writers]
+BLOCKS.append(too_many_tiles)

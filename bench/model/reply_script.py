@@ -59,6 +59,8 @@ EXAMPLES = [
     (request("GET", "/map.pmtiles"), found(OCTETS, ARCHIVE, more=TAG)),
     (request("GET", "/map.pmtiles", b"", "range: bytes=0-126"), part("0-126/223", ARCHIVE[:127], more=TAG)),
     (request("GET", "/map.pmtiles", b"", "range: bytes=0-126", 'if-range: "1-1-223"'), found(OCTETS, ARCHIVE, more=TAG)),
+    (request("GET", "/map.pmtiles", b"", 'if-none-match: "1-1-223"'), f"HTTP/1.1 304 Not Modified\r\n{TAG}\r\n".encode()),
+    (request("GET", "/map.pmtiles", b"", 'if-match: "1-1-222"'), found("text/plain", "Condition\n", "412 Precondition Failed")),
     (request("GET", "/map.pmtiles", b"", "range: bytes=223-"), found(OCTETS, ARCHIVE, more=TAG)),
     (request("GET", "/map.pmtiles", b"", "range: bytes=223-300"), part("*/223", "Range\n", "text/plain", "416 Range Not Satisfiable")),
     (request("POST", "/publish/begin"), found(JSON, '{"left":3}')),

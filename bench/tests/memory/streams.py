@@ -89,6 +89,11 @@ METADATA = get("/map/metadata")
 CONDITION = 'if-match: "1-6-420"\r\n'
 CONDITIONS = [request("PUT", "/features/7", feature(), CONDITION), request("DELETE", "/features/8", fields=CONDITION),
               request("POST", "/publish", fields=CONDITION), get("/features/8", CONDITION), get("/map.pmtiles", "range: bytes=0-1\r\nif-range: x\r\n")]
+# Reads of the published archive under conditions that name its tag, and that don't.
+TAG = '"1-3-2843"'
+TAGGED = [f"if-none-match: {TAG}", f'if-none-match: "a", W/{TAG}', 'if-none-match: "1-3-2842"', f"if-match: {TAG}", 'if-match: "1-3-2842"',
+          f"if-match: {TAG}\r\nif-none-match: *", f"if-none-match: {TAG}\r\nrange: bytes=0-6", f"if-match: {TAG}\r\nrange: bytes=0-6"]
+TAGGED = [request(method, "/map.pmtiles", fields=f"{field}\r\n") for field in TAGGED for method in ("GET", "HEAD")]
 HEADS = [request("HEAD", path) for path in ("/map/0/0/0.mvt", "/map.pmtiles", "/map/metadata")]
 PUBLISH = [post("/publish"), put(11), post("/publish"), *TILES[:2]]
 STEPS = [post("/publish/begin"), put(12), post("/publish/step"), request("DELETE", "/features/8"), post("/publish/step"), TILES[0], post("/publish/cancel")]
@@ -128,6 +133,7 @@ SERIES = [
     ("tiles after edits", 256, PUBLISHED, twice(TILES)),
     ("reads, published disk", 256, PUBLISHED, twice([*READS, *RANGES, *HEADS])),
     ("conditions, published disk", 256, PUBLISHED, twice(CONDITIONS)),
+    ("conditions of the archive", 256, PUBLISHED, twice(TAGGED)),
     ("metadata between edits", 256, PUBLISHED, twice([METADATA, put(7, KINDS), METADATA, request("DELETE", "/features/8"), METADATA])),
     ("publication, published disk", 256, PUBLISHED, twice(PUBLISH)),
     ("publication by steps", 1024, PUBLISHED + STEPPED, twice(STEPS)),

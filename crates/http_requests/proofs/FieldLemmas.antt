@@ -8,9 +8,8 @@ use Rattle.std.proofs.lemmas.List.Elements.{filter-append}
 use Rattle.std.proofs.lemmas.Bool.Decides.{nat_tests}
 use Rattle.httparse.specs.declared.spans.HeaderSpan.{HeaderSpan}
 use Rattle.httparse.specs.Spans.{header_bytes, span_bytes}
-use Rattle.std.specs.List.{list_any, position, position_or_len}
-use Rattle.std.proofs.Common.{zero, suc, length-drop, Some, None, inl, inr, not, nat_lt}
-use Rattle.std.proofs.lemmas.Bool.{cases_lt}
+use Rattle.std.specs.List.{position, position_or_len}
+use Rattle.std.proofs.Common.{zero, suc, length-drop, Some, None, not, nat_lt}
 use Rattle.std.specs.Prelude.{◌||◌, ◌==◌, codes}
 use Rattle.std.proofs.Common.{subst}
 use Rattle.std.proofs.lemmas.List.{take_all}
@@ -21,7 +20,7 @@ use Rattle.httparse.specs.Grammar.{trim_ows}
 use Rattle.http_requests.specs.declared.fields.TheConstants.{MAX_BODY}
 use Rattle.http_requests.specs.declared.refusals.Refusal.{Refusal}
 use Rattle.http_requests.specs.declared.refusals.Refusal.TheVariants.{Host, Coding, Expect, Length, Body}
-use Rattle.http_requests.specs.Fields.{NamedValue, values_of, limited, stated_length, only_value, is_numeral, is_word, lists_close, is_close, says_close}
+use Rattle.http_requests.specs.Fields.{NamedValue, values_of, limited, stated_length, only_value, is_numeral, is_word, members, is_close, says_close}
 use Rattle.http_requests.specs.Fields.{framing, body_length, is_hosted, has_expectation, has_field}
 
 -- more fields
@@ -101,27 +100,22 @@ framing_bound minor fields n e =
     spared (has_field (codes "transfer-encoding") fields) Coding behind_expect n (
     taken (is_hosted minor fields) behind_coding Host n e)))
 
--- ---- the options of a connection
+-- ---- the members of a list
 
--- whether the value without the options up to a comma lists close
-lists_close_more : (value : List ℕ) (n : ℕ) → n ≡ position_or_len (λ byte. byte == comma) value → n < length value
-    → lists_close value ≡ is_word (codes "close") (trim_ows (take n value)) || lists_close (drop (n + 1) value)
-lists_close_more value n at more =
-    let Test : Type 0 = List (List ℕ) in
-    let closes : List ℕ → Bool = λ option. is_word (codes "close") (trim_ows option) in
-    let first = slice_split_first (λ byte. byte == comma) value 0 (subst (λ (k : ℕ). k < length value) at more) in
-    ap (λ (parts : List (List ℕ)). list_any closes parts) first
-    ∙ ap (λ (k : ℕ). closes (take k value) || lists_close (drop (k + 1) value)) (sym at)
+-- the member up to a comma, and those behind it
+pub members_more : (list : List ℕ) (n : ℕ) → n ≡ position_or_len (λ byte. byte == comma) list → n < length list
+    → members list ≡ trim_ows (take n list) ∷ members (drop (n + 1) list)
+members_more list n at more =
+    ap (map trim_ows) (slice_split_first (λ byte. byte == comma) list 0 (subst (λ (k : ℕ). k < length list) at more))
+    ∙ ap (λ (k : ℕ). trim_ows (take k list) ∷ members (drop (k + 1) list)) (sym at)
 
--- one option is left
-lists_close_last : (value : List ℕ) (n : ℕ) → n ≡ position_or_len (λ byte. byte == comma) value → n ≡ length value
-    → lists_close value ≡ is_word (codes "close") (trim_ows (take n value)) || false
-lists_close_last value n at last =
-    let closes : List ℕ → Bool = λ option. is_word (codes "close") (trim_ows option) in
-    let one = slice_split_none (λ byte. byte == comma) value
-    (λ k d below. fails_before_first (λ byte. byte == comma) value k d (subst (λ (m : ℕ). k < m) (sym last ∙ at) below)) in
-    ap (λ (parts : List (List ℕ)). list_any closes parts) one
-    ∙ ap (λ (option : List ℕ). closes option || false) (sym (take_all n value (omega arith)))
+-- one member is left
+pub members_last : (list : List ℕ) (n : ℕ) → n ≡ position_or_len (λ byte. byte == comma) list → n ≡ length list
+    → members list ≡ trim_ows (take n list) ∷ []
+members_last list n at last =
+    let one = slice_split_none (λ byte. byte == comma) list
+    (λ k d below. fails_before_first (λ byte. byte == comma) list k d (subst (λ (m : ℕ). k < m) (sym last ∙ at) below)) in
+    ap (map trim_ows) one ∙ ap (λ (member : List ℕ). trim_ows member ∷ []) (sym (take_all n list (omega arith)))
 
 -- if no byte passes, the index is the length
 pub no_index : (p : ℕ → Bool) (xs : List ℕ) → position p xs ≡ None → length xs ≡ position_or_len p xs
@@ -135,24 +129,6 @@ no_index p xs none = by (nat_lt (position_or_len p xs) (length xs)) refl none
 -- a slice from an index to the end
 pub rest_is : (k : ℕ) (xs : List ℕ) → take (length xs - k) (drop k xs) ≡ drop k xs
 rest_is k xs = take_all (length xs - k) (drop k xs) (omega (arith, length-drop k xs))
-
-module _ (value rest : List ℕ) (n : ℕ) (at : n ≡ position_or_len (λ byte. byte == comma) rest) (within : n ≤ length rest)
-    (so_far : lists_close rest ≡ lists_close value) where
-  pub close_found : is_word (codes "close") (trim_ows (take n rest)) ≡ true → true ≡ lists_close value
-  close_found found = elim (cases_lt n (length rest)) [
-    | inl more ↦ sym (ap (λ (b : Bool). b || lists_close (drop (n + 1) rest)) found) ∙ sym (lists_close_more rest n at more) ∙ so_far
-    | inr last ↦ sym (ap (λ (b : Bool). b || false) found) ∙ sym (lists_close_last rest n at (omega arith)) ∙ so_far
-  ]
-
-  pub close_none : is_word (codes "close") (trim_ows (take n rest)) ≡ false → n ≡ length rest → false ≡ lists_close value
-  close_none other last =
-      sym (ap (λ (b : Bool). b || false) other) ∙ sym (lists_close_last rest n at last) ∙ so_far
-
-  pub close_goes : is_word (codes "close") (trim_ows (take n rest)) ≡ false → n < length rest
-      → lists_close (take (length rest - (n + 1)) (drop (n + 1) rest)) ≡ lists_close value
-  close_goes other more =
-      ap lists_close (rest_is (n + 1) rest)
-      ∙ sym (ap (λ (b : Bool). b || lists_close (drop (n + 1) rest)) other) ∙ sym (lists_close_more rest n at more) ∙ so_far
 
 -- a field that says close is found
 pub close_at : (bytes : List ℕ) (fields : List HeaderSpan) (i : ℕ) (d : HeaderSpan) → i < length fields

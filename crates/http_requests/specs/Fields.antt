@@ -92,10 +92,14 @@ only_value [] = None
 only_value (value ∷ []) = Some value
 only_value (value ∷ other ∷ more) = None
 
+-- the value of the only field of this name, without surrounding white space; none if there is no such field, or more than one
+abbrev pub only_field : List ℕ → List NamedValue → Option (List ℕ)
+only_field word fields = only_value (values_of word fields)
+
 -- The value of the only range field, without surrounding white space, if no field is named if-range: a range whose condition isn't
 -- known to hold is ignored (RFC 9110, 13.1.5). That the condition could hold isn't looked at, so the whole is sent, which is always right.
 abbrev pub range_of : List NamedValue → Option (List ℕ)
-range_of fields = cond (has_field (codes "if-range") fields) None (only_value (values_of (codes "range") fields))
+range_of fields = cond (has_field (codes "if-range") fields) None (only_field (codes "range") fields)
 
 -- ---- conditions
 
@@ -103,11 +107,22 @@ range_of fields = cond (has_field (codes "if-range") fields) None (only_value (v
 abbrev pub is_conditional : List NamedValue → Bool
 is_conditional fields = has_field (codes "if-match") fields || has_field (codes "if-none-match") fields
 
+-- ---- lists
+
+-- the members of a list, without the white space around them: they are separated by commas, and some may be empty (RFC 9110, 5.6.1)
+abbrev pub members : List ℕ → List (List ℕ)
+members list = map trim_ows (slice_split (λ byte. byte == comma) list)
+
+-- the members of a list with this first one, behind whose comma, if there is one, this list follows
+abbrev pub members_from : List ℕ → Option (List ℕ) → List (List ℕ)
+members_from first None = first ∷ []
+members_from first (Some rest) = first ∷ members rest
+
 -- ---- connection
 
--- a connection value lists close: close is one of its options, separated by commas, without surrounding white space
+-- a connection value lists close: close is one of its options
 abbrev pub lists_close : List ℕ → Bool
-lists_close value = list_any (λ option. is_word (codes "close") (trim_ows option)) (slice_split (λ byte. byte == comma) value)
+lists_close value = list_any (is_word (codes "close")) (members value)
 
 -- the field is named connection and lists close
 abbrev pub is_close : NamedValue → Bool

@@ -1,5 +1,5 @@
 -- What the search for a request finds.
-use Rattle.std.specs.Prelude.{◌≡◌, ℕ, ◌<◌, ◌≤◌, List, ◌++◌, length, drop, Option, option_map, IfSome}
+use Rattle.std.specs.Prelude.{◌≡◌, ℕ, ◌<◌, ◌≤◌, List, ◌++◌, length, drop, Option, option_map, IfSome, codes}
 use Rattle.httparse.specs.Grammar.{RequestHead}
 use Rattle.httparse.specs.Spans.{span_bytes, IsWithin}
 use Rattle.http_requests.specs.declared.frames.TheConstants.{MAX_REQUEST}
@@ -8,7 +8,7 @@ use Rattle.http_requests.specs.declared.frames.Next.{Next}
 use Rattle.http_requests.specs.declared.frames.Next.TheVariants.{Whole, Refused, More}
 use Rattle.http_requests.specs.declared.refusals.Rejection.{Rejection}
 use Rattle.http_requests.specs.Requests.{Request, IsRequest, IsRefused, fields_of, asks_to_close, has_head_method}
-use Rattle.http_requests.specs.Fields.{range_of, is_conditional}
+use Rattle.http_requests.specs.Fields.{only_field, range_of, is_conditional}
 
 -- bytes begin with this request, and the frame has its parts
 pub record IsFrameOf (bytes : List ℕ) (frame : Frame) (request : Request) : Type 0 where
@@ -23,6 +23,10 @@ pub record IsFrameOf (bytes : List ℕ) (frame : Frame) (request : Request) : Ty
   pub range_within : IfSome frame.range (IsWithin (length bytes))
   pub range : option_map (span_bytes bytes) frame.range ≡ range_of (fields_of request.head)
   pub conditional : frame.conditional ≡ is_conditional (fields_of request.head)
+  pub if_match_within : IfSome frame.if_match (IsWithin (length bytes))
+  pub if_match : option_map (span_bytes bytes) frame.if_match ≡ only_field (codes "if-match") (fields_of request.head)
+  pub if_none_match_within : IfSome frame.if_none_match (IsWithin (length bytes))
+  pub if_none_match : option_map (span_bytes bytes) frame.if_none_match ≡ only_field (codes "if-none-match") (fields_of request.head)
   pub close : frame.close ≡ asks_to_close request.head
 
 -- bytes begin with no request, nor do they with more bytes appended while the total length is below until

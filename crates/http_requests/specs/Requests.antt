@@ -8,7 +8,7 @@ use Rattle.http_requests.specs.declared.frames.Frame.{Frame}
 use Rattle.http_requests.specs.declared.frames.TheConstants.{MAX_HEAD, MAX_FIELDS}
 use Rattle.http_requests.specs.declared.refusals.Refusal.{Refusal}
 use Rattle.http_requests.specs.declared.refusals.Refusal.TheVariants.{Head, Short}
-use Rattle.http_requests.specs.Fields.{NamedValue, framing, range_of, is_conditional, says_close}
+use Rattle.http_requests.specs.Fields.{NamedValue, framing, only_field, range_of, is_conditional, says_close}
 use Rattle.http_requests.specs.Targets.{path_of}
 
 -- a request: its head and its body
@@ -51,6 +51,10 @@ pub record RequestView : Type 0 where
   pub range : Option (List ℕ)
   -- whether it comes under a condition on entity tags
   pub conditional : Bool
+  -- the value of the only field if-match
+  pub if_match : Option (List ℕ)
+  -- the value of the only field if-none-match
+  pub if_none_match : Option (List ℕ)
   pub body : List ℕ
   -- whether the connection ends after the reply
   pub close : Bool
@@ -61,6 +65,8 @@ request_view request = record {
   path = path_of request.head.target;
   range = range_of (fields_of request.head);
   conditional = is_conditional (fields_of request.head);
+  if_match = only_field (codes "if-match") (fields_of request.head);
+  if_none_match = only_field (codes "if-none-match") (fields_of request.head);
   body = request.body;
   close = asks_to_close request.head;
 }
@@ -72,6 +78,8 @@ request_view_at bytes frame = record {
   path = path_of (span_bytes bytes frame.target);
   range = option_map (span_bytes bytes) frame.range;
   conditional = frame.conditional;
+  if_match = option_map (span_bytes bytes) frame.if_match;
+  if_none_match = option_map (span_bytes bytes) frame.if_none_match;
   body = span_bytes bytes frame.body;
   close = frame.close;
 }

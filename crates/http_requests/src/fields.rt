@@ -5,7 +5,8 @@ ghost use Rattle.std.specs.Char.{to_ascii_lowercase};
 ghost use Rattle.std.specs.Option.{option_map};
 ghost use Rattle.httparse.specs.Spans.{IsHeaderWithin, IsWithin, header_bytes, span_bytes};
 ghost use Rattle.httparse.specs.Grammar.{is_ows, skip_ows, trim_ows};
-ghost use Rattle.http_requests.specs.Fields.{is_word, IsStated, values_of, limited, numeral_length, range_of, lists_close, says_close};
+ghost use Rattle.http_requests.specs.Fields.{is_word, IsStated, values_of, limited, numeral_length, only_field, range_of};
+ghost use Rattle.http_requests.specs.Fields.{members, members_from, lists_close, says_close};
 ghost use Rattle.http_requests.specs.Fields.{body_length, has_field, is_hosted, has_expectation, is_conditional, framing};
 
 use crate::refusals::Refusal;
@@ -136,6 +137,19 @@ pub(crate) fn framing(bytes: &[u8], version: u8, fields: &[HeaderSpan]) -> Resul
     body_length(bytes, fields)
 }
 
+/// The value of the only field named `word`, given in lower case, without surrounding white space.
+pub(crate) fn only_field(bytes: &[u8], fields: &[HeaderSpan], word: &[u8]) -> Option<Span>
+    requires fields { All (IsHeaderWithin (length bytes.now)) fields.now }
+    requires word { map to_ascii_lowercase word.now ≡ word.now }
+    ensures value { option_map (span_bytes bytes.now) result ≡ only_field word.now (map (header_bytes bytes.now) fields.now) }
+    ensures within { IfSome result (IsWithin (length bytes.now)) }
+{
+    match find_stated(bytes, fields, word) {
+        Stated::Once(value) => Some(value),
+        _ => None,
+    }
+}
+
 /// The value of the only range field, without surrounding white space, if there is no field if-range.
 pub(crate) fn range_of(bytes: &[u8], fields: &[HeaderSpan]) -> Option<Span>
     requires { All (IsHeaderWithin (length bytes.now)) fields.now }
@@ -145,10 +159,7 @@ pub(crate) fn range_of(bytes: &[u8], fields: &[HeaderSpan]) -> Option<Span>
     if has_field(bytes, fields, b"if-range") {
         return None;
     }
-    match find_stated(bytes, fields, b"range") {
-        Stated::Once(value) => Some(value),
-        _ => None,
-    }
+    only_field(bytes, fields, b"range")
 }
 
 /// Whether there is a condition on entity tags: a field if-match or if-none-match.
@@ -227,11 +238,24 @@ fn trim_ows(bytes: &[u8]) -> &[u8]
     trim_back(trim_front(bytes))
 }
 
+/// The first member of a list, without the white space around it, and the list behind its comma, if there is one.
+pub fn split_member(list: &[u8]) -> (&[u8], Option<&[u8]>)
+    ensures members { members list.now ≡ members_from result.0.now (option_map (λ rest. rest.now) result.1) }
+    ensures shorter { IfSome result.1 (λ rest. length rest.now < length list.now) }
+{
+    let at = position_or_len(list, b',');
+    let member = trim_ows(&list[..at]);
+    if at == list.len() {
+        return (member, None);
+    }
+    (member, Some(&list[at + 1..]))
+}
+
 /// Whether a connection option is close.
 fn is_close_option(option: &[u8]) -> bool
-    ensures { result ≡ is_word (codes "close") (trim_ows option.now) }
+    ensures { result ≡ is_word (codes "close") option.now }
 {
-    trim_ows(option).eq_ignore_ascii_case(b"close")
+    option.eq_ignore_ascii_case(b"close")
 }
 
 /// Whether a connection value lists close.
@@ -240,14 +264,14 @@ fn lists_close(value: &[u8]) -> bool
 {
     let mut rest = value;
     loop {
-        let at = position_or_len(rest, b',');
-        if is_close_option(&rest[..at]) {
+        let (option, more) = split_member(rest);
+        if is_close_option(option) {
             return true;
         }
-        if at == rest.len() {
-            return false;
+        match more {
+            Some(list) => rest = list,
+            None => return false,
         }
-        rest = &rest[at + 1..];
     }
 }
 

@@ -6,7 +6,7 @@ ghost use Rattle.http_requests.specs.declared.frames.TheConstants.{MAX_HEAD, MAX
 ghost use Rattle.http_requests.specs.Frame.{IsNext};
 ghost use Rattle.http_requests.specs.Requests.{is_head};
 
-use crate::fields::{MAX_BODY, framing, is_conditional, range_of, says_close};
+use crate::fields::{MAX_BODY, framing, is_conditional, only_field, range_of, says_close};
 use crate::refusals::{NO_HEAD, Refusal, Rejection};
 use httparse::Status;
 use httparse::spans::{EMPTY_HEADER_SPAN, HeaderSpan, RequestSpans, Span, parse_request};
@@ -30,6 +30,10 @@ pub struct Frame {
     pub range: Option<Span>,
     /// Whether it comes under a condition on entity tags: it has a field if-match or if-none-match.
     pub conditional: bool,
+    /// The value of the only field if-match. `None` if there is none, or more than one.
+    pub if_match: Option<Span>,
+    /// The value of the only field if-none-match. `None` if there is none, or more than one.
+    pub if_none_match: Option<Span>,
     /// Whether the request asks to close the connection.
     pub close: bool,
 }
@@ -126,6 +130,8 @@ fn framed(bytes: &[u8], head: &RequestSpans, fields: &[HeaderSpan]) -> Next
         },
         range: range_of(bytes, fields),
         conditional: is_conditional(bytes, fields),
+        if_match: only_field(bytes, fields, b"if-match"),
+        if_none_match: only_field(bytes, fields, b"if-none-match"),
         close: asks_to_close(bytes, head.version, fields),
     })
 }

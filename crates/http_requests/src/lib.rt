@@ -11,6 +11,7 @@ mod scans;
 mod searches;
 mod targets;
 
+pub use fields::split_member;
 pub use frames::{Frame, MAX_REQUEST, Missing, Next, is_head};
 pub use inputs::{Input, READ_SPACE, ReadFault};
 pub use refusals::{NO_HEAD, Refusal, Rejection};

@@ -66,6 +66,8 @@ framed_view input frame request is = λ i. record {
   path = path_of (is.target i);
   range = is.range i;
   conditional = is.conditional i;
+  if_match = is.if_match i;
+  if_none_match = is.if_none_match i;
   body = is.body i;
   close = is.close i;
 }

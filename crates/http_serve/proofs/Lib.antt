@@ -6,3 +6,4 @@ mod LimitNumbers
 pub mod PartLemmas
 pub mod ReplyLemmas
 pub mod ServeLemmas
+mod TagForms

@@ -1,5 +1,9 @@
 -- Texts that are added in sequence.
-use Rattle.std.proofs.Common.{◌≡◌, ◌++◌, ◌∙◌, ap, append_assoc, sym, ℕ, List, Bool, false, cond}
+use Rattle.std.proofs.Common.{◌≡◌, ◌++◌, ◌∙◌, ap, append_assoc, sym, ℕ, List, Bool, true, false, cond}
+
+-- two texts are added in sequence
+pub two_added : (front a b x y : List ℕ) → x ≡ front ++ a → y ≡ x ++ b → y ≡ front ++ (a ++ b)
+two_added front a b x y first second = second ∙ ap (λ (t : List ℕ). t ++ b) first ∙ append_assoc front a b
 
 -- three texts are added in sequence
 pub three_added : (front a b c x y z : List ℕ) → x ≡ front ++ a → y ≡ x ++ b → z ≡ y ++ c → z ≡ front ++ (a ++ b ++ c)
@@ -16,6 +20,10 @@ pub five_added : (front a b c d e v w x y z : List ℕ) → v ≡ front ++ a →
     → z ≡ front ++ (a ++ b ++ c ++ d ++ e)
 five_added front a b c d e v w x y z first second third fourth fifth =
     fifth ∙ ap (λ (t : List ℕ). t ++ e) (four_added front a b c d v w x y first second third fourth) ∙ simp append_assoc
+
+-- the first of two texts is added if a test holds
+pub first_added : (b : Bool) (front x y z : List ℕ) → b ≡ true → z ≡ front ++ x → z ≡ front ++ cond b x y
+first_added b front x y z holds is = is ∙ ap (λ (t : Bool). front ++ cond t x y) (sym holds)
 
 -- the second of two texts is added if a test fails
 pub others_added : (b : Bool) (front x y z : List ℕ) → b ≡ false → z ≡ front ++ y → z ≡ front ++ cond b x y

@@ -5,4 +5,5 @@ pub mod Reply
 pub mod Sent
 pub mod Served
 pub mod Steps
+pub mod Tags
 pub mod Told

@@ -17,6 +17,7 @@ use Rattle.http_serve.specs.declared.replies.ContentRange.{ContentRange}
 use Rattle.http_serve.specs.declared.replies.ContentRange.TheVariants.{Part, Unsatisfied}
 use Rattle.http_serve.specs.declared.replies.EntityTag.{EntityTag}
 use Rattle.http_serve.specs.declared.replies.Reply.{Reply}
+use Rattle.http_serve.specs.Tags.{tag_text}
 
 -- what a reply says: its status, the type and the range of its content, the entity tag, the allowed methods, and the content
 pub record ReplyView : Type 0 where
@@ -156,10 +157,9 @@ range_line None = []
 range_line (Some (Part first last total)) = part_line first last total
 range_line (Some (Unsatisfied total)) = unsatisfied_line total
 
--- the etag line: a strong entity tag, three numbers with dashes between them (RFC 9110, 8.8.3)
+-- the etag line (RFC 9110, 8.8.3)
 unfoldable pub tag_line : EntityTag → List ℕ
-tag_line tag =
-    codes "etag: \"" ++ decimal tag.generation ++ codes "-" ++ decimal tag.edit ++ codes "-" ++ decimal tag.length ++ codes "\"\r\n"
+tag_line tag = codes "etag: " ++ tag_text tag ++ line_end
 
 -- the etag line, if there is an entity tag
 abbrev pub tag_lines : Option EntityTag → List ℕ
@@ -175,14 +175,14 @@ unfoldable pub closing_line : Bool → List ℕ
 closing_line true = codes "connection: close\r\n"
 closing_line false = []
 
--- 204 No Content
+-- 204 No Content or 304 Not Modified (RFC 9110, 15.3.5 and 15.4.5)
 abbrev pub has_no_content : ℕ → Bool
-has_no_content status = status == 204
+has_no_content status = status == 204 || status == 304
 
--- the lines of the fields; those that describe the content are left out of a 204 reply
+-- the lines of the fields; those that describe the content are left out of a 204 or 304 reply, but for the entity tag
 abbrev pub field_lines : HeadView → List ℕ
 field_lines head =
-    cond (has_no_content head.status) (word_line allow_name head.allow)
+    cond (has_no_content head.status) (tag_lines head.tag ++ word_line allow_name head.allow)
     (word_line type_name head.kind ++ range_line head.range ++ tag_lines head.tag ++ word_line allow_name head.allow ++ length_line head.size)
 
 -- the head of a reply, with its empty line; it says whether the reply is the last one
@@ -191,7 +191,7 @@ reply_head close head =
     codes "HTTP/1.1 " ++ decimal head.status ++ codes " " ++ phrase_of head.status ++ line_end
     ++ field_lines head ++ closing_line close ++ line_end
 
--- the content that is sent: none in a 204 reply or if only the head is sent
+-- the content that is sent: none in a 204 or 304 reply or if only the head is sent
 abbrev pub sent_content : Bool → ReplyView → List ℕ
 sent_content bare reply = cond (bare || has_no_content reply.status) [] reply.content
 

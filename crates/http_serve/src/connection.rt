@@ -123,6 +123,8 @@ fn answer_one<H: Handler, W: Write>(
     requires target { IsWithin (length bytes.now) frame.now.target }
     requires body { IsWithin (length bytes.now) frame.now.body }
     requires range { IfSome frame.now.range (IsWithin (length bytes.now)) }
+    requires if_match { IfSome frame.now.if_match (IsWithin (length bytes.now)) }
+    requires if_none_match { IfSome frame.now.if_none_match (IsWithin (length bytes.now)) }
     requires room { REPLY_SPACE ≤ vec_capacity out.old }
     requires space { PART_SIZE ≤ vec_capacity part.old }
     ensures room { REPLY_SPACE ≤ vec_capacity out.new }
@@ -143,6 +145,8 @@ fn answer_one<H: Handler, W: Write>(
         path: path_of(frame.target.of(bytes)),
         range: part_of(bytes, frame.range),
         conditional: frame.conditional,
+        if_match: part_of(bytes, frame.if_match),
+        if_none_match: part_of(bytes, frame.if_none_match),
         body: frame.body.of(bytes),
         close: frame.close,
     };

@@ -30,6 +30,10 @@ pub struct Request<'a> {
     pub range: Option<&'a [u8]>,
     /// Whether it comes under a condition on entity tags: it has a field if-match or if-none-match.
     pub conditional: bool,
+    /// The value of the only field if-match, without surrounding white space. `None` if there is no such field, or several.
+    pub if_match: Option<&'a [u8]>,
+    /// The value of the only field if-none-match, without surrounding white space. `None` if there is no such field, or several.
+    pub if_none_match: Option<&'a [u8]>,
     /// The body, of at most 65,536 bytes.
     pub body: &'a [u8],
     /// Whether the connection ends after the reply.
@@ -59,6 +63,8 @@ pub trait Handler {
           path = request.now.path.now;
           range = option_map (λ range. range.now) request.now.range;
           conditional = request.now.conditional;
+          if_match = option_map (λ value. value.now) request.now.if_match;
+          if_none_match = option_map (λ value. value.now) request.now.if_none_match;
           body = request.now.body.now;
           close = request.now.close;
         }) reply self.new × InParts result.content (sends self.old (record {
@@ -66,6 +72,8 @@ pub trait Handler {
           path = request.now.path.now;
           range = option_map (λ range. range.now) request.now.range;
           conditional = request.now.conditional;
+          if_match = option_map (λ value. value.now) request.now.if_match;
+          if_none_match = option_map (λ value. value.now) request.now.if_none_match;
           body = request.now.body.now;
           close = request.now.close;
         }) reply self.new × (size self.new ≡ length reply.content)) }

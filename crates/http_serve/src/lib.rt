@@ -7,6 +7,7 @@ mod handlers;
 mod refusals;
 mod replies;
 mod sessions;
+mod tags;
 mod writes;
 
 pub use connection::{End, MAX_READS, ServeFault, Served, serve_fronts, serve_with};
@@ -15,3 +16,4 @@ pub use http_requests::READ_SPACE;
 pub use http_values::Status;
 pub use replies::{Content, ContentRange, EntityTag, MAX_WORD, Reply};
 pub use sessions::Buffers;
+pub use tags::names_tag;

@@ -1,5 +1,5 @@
 //! Replies and their bytes.
-ghost use Rattle.std.specs.Prelude.{◌≡◌, ◌≤◌, ◌<◌, ◌+◌, ◌*◌, ◌++◌, length, vec_len, vec_capacity, IfSome, None, not, ◌||◌};
+ghost use Rattle.std.specs.Prelude.{◌≡◌, ◌≤◌, ◌<◌, ◌+◌, ◌*◌, ◌++◌, length, vec_len, vec_capacity, IfOk, IfSome, None, not, ◌||◌};
 ghost use Rattle.std.specs.Option.{option_map};
 ghost use Rattle.http_values.specs.Codes.{code_of};
 ghost use Rattle.http_values.specs.declared.digits.TheConstants.{MAX_DIGITS};
@@ -7,10 +7,14 @@ ghost use Rattle.http_serve.specs.Parts.{front_content, front_bytes};
 ghost use Rattle.http_serve.specs.Reply.{HasShortWords, head_view, content_size, part_line, unsatisfied_line};
 ghost use Rattle.http_serve.specs.Reply.{range_line, tag_line, tag_lines, word_line, length_line, closing_line, field_lines, reply_head, has_no_content};
 ghost use Rattle.http_serve.specs.Sent.{Sends};
+ghost use Rattle.http_serve.specs.Tags.{tag_text};
 ghost use Rattle.http_serve.specs.declared.replies.TheConstants.{MAX_REPLY_HEAD, MAX_WORD, REPLY_SPACE};
+ghost use Rattle.http_serve.specs.declared.tags.TheConstants.{MAX_TAG};
 
+use crate::tags::{MAX_TAG, put_tag_text};
 use crate::writes::{WriteFault, send_all, send_both};
 use http_values::{Status, push_number, push_text};
+use std::alloc::{AllocError, Global};
 use std::io::Write;
 use std::rc::RcSlice;
 
@@ -81,7 +85,18 @@ pub struct EntityTag {
     pub length: u64,
 }
 
-/// A reply to a request. A 204 reply is sent without its content, its type, its range and its entity tag.
+impl EntityTag {
+    /// The tag as it is sent, with its quotation marks. The only error: an allocation fails.
+    pub fn text(self, alloc: Global) -> Result<Vec<u8>, AllocError>
+        ensures { IfOk result (λ text. text.items ≡ tag_text self) }
+    {
+        let mut text = Vec::with_capacity(alloc, MAX_TAG)?;
+        put_tag_text(&mut text, self);
+        Ok(text)
+    }
+}
+
+/// A reply to a request. A 204 or 304 reply is sent without its content, its type and its range.
 #[derive(Drop)]
 pub struct Reply {
     pub status: Status,
@@ -111,11 +126,12 @@ impl Reply {
         }
     }
 
-    /// Whether it is 204 No Content.
+    /// Whether it is 204 No Content or 304 Not Modified.
     fn has_no_content(&self) -> bool
         ensures { result ≡ has_no_content (code_of self.now.status) }
     {
-        self.status.code() == Status::NoContent.code()
+        let code = self.status.code();
+        code == Status::NoContent.code() || code == Status::NotModified.code()
     }
 
     /// Whether its content is sent. It isn't in a reply that is only a head.
@@ -182,25 +198,21 @@ fn put_range_line(out: &mut Vec<u8>, range: Option<ContentRange>)
 /// Adds the line of an entity tag.
 #[tactic(auto, unfolding(crate::specs::Reply::tag_line))]
 fn put_tag_line(out: &mut Vec<u8>, tag: EntityTag)
-    requires room { vec_len out.old + 3 * MAX_DIGITS + 12 ≤ vec_capacity out.old }
+    requires room { vec_len out.old + MAX_TAG + 8 ≤ vec_capacity out.old }
     ensures items { out.new.items ≡ out.old.items ++ tag_line tag }
-    ensures len { vec_len out.new ≤ vec_len out.old + 3 * MAX_DIGITS + 12 }
+    ensures len { vec_len out.new ≤ vec_len out.old + MAX_TAG + 8 }
     ensures capacity { vec_capacity out.old ≤ vec_capacity out.new }
 {
-    push_text(out, b"etag: \"");
-    push_number(out, tag.generation);
-    push_text(out, b"-");
-    push_number(out, tag.edit);
-    push_text(out, b"-");
-    push_number(out, tag.length);
-    push_text(out, b"\"\r\n");
+    push_text(out, b"etag: ");
+    put_tag_text(out, tag);
+    push_text(out, b"\r\n");
 }
 
 /// Adds the line of the entity tag, if there is one.
 fn put_tag_lines(out: &mut Vec<u8>, tag: Option<EntityTag>)
-    requires room { vec_len out.old + 3 * MAX_DIGITS + 12 ≤ vec_capacity out.old }
+    requires room { vec_len out.old + MAX_TAG + 8 ≤ vec_capacity out.old }
     ensures items { out.new.items ≡ out.old.items ++ tag_lines tag }
-    ensures len { vec_len out.new ≤ vec_len out.old + 3 * MAX_DIGITS + 12 }
+    ensures len { vec_len out.new ≤ vec_len out.old + MAX_TAG + 8 }
     ensures capacity { vec_capacity out.old ≤ vec_capacity out.new }
 {
     match tag {
@@ -243,12 +255,13 @@ fn put_length_line(out: &mut Vec<u8>, size: u64)
 #[tactic(auto, unfolding(crate::specs::Reply::type_name, crate::specs::Reply::allow_name))]
 fn put_field_lines(out: &mut Vec<u8>, reply: &Reply)
     requires words { HasShortWords (head_view reply.now) }
-    requires room { vec_len out.old + 7 * MAX_DIGITS + 208 ≤ vec_capacity out.old }
+    requires room { vec_len out.old + 4 * MAX_DIGITS + MAX_TAG + 204 ≤ vec_capacity out.old }
     ensures items { out.new.items ≡ out.old.items ++ field_lines (head_view reply.now) }
-    ensures len { vec_len out.new ≤ vec_len out.old + 7 * MAX_DIGITS + 208 }
+    ensures len { vec_len out.new ≤ vec_len out.old + 4 * MAX_DIGITS + MAX_TAG + 204 }
     ensures capacity { vec_capacity out.old ≤ vec_capacity out.new }
 {
     if reply.has_no_content() {
+        put_tag_lines(out, reply.tag);
         put_word_line(out, b"allow: ", reply.allow);
         return;
     }

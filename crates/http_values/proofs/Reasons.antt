@@ -10,6 +10,7 @@ unfolding phrase_of
 is_short statuses.Ok = lit≤ tt
 is_short statuses.NoContent = lit≤ tt
 is_short statuses.PartialContent = lit≤ tt
+is_short statuses.NotModified = lit≤ tt
 is_short statuses.BadRequest = lit≤ tt
 is_short statuses.NotFound = lit≤ tt
 is_short statuses.MethodNotAllowed = lit≤ tt

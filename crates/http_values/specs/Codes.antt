@@ -8,6 +8,7 @@ abbrev pub code_of : Status → ℕ
 code_of statuses.Ok = 200
 code_of statuses.NoContent = 204
 code_of statuses.PartialContent = 206
+code_of statuses.NotModified = 304
 code_of statuses.BadRequest = 400
 code_of statuses.NotFound = 404
 code_of statuses.MethodNotAllowed = 405

@@ -15,6 +15,8 @@ pub enum Status {
     NoContent,
     /// 206
     PartialContent,
+    /// 304
+    NotModified,
     /// 400
     BadRequest,
     /// 404
@@ -50,6 +52,7 @@ impl Status {
             Status::Ok => StatusCode::OK,
             Status::NoContent => StatusCode::NO_CONTENT,
             Status::PartialContent => StatusCode::PARTIAL_CONTENT,
+            Status::NotModified => StatusCode::NOT_MODIFIED,
             Status::BadRequest => StatusCode::BAD_REQUEST,
             Status::NotFound => StatusCode::NOT_FOUND,
             Status::MethodNotAllowed => StatusCode::METHOD_NOT_ALLOWED,

@@ -9,6 +9,7 @@ use Rattle.http_serve.specs.declared.replies.Content.{Content}
 use Rattle.http_serve.specs.declared.replies.Content.TheVariants as contents
 use Rattle.http_serve.specs.declared.replies.EntityTag.{EntityTag}
 use Rattle.http_serve.specs.declared.replies.Reply.{Reply}
+use Rattle.http_serve.specs.Tags.{tag_text}
 use Rattle.http_serve.specs.Reply.{ReplyView, IsWhole, HasShortWords, head_view, InParts, FitsParts, content_bytes, reply_view, with_part}
 use Rattle.http_serve.proofs.HandlerLemmas.{shown_reply, whole_reply, none_in_parts}
 use Rattle.http_serve.proofs.PartLemmas.{in_parts}
@@ -26,12 +27,15 @@ use Rattle.tile_routes.specs.declared.fault.RouteFault.{RouteFault}
 use Rattle.tile_routes.specs.declared.method.Method.{Method}
 use Rattle.tile_routes.specs.Paths.{Asked}
 use Rattle.map_replies.specs.declared.fault.RequestFault.{RequestFault}
-use Rattle.map_replies.specs.declared.fault.RequestFault.TheVariants.{Memory}
+use Rattle.map_replies.specs.declared.fault.RequestFault.TheVariants.{Condition, Memory}
 use Rattle.map_replies.specs.declared.parts.ArchiveRange.{ArchiveRange}
 use Rattle.map_replies.specs.declared.parts.ArchiveRange.TheVariants.{Whole, Between, Beyond}
 use Rattle.map_replies.specs.declared.parts.Sending.{Sending}
-use Rattle.map_replies.specs.Meanings.{OrNoMemory, MeansPart, MeansArchive, Answers, AnswersAllowed, AnswersMethod, DiskFailed}
-use Rattle.map_replies.specs.Parts.{range_for, IsPart, start_of, size_of, archive_tag, part_reply}
+use Rattle.map_replies.specs.Meanings.{OrNoMemory, MeansPart, MeansRange, MeansJudged, MeansArchive, Answers, AnswersAllowed, AnswersMethod, DiskFailed}
+use Rattle.map_replies.specs.Conditions.{AskView, ask_for, judged}
+use Rattle.map_replies.specs.declared.conditions.Judged.{Judged}
+use Rattle.map_replies.specs.declared.conditions.Judged.TheVariants.{Holds, Fails, Unchanged}
+use Rattle.map_replies.specs.Parts.{IsPart, start_of, size_of, archive_tag, part_reply, unchanged_reply}
 use Rattle.map_replies.specs.Sending.{IsAnswered, IsAnswer, IsAnsweredInParts, IsInside, Begins, SendsPart, AnswersPart, IsSending, SendsMethod}
 use Rattle.map_replies.specs.Words.{refusal_of, service_refusal}
 use Rattle.map_replies.proofs.Answering.{no_memory_first}
@@ -282,22 +286,22 @@ module _ {D : Type 0} (sectors : D → ℕ) (honest : D → Type 0) (history : D
   -- ---- the archive
 
   module _ (range : Option (List ℕ)) (old : ServiceView D) (sending : Sending) (new : ServiceView D) where
-    abbrev AnswersArchive : ReplyView → Type 0
-    AnswersArchive reply =
-        Answers sectors honest history (OrNoMemory (MeansArchive (DiskFailed faults old new) (archive_tag (status_of old)) range)) old new reply
+    abbrev AnswersRange : ReplyView → Type 0
+    AnswersRange reply =
+        Answers sectors honest history (OrNoMemory (MeansRange (DiskFailed faults old new) (archive_tag (status_of old)) range)) old new reply
 
     -- a part of it
-    asked_part : (part : ArchiveRange) (reply : ReplyView) → 0 < old.archive_len → IsPart range old.archive_len part
-        → Answers sectors honest history (MeansPart (DiskFailed faults old new) (archive_tag (status_of old)) part) old new reply → AnswersArchive reply
-    asked_part part reply some asked is = (is.0, inl (inr (some, part, asked, is.1)), is.2)
+    asked_part : (part : ArchiveRange) (reply : ReplyView) → IsPart range old.archive_len part
+        → Answers sectors honest history (MeansPart (DiskFailed faults old new) (archive_tag (status_of old)) part) old new reply → AnswersRange reply
+    asked_part part reply asked is = (is.0, inl (part, asked, is.1), is.2)
 
     pub archive_answered : (part : ArchiveRange) (r : Result Reply RequestFault) → 0 < old.archive_len → IsPart range old.archive_len part
         → IfOk r (AnswersPart sectors honest history faults part old sending new) → IfErr r (λ fault. (new ≡ old) × (fault ≡ Memory))
-        → IsAnsweredInParts AnswersArchive (IsSending sectors honest history faults range old sending new) r
-    archive_answered part (Ok reply) some asked is refused = answer_on _ _ _ _ reply (λ view. asked_part part view some asked)
+        → IsAnsweredInParts AnswersRange (IsSending sectors honest history faults range old sending new) r
+    archive_answered part (Ok reply) some asked is refused = answer_on _ _ _ _ reply (λ view. asked_part part view asked)
         (λ view sends. record { some = some; part = part; asked = asked; sends = sends }) is
-    archive_answered part (Err fault) some asked is refused = subst (λ (f : RequestFault). AnswersArchive (refusal_of f)) (sym refused.1)
-        (no_memory_first sectors honest history (MeansArchive (DiskFailed faults old new) (archive_tag (status_of old)) range) old new refused.0)
+    archive_answered part (Err fault) some asked is refused = subst (λ (f : RequestFault). AnswersRange (refusal_of f)) (sym refused.1)
+        (no_memory_first sectors honest history (MeansRange (DiskFailed faults old new) (archive_tag (status_of old)) range) old new refused.0)
 
   module _ (range : Option (List ℕ)) (old : ServiceView D) (sending : Sending) (new : ServiceView D) (reply : ReplyView)
       (is : IsSending sectors honest history faults range old sending new reply) where
@@ -314,14 +318,14 @@ module _ {D : Type 0} (sectors : D → ℕ) (honest : D → Type 0) (history : D
         ap length (ap (λ (r : ReplyView). r.content) is.sends.shows ∙ content_of is.part (archive_tag (status_of old)) is.sends.content is.sends.sent.0) in
         omega (arith, same, first, size, long, is.sends.long, inside_end is.part total is.sends.sent.0)
 
-    pub sent_answers : AnswersArchive range old sending new reply
+    pub sent_answers : AnswersRange range old sending new reply
     sent_answers =
-        asked_part range old sending new is.part reply is.some is.asked (answers_part is.part old sending new reply is.sends)
+        asked_part range old sending new is.part reply is.asked (answers_part is.part old sending new reply is.sends)
 
     -- after another read, whatever its outcome, the reply is still correct
     pub still_answers : (next : ServiceView D) (at : ℕ) (outcome : Option (List ℕ)) → Takes sectors honest history new (read at outcome) next
-        → AnswersArchive range old sending next reply
-    still_answers next at outcome takes = asked_part range old sending next is.part reply is.some is.asked
+        → AnswersRange range old sending next reply
+    still_answers next at outcome takes = asked_part range old sending next is.part reply is.asked
         (answers_read is.part old next reply is.sends.content is.sends.sent.0 is.sends.long is.sends.shows
         (reads_on sectors honest history old new next (start_of is.part) at (start_of is.part) (Some is.sends.content) outcome (Some is.sends.content)
         is.sends.reads takes (λ archive shows is_honest. is.sends.reads.archive archive shows (takes.asked.was_honest is_honest))))
@@ -372,39 +376,84 @@ module _ {D : Type 0} (sectors : D → ℕ) (honest : D → Type 0) (history : D
           };
         }
 
-  module _ (asked : Asked) (result : Result Method RouteFault) (range : Option (List ℕ)) (body : List ℕ) (old : ServiceView D) (sending : Sending)
-      (new next : ServiceView D) (reply : ReplyView) (is : SendsMethod sectors honest history faults asked result range old sending new reply) where
-    asked_answers : (view : ReplyView) → AnswersArchive (range_for is.0 range) old sending next view
-        → AnswersMethod sectors honest history faults asked result range body old next view
+  module _ (ask : AskView) (old : ServiceView D) (sending : Sending) (new : ServiceView D) where
+    abbrev AnswersAsked : ReplyView → Type 0
+    AnswersAsked reply =
+        Answers sectors honest history (OrNoMemory (MeansArchive (DiskFailed faults old new) (archive_tag (status_of old)) ask)) old new reply
+
+    -- where the conditions hold it is what the range selects
+    pub range_answers : (reply : ReplyView) → 0 < old.archive_len → judged (tag_text (archive_tag (status_of old))) ask ≡ Holds
+        → AnswersRange ask.range old sending new reply → AnswersAsked reply
+    range_answers reply some holds (happenings, inl means, takes) = (
+      happenings,
+      inl (inr (
+        some,
+        subst (λ (j : Judged). MeansJudged (DiskFailed faults old new) (archive_tag (status_of old)) j ask.range reply happenings) (sym holds) means,
+      )),
+      takes,
+    )
+    range_answers reply some holds (happenings, inr means, takes) = (happenings, inr means, takes)
+
+  module _ (ask : AskView) (old : ServiceView D) (sending : Sending) (some : 0 < old.archive_len) where
+    -- where they say so, nothing is done: the client wants another archive,
+    pub other_wanted : judged (tag_text (archive_tag (status_of old))) ask ≡ Fails → AnswersAsked ask old sending old (refusal_of Condition)
+    other_wanted fails = (
+      [],
+      inl (inr (
+        some,
+        subst (λ (j : Judged). MeansJudged (DiskFailed faults old old) (archive_tag (status_of old)) j ask.range
+            (refusal_of Condition) []) (sym fails) (refl, refl),
+      )),
+      refl,
+    )
+
+    -- or it has this one
+    pub is_there : (reply : ReplyView) → judged (tag_text (archive_tag (status_of old))) ask ≡ Unchanged
+        → reply ≡ unchanged_reply (archive_tag (status_of old)) → AnswersAsked ask old sending old reply
+    is_there reply known is = (
+      [],
+      inl (inr (
+        some,
+        subst (λ (j : Judged). MeansJudged (DiskFailed faults old old) (archive_tag (status_of old)) j ask.range
+            reply []) (sym known) (is, refl),
+      )),
+      refl,
+    )
+
+  module _ (asked : Asked) (result : Result Method RouteFault) (ask : AskView) (body : List ℕ) (old : ServiceView D) (sending : Sending)
+      (new next : ServiceView D) (reply : ReplyView) (is : SendsMethod sectors honest history faults asked result ask old sending new reply) where
+    asked_answers : (view : ReplyView) → AnswersRange (ask_for is.0 ask).range old sending next view
+        → AnswersMethod sectors honest history faults asked result ask body old next view
     asked_answers view answers =
-        subst (λ (r : Result Method RouteFault). AnswersMethod sectors honest history faults asked r range body old next view) (sym is.1)
-        (subst (λ (a : Asked). AnswersAllowed sectors honest history faults a is.0 range body old next view) (sym is.2.0) answers)
+        subst (λ (r : Result Method RouteFault). AnswersMethod sectors honest history faults asked r ask body old next view) (sym is.1)
+        (subst (λ (a : Asked). AnswersAllowed sectors honest history faults a is.0 ask body old next view) (sym is.2.0)
+        (range_answers (ask_for is.0 ask) old sending next view is.2.1.1.some is.2.1.0 answers))
 
     -- the disk fails
     pub sends_fails : (at : ℕ) (outcome : Option (List ℕ)) → Takes sectors honest history new (read at outcome) next → DiskFailed faults new next
-        → AnswersMethod sectors honest history faults asked result range body old next reply × DiskFailed faults old next
+        → AnswersMethod sectors honest history faults asked result ask body old next reply × DiskFailed faults old next
     sends_fails at outcome takes failed = (
-      asked_answers reply (still_answers (range_for is.0 range) old sending new reply is.2.1 next at outcome takes),
-      subst (λ (n : ℕ). HasFailed n (faults next.disk)) is.2.1.sends.unfailed failed,
+      asked_answers reply (still_answers (ask_for is.0 ask).range old sending new reply is.2.1.1 next at outcome takes),
+      subst (λ (n : ℕ). HasFailed n (faults next.disk)) is.2.1.1.sends.unfailed failed,
     )
 
     pub sends_more : (now : Sending) (offset n : ℕ) (piece : List ℕ) → now ≡ sending → length piece ≡ n
         → offset + n ≤ min sending.length (new.archive_len - sending.first) → faults next.disk ≡ faults new.disk
         → Takes sectors honest history new (read (sending.first + offset) (Some piece)) next
-        → SendsMethod sectors honest history faults asked result range old now next (with_part offset piece reply)
-        × AnswersMethod sectors honest history faults asked result range body old next (with_part offset piece reply)
+        → SendsMethod sectors honest history faults asked result ask old now next (with_part offset piece reply)
+        × AnswersMethod sectors honest history faults asked result ask body old next (with_part offset piece reply)
     sends_more now offset n piece same long within unfailed takes =
-        let more = sent_more (range_for is.0 range) old sending new reply is.2.1 next offset piece takes unfailed (omega (arith, long, within)) in (
+        let range = (ask_for is.0 ask).range in
+        let more = sent_more range old sending new reply is.2.1.1 next offset piece takes unfailed (omega (arith, long, within)) in (
           (
             is.0,
             is.1,
             (
               is.2.0,
-              subst (λ (s : Sending). IsSending sectors honest history faults (range_for is.0 range) old s next (with_part offset piece reply)) (sym same) more,
+              (is.2.1.0, subst (λ (s : Sending). IsSending sectors honest history faults range old s next (with_part offset piece reply)) (sym same) more),
             ),
           ),
-          asked_answers (with_part offset piece reply)
-              (sent_answers (range_for is.0 range) old sending next (with_part offset piece reply) more),
+          asked_answers (with_part offset piece reply) (sent_answers range old sending next (with_part offset piece reply) more),
         )
 
 -- what follows from a successful read

@@ -1,6 +1,5 @@
 -- Lengths of words, and values without floats.
 use Rattle.std.proofs.Common.{◌≡◌, ◌≤◌, List, [], ◌∷◌, false, map, length, refl, arith}
-use Rattle.serde_json.specs.Data.{Data}
 use Rattle.serde_json.specs.View.{items_of}
 use Rattle.serde_json.specs.Written.{has_float, items_have_float, members_have_float}
 use Rattle.tile_routes.specs.Methods.{allow_of, name_of}

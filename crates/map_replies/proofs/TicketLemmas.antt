@@ -9,7 +9,7 @@ use Rattle.sector_disk.proofs.AskedLaws.{writes_on, reads_may, reads_none}
 use Rattle.published_tiles.specs.declared.place.ArchivePlace.{ArchivePlace}
 use Rattle.tile_service.specs.Machine.{Happening, Runs}
 use Rattle.tile_service.specs.Runs.{IsTrusted, way_of}
-use Rattle.tile_service.specs.Service.{ServiceView, Known, IsUp, IsPlaceIn, HasArchive, ShowsArchive, state_of, status_of, archive_of}
+use Rattle.tile_service.specs.Service.{ServiceView, IsUp, IsPlaceIn, HasArchive, ShowsArchive, state_of, status_of, archive_of}
 use Rattle.tile_service.specs.Stored.{Stored}
 use Rattle.tile_service.specs.Tickets.{IsHeld}
 use Rattle.tile_service.proofs.Runs.Callers.{HasRun}
@@ -162,7 +162,7 @@ module _ {D : Type 0} (sectors : D → ℕ) (honest : D → Type 0) (history : D
       → offset + length bytes ≤ length reply.content → bytes ≡ take (length bytes) (drop offset reply.content)
   download_part old at before after request reply offset bytes archive sends least keeps reads is_honest shows within =
       let first = asked_service at in
-      let sent = sends.0.2.1 in
+      let sent = sends.0.2.1.1 in
       let begun = sent.sends in
       let start : ℕ = start_of sent.part in
       let place : ArchivePlace = archive_of first in

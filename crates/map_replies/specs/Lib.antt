@@ -1,4 +1,5 @@
 pub mod Bodies
+pub mod Conditions
 pub mod Meanings
 pub mod Parts
 pub mod Sending

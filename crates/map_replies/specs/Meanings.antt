@@ -2,6 +2,7 @@
 use Rattle.std.specs.Prelude.{◌≡◌, ◌≢◌, ◌<◌, ◌⊎◌, ℕ, List, [], ◌∷◌, ◌++◌, length, map, All, Option, None, IfSome, Result, Ok, Err, IfOk, IfErr}
 use Rattle.http_requests.specs.Requests.{RequestView}
 use Rattle.http_serve.specs.Reply.{ReplyView}
+use Rattle.http_serve.specs.Tags.{tag_text}
 use Rattle.http_serve.specs.declared.replies.EntityTag.{EntityTag}
 use Rattle.sector_disk.specs.Disk.{History, HasFailed}
 use Rattle.tile_routes.specs.declared.method.Method.{Method}
@@ -32,7 +33,10 @@ use Rattle.map_replies.specs.declared.fault.RequestFault.TheVariants.{NotFound, 
 use Rattle.map_replies.specs.declared.parts.ArchiveRange.{ArchiveRange}
 use Rattle.map_replies.specs.declared.parts.ArchiveRange.TheVariants.{Beyond}
 use Rattle.map_replies.specs.Bodies.{SaysFeature, SaysChanges, CheckedEdit, SaysChecked, HasBodyFault, HasBatchFault, HasCheckedFault}
-use Rattle.map_replies.specs.Parts.{range_for, IsPart, start_of, size_of, archive_tag, part_reply, bytes_reply}
+use Rattle.map_replies.specs.Conditions.{AskView, ask_of, ask_for, judged}
+use Rattle.map_replies.specs.declared.conditions.Judged.{Judged}
+use Rattle.map_replies.specs.declared.conditions.Judged.TheVariants.{Holds, Fails, Unchanged}
+use Rattle.map_replies.specs.Parts.{IsPart, start_of, size_of, archive_tag, part_reply, unchanged_reply, bytes_reply}
 use Rattle.map_replies.specs.Words.{refusal_of, not_allowed_reply, outcome_reply, changed_reply, left_reply, published_reply, cancel_reply}
 use Rattle.map_replies.specs.Words.{shown_reply, content_reply, found_reply, numbered_reply, metadata_reply, status_reply}
 
@@ -139,10 +143,21 @@ MeansPart failed tag Beyond reply happenings = (reply ≡ part_reply Beyond tag 
 MeansPart failed tag part reply happenings = (outcome : Option (List ℕ)) × IfSome outcome (λ content. length content ≡ size_of part tag.length)
     × (outcome ≡ None → failed) × (reply ≡ bytes_reply part tag outcome) × (happenings ≡ read (start_of part) outcome ∷ [])
 
--- The part that a range selects of the archive with this tag. There is no archive exactly if its length is 0.
-abbrev pub MeansArchive : (failed : Type 0) → (tag : EntityTag) → Option (List ℕ) → ReplyView → List Happening → Type 0
-MeansArchive failed tag range reply happenings = ((tag.length ≡ 0) × MeansRefusal NotFound reply happenings)
-    ⊎ ((0 < tag.length) × (part : ArchiveRange) × IsPart range tag.length part × MeansPart failed tag part reply happenings)
+-- the part that a range selects of the archive with this tag
+abbrev pub MeansRange : (failed : Type 0) → (tag : EntityTag) → Option (List ℕ) → ReplyView → List Happening → Type 0
+MeansRange failed tag range reply happenings =
+    (part : ArchiveRange) × IsPart range tag.length part × MeansPart failed tag part reply happenings
+
+-- the same, by what the conditions come to
+abbrev pub MeansJudged : (failed : Type 0) → (tag : EntityTag) → Judged → Option (List ℕ) → ReplyView → List Happening → Type 0
+MeansJudged failed tag Fails range reply happenings = MeansRefusal Condition reply happenings
+MeansJudged failed tag Unchanged range reply happenings = (reply ≡ unchanged_reply tag) × (happenings ≡ [])
+MeansJudged failed tag Holds range reply happenings = MeansRange failed tag range reply happenings
+
+-- What is asked of the archive with this tag. There is no archive exactly if its length is 0.
+abbrev pub MeansArchive : (failed : Type 0) → (tag : EntityTag) → AskView → ReplyView → List Happening → Type 0
+MeansArchive failed tag ask reply happenings = ((tag.length ≡ 0) × MeansRefusal NotFound reply happenings)
+    ⊎ ((0 < tag.length) × MeansJudged failed tag (judged (tag_text tag) ask) ask.range reply happenings)
 
 -- ---- routed requests: old and new are what the service tells of itself before and after, failed says that its disk has failed meanwhile
 
@@ -157,10 +172,10 @@ abbrev pub MeansStatus : (failed : Type 0) → (new : Status) → ReplyView → 
 MeansStatus failed new = MeansChange failed check (λ outcome. status_reply new)
 
 -- what GET and HEAD show
-abbrev pub MeansView : (failed : Type 0) → (old new : Status) → View → Method → Option (List ℕ) → ReplyView → List Happening → Type 0
-MeansView failed old new views.Metadata method range = MeansCall metadata (shown_reply metadata_reply)
-MeansView failed old new views.Archive method range = OrNoMemory (MeansArchive failed (archive_tag old) (range_for method range))
-MeansView failed old new views.Status method range = OrNoMemory (MeansStatus failed new)
+abbrev pub MeansView : (failed : Type 0) → (old new : Status) → View → Method → AskView → ReplyView → List Happening → Type 0
+MeansView failed old new views.Metadata method ask = MeansCall metadata (shown_reply metadata_reply)
+MeansView failed old new views.Archive method ask = OrNoMemory (MeansArchive failed (archive_tag old) (ask_for method ask))
+MeansView failed old new views.Status method ask = OrNoMemory (MeansStatus failed new)
 
 -- what POST does
 abbrev pub MeansAction : (failed : Type 0) → (old new : Status) → Action → List ℕ → ReplyView → List Happening → Type 0
@@ -172,23 +187,23 @@ MeansAction failed old new actions.PublishStep body = OrNoMemory (MeansChange fa
 MeansAction failed old new actions.PublishCancel body = OrNoMemory (MeansCall cancel cancel_reply)
 
 -- a method that the path allows
-abbrev pub MeansAllowed : (failed : Type 0) → (old new : Status) → Asked → Method → Option (List ℕ) → List ℕ
+abbrev pub MeansAllowed : (failed : Type 0) → (old new : Status) → Asked → Method → AskView → List ℕ
     → ReplyView → List Happening → Type 0
-MeansAllowed failed old new (asked_tile z x y format) method range body = MeansCall (tile z x y) (shown_reply (content_reply format))
-MeansAllowed failed old new (asked_feature id) method range body = MeansOnFeature failed old.version id method body
-MeansAllowed failed old new (asked_from id) method range body = MeansCall (look_from id) (shown_reply numbered_reply)
-MeansAllowed failed old new (asked_view view) method range body = MeansView failed old new view method range
-MeansAllowed failed old new (asked_action action) method range body = MeansAction failed old new action body
-MeansAllowed failed old new asked_nothing method range body = MeansRefusal NotFound
+MeansAllowed failed old new (asked_tile z x y format) method ask body = MeansCall (tile z x y) (shown_reply (content_reply format))
+MeansAllowed failed old new (asked_feature id) method ask body = MeansOnFeature failed old.version id method body
+MeansAllowed failed old new (asked_from id) method ask body = MeansCall (look_from id) (shown_reply numbered_reply)
+MeansAllowed failed old new (asked_view view) method ask body = MeansView failed old new view method ask
+MeansAllowed failed old new (asked_action action) method ask body = MeansAction failed old new action body
+MeansAllowed failed old new asked_nothing method ask body = MeansRefusal NotFound
 
 -- a method, or why the path refuses it
-abbrev pub MeansMethod : (failed : Type 0) → (old new : Status) → Asked → Result Method RouteFault → Option (List ℕ) → List ℕ
+abbrev pub MeansMethod : (failed : Type 0) → (old new : Status) → Asked → Result Method RouteFault → AskView → List ℕ
     → ReplyView → List Happening → Type 0
-MeansMethod failed old new asked (Ok method) range body reply happenings =
-    MeansAllowed failed old new asked method range body reply happenings
-MeansMethod failed old new asked (Err routes.NotFound) range body reply happenings = MeansRefusal NotFound reply happenings
-MeansMethod failed old new asked (Err routes.NotAllowed) range body reply happenings = (reply ≡ not_allowed_reply asked) × (happenings ≡ [])
-MeansMethod failed old new asked (Err routes.Conditional) range body reply happenings = MeansRefusal Condition reply happenings
+MeansMethod failed old new asked (Ok method) ask body reply happenings =
+    MeansAllowed failed old new asked method ask body reply happenings
+MeansMethod failed old new asked (Err routes.NotFound) ask body reply happenings = MeansRefusal NotFound reply happenings
+MeansMethod failed old new asked (Err routes.NotAllowed) ask body reply happenings = (reply ≡ not_allowed_reply asked) × (happenings ≡ [])
+MeansMethod failed old new asked (Err routes.Conditional) ask body reply happenings = MeansRefusal Condition reply happenings
 
 -- what a request asks for by its path, where that is served
 abbrev pub asked_for : Access → RequestView → Asked
@@ -198,7 +213,7 @@ asked_for access request = granted access (asked_by request.path)
 abbrev pub Means : Access → (failed : Type 0) → (old new : Status) → RequestView → ReplyView → List Happening → Type 0
 Means access failed old new request =
     MeansMethod failed old new (asked_for access request) (method_on request.method request.conditional (asked_for access request))
-    request.range request.body
+    (ask_of request) request.body
 
 -- ---- a single reply
 
@@ -214,14 +229,14 @@ module _ {D : Type 0} (sectors : D → ℕ) (honest : D → Type 0) (history : D
   -- over a disk that counts its faults
   module _ (faults : D → ℕ) where
     -- the reply to a method that the path allows
-    abbrev pub AnswersAllowed : Asked → Method → Option (List ℕ) → List ℕ → (old new : ServiceView D) → ReplyView → Type 0
-    AnswersAllowed asked method range body old new =
-        Answers (MeansAllowed (DiskFailed faults old new) (status_of old) (status_of new) asked method range body) old new
+    abbrev pub AnswersAllowed : Asked → Method → AskView → List ℕ → (old new : ServiceView D) → ReplyView → Type 0
+    AnswersAllowed asked method ask body old new =
+        Answers (MeansAllowed (DiskFailed faults old new) (status_of old) (status_of new) asked method ask body) old new
 
     -- the reply to a method, or to one that the path refuses
-    abbrev pub AnswersMethod : Asked → Result Method RouteFault → Option (List ℕ) → List ℕ → (old new : ServiceView D) → ReplyView → Type 0
-    AnswersMethod asked method range body old new =
-        Answers (MeansMethod (DiskFailed faults old new) (status_of old) (status_of new) asked method range body) old new
+    abbrev pub AnswersMethod : Asked → Result Method RouteFault → AskView → List ℕ → (old new : ServiceView D) → ReplyView → Type 0
+    AnswersMethod asked method ask body old new =
+        Answers (MeansMethod (DiskFailed faults old new) (status_of old) (status_of new) asked method ask body) old new
 
     -- the reply to a request
     abbrev pub Replies : Access → ServiceView D → RequestView → ReplyView → ServiceView D → Type 0

@@ -1,21 +1,14 @@
 -- Parts of the published archive, selected by the header field Range (RFC 9110, 14), and the replies with them.
-use Rattle.std.specs.Prelude.{◌≡◌, ◌<◌, ◌≤◌, ◌+◌, ◌-◌, ℕ, min, List, codes, Option, Some, None}
+use Rattle.std.specs.Prelude.{◌≡◌, ◌<◌, ◌≤◌, ◌+◌, ◌-◌, ℕ, min, List, [], codes, Option, Some, None}
 use Rattle.http_values.specs.Ranges.{IsRange}
 use Rattle.http_serve.specs.Reply.{ReplyView}
 use Rattle.http_serve.specs.declared.replies.EntityTag.{EntityTag}
 use Rattle.http_serve.specs.declared.replies.ContentRange.TheVariants as ranges
-use Rattle.tile_routes.specs.declared.method.Method.{Method}
-use Rattle.tile_routes.specs.declared.method.Method.TheVariants.{Get}
 use Rattle.tile_service.specs.declared.fault.ServiceFault.TheVariants.{Device}
 use Rattle.tile_service.specs.declared.status.Status.{Status}
 use Rattle.map_replies.specs.declared.parts.ArchiveRange.{ArchiveRange}
 use Rattle.map_replies.specs.declared.parts.ArchiveRange.TheVariants.{Whole, Between, Beyond}
 use Rattle.map_replies.specs.Words.{text_type, service_refusal}
-
--- a range is ignored unless the method is GET (RFC 9110, 14.2)
-abbrev pub range_for : Method → Option (List ℕ) → Option (List ℕ)
-range_for Get range = range
-range_for method range = None
 
 -- the range asks for the bytes from first to last
 abbrev pub Asks : Option (List ℕ) → (first last : ℕ) → Type 0
@@ -62,7 +55,11 @@ part_reply (Between first last) tag content =
 part_reply Beyond tag content =
     record { status = 416; kind = Some text_type; range = Some (ranges.Unsatisfied tag.length); tag = None; allow = None; content = range_word }
 
--- the same if its bytes were read, or the refusal Device if the disk failed
+-- 304 Not Modified, with the tag of the archive that the client has
+abbrev pub unchanged_reply : EntityTag → ReplyView
+unchanged_reply tag = record { status = 304; kind = None; range = None; tag = Some tag; allow = None; content = [] }
+
+-- the reply with a part if its bytes were read, or the refusal Device if the disk failed
 abbrev pub bytes_reply : ArchiveRange → (tag : EntityTag) → Option (List ℕ) → ReplyView
 bytes_reply part tag None = service_refusal Device
 bytes_reply part tag (Some content) = part_reply part tag content

@@ -1,6 +1,7 @@
 -- Replies that send the archive in parts.
 use Rattle.std.specs.Prelude.{◌≡◌, ◌<◌, ◌≤◌, ℕ, List, [], length, Option, Some, None, Result, Ok, Err, ⊤}
 use Rattle.http_serve.specs.Reply.{ReplyView, IsReply, InParts, FitsParts, content_bytes, reply_view}
+use Rattle.http_serve.specs.Tags.{tag_text}
 use Rattle.http_serve.specs.declared.replies.Content.{Content}
 use Rattle.http_serve.specs.declared.replies.Reply.{Reply}
 use Rattle.sector_disk.specs.Disk.{History}
@@ -16,7 +17,9 @@ use Rattle.map_replies.specs.declared.parts.ArchiveRange.{ArchiveRange}
 use Rattle.map_replies.specs.declared.parts.ArchiveRange.TheVariants.{Whole, Between, Beyond}
 use Rattle.map_replies.specs.declared.parts.Sending.{Sending}
 use Rattle.map_replies.specs.Meanings.{MeansPart, Answers, DiskFailed}
-use Rattle.map_replies.specs.Parts.{range_for, IsPart, start_of, size_of, archive_tag, part_reply}
+use Rattle.map_replies.specs.Conditions.{AskView, ask_for, judged}
+use Rattle.map_replies.specs.declared.conditions.Judged.TheVariants.{Holds}
+use Rattle.map_replies.specs.Parts.{IsPart, start_of, size_of, archive_tag, part_reply}
 use Rattle.map_replies.specs.Words.{refusal_of}
 
 -- a result is a reply that isn't sent in parts and satisfies P, or a fault whose refusal satisfies P
@@ -78,12 +81,16 @@ module _ {D : Type 0} (sectors : D → ℕ) (honest : D → Type 0) (history : D
       pub asked : IsPart range old.archive_len part
       pub sends : SendsPart part old sending new reply
 
+    -- the same for what a request asks: its conditions hold
+    abbrev pub SendsAsked : AskView → (old : ServiceView D) → Sending → (new : ServiceView D) → ReplyView → Type 0
+    SendsAsked ask old sending new reply = (judged (tag_text (archive_tag (status_of old))) ask ≡ Holds) × IsSending ask.range old sending new reply
+
     -- the same for a method that the path allows: the path is that of the archive
-    abbrev pub SendsAllowed : Asked → Method → Option (List ℕ) → (old : ServiceView D) → Sending → (new : ServiceView D) → ReplyView → Type 0
-    SendsAllowed asked method range old sending new reply = (asked ≡ asked_view Archive) × IsSending (range_for method range) old sending new reply
+    abbrev pub SendsAllowed : Asked → Method → AskView → (old : ServiceView D) → Sending → (new : ServiceView D) → ReplyView → Type 0
+    SendsAllowed asked method ask old sending new reply = (asked ≡ asked_view Archive) × SendsAsked (ask_for method ask) old sending new reply
 
     -- the same for a method, or one that the path refuses: it allows this one
-    abbrev pub SendsMethod : Asked → Result Method RouteFault → Option (List ℕ) → (old : ServiceView D) → Sending → (new : ServiceView D) → ReplyView
+    abbrev pub SendsMethod : Asked → Result Method RouteFault → AskView → (old : ServiceView D) → Sending → (new : ServiceView D) → ReplyView
         → Type 0
-    SendsMethod asked result range old sending new reply =
-        (method : Method) × (result ≡ Ok method) × SendsAllowed asked method range old sending new reply
+    SendsMethod asked result ask old sending new reply =
+        (method : Method) × (result ≡ Ok method) × SendsAllowed asked method ask old sending new reply

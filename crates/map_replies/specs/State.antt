@@ -9,6 +9,7 @@ use Rattle.tile_service.specs.Runs.{TakesAll}
 use Rattle.tile_service.specs.Service.{ServiceView, status_of}
 use Rattle.map_replies.specs.declared.calls.Calls.{Calls}
 use Rattle.map_replies.specs.declared.service.MapReplies.{MapReplies}
+use Rattle.map_replies.specs.Conditions.{ask_of}
 use Rattle.map_replies.specs.Meanings.{Means, asked_for, DiskFailed, Replies}
 use Rattle.map_replies.specs.Sending.{SendsMethod}
 use Rattle.map_replies.specs.Tickets.{ticket_for, KeepsTickets, ReadsRest}
@@ -46,7 +47,7 @@ module _ {D : Type 0} (sectors : D → ℕ) (honest : D → Type 0) (history : D
   abbrev pub ServiceSends : MapReplies D → RequestView → ReplyView → MapReplies D → Type 0
   ServiceSends old request reply new =
       SendsMethod sectors honest history faults (asked_for (access_of old) request)
-      (method_on request.method request.conditional (asked_for (access_of old) request)) request.range
+      (method_on request.method request.conditional (asked_for (access_of old) request)) (ask_of request)
       (asked_service old) new.calls.sending (asked_service new) reply
       × (access_of new ≡ access_of old) × KeepsTickets honest history old.calls new.calls
 

@@ -5,14 +5,16 @@ ghost use Rattle.sector_disk.specs.Disk.{HasFailed};
 ghost use Rattle.tile_service.specs.Machine.{read};
 ghost use Rattle.tile_service.specs.Runs.{Takes};
 ghost use Rattle.tile_service.specs.Service.{status_of};
-ghost use Rattle.map_replies.specs.Meanings.{OrNoMemory, MeansArchive, Answers, DiskFailed};
+ghost use Rattle.map_replies.specs.Conditions.{ask_view};
+ghost use Rattle.map_replies.specs.Meanings.{OrNoMemory, MeansArchive, MeansRange, Answers, DiskFailed};
 ghost use Rattle.http_serve.specs.Parts.{read_outcome};
-ghost use Rattle.map_replies.specs.Sending.{IsAnsweredInParts, BeginsOrFails, AnswersPart, IsSending};
+ghost use Rattle.map_replies.specs.Sending.{IsAnsweredInParts, BeginsOrFails, AnswersPart, IsSending, SendsAsked};
 ghost use Rattle.map_replies.specs.Parts.{archive_tag};
 ghost use Rattle.map_replies.specs.State.{sent_by};
 ghost use Rattle.map_replies.specs.Tickets.{KeepsTickets};
 
 use crate::calls::Calls;
+use crate::conditions::{ArchiveAsk, Judged, judge};
 use crate::fault::RequestFault;
 use crate::parts::{self, ArchiveRange, Sending, begin_size, part_of};
 use http_serve::{Content, ContentFault, EntityTag, Reply};
@@ -120,18 +122,39 @@ impl<D: Sectors + Drop> Calls<D> {
         }
     }
 
-    /// The part of the archive that a range selects. Nothing is read if only the head is sent.
-    pub(crate) fn archive(
+    /// The part that a range selects of the archive, which has this tag. Nothing is read if only the head is sent.
+    fn archive_in(
         &mut self,
         range: Option<&[u8]>,
+        tag: EntityTag,
         bare: bool,
     ) -> Result<Reply, RequestFault>
+        requires tag { tag ≡ archive_tag (status_of self.old.service) }
+        requires some { 0 < tag.length }
         ensures answered { IsAnsweredInParts
             (Answers D.sectors D.honest D.history
-            (OrNoMemory (MeansArchive (DiskFailed D.faults self.old.service self.new.service) (archive_tag (status_of self.old.service))
+            (OrNoMemory (MeansRange (DiskFailed D.faults self.old.service self.new.service) (archive_tag (status_of self.old.service))
             (option_map (λ value. value.now) range.entry)))
             self.old.service self.new.service)
             (IsSending D.sectors D.honest D.history D.faults (option_map (λ value. value.now) range.entry)
+            self.old.service self.new.sending self.new.service) result }
+        ensures words { IfOk result (λ reply. HasShortWords (head_view reply)) }
+        ensures held { KeepsTickets D.honest D.history self.old self.new }
+    {
+        match part_of(range, tag.length) {
+            ArchiveRange::Whole => self.whole_archive(tag, bare),
+            ArchiveRange::Between { first, last } => self.archive_part(first, last, tag, bare),
+            ArchiveRange::Beyond => Ok(parts::beyond(tag)),
+        }
+    }
+
+    /// What is asked of the archive. Nothing is read if only the head is sent.
+    pub(crate) fn archive(&mut self, ask: ArchiveAsk<'_>, bare: bool) -> Result<Reply, RequestFault>
+        ensures answered { IsAnsweredInParts
+            (Answers D.sectors D.honest D.history
+            (OrNoMemory (MeansArchive (DiskFailed D.faults self.old.service self.new.service) (archive_tag (status_of self.old.service))
+            (ask_view ask.entry))) self.old.service self.new.service)
+            (SendsAsked D.sectors D.honest D.history D.faults (ask_view ask.entry)
             self.old.service self.new.sending self.new.service) result }
         ensures words { IfOk result (λ reply. HasShortWords (head_view reply)) }
         ensures held { KeepsTickets D.honest D.history self.old self.new }
@@ -140,10 +163,11 @@ impl<D: Sectors + Drop> Calls<D> {
         if tag.length == 0 {
             return Err(RequestFault::NotFound);
         }
-        match part_of(range, tag.length) {
-            ArchiveRange::Whole => self.whole_archive(tag, bare),
-            ArchiveRange::Between { first, last } => self.archive_part(first, last, tag, bare),
-            ArchiveRange::Beyond => Ok(parts::beyond(tag)),
+        match judge(self.alloc, tag, ask) {
+            Ok(Judged::Holds) => self.archive_in(ask.range, tag, bare),
+            Ok(Judged::Fails) => Err(RequestFault::Condition),
+            Ok(Judged::Unchanged) => Ok(parts::unchanged(tag)),
+            Err(AllocError) => Err(RequestFault::Memory),
         }
     }
 

@@ -1,15 +1,17 @@
 //! What is asked of the service at each path.
-ghost use Rattle.std.specs.Prelude.{IfOk, option_map};
+ghost use Rattle.std.specs.Prelude.{IfOk};
 ghost use Rattle.http_serve.specs.Reply.{head_view, HasShortWords, IsWhole};
 ghost use Rattle.tile_routes.specs.Paths.{asked_view};
 ghost use Rattle.tile_routes.specs.Targets.{asked_of};
 ghost use Rattle.tile_service.specs.Service.{status_of};
+ghost use Rattle.map_replies.specs.Conditions.{ask_view};
 ghost use Rattle.map_replies.specs.Meanings.{MeansOnFeature, MeansView, MeansAction, Answers, AnswersAllowed, AnswersMethod, DiskFailed};
 ghost use Rattle.map_replies.specs.Sending.{IsAnswered, IsAnsweredInParts, SendsAllowed, SendsMethod};
 ghost use Rattle.map_replies.specs.Tickets.{KeepsTickets};
 
+use crate::conditions::ArchiveAsk;
 use crate::fault::RequestFault;
-use crate::parts::{Sending, is_head, range_for};
+use crate::parts::{Sending, is_head};
 use crate::replies;
 use http_serve::Reply;
 use sector_disk::Sectors;
@@ -50,20 +52,20 @@ impl<D: Sectors + Drop> Calls<D> {
         &mut self,
         view: View,
         method: Method,
-        range: Option<&[u8]>,
+        ask: ArchiveAsk<'_>,
     ) -> Result<Reply, RequestFault>
         ensures answered { IsAnsweredInParts
             (Answers D.sectors D.honest D.history (MeansView (DiskFailed D.faults self.old.service self.new.service)
-            (status_of self.old.service) (status_of self.new.service) view method (option_map (λ value. value.now) range.entry))
+            (status_of self.old.service) (status_of self.new.service) view method (ask_view ask.entry))
             self.old.service self.new.service)
             (SendsAllowed D.sectors D.honest D.history D.faults (asked_view view) method
-            (option_map (λ value. value.now) range.entry) self.old.service self.new.sending self.new.service) result }
+            (ask_view ask.entry) self.old.service self.new.sending self.new.service) result }
         ensures words { IfOk result (λ reply. HasShortWords (head_view reply)) }
         ensures held { KeepsTickets D.honest D.history self.old self.new }
     {
         match view {
             View::Metadata => self.metadata(),
-            View::Archive => self.archive(range_for(method, range), is_head(method)),
+            View::Archive => self.archive(ask.with(method), is_head(method)),
             View::Status => self.status(),
         }
     }
@@ -93,14 +95,14 @@ impl<D: Sectors + Drop> Calls<D> {
         &mut self,
         target: Target,
         method: Method,
-        range: Option<&[u8]>,
+        ask: ArchiveAsk<'_>,
         body: &[u8],
     ) -> Result<Reply, RequestFault>
         ensures answered { IsAnsweredInParts
             (AnswersAllowed D.sectors D.honest D.history D.faults (asked_of target) method
-            (option_map (λ value. value.now) range.entry) body.now self.old.service self.new.service)
+            (ask_view ask.entry) body.now self.old.service self.new.service)
             (SendsAllowed D.sectors D.honest D.history D.faults (asked_of target) method
-            (option_map (λ value. value.now) range.entry) self.old.service self.new.sending self.new.service) result }
+            (ask_view ask.entry) self.old.service self.new.sending self.new.service) result }
         ensures words { IfOk result (λ reply. HasShortWords (head_view reply)) }
         ensures held { KeepsTickets D.honest D.history self.old self.new }
     {
@@ -108,7 +110,7 @@ impl<D: Sectors + Drop> Calls<D> {
             Target::Tile(at, format) => self.tile(at, format),
             Target::Feature(id) => self.on_feature(id, method, body),
             Target::FeatureFrom(id) => self.feature_from(id),
-            Target::View(view) => self.on_view(view, method, range),
+            Target::View(view) => self.on_view(view, method, ask),
             Target::Action(action) => self.on_action(action, body),
             Target::Nothing => Err(RequestFault::NotFound),
         }
@@ -119,19 +121,19 @@ impl<D: Sectors + Drop> Calls<D> {
         &mut self,
         target: Target,
         method: Result<Method, RouteFault>,
-        range: Option<&[u8]>,
+        ask: ArchiveAsk<'_>,
         body: &[u8],
     ) -> Result<Reply, RequestFault>
         ensures answered { IsAnsweredInParts
             (AnswersMethod D.sectors D.honest D.history D.faults (asked_of target) method
-            (option_map (λ value. value.now) range.entry) body.now self.old.service self.new.service)
+            (ask_view ask.entry) body.now self.old.service self.new.service)
             (SendsMethod D.sectors D.honest D.history D.faults (asked_of target) method
-            (option_map (λ value. value.now) range.entry) self.old.service self.new.sending self.new.service) result }
+            (ask_view ask.entry) self.old.service self.new.sending self.new.service) result }
         ensures words { IfOk result (λ reply. HasShortWords (head_view reply)) }
         ensures held { KeepsTickets D.honest D.history self.old self.new }
     {
         match method {
-            Ok(method) => self.allowed(target, method, range, body),
+            Ok(method) => self.allowed(target, method, ask, body),
             Err(RouteFault::NotFound) => Err(RequestFault::NotFound),
             Err(RouteFault::NotAllowed) => Ok(replies::not_allowed(target)),
             Err(RouteFault::Conditional) => Err(RequestFault::Condition),

@@ -5,6 +5,7 @@ mod archives;
 mod bodies;
 mod calls;
 mod checking;
+mod conditions;
 mod downloads;
 mod editing;
 mod fault;

@@ -3,7 +3,7 @@ ghost use Rattle.std.specs.Prelude.{◌≡◌, ◌<◌, ◌≤◌, ℕ, List, []
 ghost use Rattle.http_serve.specs.Reply.{content_bytes, reply_view, head_view, HasShortWords, IsWhole};
 ghost use Rattle.tile_service.specs.declared.fault.ServiceFault.TheVariants.{Device};
 ghost use Rattle.map_replies.specs.declared.parts.TheConstants.{FIRST_BYTES};
-ghost use Rattle.map_replies.specs.Parts.{range_for, IsPart, octets_type, range_word, part_reply};
+ghost use Rattle.map_replies.specs.Parts.{IsPart, octets_type, range_word, part_reply, unchanged_reply};
 ghost use Rattle.map_replies.specs.Words.{text_type, service_refusal};
 
 use http_serve::{Content, ContentRange, EntityTag, Reply, Status};
@@ -20,16 +20,6 @@ pub(crate) enum ArchiveRange {
     Between { first: u64, last: u64 },
     /// The range starts after the last byte.
     Beyond,
-}
-
-/// The range for GET, else `None` (RFC 9110, 14.2).
-pub(crate) fn range_for(method: Method, range: Option<&[u8]>) -> Option<&[u8]>
-    ensures { option_map (λ value. value.now) result ≡ range_for method (option_map (λ value. value.now) range.entry) }
-{
-    match method {
-        Method::Get => range,
-        _ => None,
-    }
 }
 
 /// Whether a method is HEAD, whose replies have no body.
@@ -129,6 +119,21 @@ pub(crate) fn beyond(tag: EntityTag) -> Reply
         tag: None,
         allow: None,
         content: Content::Fixed(b"Range\n"),
+    }
+}
+
+/// The reply to a client that has the archive with this tag.
+pub(crate) fn unchanged(tag: EntityTag) -> Reply
+    ensures reply { reply_view [] result ≡ unchanged_reply tag }
+    ensures writable { IsWhole result }
+{
+    Reply {
+        status: Status::NotModified,
+        kind: None,
+        range: None,
+        tag: Some(tag),
+        allow: None,
+        content: Content::Empty,
     }
 }
 

@@ -4,6 +4,7 @@ ghost use Rattle.http_serve.specs.declared.connection.TheConstants.{MAX_READS};
 ghost use Rattle.map_replies.specs.Served.{ServesMap};
 
 use crate::calls::Calls;
+use crate::conditions::ArchiveAsk;
 use crate::parts::Sending;
 use crate::replies;
 use http_serve::{
@@ -70,10 +71,12 @@ impl<D: Sectors + Drop> Handler for MapReplies<D> {
     fn answer(&mut self, request: &Request<'_>) -> Reply {
         let target = self.routes.target(request.path).granted(self.access);
         let method = target.method(request.method, request.conditional);
-        match self
-            .calls
-            .respond(target, method, request.range, request.body)
-        {
+        let ask = ArchiveAsk {
+            range: request.range,
+            if_match: request.if_match,
+            if_none_match: request.if_none_match,
+        };
+        match self.calls.respond(target, method, ask, request.body) {
             Ok(reply) => reply,
             Err(fault) => replies::refusal(fault),
         }

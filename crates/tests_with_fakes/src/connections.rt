@@ -10,7 +10,7 @@ mod fields;
 use crate::streams::{Gives, Takes, take_from};
 use http_serve::{
     Buffers, Content, ContentFault, ContentRange, EntityTag, Handler, Reply, Request, ServeFault,
-    Served, Status, serve_with,
+    Served, Status, names_tag, serve_with,
 };
 use std::alloc::{AllocError, Global};
 use std::cell::Cell;
@@ -71,6 +71,8 @@ fn echo_reply(alloc: Global, request: &Request<'_>) -> Reply
         outside_all()
     } else if request.path == b"/none".as_slice() {
         no_content()
+    } else if is_known(alloc, request) {
+        unchanged()
     } else {
         whole_reply(alloc, request)
     }
@@ -95,6 +97,38 @@ fn no_content() -> Reply
     Reply::plain(Status::NoContent, Some("text/plain"), content)
 }
 
+/// The entity tag of 1,234 bytes.
+const WHOLE: EntityTag = EntityTag {
+    generation: 3,
+    edit: 42,
+    length: 1_234,
+};
+
+/// Whether the client has them already, by its field if-none-match.
+fn is_known(alloc: Global, request: &Request<'_>) -> bool {
+    let Some(value) = request.if_none_match else {
+        return false;
+    };
+    match WHOLE.text(alloc) {
+        Ok(tag) => names_tag(true, tag.as_slice(), value),
+        Err(_) => false,
+    }
+}
+
+/// The reply for a client that has them. Of its content only the tag is sent.
+fn unchanged() -> Reply
+    ensures { IsWhole result }
+{
+    Reply {
+        status: Status::NotModified,
+        kind: Some("text/plain"),
+        range: Some(ContentRange::Unsatisfied { total: 1_234 }),
+        tag: Some(WHOLE),
+        allow: None,
+        content: Content::Fixed(b"never sent"),
+    }
+}
+
 /// A part of 1,234 bytes.
 fn part_of_all() -> Reply
     ensures { IsWhole result }
@@ -107,11 +141,7 @@ fn part_of_all() -> Reply
             last: 43,
             total: 1_234,
         }),
-        tag: Some(EntityTag {
-            generation: 3,
-            edit: 42,
-            length: 1_234,
-        }),
+        tag: Some(WHOLE),
         allow: None,
         content: Content::Fixed(b"42"),
     }

@@ -28,7 +28,8 @@ returns c =
     let stated = sym c.framing.ensures ∙ c.in-Ok.is in
     spans_frame c.args.bytes.now c.args.fields.now c.args.head.now r.is.0 r.is.1 r.within r.size r.room c.in-Ok.size stated c.if-end-bytes.false
     c.asks_to_close.result c.asks_to_close.ensures c.range_of.result c.range_of.ensures.within c.range_of.ensures.value
-    c.is_conditional.result c.is_conditional.ensures
+    c.is_conditional.result c.is_conditional.ensures c.only_field.result c.only_field.ensures.within c.only_field.ensures.value
+    c.only_field-2.result c.only_field-2.ensures.within c.only_field-2.ensures.value
 
 pub returns-in-Err : goal.returns-in-Err
 returns-in-Err c =

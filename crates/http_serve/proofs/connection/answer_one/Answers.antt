@@ -15,6 +15,8 @@ returns-clause-reply g c =
       path = c.path_of.result.now;
       range = option_map (λ range. range.now) c.part_of.result;
       conditional = c.args.frame.now.conditional;
+      if_match = option_map (λ value. value.now) c.part_of-2.result;
+      if_none_match = option_map (λ value. value.now) c.part_of-3.result;
       body = c.of-2.result.now;
       close = c.args.frame.now.close;
     } in
@@ -23,6 +25,8 @@ returns-clause-reply g c =
       path = (c.path_of.ensures ∙ ap path_of c.of.ensures) i;
       range = c.part_of.ensures i;
       conditional = c.args.frame.now.conditional;
+      if_match = c.part_of-2.ensures i;
+      if_none_match = c.part_of-3.ensures i;
       body = c.of-2.ensures i;
       close = c.args.frame.now.close;
     } in
@@ -47,6 +51,8 @@ returns-clause-stopped g c =
       path = c.path_of.result.now;
       range = option_map (λ range. range.now) c.part_of.result;
       conditional = c.args.frame.now.conditional;
+      if_match = option_map (λ value. value.now) c.part_of-2.result;
+      if_none_match = option_map (λ value. value.now) c.part_of-3.result;
       body = c.of-2.result.now;
       close = c.args.frame.now.close;
     } in
@@ -55,6 +61,8 @@ returns-clause-stopped g c =
       path = (c.path_of.ensures ∙ ap path_of c.of.ensures) i;
       range = c.part_of.ensures i;
       conditional = c.args.frame.now.conditional;
+      if_match = c.part_of-2.ensures i;
+      if_none_match = c.part_of-3.ensures i;
       body = c.of-2.ensures i;
       close = c.args.frame.now.close;
     } in
@@ -86,6 +94,12 @@ of-requires-clause-in_range g c = c.requires.target.1
 
 pub part_of-requires : goal.part_of-requires
 part_of-requires g c = c.requires.range
+
+pub part_of-requires-2 : goal.part_of-requires-2
+part_of-requires-2 g c = c.requires.if_match
+
+pub part_of-requires-3 : goal.part_of-requires-3
+part_of-requires-3 g c = c.requires.if_none_match
 
 pub of-requires-2-clause-ordered : goal.of-requires-2-clause-ordered
 of-requires-2-clause-ordered g c = c.requires.body.0

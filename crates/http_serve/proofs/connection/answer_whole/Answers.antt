@@ -187,6 +187,14 @@ pub answer_one-requires-clause-range : goal.answer_one-requires-clause-range
 answer_one-requires-clause-range g c =
     (found_again _ _ _ c.in-Whole.frame c.waiting.ensures c.waiting-waiting.ensures c.in-Whole.ensures.next).1.range_within
 
+pub answer_one-requires-clause-if_match : goal.answer_one-requires-clause-if_match
+answer_one-requires-clause-if_match g c =
+    (found_again _ _ _ c.in-Whole.frame c.waiting.ensures c.waiting-waiting.ensures c.in-Whole.ensures.next).1.if_match_within
+
+pub answer_one-requires-clause-if_none_match : goal.answer_one-requires-clause-if_none_match
+answer_one-requires-clause-if_none_match g c =
+    (found_again _ _ _ c.in-Whole.frame c.waiting.ensures c.waiting-waiting.ensures c.in-Whole.ensures.next).1.if_none_match_within
+
 pub answer_one-requires-clause-room : goal.answer_one-requires-clause-room
 answer_one-requires-clause-room g c = c.requests.session.room
 

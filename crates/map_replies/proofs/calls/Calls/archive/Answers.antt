@@ -1,43 +1,39 @@
-use Rattle.std.proofs.Common.{◌∙◌, ℕ, [], inl, inr, refl, ap, subst, arith}
-use Rattle.std.specs.Prelude.{option_map}
+use Rattle.std.proofs.Common.{◌<◌, ◌∙◌, sym, ap, arith}
+use Rattle.http_serve.specs.Tags.{tag_text}
 use Rattle.http_serve.specs.declared.replies.EntityTag.{EntityTag}
-use Rattle.map_replies.specs.declared.parts.ArchiveRange.TheVariants.{Whole, Between, Beyond}
-use Rattle.map_replies.specs.Parts.{IsPart, part_reply}
-use Rattle.map_replies.proofs.SendingLemmas.{archive_answered, whole_is}
+use Rattle.map_replies.specs.Conditions.{ask_view, judged}
+use Rattle.map_replies.specs.Parts.{unchanged_reply}
+use Rattle.map_replies.proofs.SendingLemmas.{answered_on, range_answers, other_wanted, is_there, whole_is}
 use Rattle.map_replies.proofs.calls.Calls.archive.Goals as goal
 
-pub returns-in-Beyond-clause-answered : goal.returns-in-Beyond-clause-answered
-returns-in-Beyond-clause-answered g c =
-    let tag = c.archive_tag-tag.ensures in
-    let total = ap (λ (t : EntityTag). t.length) tag in
-    whole_is _ _ c.beyond.result c.beyond.ensures.writable (
-      [],
-      inl (inr (
-        omega (arith, total, c.if-tag-eq0.false),
-        Beyond,
-        subst (λ (n : ℕ). IsPart (option_map (λ value. value.now) c.args.range) n Beyond) total c.in-Beyond.ensures,
-        (c.beyond.ensures.reply ∙ ap (λ (t : EntityTag). part_reply Beyond t []) tag, refl),
-      )),
-      refl,
-    )
-
-pub returns-in-Whole-clause-answered : goal.returns-in-Whole-clause-answered
-returns-in-Whole-clause-answered g c =
+pub returns-in-Ok-Holds-clause-answered : goal.returns-in-Ok-Holds-clause-answered
+returns-in-Ok-Holds-clause-answered g c =
     let d = g.D.Sectors in
-    let tag = c.archive_tag-tag.ensures in
-    let total = ap (λ (t : EntityTag). t.length) tag in
-    let range = option_map (λ value. value.now) c.args.range in
-    archive_answered d.sectors d.honest d.history d.faults range c.args.self.now.service c.whole_archive.new.self.sending
-    c.whole_archive.new.self.service Whole c.whole_archive.result (omega (arith, total, c.if-tag-eq0.false))
-    (subst (λ (n : ℕ). IsPart range n Whole) total c.in-Whole.ensures) c.whole_archive.ensures.answered c.whole_archive.ensures.refused
+    let old = c.args.self.now.service in
+    let ask = ask_view c.args.ask in
+    let some : 0 < old.archive_len = omega (arith, ap (λ (t : EntityTag). t.length) c.archive_tag-tag.ensures, c.if-tag-eq0.false) in
+    let holds = ap (λ (t : EntityTag). judged (tag_text t) ask) (sym c.archive_tag-tag.ensures) ∙ sym c.in-Ok-Holds.ensures ∙ c.in-Ok-Holds.field-0-is in
+    answered_on _ _ _ _ c.archive_in.result
+    (λ view means. range_answers d.sectors d.honest d.history d.faults ask old c.archive_in.new.self.sending c.archive_in.new.self.service view
+    some holds means)
+    (λ view is. (holds, is)) c.archive_in.ensures.answered
 
-pub returns-in-Between-clause-answered : goal.returns-in-Between-clause-answered
-returns-in-Between-clause-answered g c =
+pub returns-in-Ok-Fails-clause-answered : goal.returns-in-Ok-Fails-clause-answered
+returns-in-Ok-Fails-clause-answered g c =
     let d = g.D.Sectors in
-    let tag = c.archive_tag-tag.ensures in
-    let total = ap (λ (t : EntityTag). t.length) tag in
-    let range = option_map (λ value. value.now) c.args.range in
-    let part = Between c.in-Between.first c.in-Between.last in
-    archive_answered d.sectors d.honest d.history d.faults range c.args.self.now.service c.archive_part.new.self.sending
-    c.archive_part.new.self.service part c.archive_part.result (omega (arith, total, c.if-tag-eq0.false))
-    (subst (λ (n : ℕ). IsPart range n part) total c.in-Between.ensures) c.archive_part.ensures.answered c.archive_part.ensures.refused
+    let old = c.args.self.now.service in
+    let ask = ask_view c.args.ask in
+    let some : 0 < old.archive_len = omega (arith, ap (λ (t : EntityTag). t.length) c.archive_tag-tag.ensures, c.if-tag-eq0.false) in
+    other_wanted d.sectors d.honest d.history d.faults ask old c.args.self.now.sending some
+    (ap (λ (t : EntityTag). judged (tag_text t) ask) (sym c.archive_tag-tag.ensures) ∙ sym c.in-Ok-Fails.ensures ∙ c.in-Ok-Fails.field-0-is)
+
+pub returns-in-Ok-Unchanged-clause-answered : goal.returns-in-Ok-Unchanged-clause-answered
+returns-in-Ok-Unchanged-clause-answered g c =
+    let d = g.D.Sectors in
+    let old = c.args.self.now.service in
+    let ask = ask_view c.args.ask in
+    let some : 0 < old.archive_len = omega (arith, ap (λ (t : EntityTag). t.length) c.archive_tag-tag.ensures, c.if-tag-eq0.false) in
+    whole_is _ _ c.unchanged.result c.unchanged.ensures.writable
+    (is_there d.sectors d.honest d.history d.faults ask old c.args.self.now.sending some _
+    (ap (λ (t : EntityTag). judged (tag_text t) ask) (sym c.archive_tag-tag.ensures) ∙ sym c.in-Ok-Unchanged.ensures ∙ c.in-Ok-Unchanged.field-0-is)
+    (c.unchanged.ensures.reply ∙ ap unchanged_reply c.archive_tag-tag.ensures))

@@ -1,9 +1,9 @@
 use Rattle.std.proofs.Common.{◌≡◌, [], Result, Ok, Err, refl, sym, ap, subst, ◌∙◌}
-use Rattle.std.specs.Prelude.{option_map}
 use Rattle.tile_routes.specs.declared.fault.RouteFault.{RouteFault}
 use Rattle.tile_routes.specs.declared.fault.RouteFault.TheVariants as routes
 use Rattle.tile_routes.specs.declared.method.Method.{Method}
 use Rattle.tile_routes.specs.Targets.{asked_of}
+use Rattle.map_replies.specs.Conditions.{ask_view}
 use Rattle.map_replies.specs.Meanings.{AnswersMethod}
 use Rattle.map_replies.specs.Sending.{IsAnsweredInParts, SendsMethod}
 use Rattle.map_replies.proofs.SendingLemmas.{answered_on, whole_is}
@@ -26,11 +26,11 @@ returns-in-Err-NotAllowed-clause-answered g c =
     let old = c.args.self.now.service in
     let sending = c.args.self.now.sending in
     let asked = asked_of c.args.target in
-    let range = option_map (λ value. value.now) c.args.range in
+    let ask = ask_view c.args.ask in
     let body = c.args.body.now in
     let same : c.in-Err-NotAllowed.field-0 ≡ routes.NotAllowed = rw c.in-Err-NotAllowed.is at c.in-Err-NotAllowed.field-0-is in
     of_not_allowed
-    (λ m. IsAnsweredInParts (AnswersMethod d.sectors d.honest d.history d.faults asked m range body old old)
-    (SendsMethod d.sectors d.honest d.history d.faults asked m range old sending old) (Ok c.not_allowed.result))
+    (λ m. IsAnsweredInParts (AnswersMethod d.sectors d.honest d.history d.faults asked m ask body old old)
+    (SendsMethod d.sectors d.honest d.history d.faults asked m ask old sending old) (Ok c.not_allowed.result))
     _ _ c.in-Err-NotAllowed.is same
     (whole_is _ _ c.not_allowed.result c.not_allowed.ensures.writable ([], (c.not_allowed.ensures.reply, refl), refl))
