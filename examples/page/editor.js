@@ -39,7 +39,9 @@ export class Editor {
 
     /** Begins to draw a new feature. */
     draw(kind) {
-        const layer = this.layers().find(({ id }) => !isOutline(id)) ?? { id: "", minzoom: 10, maxzoom: 16 };
+        // A layer of which the style draws such features, if there is one.
+        const layers = this.layers().filter(({ id }) => !isOutline(id)), drawn = layers.find(({ id }) => this.view.style.draws(id, kind));
+        const layer = drawn ?? layers[0] ?? { id: "", minzoom: 10, maxzoom: 16 };
         const feature = { layer: layer.id, minzoom: layer.minzoom, maxzoom: layer.maxzoom, geometry: begun(kind), tags: { name: "" } };
         this.draft = { id: null, isNew: true, was: null, sent: [], feature, undo: [], isDrawn: true };
         const how = hint("A double click or Enter ends it, Backspace removes the last point.");
@@ -150,9 +152,9 @@ export class Editor {
 
     /** Moves the map so that the panel doesn't cover a feature. */
     uncover({ geometry }) {
-        const [west, north, east, south] = bounds(pointsOf(geometry)), [x] = this.view.toScreen([(west + east) / 2, (north + south) / 2]);
-        const over = x - (2 * this.view.middle[0] - covered() - 40);
-        over > 0 ? this.view.move([this.view.centre[0] + over / this.view.scale, this.view.centre[1]]) : this.view.redraw();
+        const [west, north, east, south] = bounds(pointsOf(geometry)), { view } = this;
+        const over = view.toScreen([(west + east) / 2, (north + south) / 2]).map((at, axis) => at - (2 * view.middle[axis] - covered()[axis] - 40));
+        over.some(pixels => pixels > 0) ? view.move(view.centre.map((at, axis) => at + Math.max(over[axis], 0) / view.scale)) : view.redraw();
     }
 
     drop() {

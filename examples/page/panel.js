@@ -35,14 +35,18 @@ export function button(name, action) {
 export function open(title, ...parts) {
     panel.replaceChildren(element("h2", {}, title), ...parts);
     panel.hidden = false;
+    panel.scrollTop = 0;
 }
 
 export function close() {
     panel.hidden = true;
 }
 
-/** The pixels at the right of the page that the panel covers. */
-export const covered = () => panel.hidden ? 0 : panel.offsetWidth + 20;
+/** The pixels that the panel covers at the right of the page, and at its bottom: it is there on a narrow screen. */
+export function covered() {
+    const { left, top } = panel.getBoundingClientRect(), isBelow = left < 20;
+    return panel.hidden ? [0, 0] : isBelow ? [0, innerHeight - top + 10] : [innerWidth - left + 10, 0];
+}
 
 export function tell(text, isFault = false) {
     Object.assign(byId("told"), { textContent: text, className: isFault ? "fault" : "" });

@@ -32,6 +32,11 @@ export class Style {
         return this.hidden.has(plain(layer)) ? -1 : this.rules.indexOf(this.rulesOf(layer).find(isOf));
     }
 
+    /** Whether a rule of a layer draws features of a kind. */
+    draws(layer, kind) {
+        return this.rulesOf(layer).some(rule => rule[{ points: "point", lines: "line", polygons: "area" }[kind]]);
+    }
+
     /** The colour that the legend shows of a layer. */
     colourOf(layer) {
         return this.rulesOf(layer).map(rule => rule.area ?? rule.line ?? rule.point)[0];

@@ -191,11 +191,13 @@ export class View {
         const place = event => [event.offsetX, event.offsetY];
         let drag = null;
         const on = (name, action) => this.canvas.addEventListener(name, action);
-        on("pointerdown", event => {
+        // Of several fingers the first one moves the map.
+        const onPointer = (name, action) => on(name, event => event.isPrimary && action(event));
+        onPointer("pointerdown", event => {
             this.canvas.setPointerCapture(event.pointerId);
             drag = { from: place(event), last: place(event), moves: event.button === 0 && this.hooks.grab(place(event)), isClick: event.button === 0 };
         });
-        on("pointermove", event => {
+        onPointer("pointermove", event => {
             const point = place(event);
             if (drag && !(drag.isClick &&= Math.hypot(point[0] - drag.from[0], point[1] - drag.from[1]) < 4)) {
                 drag.moves ? drag.moves(this.toWorld(point)) : this.move(this.centre.map((part, axis) => part - (point[axis] - drag.last[axis]) / this.scale));
@@ -203,7 +205,7 @@ export class View {
                 this.redraw();
             }
         });
-        on("pointerup", event => {
+        onPointer("pointerup", event => {
             drag?.isClick && this.hooks.select(place(event));
             drag = null;
         });

@@ -1,9 +1,9 @@
 """The part `page` of run.py: a real Chromium with the page of examples/page, by mouse and keyboard, through nginx with docs/nginx.conf.
 
 Two people edit one feature, a new feature's id is taken by somebody else, saves are refused and replies are lost, the server is away when
-somebody saves or opens the page, a large feature is one, a machine that may not edit sees the map, and people log in. nginx limits downloads of
-the archive. Pictures are kept in the folder that PICTURES names, if it does. What MapLibre would draw is
-drawn by Mapbox GL JS 1.10.1, which Debian has within plotly.js (`python3-plotly`).
+somebody saves or opens the page, a large feature is one, a telephone shows the page, a machine that may not edit sees the map, and people log
+in. nginx limits downloads of the archive. Pictures are kept in the folder that PICTURES names, if it does. What MapLibre would draw is drawn by
+Mapbox GL JS 1.10.1, which Debian has within plotly.js (`python3-plotly`).
 """
 import json
 import os
@@ -40,6 +40,7 @@ LOSE = """(() => { const asked = window.fetch; let passed = %d, left = %d; windo
     return reply; }; })()"""
 REFUSE = """(() => { const asked = window.fetch; let passed = %d, left = %d; window.fetch = async (url, words) =>
     words?.method === "POST" && passed-- <= 0 && left-- > 0 ? new Response("", {status: 502}) : asked(url, words); })()"""
+LAYER = "document.querySelector('#panel form input[aria-label=layer]').value"
 AWAY = "the server doesn't run, or starts just now: try again (502)"
 UNKNOWN = "the server doesn't answer: the edit may be made or not. Save again: it isn't made twice"
 # Ids of pieces after the first one, and a place without other features.
@@ -188,6 +189,7 @@ class People:
         self.many_pieces()
         self.deleted_pieces()
         self.lonely_piece()
+        self.telephone()
         self.view_only(nginx)
         self.elsewhere(nginx)
         self.passwords(nginx)
@@ -265,6 +267,7 @@ class People:
             self.one.click(*place)
         self.one.click(300, 380, clicks=2)
         self.one.wait("document.querySelector('#panel form')")
+        self.show("a new area is of the first layer of which areas are drawn", self.one.value(LAYER), "building")
         self.one.type("#panel form input[aria-label=layer]", "plan")
         self.write(self.one, "name", "New Square")
         free = 456
@@ -373,6 +376,7 @@ class People:
         self.one.press("New point")
         self.one.click(420, 420)
         self.one.wait("document.querySelector('#panel form')")
+        self.show(f"{name}, a new point, is of the first layer of which points are drawn", self.one.value(LAYER), "place")
         self.one.type("#panel form input[aria-label=layer]", "plan")
         self.write(self.one, "name", name)
 
@@ -481,6 +485,33 @@ class People:
         made.press("Save")
         self.saved(made)
         self.show("a piece without the first one is a feature of its own", self.names(700, [133]), ["Alone"])
+
+    def telephone(self):
+        """A narrow screen that is touched, and a feature with a long text."""
+        x, y = (int(part) for part in world(SEA[1], SEA[0] - 0.02))
+        ring = [[x, y], [x + 9000, y], [x + 9000, y + 9000], [x, y + 9000]]
+        body = feature("cut", 14, 16, {"polygons": [[ring]]}, {"name": "Sign", "note": "word " * 200})
+        curl(f"{self.front.url}/features/800", "-X", "PUT", body=body)
+        made = self.opened(f"#16/{SEA[0] - 0.02}/{SEA[1]}")
+        made.ask("Emulation.setDeviceMetricsOverride", width=390, height=760, deviceScaleFactor=1, mobile=True)
+        made.ask("Emulation.setTouchEmulationEnabled", enabled=True, maxTouchPoints=2)
+        made.wait("innerWidth === 390")
+        self.drawn(made)
+        made.click(*made.value(PLACE % (x + 4500, y + 4500)))
+        made.wait("document.querySelector('#panel th')")
+        heads = made.value("[...document.querySelectorAll('#panel th')].map(head => [head.innerText, head.scrollWidth > 60])")
+        self.show("names of tags are readable beside a long text", heads, [["name", True], ["note", True]])
+        edges = "[document.querySelector('nav').getBoundingClientRect().bottom, document.getElementById('panel').getBoundingClientRect().top]"
+        made.press("Edit")
+        made.wait("document.querySelector('#panel form')")
+        nav, panel = made.value(edges)
+        left, top = made.value(PLACE % (x + 4500, y + 4500))
+        self.show("on a narrow screen the feature that is edited is between buttons and panel", (0 < left < 390, nav < top < panel), (True, True))
+        made.press("Cancel")
+        before = made.value("location.hash")
+        for kind, fingers in [("touchStart", [(150, 300), (250, 300)]), ("touchMove", [(150, 300), (280, 340)]), ("touchEnd", [])]:
+            made.ask("Input.dispatchTouchEvent", type=kind, touchPoints=[{"x": left, "y": top, "id": at} for at, (left, top) in enumerate(fingers)])
+        self.show("a second finger doesn't move the map", made.value("location.hash"), before)
 
     def large_feature(self):
         self.one.value("location.hash = '#15/54.5/7.5'")
