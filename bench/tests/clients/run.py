@@ -98,7 +98,7 @@ def routes(cases, folder):
         for value in (tag[0][1], '"1-1-1"'):
             reply = curl(url + "/map.pmtiles", "-H", "Range: bytes=0-6", "-H", f"If-Range: {value}")
             same(cases, f"a part under if-range: {value}", reply, wanted(200, BYTES, whole, more=tag))
-        same(cases, "the archive under if-none-match", curl(url + "/map.pmtiles", "-H", "If-None-Match: *"), wanted(200, BYTES, whole, more=tag))
+        archive_under_conditions(cases, url, whole, tag)
         same(cases, "a step of no publication", curl(url + "/publish/step", "-X", "POST"), refusal(409, "Idle"))
         same(cases, "a cancellation of none", curl(url + "/publish/cancel", "-X", "POST"), refusal(409, "Idle"))
         begun = curl(url + "/publish/begin", "-X", "POST")
@@ -109,14 +109,48 @@ def routes(cases, folder):
         curl(url + "/publish/begin", "-X", "POST")
         same(cases, "an edit between the steps", curl(url + "/features/8", "-X", "PUT", body=feature("q")), wanted(200, JSON, '{"edit":2}'))
         same(cases, "the last step", curl(url + "/publish/step", "-X", "POST"), wanted(200, JSON, '{"left":0}'))
-        tag = [("etag", f'"2-1-{len(whole)}"')]
+        before, tag = tag[0][1], [("etag", f'"2-1-{len(whole)}"')]
         same(cases, "the archive is that of the beginning, by another tag", curl(url + "/map.pmtiles"), wanted(200, BYTES, whole, more=tag))
+        same(cases, "it is sent to who has the one before", curl(url + "/map.pmtiles", "-H", f"If-None-Match: {before}"), wanted(200, BYTES, whole, more=tag))
         same(cases, "DELETE", curl(url + "/features/8", "-X", "DELETE"), wanted(200, JSON, '{"edit":3}'))
         same(cases, "it is gone", curl(url + "/features/8"), refusal(404, "NotFound"))
+        mirror(cases, "", folder, url)
         path = os.path.join(folder, "map.pmtiles")
         subprocess.run(["curl", "--silent", "--output", path, url + "/map.pmtiles"], check=True)
         judged = subprocess.run([PROGRAM, "verify", path], capture_output=True, text=True)
         cases.show("verify of what curl kept", (judged.returncode, judged.stdout), (0, "ok: 3 tiles, 2 entries, 1 contents\n"))
+
+
+def archive_under_conditions(cases, url, whole, tag):
+    """The archive under conditions that name its tag, and under others."""
+    path, text = url + "/map.pmtiles", tag[0][1]
+    sent, known, other = wanted(200, BYTES, whole, more=tag), wanted(304, more=tag), refusal(412, "Condition")
+    part = wanted(206, BYTES, whole[:7], more=[("content-range", f"bytes 0-6/{len(whole)}"), *tag])
+    ranges = ["Range: bytes=0-6"]
+    for fields, expected in [
+        (["If-None-Match: *"], known),
+        ([f"If-None-Match: {text}"], known),
+        ([f"if-none-match: W/{text}"], known),
+        ([f'If-None-Match: "a",\t{text} , "b"'], known),
+        (['If-None-Match: "1-1-1"'], sent),
+        (["If-None-Match;"], sent),
+        ([f"If-None-Match: {text}", "If-None-Match: *"], sent),
+        ([f"If-None-Match: {text}", *ranges], known),
+        ([f"If-None-Match: {text}", "Range: bytes=999-1000"], known),
+        ([f"If-None-Match: {text}", *ranges, f"If-Range: {text}"], known),
+        (['If-None-Match: "1-1-1"', *ranges], part),
+        (["If-Match: *"], sent),
+        ([f"If-Match: {text}", *ranges], part),
+        ([f"If-Match: W/{text}"], other),
+        (['If-Match: "1-1-1"', *ranges], other),
+        (['If-Match: "1-1-1"', f"If-None-Match: {text}"], other),
+        ([f"If-Match: {text}", f"If-None-Match: {text}"], known),
+        ([f"If-None-Match: {text}", "Connection: close"], (304, [*tag, ("connection", "close")], b"")),
+    ]:
+        words = [word for field_of_it in fields for word in ("-H", field_of_it)]
+        same(cases, f"the archive under {', '.join(fields)}", curl(path, *words), expected)
+        if expected in (known, other):
+            same(cases, f"HEAD of it under {', '.join(fields)}", curl(path, "--head", *words), (*expected[:2], b""))
 
 
 def refused_requests(cases, folder):
@@ -177,6 +211,26 @@ def refused_requests(cases, folder):
         whole = [reply for reply in replies if (status_of(reply), reply[2]) == (413, b"Body\n")]
         cases.show("sixty bodies of 3 MB, sixty replies 413 Body read", len(whole), 60)
         same(cases, "the map is as it was", curl(tile), wanted(204))
+
+
+MIRROR = """rm -f new.pmtiles
+curl -fsS -o new.pmtiles --etag-compare map.etag --etag-save new.etag -w "%{http_code} %{size_download}" "$0"
+if test -e new.pmtiles; then mv new.pmtiles map.pmtiles && mv new.etag map.etag; fi
+"""
+
+
+def mirror(cases, name, folder, url):
+    """The archive, fetched each night by its entity tag as docs/DEPLOYING.md has it: twice, and twice behind another publication."""
+    place, found = os.path.join(folder, "mirror"), []
+    os.mkdir(place)
+    for night in range(4):
+        if night == 2:
+            curl(url + "/publish", "-X", "POST")
+        told = subprocess.run(["sh", "-c", MIRROR, url + "/map.pmtiles"], cwd=place, capture_output=True, text=True, timeout=100).stdout
+        with open(os.path.join(place, "map.pmtiles"), "rb") as file:
+            found.append((told, file.read() == archive()))
+    cases.show(name + "curl fetches the archive by its tag only if it is another one", found, [("200 223", True), ("304 0", True)] * 2)
+    shutil.rmtree(place)
 
 
 def bare(port, sent):
@@ -586,6 +640,8 @@ def in_front(cases, folder):
             reply = curl(url + "/map.pmtiles", "-H", "Range: bytes=0-6", "-H", f"If-Range: {value}")
             cases.show(f"nginx: a part under if-range: {value}", (status_of(reply), field(reply, "etag"), reply[2]), (200, '"1-6-223"', archive()))
         conditions(cases, url)
+        archive_in_front(cases, url)
+        mirror(cases, "nginx: ", folder, url)
         for path in ("/map.pmtiles", "/map/0/0/0.mvt", "/map.json"):
             reply = curl(url + path, "-X", "OPTIONS")
             fields = [field(reply, "access-control-allow-" + name) for name in ("origin", "headers")]
@@ -645,7 +701,44 @@ def conditions(cases, url):
             cases.show(f"nginx: {method} {path} under {field_of_it}", (status_of(reply), reply[2]), (412, b"Condition\n"))
         found = [status_of(curl(url + path, *words)) for path in ("/features/7", "/map/0/0/0.mvt", "/map.pmtiles", "/map.json")]
         cases.show(f"nginx: what reads under {field_of_it}", found, [200, 200, 200, 200])
+    found = [status_of(curl(url + "/map/0/0/0.mvt", "-H", name)) for name in ("If-None-Match: *", 'If-Match: "x"')]
+    cases.show("nginx: conditions on a tile, which it judges itself", found, [304, 412])
     cases.show("nginx: feature 7 is as it was", curl(url + "/features/7")[2], SHOWN.encode())
+
+
+def archive_in_front(cases, url):
+    """The archive and parts of it under conditions that name its tag, and under others: vtserve's replies, with the fields that nginx adds."""
+    added = ["no-store", "*", "Content-Length, Content-Range, ETag"]
+    tag = '"1-6-223"'
+    known, other, whole = (304, tag, None, None, b""), (412, None, TEXT, "10", b"Condition\n"), (200, tag, BYTES, "223", archive())
+    part, beyond = (206, tag, BYTES, "7", archive()[:7]), (416, None, TEXT, "6", b"Range\n")
+    for words, expected in [
+        ([f"If-None-Match: {tag}"], known),
+        (["If-None-Match: *"], known),
+        ([f'If-None-Match: "a", W/{tag}'], known),
+        (['If-None-Match: "1-6-222"'], whole),
+        (["Range: bytes=0-6", f"If-None-Match: {tag}"], known),
+        (["Range: bytes=999-1000", f"If-None-Match: {tag}"], known),
+        (["Range: bytes=0-6", f"If-None-Match: {tag}", f"If-Range: {tag}"], known),
+        (["Range: bytes=0-6", 'If-None-Match: "1-6-222"'], part),
+        (["Range: bytes=999-1000", 'If-None-Match: "1-6-222"'], beyond),
+        ([f"If-Match: {tag}"], whole),
+        (["Range: bytes=0-6", f"If-Match: {tag}"], part),
+        (['If-Match: "1-6-222"'], other),
+        ([f"If-Match: W/{tag}"], other),
+        (["Range: bytes=0-6", 'If-Match: "1-6-222"'], other),
+        (['If-Match: "1-6-222"', f"If-None-Match: {tag}"], other),
+        ([f"If-Match: {tag}", f"If-None-Match: {tag}"], known),
+        (["If-Modified-Since: Sun, 06 Nov 2044 08:49:37 GMT", "If-Unmodified-Since: Sun, 06 Nov 1994 08:49:37 GMT"], whole),
+    ]:
+        reply = curl(url + "/map.pmtiles", *(word for name in words for word in ("-H", name)))
+        found = (status_of(reply), *(field(reply, name) for name in ("etag", "content-type", "content-length")), reply[2])
+        cases.show(f"nginx: the archive under {', '.join(words)}", found, expected)
+        found = [field(reply, name) for name in ("cache-control", "access-control-allow-origin", "access-control-expose-headers")]
+        cases.show("nginx: and the fields that it adds", found, added)
+    for value, status in ((tag, 304), ('"1-6-222"', 200)):
+        reply = curl(url + "/map.pmtiles", "--head", "-H", f"If-None-Match: {value}")
+        cases.show(f"nginx: HEAD of it under if-none-match: {value}", (status_of(reply), field(reply, "etag"), reply[2]), (status, tag, b""))
 
 
 def passwords(cases, folder):

@@ -23,6 +23,7 @@ PHRASES = {
     200: "OK",
     204: "No Content",
     206: "Partial Content",
+    304: "Not Modified",
     400: "Bad Request",
     404: "Not Found",
     405: "Method Not Allowed",
@@ -127,7 +128,7 @@ def wanted(status, kind=None, content="", closes=False, more=()):
     content = content if isinstance(content, bytes) else content.encode()
     fields = [("content-type", kind)] if kind else []
     fields += more
-    fields += [("content-length", str(len(content)))] if status != 204 else []
+    fields += [("content-length", str(len(content)))] if status not in (204, 304) else []
     fields += [("connection", "close")] if closes else []
     return status, fields, content
 
