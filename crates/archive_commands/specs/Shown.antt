@@ -23,6 +23,13 @@ abbrev pub IfWrite : Type 0 → ShowFault → Type 0
 IfWrite P (show_faults.Header _) = Unit {0}
 IfWrite P (show_faults.Write _) = P
 
+-- the name of a fault, which is all that is printed of it
+abbrev pub fault_name : ShowFault → List ℕ
+fault_name (show_faults.Header Short) = codes "Short"
+fault_name (show_faults.Header Magic) = codes "Magic"
+fault_name (show_faults.Header (Version n)) = codes "Version"
+fault_name (show_faults.Write error) = codes "Write"
+
 -- ---- the lines of a header
 
 unfoldable pub header_lines : Header → List ℕ

@@ -1,10 +1,10 @@
 //! Prints the header and the metadata of an archive.
 
-ghost use Rattle.std.specs.Prelude.{◌≡◌, ◌≢◌, ℕ, ◌≤◌, ◌<◌, ◌↔◌, List, ◌++◌, length, take, OnOk, IfOk, IfErr, MatchOption, Option, slice_index};
+ghost use Rattle.std.specs.Prelude.{◌≡◌, ◌≢◌, ℕ, ◌≤◌, ◌<◌, ◌↔◌, List, ◌++◌, length, take, OnOk, IfOk, IfErr, MatchOption, Option, Some, slice_index};
 ghost use Rattle.std.specs.Io.KnownBytes.{Appends};
 ghost use Rattle.pm_header.specs.Layout.{IsHeader};
 ghost use Rattle.pm_archive.specs.Sections.{end_of, section_bytes};
-ghost use Rattle.archive_commands.specs.Shown.{HeaderHas, HasText, IfWrite, IsMetadataLine, IsShown, header_lines, metadata_line};
+ghost use Rattle.archive_commands.specs.Shown.{HeaderHas, HasText, IfWrite, IsMetadataLine, IsShown, fault_name, header_lines, metadata_line};
 ghost use Rattle.whole_write.specs.Writes.{AppendsPart, WritesWhole};
 
 use crate::putting::{Piece, put_pieces};
@@ -22,6 +22,8 @@ pub enum ShowFault {
 }
 
 impl fmt::Display for ShowFault {
+    ghost output = { λ fault. Some (fault_name fault) };
+
     fn fmt<W: fmt::Write>(&self, f: &mut fmt::Formatter<W>) -> fmt::Result {
         f.write_str(match self {
             ShowFault::Header(HeaderFault::Short) => "Short",

@@ -1,7 +1,7 @@
 //! The verdict on an archive.
 
-ghost use Rattle.std.specs.Prelude.{◌≡◌};
-ghost use Rattle.archive_commands.specs.Verdicts.{status_of, verdict_of};
+ghost use Rattle.std.specs.Prelude.{◌≡◌, Some};
+ghost use Rattle.archive_commands.specs.Verdicts.{line_of, status_of, verdict_of};
 
 use pm_archive::ArchiveFault;
 use pm_verify::Report;
@@ -42,6 +42,8 @@ impl Verdict {
 }
 
 impl fmt::Display for Verdict {
+    ghost output = { λ verdict. Some (line_of verdict) };
+
     fn fmt<W: fmt::Write>(&self, f: &mut fmt::Formatter<W>) -> fmt::Result {
         match self {
             Verdict::Sound(report) => write!(f, "ok: {report}"),

@@ -6,4 +6,5 @@ pub mod Looked
 pub mod Lookup
 pub mod Reading
 pub mod Sections
+pub mod Shown
 pub mod Source

@@ -1,5 +1,8 @@
 //! What is wrong with an archive.
 
+ghost use Rattle.std.specs.Prelude.{◌≡◌, Some};
+ghost use Rattle.pm_archive.specs.Shown.{fault_text, number_of, what_of};
+
 use std::fmt;
 use thiserror::Error;
 
@@ -62,7 +65,10 @@ pub enum ArchiveFault {
 
 impl ArchiveFault {
     /// What is wrong.
-    fn what(self) -> &'static str {
+    #[tactic(auto, unfolding(crate::specs::Shown::what_of))]
+    fn what(self) -> &'static str
+        ensures { result.now ≡ what_of self }
+    {
         match self {
             ArchiveFault::Short => "short header",
             ArchiveFault::Magic => "bad magic",
@@ -87,7 +93,9 @@ impl ArchiveFault {
     }
 
     /// The number that stands behind it.
-    fn number(self) -> Option<u64> {
+    fn number(self) -> Option<u64>
+        ensures { result ≡ number_of self }
+    {
         match self {
             ArchiveFault::Version(version) => Some(u64::from(version)),
             ArchiveFault::Compressed(number) => Some(u64::from(number)),
@@ -99,6 +107,8 @@ impl ArchiveFault {
 }
 
 impl fmt::Display for ArchiveFault {
+    ghost output = { λ fault. Some (fault_text fault) };
+
     fn fmt<W: fmt::Write>(&self, f: &mut fmt::Formatter<W>) -> fmt::Result {
         f.write_str(self.what())?;
         match self.number() {

@@ -1,8 +1,9 @@
 -- Tiles that are added one after the other.
-use Rattle.std.specs.Prelude.{◌<◌, ◌≤◌, List, length, All}
+use Rattle.std.specs.Prelude.{◌≡◌, ◌<◌, ◌≤◌, false, List, length, All}
 use Rattle.pm_build.specs.declared.limit.TheConstants.{MAX_ENTRIES}
 use Rattle.pm_build.specs.Tiles.{Tile, IsTile}
 use Rattle.pm_build.specs.Runs.{TileRun, AreLongestRuns}
+use Rattle.pm_build.specs.Joined.{goes_on_last}
 
 -- the tile can be added after these: its id is greater than theirs
 abbrev pub CanAdd : List Tile → Tile → Type 0
@@ -15,3 +16,7 @@ AreTooMany tiles = (runs : List TileRun) × AreLongestRuns tiles runs × (MAX_EN
 -- the tiles need no more entries than an archive has
 abbrev pub AreFew : List Tile → Type 0
 AreFew tiles = (runs : List TileRun) × AreLongestRuns tiles runs × (length runs ≤ MAX_ENTRIES)
+
+-- the tile begins a run: it doesn't continue the last one of the tiles before it
+abbrev pub BeginsRun : List Tile → Tile → Type 0
+BeginsRun tiles t = (runs : List TileRun) × AreLongestRuns tiles runs × (goes_on_last runs t ≡ false)

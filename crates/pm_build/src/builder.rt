@@ -3,7 +3,7 @@
 ghost use Rattle.pm_header.specs.declared.header.TheConstants.{HEADER_BYTES};
 ghost use Rattle.std.specs.Prelude.{ℕ, ◌≡◌, ◌≢◌, ◌+◌, ◌*◌, ◌<◌, ◌≤◌, ◌^◌, ◌↔◌, List, [], ◌∷◌, ◌++◌, length, Err, OnOk, OnErr, IfOk, IsTrue, map, Contains};
 ghost use Rattle.std.specs.List.{AllByRecursion, concat};
-ghost use Rattle.pm_build.specs.Building.{CanAdd, AreTooMany, AreFew};
+ghost use Rattle.pm_build.specs.Building.{CanAdd, AreTooMany, AreFew, BeginsRun};
 ghost use Rattle.pm_build.specs.Different.{contents_of};
 ghost use Rattle.pm_build.specs.Runs.{TileRun, AreLongestRuns};
 ghost use Rattle.pm_build.specs.Placed.{AreDifferent};
@@ -88,14 +88,15 @@ impl ArchiveBuilder {
     ///
     /// # Errors
     ///
-    /// `TooManyEntries` exactly if there are more than `MAX_ENTRIES` runs with this tile. `Memory` if an allocation fails. After an
-    /// error nothing is added.
+    /// `TooManyEntries` exactly if there are more than `MAX_ENTRIES` runs with this tile. `Memory` if an allocation fails, so only if the
+    /// tile begins a run. After an error nothing is added.
     pub fn add(&mut self, id: u64, content: &[u8]) -> Result<(), BuildFault>
         requires { CanAdd self.old (id, content.now) }
         ensures added { OnOk result (self.new ≡ self.old ++ (id, content.now) ∷ []) }
         ensures unchanged { OnErr result (self.new ≡ self.old) }
         ensures few { OnOk result (AreFew self.new) }
         ensures many { (result ≡ Err BuildFault.TooManyEntries) ↔ AreTooMany (self.old ++ (id, content.now) ∷ []) }
+        ensures memory { result ≡ Err BuildFault.Memory → BeginsRun self.old (id, content.now) }
     {
         match add_tile(&mut self.runs, &mut self.contents, id, content) {
             Ok(()) => {}

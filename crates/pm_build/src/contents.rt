@@ -139,6 +139,7 @@ impl Contents {
         ensures placed { IfOk result (λ place. (place < length self.new) × (content_at self.new place ≡ content.now)) }
         ensures contents { OnOk result (self.new ≡ with_content self.old content.now) }
         ensures unchanged { OnErr result (self.new ≡ self.old) }
+        ensures memory { OnErr result (offset_from 0 self.old content.now ≡ None) }
     {
         let hash = hash_of(content);
         match self.find(content, hash) {

@@ -1,5 +1,5 @@
 //! Joins tiles to the longest runs.
-ghost use Rattle.std.specs.Prelude.{◌≡◌, ◌+◌, ◌<◌, ◌≤◌, ◌^◌, ◌↔◌, ◌++◌, ◌∷◌, [], length, Err, OnOk, OnErr, if◌then◌else◌};
+ghost use Rattle.std.specs.Prelude.{◌≡◌, ◌+◌, ◌<◌, ◌≤◌, ◌^◌, ◌↔◌, ◌++◌, ◌∷◌, [], length, Err, OnOk, OnErr, false, if◌then◌else◌};
 ghost use Rattle.std.specs.Bool.{OnFalse};
 ghost use Rattle.pm_build.specs.Different.{with_content};
 ghost use Rattle.pm_build.specs.Joined.{ArePlaces, run_view, run_views, goes_on, run_of, last_end, goes_on_last, last_grown, with_tile};
@@ -111,6 +111,7 @@ pub(crate) fn add_tile(
     ensures few { length runs.new.items ≤ MAX_ENTRIES }
     ensures many { (result ≡ Err BuildFault.TooManyEntries)
         ↔ (MAX_ENTRIES < length (with_tile (run_views contents.old runs.old.items) (id, content.now))) }
+    ensures memory { result ≡ Err BuildFault.Memory → goes_on_last (run_views contents.old runs.old.items) (id, content.now) ≡ false }
 {
     if join_last(runs, contents, id, content) {
         return Ok(());

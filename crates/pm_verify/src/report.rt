@@ -1,5 +1,8 @@
 //! The counts of a sound archive.
 
+ghost use Rattle.std.specs.Prelude.{Some};
+ghost use Rattle.pm_verify.specs.Shown.{report_text};
+
 use std::fmt;
 
 /// The counts of a sound archive.
@@ -14,6 +17,8 @@ pub struct Report {
 }
 
 impl fmt::Display for Report {
+    ghost output = { λ report. Some (report_text report) };
+
     fn fmt<W: fmt::Write>(&self, f: &mut fmt::Formatter<W>) -> fmt::Result {
         let Report {
             tiles,

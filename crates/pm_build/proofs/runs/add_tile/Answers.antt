@@ -46,3 +46,6 @@ returns-clause-added c = grind (arith, common_steps)
 
 pub returns-clause-many : goal.returns-clause-many
 returns-clause-many c = grind (arith, common_steps)
+
+pub returns-clause-memory : goal.returns-clause-memory
+returns-clause-memory c _ = rw (sym c.deref_mut.ensures.value) (sym c.join_last.ensures.joins ∙ c.if-join_last.false)

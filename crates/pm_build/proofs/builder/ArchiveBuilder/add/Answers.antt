@@ -1,5 +1,5 @@
 use Rattle.std.proofs.Common.{◌+◌, List, [], ◌∷◌, ◌++◌, refl, sym, ap, subst, ◌∙◌, arith}
-use Rattle.pm_build.specs.Building.{CanAdd, AreTooMany}
+use Rattle.pm_build.specs.Building.{CanAdd, AreTooMany, BeginsRun}
 use Rattle.pm_build.specs.Joined.{run_views}
 use Rattle.pm_build.specs.Kept.{tiles_kept}
 use Rattle.pm_build.specs.Tiles.{Tile}
@@ -33,6 +33,13 @@ returns-in-Err-clause-many c =
       λ told. subst (λ (ts : List Tile). AreTooMany (ts ++ t ∷ [])) c.self.view_is (test.0 (c.in-Err.ensures.many.0 told)),
       λ many. c.in-Err.ensures.many.1 (test.1 (subst (λ (ts : List Tile). AreTooMany (ts ++ t ∷ [])) (sym c.self.view_is) many)),
     )
+
+pub returns-in-Err-clause-memory : goal.returns-in-Err-clause-memory
+returns-in-Err-clause-memory c told =
+    let t : Tile = (c.args.id, c.args.content.now) in
+    let inside = c.self.inside in
+    subst (λ (ts : List Tile). BeginsRun ts t) c.self.view_is
+    (run_views inside.contents inside.runs.items, c.self.invariant.longest, c.in-Err.ensures.memory told)
 
 pub overflow_add-self : goal.overflow_add-self
 overflow_add-self c = omega (arith, c.self.invariant.addressed, tiles_room (tiles_kept c.self.inside) c.self.invariant.tiles)

@@ -1,5 +1,5 @@
 use Rattle.std.proofs.Common.{refl, sym, ◌∙◌}
-use Rattle.std.proofs.lemmas.Result.{on_ok_weaker}
+use Rattle.std.proofs.lemmas.Result.{on_ok_weaker, on_err_weaker}
 use Rattle.pm_build.proofs.Different.{with_at, with_new}
 use Rattle.pm_build.proofs.contents.Contents.place.Goals as goal
 
@@ -10,3 +10,6 @@ pub returns-in-None-clause-contents : goal.returns-in-None-clause-contents
 returns-in-None-clause-contents c =
     let absent = c.in-None.ensures.none refl in
     on_ok_weaker c.push.result (λ grown. grown ∙ sym (with_new c.args.self.now c.args.content.now absent)) c.push.ensures.contents
+
+pub returns-in-None-clause-memory : goal.returns-in-None-clause-memory
+returns-in-None-clause-memory c = on_err_weaker c.push.result (λ _. c.in-None.ensures.none refl) c.push.ensures.unchanged
