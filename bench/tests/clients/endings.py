@@ -31,7 +31,7 @@ def commands(cases, folder):
         (3, ["map_backup.py", "save", os.path.join(folder, "map.geojson"), "--url", "URL"]),
         (3, ["map_backup.py", "load", saved, "--url", "URL"]),
         (3, ["gis.py", "checkout", os.path.join(folder, "map.gpkg"), "--url", "URL"]),
-        (1, ["qgis_project.py", os.path.join(folder, "map.qgs"), "--url", "URL"]),
+        (1, ["qgis_project.py", os.path.join(folder, "without.qgs"), "--url", "URL"]),
         *([(1, ["draw_map.py", os.path.join(folder, "map.png"), "--zoom", "1", "--url", "URL"])] if has_pillow() else []),
         *([(3, ["import_features.py", SURVEY, "--layer", "survey", "--url", "URL"])] if has_gdal(cases) else []),
     ]
