@@ -23,7 +23,7 @@ import tempfile
 import time
 
 HERE = pathlib.Path(__file__).resolve().parent
-sys.path += [str(HERE.parent / "model"), str(HERE.parent / "tests" / "archives")]
+sys.path += [str(HERE.parents[1] / "model"), str(HERE.parents[1] / "tests" / "archives")]
 import archives
 import connections
 import disk as disks

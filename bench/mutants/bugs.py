@@ -14,7 +14,7 @@ import sys
 from pathlib import Path
 
 HERE = Path(__file__).resolve().parent
-sys.path.append(str(HERE.parent / "model"))
+sys.path.append(str(HERE.parents[1] / "model"))
 import map_stand
 import service_stand
 from disk import LAST_NUMBER

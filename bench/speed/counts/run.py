@@ -17,7 +17,7 @@ import tempfile
 
 HERE = os.path.dirname(os.path.abspath(__file__))
 TOP = os.path.join(HERE, "..", "..", "..")
-sys.path[:0] = [os.path.join(HERE, ".."), os.path.join(HERE, "..", "..", "model")]
+sys.path[:0] = [os.path.join(HERE, ".."), os.path.join(HERE, "..", "..", "..", "model")]
 
 import city_features  # noqa: E402
 import map_archive  # noqa: E402

@@ -4,7 +4,7 @@
 //! and what stands behind it. An empty line and one that begins with `#` are repeated; the answer to an unknown word, and to bytes that
 //! can't be made out, is `?` and the line. `<COUNT:TEXT>` in a FEATURE or an INPUT stands for a text that is repeated. Numbers are decimal,
 //! 0 where they are left out. In place of an answer stands a fault. An answer of over 10,000 bytes is told by its first ones, its length and
-//! a digest. What is wanted of each line is in `bench/model/map_stand.py` and `bench/model/read_stand.py`.
+//! a digest. What is wanted of each line is in `model/map_stand.py` and `model/read_stand.py`.
 //!
 //! # `part maps`, which the first lines are of
 //!

@@ -2,7 +2,7 @@
 //!
 //!     read_archive FILE ID
 //!
-//! An example of `pmtiles` and `mvt`. The archive in `data/` has tiles that GDAL wrote (`bench/tests/archives/harbour.py`).
+//! An example of `pmtiles` and `mvt`. The archive in `data/` has tiles that GDAL wrote (`tests/archives/harbour.py`).
 #![tactic(auto)]
 
 mod tile;

@@ -1,6 +1,6 @@
 //! How the scripts of test programs spell words, numbers, bytes and sectors.
 //!
-//! The functions have no contracts: each answer of a script is compared with the answer that a model in `bench/model` wrote for it.
+//! The functions have no contracts: each answer of a script is compared with the answer that a program in `model/` wrote for it.
 #![tactic(auto)]
 
 mod answers;

@@ -1,4 +1,4 @@
-//! Edits of a map that look random. `bench/model/map_random.py` draws the same numbers in the same order.
+//! Edits of a map that look random. `model/map_random.py` draws the same numbers in the same order.
 use super::map::{delete, edited, put};
 use crate::lines::byte;
 use cached_map::CachedMap;

@@ -1,0 +1,49 @@
+#!/usr/bin/env python3
+"""Writes the scripts of the programs that are tests, and what they must print, from the models beside this file.
+
+    python3 model/scripts.py            writes the files stdin and stdout of each
+    python3 model/scripts.py --check    compares them with those that are there, and ends with 1 where one differs
+
+A module of `MODULES` has the name of its crate, `CRATE`, and a function `files` from which its files come, by their names. Modules of one crate stand side
+by side: each writes the part of its script that `PART` names.
+"""
+import importlib
+import itertools
+import pathlib
+import sys
+
+MODULES = ["map_script", "read_script", "journal_script", "service_script", "reply_script"]
+CRATES = pathlib.Path(__file__).resolve().parents[1] / "crates"
+
+
+def differs(path, text, check):
+    """Whether a file has another text; without `check` it gets this one."""
+    same = path.exists() and path.read_text() == text
+    if not same and not check:
+        path.write_text(text)
+    if not same:
+        print(f"{path.relative_to(CRATES)}: {'differs' if check else 'written'}")
+    return not same
+
+
+def files_of(modules):
+    """The files of a crate: those of its modules, one after the other. The lines of a part are behind one that names it, which has no answer."""
+    found = {"stdin": "", "stdout": ""}
+    for module in modules:
+        found["stdin"] += f"part {module.PART}\n"
+        for file, text in module.files().items():
+            found[file] += text
+    return found
+
+
+def main(check):
+    differ = 0
+    modules = [importlib.import_module(name) for name in MODULES]
+    for crate, of_crate in itertools.groupby(modules, lambda module: module.CRATE):
+        for file, text in files_of(of_crate).items():
+            differ += differs(CRATES / crate / file, text, check)
+    return 1 if check and differ else 0
+
+
+if __name__ == "__main__":
+    sys.exit(main("--check" in sys.argv))

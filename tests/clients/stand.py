@@ -1,0 +1,189 @@
+"""What the parts of tests/clients/run.py share: a server, nginx in front of it, curl, and the cases that were seen."""
+import json
+import os
+import re
+import shutil
+import signal
+import socket
+import subprocess
+import sys
+import time
+
+HERE = os.path.dirname(os.path.abspath(__file__))
+TOP = os.path.join(HERE, "..", "..")
+PROGRAM = os.path.abspath(sys.argv[1] if len(sys.argv) > 1 else os.path.join(TOP, "crates", "vtserve", "out", "vtserve"))
+EXAMPLES = os.path.join(TOP, "examples")
+SYSTEM_PYTHON = "/usr/bin/python3"
+TILE = "1a130a017012090807180122030900002880207802"
+SHOWN = '{"geometry":{"points":[[0,0]]},"layer":"p","maxzoom":2,"minzoom":0,"tags":{}}'
+METADATA = '{"vector_layers":[{"fields":{},"id":"p","maxzoom":2,"minzoom":0}]}'
+ROOT = bytes.fromhex("020005020115150101")
+JSON, TEXT, MVT, BYTES = "application/json", "text/plain", "application/vnd.mapbox-vector-tile", "application/octet-stream"
+PHRASES = {
+    200: "OK",
+    204: "No Content",
+    206: "Partial Content",
+    304: "Not Modified",
+    400: "Bad Request",
+    404: "Not Found",
+    405: "Method Not Allowed",
+    409: "Conflict",
+    412: "Precondition Failed",
+    413: None,
+    416: None,
+    417: "Expectation Failed",
+    501: "Not Implemented",
+    507: "Insufficient Storage",
+}
+HALF = 20037508.342789244
+
+
+def feature(layer="p", first=0, last=2, geometry=None, tags=None):
+    """The body of a PUT."""
+    return json.dumps({"layer": layer, "minzoom": first, "maxzoom": last, "geometry": geometry or {"points": [[0, 0]]}, "tags": tags or {}})
+
+
+class Cases:
+    """The cases so far, each printed as it is seen."""
+
+    def __init__(self):
+        self.seen = 0
+        self.differ = 0
+
+    def show(self, name, found, wanted):
+        self.seen += 1
+        if found == wanted:
+            print(f"ok      {name}", flush=True)
+        else:
+            self.differ += 1
+            print(f"DIFFERS {name}: {found!r}, wanted {wanted!r}", flush=True)
+
+    def say(self, text):
+        print(f"        {text}", flush=True)
+
+
+def free_port():
+    """A port that nobody listens on."""
+    with socket.socket() as probe:
+        probe.bind(("127.0.0.1", 0))
+        return probe.getsockname()[1]
+
+
+class Server:
+    """A process of `serve`, on a disk that is made for it if there is none."""
+
+    def __init__(self, folder, name, sectors=4096, connections=4294967295, port=None, more=("--admin",), log=None, under=()):
+        self.disk = os.path.join(folder, name)
+        if not os.path.exists(self.disk):
+            subprocess.run([PROGRAM, "format", self.disk, "--sectors", str(sectors)], check=True, stdout=subprocess.DEVNULL)
+        self.port = port or free_port()
+        self.url = f"http://127.0.0.1:{self.port}"
+        self.log = open(log or self.disk + ".log", "w+b")
+        words = [*under, PROGRAM, "serve", self.disk, "--port", str(self.port), "--connections", str(connections), *more]
+        self.child = subprocess.Popen(words, stdout=subprocess.PIPE, stderr=self.log)
+        self.told = self.child.stdout.readline().decode()
+
+    def lines(self):
+        """The lines on standard error so far."""
+        self.log.seek(0)
+        return self.log.read().decode().splitlines()
+
+    def end(self, by=signal.SIGTERM):
+        """Ends it, and gives its status."""
+        self.child.send_signal(by)
+        return self.child.wait(60)
+
+    def __enter__(self):
+        return self
+
+    def __exit__(self, *fault):
+        if self.child.poll() is None:
+            self.end(signal.SIGKILL)
+        self.child.stdout.close()
+        self.log.close()
+
+
+def parsed(reply):
+    """The first line, the fields in their order and the content of a reply."""
+    head, _, content = reply.partition(b"\r\n\r\n")
+    first, *fields = head.decode().split("\r\n")
+    return first, [tuple(field.split(": ", 1)) for field in fields], content
+
+
+def curl(url, *words, body=None):
+    """What curl reads: the first line, the fields and the content."""
+    if body is not None:
+        words = [*words, "--data-binary", "@-"]
+    child = subprocess.run(["curl", "--silent", "--include", "--max-time", "120", *words, url], input=body and body.encode(), capture_output=True)
+    return parsed(child.stdout) if child.returncode == 0 else (f"curl ended with {child.returncode}", [], b"")
+
+
+def status_of(reply):
+    """The number of a reply's status, or what was read instead."""
+    return int(reply[0].split()[1]) if reply[0].startswith("HTTP/1.") else reply[0]
+
+
+def wanted(status, kind=None, content="", closes=False, more=()):
+    """The reply that HTTP.md promises, its fields in their order."""
+    content = content if isinstance(content, bytes) else content.encode()
+    fields = [("content-type", kind)] if kind else []
+    fields += more
+    fields += [("content-length", str(len(content)))] if status not in (204, 304) else []
+    fields += [("connection", "close")] if closes else []
+    return status, fields, content
+
+
+def same(cases, name, reply, expected):
+    """Shows a reply beside the one that is wanted, and its phrase where HTTP has one."""
+    status, fields, content = expected
+    phrase = PHRASES[status]
+    line = f"HTTP/1.1 {status} {phrase}" if phrase else " ".join(["HTTP/1.1", str(status), *reply[0].split()[2:]])
+    cases.show(name, reply, (line, fields, content))
+
+
+def refusal(status, word, closes=False, more=()):
+    """A refusal: its word and a line feed."""
+    return wanted(status, TEXT, word + "\n", closes, more)
+
+
+class Nginx:
+    """nginx with the kept configuration, but for its ports and further changes, in front of a server."""
+
+    def __init__(self, program, folder, server, changes=()):
+        self.folder = os.path.join(folder, "nginx")
+        os.mkdir(self.folder)
+        self.port = free_port()
+        self.url = f"http://127.0.0.1:{self.port}"
+        with open(os.path.join(TOP, "docs", "nginx.conf"), encoding="utf-8") as file:
+            kept = file.read()
+        used = kept.replace("server 127.0.0.1:8080;", f"server 127.0.0.1:{server.port};").replace("listen 8000", f"listen 127.0.0.1:{self.port}")
+        used = used.replace("listen [::]:8000", f"listen [::1]:{self.port}")
+        for before, after in changes:
+            used = used.replace(before, after)
+        file = os.path.join(self.folder, "used.conf")
+        with open(file, "w", encoding="utf-8") as made:
+            made.write(used)
+        words = [program, "-p", self.folder, "-c", file, "-g", "daemon off;"]
+        self.child = subprocess.Popen(words, stdout=subprocess.DEVNULL, stderr=subprocess.PIPE)
+        for _ in range(100):
+            with socket.socket() as probe:
+                if probe.connect_ex(("127.0.0.1", self.port)) == 0:
+                    return
+            time.sleep(0.1)
+
+    def errors(self):
+        """The lines of its log of errors."""
+        with open(os.path.join(self.folder, "error.log"), encoding="utf-8") as file:
+            return file.read().splitlines()
+
+    def __enter__(self):
+        return self
+
+    def __exit__(self, *fault):
+        self.child.terminate()
+        self.child.communicate(timeout=60)
+
+
+def field(reply, name):
+    """The value of a field of a reply."""
+    return next((value for key, value in reply[1] if key.lower() == name), None)

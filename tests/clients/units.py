@@ -1,0 +1,169 @@
+"""The part `units` of tests/clients/run.py: the units of systemd in docs/, judged by systemd-analyze, and the system calls of `serve`.
+
+The units aren't run: that needs a machine whose first process is systemd.
+"""
+import os
+import re
+import shutil
+import subprocess
+import sys
+import time
+
+from stand import EXAMPLES, PROGRAM, SYSTEM_PYTHON, TOP, Server, curl, feature, free_port, status_of
+
+# The greatest exposure of each unit, by systemd-analyze.
+EXPOSURE = {
+    "vtserve.service": 1.5,
+    "vtserve-nginx.service": 3.5,
+    "vtserve-publish.service": 1.5,
+    "vtserve-watch.service": 1.5,
+    "vtserve-backup.service": 1.0,
+}
+# What the units with timers run, of examples/.
+TASKS = {
+    "vtserve-publish.service": ["bash", "publish.sh", "URL", "--record", "record"],
+    "vtserve-backup.service": [SYSTEM_PYTHON, "map_backup.py", "save", "map-2026-11-29.jsonl", "--disk", "DISK"],
+    "vtserve-watch.service": [
+        SYSTEM_PYTHON, "watch.py", "URL", "--backups", ".", "--backup-hours", "26", "--state", "state", "--record", "record", "--metrics", "metrics",
+    ],
+}
+
+
+def unit(name):
+    """The path of a unit."""
+    return os.path.join(TOP, "docs", name)
+
+
+def judged(cases):
+    """What systemd-analyze says of the units."""
+    for name, most in EXPOSURE.items():
+        timer = [unit(name.replace(".service", ".timer"))] if name in TASKS else []
+        child = subprocess.run(["systemd-analyze", "verify", unit(name), *timer], capture_output=True, text=True)
+        # The commands of the units may not be installed here.
+        faults = [line for line in child.stderr.splitlines() if "is not executable: No such file" not in line]
+        cases.show(f"units: systemd-analyze verify {name}", faults, [])
+        child = subprocess.run(["systemd-analyze", "--no-pager", "security", "--offline=true", unit(name)], capture_output=True, text=True)
+        found = re.search(r"Overall exposure level for \S+: ([\d.]+)", child.stdout)
+        cases.show(f"units: systemd-analyze security {name}: at most {most}", found is not None and float(found[1]) <= most, True)
+
+
+def filtered(name):
+    """The system calls that a unit allows: those of the sets that it names, less those of the sets after `~`."""
+    listed = subprocess.run(["systemd-analyze", "--no-pager", "syscall-filter"], capture_output=True, text=True, check=True).stdout
+    sets, current = {}, None
+    for line in listed.splitlines():
+        word = line.strip().split(" ")[0]
+        if line.startswith("@"):
+            current = sets.setdefault(word, [])
+        elif current is not None and word and not word.startswith("#"):
+            current.append(word)
+
+    def members(word):
+        return {call for part in sets.get(word, []) for call in members(part)} if word.startswith("@") else {word}
+
+    allowed = set()
+    with open(unit(name), encoding="utf-8") as file:
+        for line in file:
+            if line.startswith("SystemCallFilter="):
+                words = line.strip().removeprefix("SystemCallFilter=")
+                found = {call for word in words.removeprefix("~").split() for call in members(word)}
+                allowed = allowed - found if words.startswith("~") else allowed | found
+    return allowed
+
+
+def session(folder):
+    """The system calls of a process of `serve` that serves each kind of request, and the lines of its trace."""
+    trace, disk, port = os.path.join(folder, "trace"), os.path.join(folder, "traced.disk"), free_port()
+    subprocess.run([PROGRAM, "format", disk, "--sectors", "4096"], check=True, capture_output=True)
+    words = ["strace", "-f", "-o", trace, PROGRAM, "serve", disk, "--port", str(port), "--connections", "7"]
+    url = f"http://127.0.0.1:{port}"
+    with subprocess.Popen(words, stdout=subprocess.PIPE, stderr=subprocess.DEVNULL) as child:
+        child.stdout.readline()
+        replies = [curl(url + "/features/7", "-X", "PUT", body=feature()), curl(url + "/publish", "-X", "POST")]
+        replies += [curl(url + path) for path in ("/map/0/0/0.mvt", "/map/metadata", "/map.pmtiles", "/features/7")]
+        replies.append(curl(url + "/features/7", "-X", "DELETE"))
+        child.wait(60)
+    with open(trace, encoding="utf-8", errors="replace") as file:
+        lines = file.read().splitlines()
+    calls = {found[1] for line in lines if (found := re.match(r"\d+ +(\w+)\(", line))}
+    return [status_of(reply) for reply in replies], calls, lines
+
+
+def tasks(cases, folder):
+    """Runs what the units with timers run, and shows the system calls that they don't allow."""
+    with Server(folder, "timed", 4096) as server:
+        for name, (program, script, *words) in TASKS.items():
+            trace = os.path.join(folder, name)
+            words = [{"URL": server.url, "DISK": server.disk}.get(word, word) for word in words]
+            ran = subprocess.run(["strace", "-f", "-o", trace, program, os.path.join(EXAMPLES, script), *words], cwd=folder, capture_output=True)
+            with open(trace, encoding="utf-8", errors="replace") as file:
+                calls = {found[1] for line in file if (found := re.match(r"\d+ +(\w+)\(", line))}
+            cases.show(f"units: what {name} runs, and system calls that it doesn't allow", (ran.returncode, sorted(calls - filtered(name))), (0, []))
+
+
+def lines_of(name):
+    """The lines of a unit; one that goes on after a backslash is one."""
+    with open(unit(name), encoding="utf-8") as file:
+        return file.read().replace("\\\n", " ").splitlines()
+
+
+def causes(cases, folder):
+    """What the journal has of a server that can't start, by the command of its unit."""
+    command, = (line for line in lines_of("vtserve.service") if line.startswith("ExecStart="))
+    missing = os.path.join(folder, "missing.disk")
+    words = [{"/var/lib/vtserve/map.disk": missing, "8080": str(free_port())}.get(word, word) for word in command.split()[1:]]
+    told = subprocess.run([PROGRAM, *words], capture_output=True, text=True, timeout=60).stderr
+    cases.show("units: a server without its disk says what the system said", told, f"vtserve: File: {missing}: No such file or directory (os error 2)\n")
+    for name in TASKS:
+        named = [line for line in lines_of(name) if re.match("# OnFailure=.*@%n", line)]
+        cases.show(f"units: {name} has a line for who is told when it fails", len(named), 1)
+
+
+def backups(cases, folder):
+    """What watch.py says of the folder of the backups."""
+    kept = os.path.join(folder, "backups")
+    os.mkdir(kept)
+    with Server(folder, "backed_up") as server:
+
+        def watched(*more):
+            words = [sys.executable, os.path.join(EXAMPLES, "watch.py"), server.url, "--backups", kept, *more]
+            told = subprocess.run(words, capture_output=True, text=True)
+            return told.returncode, [line.partition(":")[0] for line in told.stdout.splitlines()]
+
+        def made(name, hours):
+            path = os.path.join(kept, name)
+            with open(path, "w", encoding="utf-8"):
+                os.utime(path, times=(time.time() - 3600 * hours,) * 2)
+
+        for name, hours in [("map-2026-11-28.jsonl.part", 1), ("other.jsonl", 1)]:
+            made(name, hours)
+        cases.show("units: watch.py, a folder without a backup", watched(), (1, [f"{kept} has no backup"]))
+        made("map-2026-11-25.jsonl", 99)
+        made("map-2026-11-27.jsonl", 27)
+        old = f"the newest backup in {kept} is 27.0 hours old, and it may be "
+        cases.show("units: watch.py, an old backup", watched(), (1, [old + "26"]))
+        cases.show("units: watch.py, by --backup-hours", (watched("--backup-hours", "2.5"), watched("--backup-hours", "28")[0]), ((1, [old + "2.5"]), 0))
+        made("map-2026-11-28.jsonl", 25)
+        cases.show("units: watch.py, a new backup", watched()[0], 0)
+    kept += ".gone"
+    cases.show("units: watch.py, no folder of backups and no server", watched()[0], 2)
+
+
+def units(cases, folder):
+    """The units, and whether the filter of system calls has all that the process needs."""
+    causes(cases, folder)
+    backups(cases, folder)
+    if not shutil.which("systemd-analyze"):
+        cases.say("no systemd-analyze: no unit is judged")
+        return
+    judged(cases)
+    if not shutil.which("strace"):
+        cases.say("no strace: the filter of system calls isn't tried")
+        return
+    tasks(cases, folder)
+    statuses, calls, lines = session(folder)
+    cases.show("units: a session under strace", statuses, [200] * 7)
+    cases.show("units: system calls of serve that its unit doesn't allow", sorted(calls - filtered("vtserve.service")), [])
+    mixed = [line for line in lines if "PROT_WRITE|PROT_EXEC" in line]
+    sockets = [line for line in lines if " socket(" in line and "AF_INET," not in line]
+    cases.show("units: memory that is writable and executable, and sockets of other families", (mixed, sockets), ([], []))

@@ -1,0 +1,135 @@
+#!/usr/bin/env python3
+"""Checks the names in docs/PROMISES.md against the crates: functions and the clauses beside them, lemmas, tests and lines of scripts.
+
+    python3 tests/promises.py
+
+It reads the tables' cells. `crate::Type::function` (`clause`, ..) is a function of that crate whose contract has these clauses, lemma `name`
+of `crate` a lemma in its proofs/, `tests_..` (`name`, ..) tests of that crate, `tests_..` (rows `name`, ..) rows of the tables that its
+tests run, `.._runs` (lines `word`, ..) lines of its script that begin with the word, `.._runs` (part `name`, lines `word`, ..) and part `name` of
+`.._runs` (lines `word`, ..) those of that part, and `.._runs` (blocks `name`, ..) functions of the models that write such lines. It prints what
+it doesn't find, and ends with 1 then.
+"""
+import functools
+import re
+import sys
+from pathlib import Path
+
+ROOT = Path(__file__).resolve().parents[1]
+CRATES = ROOT / "crates"
+NAME = r"`((?:\w+::)+\w+)`"
+LIST = r"(?: \(((?:`\w+`(?:, )?)+)\))?"
+
+
+def fields_of(crate, record):
+    """The names of the fields of a record in a crate's specs/."""
+    texts = [specs.read_text() for specs in (CRATES / crate / "specs").rglob("*.antt")]
+    bodies = [body for text in texts for body in re.findall(rf"^ *pub record {record} .*\n(?:.+\n)*", text, re.M)]
+    return [field for body in bodies for field in re.findall(r"^ +pub (\w+) :", body, re.M)]
+
+
+@functools.cache
+def functions_of(crate):
+    """The names of a crate's functions, each with the clauses of all functions of that name. A clause that is a record counts as its fields too."""
+    found = {}
+    for source in (CRATES / crate / "src").rglob("*.rt"):
+        clauses = None
+        for line in source.read_text().splitlines():
+            declared = re.match(r"\s*(?:pub(?:\(\w+\))? )?(?:const )?fn (\w+)", line)
+            if declared:
+                clauses = found.setdefault(declared.group(1), [])
+            clause = re.match(r"\s*ensures (\w+) \{", line)
+            if clause and clauses is not None:
+                clauses.append(clause.group(1))
+            record = re.match(r"\s*ensures (?:\w+ )?\{ (?:\([^()]*\) → )*(\w+)", line)
+            if record and clauses is not None:
+                clauses += fields_of(crate, record.group(1))
+    return found
+
+
+@functools.cache
+def lemmas_of(crate):
+    """The names of a crate's public lemmas."""
+    texts = [proof.read_text() for proof in (CRATES / crate / "proofs").rglob("*.antt")]
+    return {name for text in texts for name in re.findall(r"^ *pub ([\w-]+) :", text, re.M)}
+
+
+@functools.cache
+def tests_of(crate):
+    """The names of a crate's tests."""
+    texts = [source.read_text() for source in (CRATES / crate / "src").rglob("*.rt")]
+    return {name for text in texts for name in re.findall(r"#\[test\]\s*(?:#\[[^\n]*\]\s*)*(?:pub )?fn (\w+)", text)}
+
+
+@functools.cache
+def rows_of(crate):
+    """The names of the rows of a crate's tables, which end where a name has a comma."""
+    texts = [source.read_text() for source in (CRATES / crate / "src").rglob("*.rt")]
+    return {name for text in texts for name in re.findall(r'^ *name: "(\w+)', text, re.M)}
+
+
+@functools.cache
+def words_of(crate, part):
+    """The words with which lines of a script begin, or of a part of it, each call of a line that has several."""
+    found, now = set(), ""
+    for line in (CRATES / crate / "stdin").read_text().splitlines():
+        if line.startswith("part "):
+            now = line.removeprefix("part ")
+        elif part in ("", now):
+            found |= {call.split(" ")[0] for call in line.split("; ")}
+    return found
+
+
+@functools.cache
+def blocks_of(crate):
+    """The names of the functions of the models that write a script: of modules `NAME_..` where `NAME_script` has it as its crate."""
+    models = ROOT / "model"
+    names = [model.stem.removesuffix("script") for model in models.glob("*_script.py") if f'= "{crate}"' in model.read_text()]
+    texts = [model.read_text() for name in names for model in models.glob(f"{name}*.py")]
+    return {name for text in texts for name in re.findall(r"^def (\w+)\(", text, re.M)}
+
+
+def listed(text):
+    return re.findall(r"`(\w+)`", text or "")
+
+
+def missing_in(text):
+    """What the page names and the crates don't have."""
+    for name, clauses in re.findall(NAME + LIST, text):
+        crate, function = name.split("::")[0], name.split("::")[-1]
+        if not (CRATES / crate).is_dir():
+            yield f"crate {crate} ({name})"
+        elif function[0].islower():
+            known = functions_of(crate).get(function)
+            if known is None:
+                yield f"function {name}"
+            else:
+                yield from (f"clause {clause} of {name}" for clause in listed(clauses) if clause not in known)
+    for name, crate in re.findall(r"lemma `(\w+)` of `(\w+)`", text):
+        if name not in lemmas_of(crate):
+            yield f"lemma {name} of {crate}"
+    for table in re.findall(r"^\| Lemma of `(\w+)` \|.*\n(?:\|.*\n)+", text, re.M):
+        rows = re.search(rf"^\| Lemma of `{table}` \|.*\n\|-.*\n((?:\|.*\n)+)", text, re.M).group(1)
+        names = [name for row in rows.splitlines() for name in listed(row.split("|")[1])]
+        yield from (f"lemma {name} of {table}" for name in names if name not in lemmas_of(table))
+    for crate, tests in re.findall(r"`(tests_\w+)` \(((?:`\w+`(?:, )?)+)\)", text):
+        yield from (f"test {test} of {crate}" for test in listed(tests) if test not in tests_of(crate))
+    for crate, rows in re.findall(r"`(tests_\w+)` \(rows ((?:`\w+`(?:, )?)+)\)", text):
+        yield from (f"row {row} of {crate}" for row in listed(rows) if row not in rows_of(crate))
+    for part, crate, words in re.findall(r"(?:part `(\w+)` of )?`(\w+_runs)` \(lines ((?:`\w+`(?:, )?)+)\)", text):
+        yield from (f"line {word} of {crate} {part}" for word in listed(words) if word not in words_of(crate, part))
+    for crate, part, words in re.findall(r"`(\w+_runs)` \(part `(\w+)`, lines ((?:`\w+`(?:, )?)+)\)", text):
+        yield from (f"line {word} of {crate} {part}" for word in listed(words) if word not in words_of(crate, part))
+    for crate, blocks in re.findall(r"`(\w+_runs)` \(blocks ((?:`\w+`(?:, )?)+)\)", text):
+        yield from (f"block {block} of {crate}" for block in listed(blocks) if block not in blocks_of(crate))
+
+
+def main():
+    missing = sorted(set(missing_in((ROOT / "docs" / "PROMISES.md").read_text())))
+    for name in missing:
+        print(name)
+    print(f"{len(missing)} names of docs/PROMISES.md aren't in the crates" if missing else "each name of docs/PROMISES.md is in the crates")
+    sys.exit(1 if missing else 0)
+
+
+if __name__ == "__main__":
+    main()
