@@ -3,6 +3,7 @@ ghost use Rattle.pm_header.specs.declared.header.TheConstants.{HEADER_BYTES};
 ghost use Rattle.std.specs.Prelude.{◌≡◌, ◌≢◌, ◌<◌, ◌≤◌, ◌^◌, ◌+◌, ◌++◌, ◌∷◌, [], ℕ, List, Ok, true, false, length, OnOk, IfOk, IfErr};
 ghost use Rattle.std.specs.List.{concat};
 ghost use Rattle.hilbert_id.specs.declared.number.TheConstants.{TILE_IDS};
+ghost use Rattle.feature_store.specs.Moments.{IsAsOf};
 ghost use Rattle.feature_store.specs.Store.{FeatureMap, snapshot};
 ghost use Rattle.feature_store.specs.Tiles.{AreTiles};
 ghost use Rattle.pm_metadata.specs.Archive.{IsMetadata};
@@ -14,7 +15,7 @@ ghost use Rattle.area_content.specs.Tiles.{IsArchiveOfTiles};
 
 use crate::content::sectors_for;
 use crate::fault::ContentFault;
-use feature_store::Tiles;
+use feature_store::{Moment, Store, Tiles};
 use pm_build::{ArchiveBuilder, BuildFault, BuiltArchive};
 use pm_header::HEADER_BYTES;
 use std::alloc::{AllocError, Global};
@@ -29,13 +30,18 @@ fn to_content_fault(fault: BuildFault) -> ContentFault
     }
 }
 
-/// Adds the next tile of a map to its archive. It is false if there is none. A tile too large for an archive entry is larger than every
-/// area.
+/// Adds the next tile of a moment to its archive. It is false if there is none. `store` is the map as it is now. A tile too large for an
+/// archive entry is larger than every area.
 fn add_next(
-    tiles: &mut Tiles<'_>,
+    tiles: &mut Tiles,
     builder: &mut ArchiveBuilder,
+    store: &Store,
+    moment: &Moment,
     area: u64,
 ) -> Result<bool, ContentFault>
+    requires same { moment.now.features ≡ tiles.old.features }
+    requires there { moment.now.lost ≡ false }
+    requires as_of { IsAsOf moment.now store.now.features }
     requires added { AreAdded tiles.old.features tiles.old.from builder.old }
     requires area { area < 2 ^ 23 }
     ensures map { tiles.new.features ≡ tiles.old.features }
@@ -46,7 +52,7 @@ fn add_next(
     ensures fault { (metadata : List ℕ) → CanFit tiles.old.features metadata area builder.old
         → IfErr result (IsContentFault tiles.old.features metadata area) }
 {
-    let tile = match tiles.next() {
+    let tile = match tiles.next(store, moment) {
         Ok(Some(tile)) => tile,
         Ok(None) => return Ok(false),
         Err(_) => return Err(ContentFault::Memory),
@@ -71,32 +77,40 @@ fn least_sectors(builder: &ArchiveBuilder, text: &[u8], metadata: &[u8]) -> u64
     sectors_for(text.len()) + sectors_for(archive)
 }
 
-/// Adds the tiles of a map to its archive, one after the other, up to the first with which it no longer fits in an area of `area` sectors.
-/// `text` is the snapshot of the map.
-pub(crate) fn add_all(
-    tiles: &mut Tiles<'_>,
+/// Adds the next tile of a moment to its archive. It is false once those that are written are added: all of them, or those up to the first
+/// with which the archive no longer fits in an area of `area` sectors. `store` is the map as it is now, `text` the snapshot of the moment.
+pub(crate) fn make_next(
+    tiles: &mut Tiles,
     builder: &mut ArchiveBuilder,
+    store: &Store,
+    moment: &Moment,
     text: &[u8],
     metadata: &[u8],
     area: u64,
-) -> Result<(), ContentFault>
-    requires start { tiles.old.from ≡ 0 }
-    requires none { builder.old ≡ [] }
+) -> Result<bool, ContentFault>
+    requires same { moment.now.features ≡ tiles.old.features }
+    requires there { moment.now.lost ≡ false }
+    requires as_of { IsAsOf moment.now store.now.features }
+    requires added { AreAdded tiles.old.features tiles.old.from builder.old }
+    requires can { CanFit tiles.old.features metadata.now area builder.old }
     requires snapshot { text.now ≡ snapshot tiles.old.features }
     requires area { area < 2 ^ 23 }
-    ensures tiles { OnOk result (AreWritten tiles.old.features metadata.now area builder.new) }
+    ensures map { tiles.new.features ≡ tiles.old.features }
+    ensures added { result ≡ Ok true → AreAdded tiles.old.features tiles.new.from builder.new }
+    ensures can { result ≡ Ok true → CanFit tiles.old.features metadata.now area builder.new }
+    ensures further { result ≡ Ok true → (tiles.old.from < tiles.new.from) × (tiles.new.from ≤ TILE_IDS) }
+    ensures written { result ≡ Ok false → AreWritten tiles.old.features metadata.now area builder.new }
     ensures fault { IfErr result (IsContentFault tiles.old.features metadata.now area) }
 {
-    loop {
-        match add_next(tiles, builder, area) {
-            Ok(true) => {}
-            Ok(false) => return Ok(()),
-            Err(fault) => return Err(fault),
-        }
-        if least_sectors(builder, text, metadata) > area {
-            return Ok(());
-        }
+    match add_next(tiles, builder, store, moment, area) {
+        Ok(true) => {}
+        Ok(false) => return Ok(false),
+        Err(fault) => return Err(fault),
     }
+    if least_sectors(builder, text, metadata) > area {
+        return Ok(false);
+    }
+    Ok(true)
 }
 
 /// The archive of the tiles of a map, with this metadata. It is empty if there are no tiles.

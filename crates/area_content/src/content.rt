@@ -1,11 +1,14 @@
 //! The content of an area, sector by sector.
-ghost use Rattle.std.specs.Prelude.{◌≡◌, ◌<◌, ◌≤◌, ◌^◌, ◌+◌, ◌++◌, length, take, drop};
+ghost use Rattle.std.specs.Prelude.{◌≡◌, ◌<◌, ◌≤◌, ◌^◌, ◌+◌, ◌++◌, ℕ, List, length, take, drop, IfOk, IfErr};
+ghost use Rattle.feature_store.specs.Store.{FeatureMap, snapshot};
 ghost use Rattle.generations.specs.Areas.{sectors_of};
 ghost use Rattle.area_content.specs.Content.{sectors_taken, padded, sector_at};
+ghost use Rattle.area_content.specs.Faults.{IsArchiveFor, IsBuiltFor, IsContentFault};
 ghost use Rattle.pm_build.specs.Built.{archive_bytes};
 ghost use Rattle.sector_bytes.specs.Bytes.{sector_piece};
 ghost use Rattle.sector_disk.specs.declared.disk.TheConstants.{SECTOR_BYTES};
 
+use crate::fault::ContentFault;
 use pm_build::BuiltArchive;
 use sector_disk::SECTOR_BYTES;
 use std::marker::Model;
@@ -126,4 +129,19 @@ impl AreaContent {
             archive_sector(&self.archive, index - first)
         }
     }
+}
+
+/// The content, if it fits in an area of `area` sectors.
+pub(crate) fn within(content: AreaContent, area: u64) -> Result<AreaContent, ContentFault>
+    ensures fits { IfOk result (λ c. (c ≡ content) × (sectors_taken c ≤ area)) }
+    ensures built { (m : FeatureMap) (metadata : List ℕ) → content.snapshot ≡ snapshot m → IsArchiveFor m metadata area content.archive
+        → IfOk result (λ c. IsBuiltFor m metadata c.archive) }
+    ensures full { (m : FeatureMap) (metadata : List ℕ) → content.snapshot ≡ snapshot m → IsArchiveFor m metadata area content.archive
+        → IfErr result (IsContentFault m metadata area) }
+{
+    let need = content.sectors();
+    if need > area {
+        return Err(ContentFault::AreaFull { need, free: area });
+    }
+    Ok(content)
 }

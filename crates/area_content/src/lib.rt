@@ -4,9 +4,11 @@
 
 mod archive;
 mod content;
+mod draft;
 mod fault;
 mod making;
 
 pub use content::AreaContent;
+pub use draft::{ContentDraft, Stage};
 pub use fault::ContentFault;
 pub use making::content_of;

@@ -1,60 +1,37 @@
-//! The content of an area for a map.
-ghost use Rattle.std.specs.Prelude.{◌≡◌, ◌<◌, ◌≤◌, ◌^◌, ℕ, List, IfOk, IfErr};
-ghost use Rattle.feature_store.specs.Store.{FeatureMap, snapshot};
+//! The content of an area for a map, made at once.
+ghost use Rattle.std.specs.Prelude.{◌≡◌, ◌<◌, ◌≤◌, ◌^◌, false, OnOk, IfOk, IfErr};
+ghost use Rattle.feature_store.specs.Moments.{IsAsOf};
+ghost use Rattle.feature_store.specs.Store.{snapshot};
 ghost use Rattle.pm_metadata.specs.Archive.{IsMetadata};
-ghost use Rattle.pm_build.specs.Built.{archive_bytes};
 ghost use Rattle.area_content.specs.Content.{sectors_taken};
-ghost use Rattle.area_content.specs.Faults.{IsBuiltFor, IsContentFault, IsArchiveFor};
+ghost use Rattle.area_content.specs.Faults.{IsBuiltFor, IsContentFault};
+ghost use Rattle.area_content.specs.declared.draft.Stage.TheVariants.{Going, Made};
 
-use crate::archive::{add_all, archive_of};
 use crate::content::AreaContent;
+use crate::draft::ContentDraft;
 use crate::fault::ContentFault;
-use feature_store::Store;
-use pm_build::{ArchiveBuilder, BuiltArchive};
+use feature_store::{Moment, Store};
 use std::alloc::Global;
 
-/// The archive of a map, or of its tiles up to the first with which it no longer fits in an area of `area` sectors. `text` is the snapshot.
-fn archive_for(
-    alloc: Global,
-    store: &Store,
-    text: &[u8],
-    metadata: &[u8],
-    area: u64,
-) -> Result<BuiltArchive, ContentFault>
-    requires snapshot { text.now ≡ snapshot store.now.features }
-    requires metadata { IsMetadata metadata.now }
-    requires area { area < 2 ^ 23 }
-    ensures built { IfOk result (λ a. IsArchiveFor store.now.features metadata.now area (archive_bytes a)) }
-    ensures fault { IfErr result (IsContentFault store.now.features metadata.now area) }
+/// Makes the tiles of a draft, one after the other.
+fn make_all(draft: &mut ContentDraft, store: &Store, moment: &Moment) -> Result<(), ContentFault>
+    requires stage { draft.old.stage ≡ Going }
+    requires same { moment.now.features ≡ draft.old.features }
+    requires there { moment.now.lost ≡ false }
+    requires as_of { IsAsOf moment.now store.now.features }
+    ensures features { draft.new.features ≡ draft.old.features }
+    ensures metadata { draft.new.metadata ≡ draft.old.metadata }
+    ensures area { draft.new.area ≡ draft.old.area }
+    ensures made { OnOk result (draft.new.stage ≡ Made) }
+    ensures fault { IfErr result (IsContentFault draft.old.features draft.old.metadata draft.old.area) }
 {
-    let mut tiles = match store.tiles() {
-        Ok(tiles) => tiles,
-        Err(_) => return Err(ContentFault::Memory),
-    };
-    let mut builder = ArchiveBuilder::new(alloc);
-    match add_all(&mut tiles, &mut builder, text, metadata, area) {
-        Ok(()) => {}
-        Err(fault) => return Err(fault),
+    loop {
+        match draft.step(store, moment) {
+            Ok(true) => {}
+            Ok(false) => return Ok(()),
+            Err(fault) => return Err(fault),
+        }
     }
-    match archive_of(alloc, builder, metadata) {
-        Ok(archive) => Ok(archive),
-        Err(_) => Err(ContentFault::Memory),
-    }
-}
-
-/// The content, if it fits in an area of `area` sectors.
-fn within(content: AreaContent, area: u64) -> Result<AreaContent, ContentFault>
-    ensures fits { IfOk result (λ c. (c ≡ content) × (sectors_taken c ≤ area)) }
-    ensures built { (m : FeatureMap) (metadata : List ℕ) → content.snapshot ≡ snapshot m → IsArchiveFor m metadata area content.archive
-        → IfOk result (λ c. IsBuiltFor m metadata c.archive) }
-    ensures full { (m : FeatureMap) (metadata : List ℕ) → content.snapshot ≡ snapshot m → IsArchiveFor m metadata area content.archive
-        → IfErr result (IsContentFault m metadata area) }
-{
-    let need = content.sectors();
-    if need > area {
-        return Err(ContentFault::AreaFull { need, free: area });
-    }
-    Ok(content)
 }
 
 /// The snapshot and the archive of a map, for an area of `area` sectors. `metadata` is the JSON object in the
@@ -83,13 +60,13 @@ pub fn content_of(
     ensures fits { IfOk result (λ c. sectors_taken c ≤ area) }
     ensures fault { IfErr result (IsContentFault store.now.features metadata.now area) }
 {
-    let snapshot = match store.snapshot_text() {
-        Ok(text) => text,
+    let moment = store.moment();
+    let mut draft = match ContentDraft::of(alloc, store, metadata, area) {
+        Ok(draft) => draft,
         Err(_) => return Err(ContentFault::Memory),
     };
-    let archive = match archive_for(alloc, store, &snapshot, metadata, area) {
-        Ok(archive) => archive,
-        Err(fault) => return Err(fault),
-    };
-    within(AreaContent::of(snapshot, archive), area)
+    match make_all(&mut draft, store, &moment) {
+        Ok(()) => draft.finish(),
+        Err(fault) => Err(fault),
+    }
 }

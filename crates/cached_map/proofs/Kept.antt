@@ -15,7 +15,7 @@ use Rattle.tile_cache.specs.declared.cached_tiles.Origin.{Origin}
 use Rattle.tile_cache.specs.declared.cached_tiles.Origin.TheVariants.{Cut, Read}
 use Rattle.tile_cache.specs.declared.cached_tiles.TileKey.{TileKey}
 use Rattle.tile_cache.specs.declared.cached_tiles.TheConstants.{MAX_TILE_BYTES}
-use Rattle.tile_cache.proofs.Marks.{marked_more, reached_at_most}
+use Rattle.tile_cache.proofs.Marks.{marked_more, newest_of, reached_at_most}
 use Rattle.tile_cache.proofs.Numbers.{newest_once}
 use Rattle.tile_cache.proofs.Places.{place_is}
 use Rattle.cached_map.specs.Cached.{IsUntouched, IsKept, AreKept, AreReadRight, KeepsFirst, KeepsOrNot, WasMap}
@@ -223,6 +223,18 @@ module _ (z x y newest : ℕ) where
   pub newest_most : (origin : Origin) (m : FeatureMap) (cells : List ℕ) (last : ℕ) (kept : CacheView) → AreKept origin m cells last kept
       → ((marks : List Mark) → Remembers cells marks → IsNewest marks z x y newest) → newest ≤ last
   newest_most origin m cells last kept are newest_is = at_most are.marks newest last are.numbers (newest_is are.marks are.remembers).only
+
+-- the map of this moment is known
+pub known_now : (origin : Origin) (m : FeatureMap) (cells : List ℕ) (last : ℕ) (kept : CacheView) → AreKept origin m cells last kept
+    → WasMap m cells last last m
+known_now origin m cells last kept are =
+    record { marks = are.marks; remembers = are.remembers; number = omega arith; tiles = λ z x y untouched. refl }
+
+-- where the number of the newest edit that can have touched a tile isn't above that of a map that is known, the tile has its layers
+pub known_layers : (m : FeatureMap) (cells : List ℕ) (last n newest : ℕ) (was : FeatureMap) (z x y : ℕ) → WasMap m cells last n was
+    → IsNewestOf cells z x y newest → newest ≤ n → layers m z x y ≡ layers was z x y
+known_layers m cells last n newest was z x y known is le =
+    same_since z x y newest m cells last n was (λ marks remembers. newest_of cells marks z x y newest is remembers) known le
 
 -- ---- what is found
 

@@ -9,6 +9,7 @@ ghost use Rattle.feature_model.specs.Spelled.{spelled_changes};
 ghost use Rattle.feature_model.specs.Types.{IsChange};
 ghost use Rattle.feature_store.specs.Content.{IsTileContent};
 ghost use Rattle.feature_store.specs.Layers.{layers};
+ghost use Rattle.feature_store.specs.Moments.{IsMomentOf, moment_map};
 ghost use Rattle.feature_store.specs.Prepared.{prepared_data};
 ghost use Rattle.feature_store.specs.Store.{FeatureMap, feature_at, with_feature, without_feature, changed, edited, snapshot, puts_in};
 ghost use Rattle.feature_store.specs.declared.limit.TheConstants.{TEXTS_END};
@@ -19,7 +20,7 @@ ghost use Rattle.tile_cache.specs.declared.cached_tiles.Origin.TheVariants.{Cut,
 ghost use Rattle.cached_map.specs.Cached.{with_box, marks_of, marks_after, WasMap, AreReadRight, KeepsOrNot, shared_bytes};
 
 use feature_model::{Change, WorldBox};
-use feature_store::{Prepared, Store};
+use feature_store::{Moment, Prepared, Store};
 use hilbert_id::TileAt;
 use std::alloc::{AllocError, Global};
 use std::marker::Model;
@@ -59,8 +60,14 @@ fn mark_some(touched: &mut TouchGrid, bounds: Option<WorldBox>, number: u64)
     }
 }
 
-/// Makes a change by an edit of this number, and marks what it touches. It allocates nothing.
-fn make_one(store: &mut Store, touched: &mut TouchGrid, change: Prepared, number: u64)
+/// Makes a change by an edit of this number, and marks what it touches. A moment that is still asked for keeps what it replaces.
+fn make_one(
+    store: &mut Store,
+    touched: &mut TouchGrid,
+    moment: &mut Option<Moment>,
+    change: Prepared,
+    number: u64,
+)
     requires room { puts_in (prepared_data change ∷ []) ≤ store.old.spare }
     requires texts { length (snapshot (changed store.old.features (prepared_data change))) < TEXTS_END }
     ensures map { store.new.features ≡ changed store.old.features (prepared_data change) }
@@ -69,22 +76,30 @@ fn make_one(store: &mut Store, touched: &mut TouchGrid, change: Prepared, number
         → Remembers touched.new (marks_of store.old.features (prepared_data change) number marks) }
     ensures stays { (marks : List Mark) (first : List ℕ) → StaysElsewhere marks first touched.old
         → StaysElsewhere (marks_of store.old.features (prepared_data change) number marks) first touched.new }
+    ensures moment { moment_map moment.new ≡ moment_map moment.old }
+    ensures as_of { IsMomentOf moment.old store.old.features → IsMomentOf moment.new store.new.features }
 {
     match change {
         Prepared::Put(stored) => {
-            let boxes = store.place(stored);
+            let boxes = store.place_keeping(stored, moment);
             mark_some(touched, boxes.before, number);
             touched.mark(&boxes.after, number);
         }
         Prepared::Delete { id } => {
-            let bounds = store.remove(id);
+            let bounds = store.remove_keeping(id, moment);
             mark_some(touched, bounds, number);
         }
     }
 }
 
 /// Makes changes by an edit of this number, from the first to the last, and marks what they touch.
-fn make_each(store: &mut Store, touched: &mut TouchGrid, changes: Vec<Prepared>, number: u64)
+fn make_each(
+    store: &mut Store,
+    touched: &mut TouchGrid,
+    moment: &mut Option<Moment>,
+    changes: Vec<Prepared>,
+    number: u64,
+)
     requires room { puts_in (map prepared_data changes.items) ≤ store.old.spare }
     requires texts { length (snapshot store.old.features) + length (spelled_changes (map prepared_data changes.items)) < TEXTS_END }
     ensures map { store.new.features ≡ edited store.old.features (map prepared_data changes.items) }
@@ -92,9 +107,11 @@ fn make_each(store: &mut Store, touched: &mut TouchGrid, changes: Vec<Prepared>,
         → Remembers touched.new (marks_after store.old.features (map prepared_data changes.items) number marks) }
     ensures stays { (marks : List Mark) (first : List ℕ) → StaysElsewhere marks first touched.old
         → StaysElsewhere (marks_after store.old.features (map prepared_data changes.items) number marks) first touched.new }
+    ensures moment { moment_map moment.new ≡ moment_map moment.old }
+    ensures as_of { IsMomentOf moment.old store.old.features → IsMomentOf moment.new store.new.features }
 {
     for change in changes {
-        make_one(store, touched, change, number);
+        make_one(store, touched, moment, change, number);
     }
 }
 
@@ -154,6 +171,8 @@ impl CachedMap {
         ensures since { (n : ℕ) (was : FeatureMap) → WasMap self.now.features self.now.touched self.now.last n was → result ≤ n
             → layers self.now.features at.z at.x at.y ≡ layers was at.z at.x at.y }
         ensures most { result ≤ self.now.last }
+        // The map of this moment is known.
+        ensures now { WasMap self.now.features self.now.touched self.now.last self.now.last self.now.features }
         ensures of_cells { IsNewestOf self.now.touched at.z at.x at.y result }
     {
         self.touched.newest(at)
@@ -193,8 +212,9 @@ impl CachedMap {
     /// Makes the changes of an edit of this number, from the first to the last. It allocates nothing.
     ///
     /// The boxes that each change's feature had before and has after it are marked with the number; no other cell's number changes, and
-    /// no cached tile is dropped.
-    pub fn make_edit(&mut self, changes: Vec<Prepared>, number: u64)
+    /// no cached tile is dropped. A moment of the map that is still asked for keeps what the changes replace; if it is out of memory for
+    /// that, it is lost.
+    pub fn make_edit(&mut self, changes: Vec<Prepared>, number: u64, moment: &mut Option<Moment>)
         requires changes { All IsChange (map prepared_data changes.items) }
         requires room { puts_in (map prepared_data changes.items) ≤ self.old.spare }
         requires texts { length (snapshot self.old.features) + length (spelled_changes (map prepared_data changes.items)) < TEXTS_END }
@@ -213,9 +233,11 @@ impl CachedMap {
         ensures kept { self.new.kept ≡ self.old.kept }
         ensures reads { AreReadRight self.old.features self.old.touched self.old.last self.old.kept
             → AreReadRight self.new.features self.new.touched self.new.last self.new.kept }
+        ensures moment { moment_map moment.new ≡ moment_map moment.old }
+        ensures as_of { IsMomentOf moment.old self.old.features → IsMomentOf moment.new self.new.features }
     {
         let _count = self.store.len();
-        make_each(&mut self.store, &mut self.touched, changes, number);
+        make_each(&mut self.store, &mut self.touched, moment, changes, number);
         self.last = number;
     }
 
@@ -223,7 +245,7 @@ impl CachedMap {
     /// fall.
     ///
     /// The box that the feature had is marked with the number; no other cell's number changes, and no cached tile is dropped.
-    pub fn remove(&mut self, id: u64, number: u64) -> bool
+    pub fn remove(&mut self, id: u64, number: u64, moment: &mut Option<Moment>) -> bool
         requires later { self.old.last < number }
         ensures found { IsTrue result ↔ IsSome (feature_at self.old.features id) }
         ensures map { self.new.features ≡ without_feature self.old.features id }
@@ -240,9 +262,11 @@ impl CachedMap {
         ensures kept { self.new.kept ≡ self.old.kept }
         ensures reads { AreReadRight self.old.features self.old.touched self.old.last self.old.kept
             → AreReadRight self.new.features self.new.touched self.new.last self.new.kept }
+        ensures moment { moment_map moment.new ≡ moment_map moment.old }
+        ensures as_of { IsMomentOf moment.old self.old.features → IsMomentOf moment.new self.new.features }
     {
         let _count = self.store.len();
-        let bounds = self.store.remove(id);
+        let bounds = self.store.remove_keeping(id, moment);
         mark_some(&mut self.touched, bounds, number);
         self.last = number;
         bounds.is_some()

@@ -9,5 +9,6 @@ pub mod Laws
 pub mod Pieces
 mod Places
 mod Reading
+pub mod ReadAgain
 pub mod Recovers
 pub mod Releases

@@ -46,7 +46,7 @@ behind_stands ring start (first ∷ rs) r rest at sector stands part lt is =
 module _ (ring : Ring) (image : Image) where
   -- ---- what is stored after records is the next record
 
-  next_behind : (start : RecordStart) (rs : List RecordData) (r : RecordData) (rest : List RecordData)
+  pub next_behind : (start : RecordStart) (rs : List RecordData) (r : RecordData) (rest : List RecordData)
       → HoldsRecords ring start (rs ++ r ∷ rest) image
       → IsNext ring start.place (places_of rs) (start.number + length rs) r image
   next_behind start rs r rest holds = record {
@@ -56,7 +56,7 @@ module _ (ring : Ring) (image : Image) where
         (image (sector_at ring (start.place + (places_of rs + part)))) (holds.stand (sector_at ring (start.place + (places_of rs + part)))) part lt refl;
   }
 
-  number_behind : (start : RecordStart) (rs : List RecordData) (r : RecordData) (rest : List RecordData)
+  pub number_behind : (start : RecordStart) (rs : List RecordData) (r : RecordData) (rest : List RecordData)
       → HoldsRecords ring start (rs ++ r ∷ rest) image → start.number + length rs < 2 ^ 64
   number_behind start rs r rest holds = omega (arith, holds.numbers, length-append rs (r ∷ rest))
 
@@ -79,14 +79,14 @@ module _ (ring : Ring) (image : Image) where
   goes_on most place used number room fits head (inr (inl spent)) = omega (arith, fits, spent)
   goes_on most place used number room fits head (inr (inr none)) = none head
 
-  next_goes_on : (most place used number : ℕ) (r : RecordData) → IsNext ring place used number r image → number < 2 ^ 64 → r.version ≤ most
+  pub next_goes_on : (most place used number : ℕ) (r : RecordData) → IsNext ring place used number r image → number < 2 ^ 64 → r.version ≤ most
       → EndsAt most ring place used number image → ⊥
   next_goes_on most place used number r next fits allowed =
       goes_on most place used number (omega (arith, next.room, next.length_is.1)) fits (next_head most place used number r next fits allowed)
 
   -- ---- two lists of records begin alike
 
-  records_behind : (start : RecordStart) (r : RecordData) (rs : List RecordData) → HoldsRecords ring start (r ∷ rs) image
+  pub records_behind : (start : RecordStart) (r : RecordData) (rs : List RecordData) → HoldsRecords ring start (r ∷ rs) image
       → HoldsRecords ring (start_behind start r) rs image
   records_behind start r rs holds = record {
     lengths = holds.lengths.1;
@@ -95,7 +95,7 @@ module _ (ring : Ring) (image : Image) where
     stand = λ at. (holds.stand at).1;
   }
 
-  part_of_first : (start : RecordStart) (r : RecordData) (rs : List RecordData) → HoldsRecords ring start (r ∷ rs) image
+  pub part_of_first : (start : RecordStart) (r : RecordData) (rs : List RecordData) → HoldsRecords ring start (r ∷ rs) image
       → (part : ℕ) → part < parts_of (length r.text) → IsPart r.version start.number r.text part (image (sector_at ring (start.place + part)))
   part_of_first start r rs holds part lt = (holds.stand (sector_at ring (start.place + part))).0 part lt refl
 
@@ -121,7 +121,7 @@ module _ (ring : Ring) (image : Image) where
   -- ---- at most one journal
 
   -- the version of a record after others
-  version_behind : (most : ℕ) (rs : List RecordData) (r : RecordData) (rest : List RecordData) → AreUpTo most (rs ++ r ∷ rest) → r.version ≤ most
+  pub version_behind : (most : ℕ) (rs : List RecordData) (r : RecordData) (rest : List RecordData) → AreUpTo most (rs ++ r ∷ rest) → r.version ≤ most
   version_behind most [] r rest are = All-head (λ (q : RecordData). q.version ≤ most) r rest are
   version_behind most (first ∷ rs) r rest are =
       version_behind most rs r rest (All-tail (λ (q : RecordData). q.version ≤ most) first (rs ++ r ∷ rest) are)

@@ -32,7 +32,7 @@ one_behind n place records some other begins fits fits_too takes takes_too same 
 
 -- ---- the records without the first
 
-places_split : (rs : List RecordData) (count : ℕ) → places_of (take count rs) + places_of (drop count rs) ≡ places_of rs
+pub places_split : (rs : List RecordData) (count : ℕ) → places_of (take count rs) + places_of (drop count rs) ≡ places_of rs
 places_split rs zero = omega arith
 places_split [] (suc count) = omega arith
 places_split (r ∷ rs) (suc count) = omega (arith, places_split rs count)

@@ -54,7 +54,7 @@ impl Head {
 }
 
 /// The edit's number in a sector.
-fn number_in(sector: &[u8; SECTOR_BYTES]) -> u64
+pub(crate) fn number_in(sector: &[u8; SECTOR_BYTES]) -> u64
     ensures { result ≡ number_from sector.now }
 {
     LittleEndian::read_u64(&sector[4..12])

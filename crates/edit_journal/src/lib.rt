@@ -6,6 +6,7 @@ mod encoding;
 mod fault;
 mod head;
 mod journal;
+mod listing;
 mod records;
 mod recovering;
 mod releasing;

@@ -40,7 +40,7 @@ fn add_bytes(text: &mut Vec<u8>, bytes: &[u8]) -> Result<(), JournalFault>
 }
 
 /// Reads the sector of the place that is `offset` places after the first record in use.
-fn read_place<D: Sectors>(
+pub(crate) fn read_place<D: Sectors>(
     journal: &Journal,
     disk: &mut D,
     offset: u64,
@@ -97,7 +97,7 @@ fn read_text<D: Sectors>(
 }
 
 /// Reads the record after the others, of a version from 1 to `most`, or `None` if the journal ends there.
-fn read_record<D: Sectors>(
+pub(crate) fn read_record<D: Sectors>(
     alloc: Global,
     journal: &Journal,
     disk: &mut D,
@@ -161,7 +161,7 @@ impl Journal {
     }
 
     /// The journal with one more record, of a text of this length.
-    fn with_record(self, length: u32) -> Journal
+    pub(crate) fn with_record(self, length: u32) -> Journal
         requires length { length ≤ most_bytes LAST_RECORD_VERSION }
         requires room { self.used + parts_of length ≤ self.places }
         requires next { self.last < 2 ^ 64 - 1 }

@@ -4,5 +4,6 @@ pub mod Checked
 pub mod Faults
 pub mod Json
 pub mod Lists
+pub mod Numbered
 pub mod Outline
 pub mod Tags

@@ -9,6 +9,7 @@
 
 mod batches;
 mod checked;
+mod edits;
 mod lists;
 mod outline;
 mod reading;
@@ -17,5 +18,6 @@ mod writer;
 
 pub use batches::batch_from_json;
 pub use checked::checked_from_json;
+pub use edits::{delete_to_json, numbered_to_json, put_to_json};
 pub use reading::feature_from_json;
 pub use writer::feature_to_json;

@@ -74,7 +74,7 @@ fn put_made(
 }
 
 /// An object with one member, if its value could be made.
-fn object_of(
+pub(crate) fn object_of(
     alloc: Global,
     name: &str,
     made: Result<Value, AllocError>,

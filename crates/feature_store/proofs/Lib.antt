@@ -18,6 +18,7 @@ mod Walk
 mod Zooms
 pub mod Laws
 pub mod Maps
+mod Moments
 pub mod Puts
 pub mod RecordTexts
 pub mod Snapshots

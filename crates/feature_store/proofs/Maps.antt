@@ -1,5 +1,5 @@
 -- What is kept and what is found when a number is set in a map or taken away.
-use Rattle.std.proofs.Common.{◌≡◌, ◌≢◌, ℕ, ◌<◌, cond, [], ◌∷◌, length, Some, None, refl, sym, ap, subst, ◌∙◌, arith}
+use Rattle.std.proofs.Common.{◌≡◌, ◌≢◌, ℕ, ◌<◌, cond, List, [], ◌∷◌, length, Some, None, refl, sym, ap, subst, ◌∙◌, arith}
 use Rattle.std.specs.List.{All}
 use Rattle.std.specs.Ordering.{nat_cmp}
 use Rattle.std.specs.declared.cmp.Ordering.TheVariants.{Less, Equal, Greater}
@@ -35,30 +35,32 @@ All-removed_entry P (e ∷ m) id a =
 
 -- ---- what is found afterwards
 
-pub lookup_set_same : (m : FeatureMap) (id : ℕ) (f : FeatureData) → lookup (is_at (nat_cmp id)) (insert_entry nat_cmp m id f) ≡ Some f
-lookup_set_same [] id f = lookup_here id (id, f) [] refl
-lookup_set_same (e ∷ m) id f =
-    let Q : FeatureMap → Type 0 = λ n. lookup (is_at (nat_cmp id)) n ≡ Some f in
-    by_order id e.0
-    (λ h. subst Q (sym (set_step id f e m Less (less id e.0 h))) (lookup_here id (id, f) (e ∷ m) refl))
-    (λ h. subst Q (sym (set_step id f e m Equal (equal id e.0 h))) (lookup_here id (e.0, f) m h))
-    (λ h. subst Q (sym (set_step id f e m Greater (greater id e.0 h)))
-    (lookup_on id e (insert_entry nat_cmp m id f) (λ s. omega arith) ∙ lookup_set_same m id f))
+module _ {T : Type 0} where
+  pub lookup_set_same : (m : List (ℕ × T)) (id : ℕ) (f : T) → lookup (is_at (nat_cmp id)) (insert_entry nat_cmp m id f) ≡ Some f
+  lookup_set_same [] id f = lookup_here id (id, f) [] refl
+  lookup_set_same (e ∷ m) id f =
+      let Q : List (ℕ × T) → Type 0 = λ n. lookup (is_at (nat_cmp id)) n ≡ Some f in
+      by_order id e.0
+      (λ h. subst Q (sym (set_step id f e m Less (less id e.0 h))) (lookup_here id (id, f) (e ∷ m) refl))
+      (λ h. subst Q (sym (set_step id f e m Equal (equal id e.0 h))) (lookup_here id (e.0, f) m h))
+      (λ h. subst Q (sym (set_step id f e m Greater (greater id e.0 h)))
+      (lookup_on id e (insert_entry nat_cmp m id f) (λ s. omega arith) ∙ lookup_set_same m id f))
 
--- one entry more, or another one, changes nothing if both give the same after it
-lookup_past : (n : ℕ) (e : ℕ × FeatureData) (m k : FeatureMap) → lookup (is_at (nat_cmp n)) m ≡ lookup (is_at (nat_cmp n)) k
-    → lookup (is_at (nat_cmp n)) (e ∷ m) ≡ lookup (is_at (nat_cmp n)) (e ∷ k)
-lookup_past n e m k h = ap (λ v. cond (is_at (nat_cmp n) e.0) (Some e.1) v) h
+  -- one entry more, or another one, changes nothing if both give the same after it
+  lookup_past : (n : ℕ) (e : ℕ × T) (m k : List (ℕ × T)) → lookup (is_at (nat_cmp n)) m ≡ lookup (is_at (nat_cmp n)) k
+      → lookup (is_at (nat_cmp n)) (e ∷ m) ≡ lookup (is_at (nat_cmp n)) (e ∷ k)
+  lookup_past n e m k h = ap (λ v. cond (is_at (nat_cmp n) e.0) (Some e.1) v) h
 
-pub lookup_set_other : (m : FeatureMap) (id : ℕ) (f : FeatureData) (n : ℕ) → n ≢ id
-    → lookup (is_at (nat_cmp n)) (insert_entry nat_cmp m id f) ≡ lookup (is_at (nat_cmp n)) m
-lookup_set_other [] id f n d = lookup_on n (id, f) [] d
-lookup_set_other (e ∷ m) id f n d =
-    let Q : FeatureMap → Type 0 = λ k. lookup (is_at (nat_cmp n)) k ≡ lookup (is_at (nat_cmp n)) (e ∷ m) in
-    by_order id e.0
-    (λ h. subst Q (sym (set_step id f e m Less (less id e.0 h))) (lookup_on n (id, f) (e ∷ m) d))
-    (λ h. subst Q (sym (set_step id f e m Equal (equal id e.0 h))) (lookup_on n (e.0, f) m (λ s. d (s ∙ sym h)) ∙ sym (lookup_on n e m (λ s. d (s ∙ sym h)))))
-    (λ h. subst Q (sym (set_step id f e m Greater (greater id e.0 h))) (lookup_past n e (insert_entry nat_cmp m id f) m (lookup_set_other m id f n d)))
+  pub lookup_set_other : (m : List (ℕ × T)) (id : ℕ) (f : T) (n : ℕ) → n ≢ id
+      → lookup (is_at (nat_cmp n)) (insert_entry nat_cmp m id f) ≡ lookup (is_at (nat_cmp n)) m
+  lookup_set_other [] id f n d = lookup_on n (id, f) [] d
+  lookup_set_other (e ∷ m) id f n d =
+      let Q : List (ℕ × T) → Type 0 = λ k. lookup (is_at (nat_cmp n)) k ≡ lookup (is_at (nat_cmp n)) (e ∷ m) in
+      by_order id e.0
+      (λ h. subst Q (sym (set_step id f e m Less (less id e.0 h))) (lookup_on n (id, f) (e ∷ m) d))
+      (λ h. subst Q (sym (set_step id f e m Equal (equal id e.0 h))) (lookup_on n (e.0, f) m (λ s. d (s ∙ sym h)) ∙ sym (lookup_on n e m (λ s. d (s ∙ sym h)))))
+      (λ h. subst Q (sym (set_step id f e m Greater (greater id e.0 h)))
+      (lookup_past n e (insert_entry nat_cmp m id f) m (lookup_set_other m id f n d)))
 
 pub lookup_removed_same : (m : FeatureMap) (id : ℕ) → Ascends m → lookup (is_at (nat_cmp id)) (remove_entry (is_at (nat_cmp id)) m) ≡ None
 lookup_removed_same [] id s = refl

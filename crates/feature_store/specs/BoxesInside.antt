@@ -7,8 +7,8 @@ use Rattle.feature_store.specs.Store.{FeatureMap}
 
 -- the map
 abbrev pub boxes_view : Inside → FeatureMap
-boxes_view b = entries_data b.features.now.entries
+boxes_view b = entries_data b.features.value.entries
 
 -- the boxes are those of its features
 abbrev pub AreBoxes : Inside → Type 0
-AreBoxes b = b.boxes.items ≡ map index_entry (entries_data b.features.now.entries)
+AreBoxes b = b.boxes.items ≡ map index_entry (entries_data b.features.value.entries)

@@ -7,6 +7,8 @@ pub mod Indexed
 pub mod Inside
 pub mod Layers
 pub mod Left
+pub mod MomentInside
+pub mod Moments
 pub mod Prepared
 pub mod Records
 pub mod Snapshots

@@ -15,17 +15,19 @@ use feature_model::MAX_ZOOM;
 use number_map::{Block, Entry, NumberMap};
 use std::alloc::{AllocError, Global};
 use std::marker::Model;
+use std::snapshot::Snapshot;
 use tile_cutter::tiles_met;
 use tile_walk::{Numbered, Walk};
 
-/// The features of a map, and the bounding box and the zooms of each, by ascending number.
+/// The bounding box and the zooms of each feature of a map, by ascending number. They stay those of the map as it was.
 #[derive(Drop)]
-pub(crate) struct FeatureBoxes<'a> {
-    features: &'a NumberMap<StoredFeature>,
+pub(crate) struct FeatureBoxes {
+    /// The features, which only clauses read.
+    features: Snapshot<NumberMap<StoredFeature>>,
     boxes: Vec<IndexEntry>,
 }
 
-impl<'a> Model for FeatureBoxes<'a> {
+impl Model for FeatureBoxes {
     ghost use Rattle.feature_store.specs.Store.{FeatureMap};
 
     ghost Value = { FeatureMap };
@@ -93,24 +95,20 @@ fn tiles_of_boxes(
     Ok(tiles)
 }
 
-impl<'a> FeatureBoxes<'a> {
-    /// The features of a map with their boxes. The only error is out of memory.
+impl FeatureBoxes {
+    /// The boxes of the features of a map. The only error is out of memory.
     pub(crate) fn of(
         alloc: Global,
-        features: &'a NumberMap<StoredFeature>,
-    ) -> Result<FeatureBoxes<'a>, AllocError>
-        ensures { IfOk result (λ b. b ≡ entries_data features.entry.now.entries) }
+        features: &NumberMap<StoredFeature>,
+    ) -> Result<FeatureBoxes, AllocError>
+        ensures { IfOk result (λ b. b ≡ entries_data features.now.entries) }
     {
         let mut boxes = Vec::with_capacity(alloc, features.len())?;
         append_blocks(&mut boxes, features.blocks())?;
-        Ok(FeatureBoxes { features, boxes })
-    }
-
-    /// The features.
-    pub(crate) fn features(&self) -> &NumberMap<StoredFeature>
-        ensures { entries_data result.now.entries ≡ self.now }
-    {
-        self.features
+        Ok(FeatureBoxes {
+            features: Snapshot::of(features),
+            boxes,
+        })
     }
 
     /// The walk over the tiles of a zoom that the features cover. The only error is out of memory.

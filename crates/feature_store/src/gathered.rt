@@ -1,6 +1,6 @@
 //! What a tile shows of the features of a map, written layer by layer.
 
-ghost use Rattle.std.specs.Prelude.{ℕ, ◌≤◌, List, ◌∷◌, ◌++◌, ◌≡◌, [], All, map, OnOk, IfOk};
+ghost use Rattle.std.specs.Prelude.{ℕ, ◌≤◌, List, ◌∷◌, ◌++◌, ◌≡◌, [], false, All, map, OnOk, IfOk};
 ghost use Rattle.feature_model.specs.Limits.{IsAllowed, ValueFits};
 ghost use Rattle.edit_text.specs.Views.{tags_view, feature_view};
 ghost use Rattle.geometry_commands.specs.Shapes.{ShapeView};
@@ -13,9 +13,11 @@ ghost use Rattle.feature_store.specs.Gathered.{Gathers};
 ghost use Rattle.feature_store.specs.Indexed.{ShowsAll};
 ghost use Rattle.feature_store.specs.Inside.{entries_data};
 ghost use Rattle.feature_store.specs.Layers.{numbered, added_to, cuts_of};
-ghost use Rattle.feature_store.specs.Store.{IsMap, entry_at};
+ghost use Rattle.feature_store.specs.Moments.{IsAsOf};
+ghost use Rattle.feature_store.specs.Store.{entry_at};
 
 use crate::cutter::Cutter;
+use crate::moment::Moment;
 use edit_text::{FeatureText, StoredFeature, Tags};
 use feature_model::MAX_ZOOM;
 use geometry_commands::{PackedShape, ShapeKind};
@@ -112,32 +114,38 @@ pub(crate) struct Found<'a> {
     feature: FeatureText<'a>,
 }
 
-/// Appends a number with its feature, if it has one.
+/// Appends a number with the feature that it had at a moment, if it had one.
 fn push_stored<'a>(
     stored: &mut Vec<(u64, &'a StoredFeature)>,
     features: &'a NumberMap<StoredFeature>,
+    moment: &'a Moment,
     number: u64,
 ) -> Result<(), AllocError>
+    requires there { moment.now.lost ≡ false }
+    requires as_of { IsAsOf moment.now (entries_data features.now.entries) }
     ensures { OnOk result (map borrowed_data stored.new.items ≡ map borrowed_data stored.old.items
-        ++ entry_at (entries_data features.entry.now.entries) number) }
+        ++ entry_at moment.entry.now.features number) }
 {
-    if let Some(feature) = features.get(number) {
+    if let Some(feature) = moment.get(features, number) {
         stored.push((number, feature))?;
     }
     Ok(())
 }
 
-/// Puts the numbers that have a feature into `stored`, each with its feature. What was there is dropped.
+/// Puts the numbers that had a feature at a moment into `stored`, each with its feature. What was there is dropped.
 fn look_up<'a>(
     stored: &mut Vec<(u64, &'a StoredFeature)>,
     features: &'a NumberMap<StoredFeature>,
+    moment: &'a Moment,
     numbers: &[u64],
 ) -> Result<(), AllocError>
-    ensures { OnOk result (map borrowed_data stored.new.items ≡ chosen (entries_data features.entry.now.entries) numbers.now) }
+    requires there { moment.now.lost ≡ false }
+    requires as_of { IsAsOf moment.now (entries_data features.now.entries) }
+    ensures { OnOk result (map borrowed_data stored.new.items ≡ chosen moment.entry.now.features numbers.now) }
 {
     stored.clear();
     for number in numbers {
-        push_stored(stored, features, *number)?;
+        push_stored(stored, features, moment, *number)?;
     }
     Ok(())
 }
@@ -178,18 +186,20 @@ fn add_each<'a>(
     Ok(())
 }
 
-/// What the tile shows of the features, by the numbers of those of which it shows something, and maybe of others.
+/// What the tile shows of the features of a moment, by the numbers of those of which it shows something, and maybe of others.
 pub(crate) fn gather<'a>(
     alloc: Global,
     cutter: &mut Cutter,
     features: &'a NumberMap<StoredFeature>,
+    moment: &'a Moment,
     numbers: &[u64],
     at: TileAt,
 ) -> Result<Gathered<'a>, AllocError>
     requires zoom { at.z ≤ MAX_ZOOM }
-    requires map { IsMap (entries_data features.now.entries) }
-    requires shown { ShowsAll (entries_data features.now.entries) at.z at.x at.y numbers.now }
-    ensures { IfOk result (λ g. Gathers g (λ name. cuts_of (entries_data features.now.entries) name at.z at.x at.y)) }
+    requires there { moment.now.lost ≡ false }
+    requires as_of { IsAsOf moment.now (entries_data features.now.entries) }
+    requires shown { ShowsAll moment.now.features at.z at.x at.y numbers.now }
+    ensures { IfOk result (λ g. Gathers g (λ name. cuts_of moment.now.features name at.z at.x at.y)) }
 {
     let mut gathered = BTreeMap::new(alloc);
     let mut stored = Vec::with_capacity(alloc, AHEAD.min(numbers.len()))?;
@@ -197,7 +207,7 @@ pub(crate) fn gather<'a>(
     let mut rest = numbers;
     while !rest.is_empty() {
         let (part, later) = rest.split_at(AHEAD.min(rest.len()));
-        look_up(&mut stored, features, part)?;
+        look_up(&mut stored, features, moment, part)?;
         view_each(&mut found, &stored)?;
         add_each(alloc, cutter, &mut gathered, &found, at)?;
         rest = later;

@@ -1,5 +1,5 @@
 //! What the index by boxes has of a feature.
-ghost use Rattle.std.specs.Prelude.{◌≡◌, ◌≤◌, ◌<◌, ◌+◌, ℕ, List, ◌∷◌, IfOk, option_map};
+ghost use Rattle.std.specs.Prelude.{◌≡◌, ◌≤◌, ◌<◌, ◌+◌, ℕ, List, ◌∷◌, IfOk, option_copied, option_map};
 ghost use Rattle.std.specs.List.Sorted.{IsPermutation};
 ghost use Rattle.box_index.specs.declared.entry.IndexEntry.{IndexEntry};
 ghost use Rattle.feature_model.specs.Data.{FeatureData};
@@ -35,10 +35,10 @@ pub(crate) fn index_entry(id: u64, feature: FeatureText<'_>) -> IndexEntry
 pub(crate) fn take_entry(
     index: &mut BoxIndex,
     id: u64,
-    stored: Option<StoredFeature>,
+    stored: Option<&StoredFeature>,
 ) -> Option<WorldBox>
-    ensures bounds { result ≡ option_map (λ s. bounding_box (stored_data s).geometry) stored }
-    ensures indexed { (m : FeatureMap) → option_map stored_data stored ≡ feature_at m id
+    ensures bounds { result ≡ option_map (λ s. bounding_box (stored_data s).geometry) (option_copied stored.entry) }
+    ensures indexed { (m : FeatureMap) → option_map stored_data (option_copied stored.entry) ≡ feature_at m id
         → IsIndexed m index.old.entries → IsIndexed (without_feature m id) index.new.entries }
     ensures spare { index.old.spare ≤ index.new.spare }
 {
@@ -71,12 +71,12 @@ fn exchange(index: &mut BoxIndex, old: &IndexEntry, entry: IndexEntry)
 pub(crate) fn set_entry(
     index: &mut BoxIndex,
     entry: IndexEntry,
-    replaced: Option<StoredFeature>,
+    replaced: Option<&StoredFeature>,
 ) -> Option<WorldBox>
     requires { 0 < index.old.spare }
-    ensures bounds { result ≡ option_map (λ s. bounding_box (stored_data s).geometry) replaced }
+    ensures bounds { result ≡ option_map (λ s. bounding_box (stored_data s).geometry) (option_copied replaced.entry) }
     ensures indexed { (m : FeatureMap) (id : ℕ) (f : FeatureData) → entry ≡ index_entry (id, f) → Ascends m
-        → option_map stored_data replaced ≡ feature_at m id → IsIndexed m index.old.entries → IsIndexed (with_feature m id f) index.new.entries }
+        → option_map stored_data (option_copied replaced.entry) ≡ feature_at m id → IsIndexed m index.old.entries → IsIndexed (with_feature m id f) index.new.entries }
     ensures spare { index.old.spare ≤ index.new.spare + 1 }
 {
     match replaced {

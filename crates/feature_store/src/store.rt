@@ -1,6 +1,6 @@
 //! The map: features by number, and an index of their boxes.
 
-ghost use Rattle.std.specs.Prelude.{◌≡◌, ◌⊎◌, ℕ, [], ◌+◌, ◌<◌, ◌≤◌, ◌≢◌, ◌↔◌, length, map, Some, IsSome, IfSome, None, IfOk, IfErr};
+ghost use Rattle.std.specs.Prelude.{◌≡◌, ◌⊎◌, ℕ, [], ◌+◌, ◌<◌, ◌≤◌, ◌≢◌, ◌↔◌, length, map, Some, IsSome, IfSome, None, true, false, IfOk, IfErr};
 ghost use Rattle.std.specs.Prelude.{All, OnOk, OnErr, option_map};
 ghost use Rattle.feature_model.specs.Data.{change_data};
 ghost use Rattle.feature_model.specs.Limits.{IsAllowed, IsAllowedChange};
@@ -8,8 +8,9 @@ ghost use Rattle.edit_text.specs.Views.{feature_view};
 ghost use Rattle.number_map.specs.Blocks.{joined};
 ghost use Rattle.tile_cutter.specs.WorldBox.{bounding_box};
 ghost use Rattle.feature_store.specs.Content.{IsTileContent};
-ghost use Rattle.feature_store.specs.Inside.{entries_data};
+ghost use Rattle.feature_store.specs.Inside.{stored_data, entries_data};
 ghost use Rattle.feature_store.specs.Layers.{layers};
+ghost use Rattle.feature_store.specs.Moments.{IsAsOf};
 ghost use Rattle.feature_store.specs.Prepared.{prepared_data};
 ghost use Rattle.feature_store.specs.Snapshots.{IsNoSnapshot};
 ghost use Rattle.feature_store.specs.Tiles.{tile_bytes};
@@ -21,6 +22,7 @@ use crate::cutter::Cutter;
 use crate::fault::SnapshotFault;
 use crate::indexed::{index_entry, numbers_near, set_entry, take_entry};
 use crate::limit::TEXTS_END;
+use crate::moment::Moment;
 use crate::placed::PlacedBoxes;
 use crate::prepared::{Prepared, count_puts, prepare_each};
 use crate::snapshot_texts::{append_block_texts, read_map};
@@ -151,6 +153,26 @@ impl Store {
         Ok(prepared)
     }
 
+    /// Gives the number its feature, and returns the bounding boxes of it and of the feature that it had, and that feature.
+    fn set(&mut self, stored: StoredFeature) -> (PlacedBoxes, Option<StoredFeature>)
+        requires room { HasRoom self.old }
+        requires texts { length (snapshot (with_feature self.old.features stored.0 stored.1)) < TEXTS_END }
+        ensures before { result.0.before ≡ box_at self.old.features stored.0 }
+        ensures after { result.0.after ≡ bounding_box stored.1.geometry }
+        ensures replaced { option_map stored_data result.1 ≡ feature_at self.old.features stored.0 }
+        ensures map { self.new.features ≡ with_feature self.old.features stored.0 stored.1 }
+        ensures spare { self.old.spare ≤ self.new.spare + 1 }
+        ensures here { feature_at self.new.features stored.0 ≡ Some stored.1 }
+        ensures others { (n : ℕ) → n ≢ stored.0 → feature_at self.new.features n ≡ feature_at self.old.features n }
+    {
+        let id = stored.id();
+        let entry = index_entry(id, stored.view());
+        let after = entry.span.bounds;
+        let replaced = self.features.insert(id, stored);
+        let before = set_entry(&mut self.index, entry, replaced.as_ref());
+        (PlacedBoxes { before, after }, replaced)
+    }
+
     /// Gives the number its feature, whatever feature it had, and returns the bounding boxes of both. It allocates nothing.
     pub fn place(&mut self, stored: StoredFeature) -> PlacedBoxes
         requires room { HasRoom self.old }
@@ -162,12 +184,44 @@ impl Store {
         ensures here { feature_at self.new.features stored.0 ≡ Some stored.1 }
         ensures others { (n : ℕ) → n ≢ stored.0 → feature_at self.new.features n ≡ feature_at self.old.features n }
     {
+        let (boxes, _replaced) = self.set(stored);
+        boxes
+    }
+
+    /// The same in a map whose state at a moment is still asked for.
+    pub fn place_after(&mut self, stored: StoredFeature, moment: &mut Moment) -> PlacedBoxes
+        requires room { HasRoom self.old }
+        requires texts { length (snapshot (with_feature self.old.features stored.0 stored.1)) < TEXTS_END }
+        ensures before { result.before ≡ box_at self.old.features stored.0 }
+        ensures after { result.after ≡ bounding_box stored.1.geometry }
+        ensures map { self.new.features ≡ with_feature self.old.features stored.0 stored.1 }
+        ensures spare { self.old.spare ≤ self.new.spare + 1 }
+        // The moment's map is the same, and is found by what the edit keeps.
+        ensures features { moment.new.features ≡ moment.old.features }
+        ensures lost { moment.old.lost ≡ true → moment.new.lost ≡ true }
+        ensures memory { moment.old.lost ≡ false → 0 < moment.old.spare → moment.new.lost ≡ false }
+        ensures spare_there { moment.old.spare ≤ moment.new.spare + 1 }
+        ensures as_of { IsAsOf moment.old self.old.features → IsAsOf moment.new self.new.features }
+    {
         let id = stored.id();
-        let entry = index_entry(id, stored.view());
-        let after = entry.span.bounds;
-        let replaced = self.features.insert(id, stored);
-        let before = set_entry(&mut self.index, entry, replaced);
-        PlacedBoxes { before, after }
+        let (boxes, replaced) = self.set(stored);
+        moment.keep(id, replaced);
+        boxes
+    }
+
+    /// Takes the number's feature away, and returns the feature's bounding box, and the feature.
+    fn take(&mut self, id: u64) -> (Option<WorldBox>, Option<StoredFeature>)
+        ensures found { IsSome result.0 ↔ IsSome (feature_at self.old.features id) }
+        ensures bounds { result.0 ≡ box_at self.old.features id }
+        ensures removed { option_map stored_data result.1 ≡ feature_at self.old.features id }
+        ensures map { self.new.features ≡ without_feature self.old.features id }
+        ensures spare { self.old.spare ≤ self.new.spare }
+        ensures gone { feature_at self.new.features id ≡ None }
+        ensures others { (n : ℕ) → n ≢ id → feature_at self.new.features n ≡ feature_at self.old.features n }
+    {
+        let removed = self.features.remove(id);
+        let bounds = take_entry(&mut self.index, id, removed.as_ref());
+        (bounds, removed)
     }
 
     /// Takes the number's feature away, and returns the feature's bounding box, or `None` if it had none. It allocates nothing, and
@@ -180,8 +234,26 @@ impl Store {
         ensures gone { feature_at self.new.features id ≡ None }
         ensures others { (n : ℕ) → n ≢ id → feature_at self.new.features n ≡ feature_at self.old.features n }
     {
-        let removed = self.features.remove(id);
-        take_entry(&mut self.index, id, removed)
+        let (bounds, _removed) = self.take(id);
+        bounds
+    }
+
+    /// The same in a map whose state at a moment is still asked for.
+    pub fn remove_after(&mut self, id: u64, moment: &mut Moment) -> Option<WorldBox>
+        ensures found { IsSome result ↔ IsSome (feature_at self.old.features id) }
+        ensures bounds { result ≡ box_at self.old.features id }
+        ensures map { self.new.features ≡ without_feature self.old.features id }
+        ensures spare { self.old.spare ≤ self.new.spare }
+        // The moment's map is the same, and is found by what the edit keeps.
+        ensures features { moment.new.features ≡ moment.old.features }
+        ensures lost { moment.old.lost ≡ true → moment.new.lost ≡ true }
+        ensures memory { moment.old.lost ≡ false → 0 < moment.old.spare → moment.new.lost ≡ false }
+        ensures spare_there { moment.old.spare ≤ moment.new.spare + 1 }
+        ensures as_of { IsAsOf moment.old self.old.features → IsAsOf moment.new self.new.features }
+    {
+        let (bounds, removed) = self.take(id);
+        moment.keep(id, removed);
+        bounds
     }
 
     /// The bytes of a tile (Mapbox Vector Tile 2.1), or `None` if it shows nothing. The names of its layers ascend byte by byte, and
@@ -198,12 +270,29 @@ impl Store {
         }
         let numbers = numbers_near(self.alloc, &self.index, at)?;
         let mut cutter = Cutter::new(self.alloc);
-        tile_of_numbers(self.alloc, &mut cutter, &self.features, &numbers, at)
+        let now = Moment::of(self.alloc, &self.features);
+        tile_of_numbers(self.alloc, &mut cutter, &self.features, &now, &numbers, at)
     }
 
-    /// The tiles that show something of the map, in ascending order of their ids, each with its bytes (Mapbox Vector Tile 2.1) and
-    /// made when it is asked for, without a list of them. The only error is out of memory.
-    pub fn tiles(&self) -> Result<Tiles<'_>, AllocError>
+    /// The map as of now, while it is edited by `place_after` and `remove_after`. It allocates nothing, and takes no time that grows with the map.
+    pub fn moment(&self) -> Moment
+        ensures features { result.features ≡ self.now.features }
+        ensures there { result.lost ≡ false }
+        ensures as_of { IsAsOf result self.now.features }
+    {
+        Moment::of(self.alloc, &self.features)
+    }
+
+    /// The features by number.
+    pub(crate) fn features(&self) -> &NumberMap<StoredFeature>
+        ensures { entries_data result.now.entries ≡ self.now.features }
+    {
+        &self.features
+    }
+
+    /// The tiles that show something of the map as it is now, in ascending order of their ids, each with its bytes (Mapbox Vector Tile 2.1)
+    /// and made when it is asked for, without a list of them. The map may be edited meanwhile. The only error is out of memory.
+    pub fn tiles(&self) -> Result<Tiles, AllocError>
         ensures is_map { IsMap self.now.features }
         ensures map { IfOk result (λ tiles. tiles.features ≡ self.now.features) }
         ensures start { IfOk result (λ tiles. tiles.from ≡ 0) }

@@ -40,7 +40,7 @@ fn take_tile(walk: &mut Option<Walk>) -> Result<Option<Covered>, AllocError>
 
 impl TilesLeft {
     /// All tiles of a map. The only error is out of memory.
-    pub(crate) fn of(alloc: Global, map: &FeatureBoxes<'_>) -> Result<TilesLeft, AllocError>
+    pub(crate) fn of(alloc: Global, map: &FeatureBoxes) -> Result<TilesLeft, AllocError>
         ensures zoom { IfOk result (λ left. left.zoom ≤ MAX_ZOOM + 1) }
         ensures left { IfOk result (λ left. AreLeft map.now left.zoom 0 (with_next left.next (left_of left.walk))) }
     {
@@ -57,7 +57,7 @@ impl TilesLeft {
     fn take_next(
         &mut self,
         alloc: Global,
-        map: &FeatureBoxes<'_>,
+        map: &FeatureBoxes,
     ) -> Result<Option<Covered>, AllocError>
         requires { self.old.zoom ≤ MAX_ZOOM + 1 }
         ensures zoom { self.new.zoom ≤ MAX_ZOOM + 1 }
@@ -83,11 +83,7 @@ impl TilesLeft {
     }
 
     /// Fills `next`, if it is empty and a tile is left. The only error is out of memory; no tile is lost then.
-    pub(crate) fn look_ahead(
-        &mut self,
-        alloc: Global,
-        map: &FeatureBoxes<'_>,
-    ) -> Result<(), AllocError>
+    pub(crate) fn look_ahead(&mut self, alloc: Global, map: &FeatureBoxes) -> Result<(), AllocError>
         requires { self.old.zoom ≤ MAX_ZOOM + 1 }
         ensures zoom { self.new.zoom ≤ MAX_ZOOM + 1 }
         ensures stay { AllStay map.now self.old.zoom (with_next self.old.next (left_of self.old.walk))

@@ -15,16 +15,16 @@ use Rattle.http_serve.specs.declared.replies.Content.{Content}
 use Rattle.http_serve.specs.declared.replies.Content.TheVariants.{Empty, Fixed, Whole, Shared, Parts}
 use Rattle.http_serve.specs.declared.replies.ContentRange.{ContentRange}
 use Rattle.http_serve.specs.declared.replies.ContentRange.TheVariants.{Part, Unsatisfied}
-use Rattle.http_serve.specs.declared.replies.EntityTag.{EntityTag}
 use Rattle.http_serve.specs.declared.replies.Reply.{Reply}
-use Rattle.http_serve.specs.Tags.{tag_text}
+use Rattle.http_serve.specs.declared.replies.Tag.{Tag}
+use Rattle.http_serve.specs.Tags.{written_tag}
 
 -- what a reply says: its status, the type and the range of its content, the entity tag, the allowed methods, and the content
 pub record ReplyView : Type 0 where
   pub status : ℕ
   pub kind : Option (List ℕ)
   pub range : Option ContentRange
-  pub tag : Option EntityTag
+  pub tag : Option Tag
   pub allow : Option (List ℕ)
   pub content : List ℕ
 
@@ -33,7 +33,7 @@ pub record HeadView : Type 0 where
   pub status : ℕ
   pub kind : Option (List ℕ)
   pub range : Option ContentRange
-  pub tag : Option EntityTag
+  pub tag : Option Tag
   pub allow : Option (List ℕ)
   pub size : ℕ
 
@@ -158,11 +158,11 @@ range_line (Some (Part first last total)) = part_line first last total
 range_line (Some (Unsatisfied total)) = unsatisfied_line total
 
 -- the etag line (RFC 9110, 8.8.3)
-unfoldable pub tag_line : EntityTag → List ℕ
-tag_line tag = codes "etag: " ++ tag_text tag ++ line_end
+unfoldable pub tag_line : Tag → List ℕ
+tag_line tag = codes "etag: " ++ written_tag tag ++ line_end
 
 -- the etag line, if there is an entity tag
-abbrev pub tag_lines : Option EntityTag → List ℕ
+abbrev pub tag_lines : Option Tag → List ℕ
 tag_lines None = []
 tag_lines (Some tag) = tag_line tag
 

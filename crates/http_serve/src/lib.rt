@@ -14,6 +14,6 @@ pub use connection::{End, MAX_READS, ServeFault, Served, serve_fronts, serve_wit
 pub use handlers::{ContentFault, Downloads, Handler, PART_SIZE, Request, Ticket};
 pub use http_requests::READ_SPACE;
 pub use http_values::Status;
-pub use replies::{Content, ContentRange, EntityTag, MAX_WORD, Reply};
+pub use replies::{Content, ContentRange, EntityTag, MAX_WORD, Reply, Tag, WeakTag};
 pub use sessions::Buffers;
 pub use tags::names_tag;

@@ -7,11 +7,11 @@ ghost use Rattle.http_serve.specs.Parts.{front_content, front_bytes};
 ghost use Rattle.http_serve.specs.Reply.{HasShortWords, head_view, content_size, part_line, unsatisfied_line};
 ghost use Rattle.http_serve.specs.Reply.{range_line, tag_line, tag_lines, word_line, length_line, closing_line, field_lines, reply_head, has_no_content};
 ghost use Rattle.http_serve.specs.Sent.{Sends};
-ghost use Rattle.http_serve.specs.Tags.{tag_text};
+ghost use Rattle.http_serve.specs.Tags.{tag_text, weak_text};
 ghost use Rattle.http_serve.specs.declared.replies.TheConstants.{MAX_REPLY_HEAD, MAX_WORD, REPLY_SPACE};
 ghost use Rattle.http_serve.specs.declared.tags.TheConstants.{MAX_TAG};
 
-use crate::tags::{MAX_TAG, put_tag_text};
+use crate::tags::{MAX_TAG, put_tag, put_tag_text, put_weak_text};
 use crate::writes::{WriteFault, send_all, send_both};
 use http_values::{Status, push_number, push_text};
 use std::alloc::{AllocError, Global};
@@ -96,6 +96,36 @@ impl EntityTag {
     }
 }
 
+/// A weak entity tag: two numbers that tell states of a resource apart whose contents aren't equivalent (RFC 9110, 8.8.3). It is sent as
+/// `W/"START-NUMBER"`.
+#[derive(Clone, Copy)]
+pub struct WeakTag {
+    /// In which run of the server it was told.
+    pub start: u64,
+    /// The number of the state in that run.
+    pub number: u64,
+}
+
+impl WeakTag {
+    /// What is quoted in the tag, with its quotation marks: a weak comparison is by this. The only error: an allocation fails.
+    pub fn text(self, alloc: Global) -> Result<Vec<u8>, AllocError>
+        ensures { IfOk result (λ text. text.items ≡ weak_text self) }
+    {
+        let mut text = Vec::with_capacity(alloc, MAX_TAG)?;
+        put_weak_text(&mut text, self);
+        Ok(text)
+    }
+}
+
+/// The entity tag of a reply.
+#[derive(Clone, Copy)]
+pub enum Tag {
+    /// One that differs wherever the bytes do.
+    Strong(EntityTag),
+    /// One that differs wherever the contents aren't equivalent.
+    Weak(WeakTag),
+}
+
 /// A reply to a request. A 204 or 304 reply is sent without its content, its type and its range.
 #[derive(Drop)]
 pub struct Reply {
@@ -105,7 +135,7 @@ pub struct Reply {
     /// Which part of a whole the content is.
     pub range: Option<ContentRange>,
     /// The entity tag of the whole.
-    pub tag: Option<EntityTag>,
+    pub tag: Option<Tag>,
     /// The allowed methods, such as `GET, HEAD`: at most `MAX_WORD` bytes.
     pub allow: Option<&'static str>,
     pub content: Content,
@@ -197,19 +227,19 @@ fn put_range_line(out: &mut Vec<u8>, range: Option<ContentRange>)
 
 /// Adds the line of an entity tag.
 #[tactic(auto, unfolding(crate::specs::Reply::tag_line))]
-fn put_tag_line(out: &mut Vec<u8>, tag: EntityTag)
+fn put_tag_line(out: &mut Vec<u8>, tag: Tag)
     requires room { vec_len out.old + MAX_TAG + 8 ≤ vec_capacity out.old }
     ensures items { out.new.items ≡ out.old.items ++ tag_line tag }
     ensures len { vec_len out.new ≤ vec_len out.old + MAX_TAG + 8 }
     ensures capacity { vec_capacity out.old ≤ vec_capacity out.new }
 {
     push_text(out, b"etag: ");
-    put_tag_text(out, tag);
+    put_tag(out, tag);
     push_text(out, b"\r\n");
 }
 
 /// Adds the line of the entity tag, if there is one.
-fn put_tag_lines(out: &mut Vec<u8>, tag: Option<EntityTag>)
+fn put_tag_lines(out: &mut Vec<u8>, tag: Option<Tag>)
     requires room { vec_len out.old + MAX_TAG + 8 ≤ vec_capacity out.old }
     ensures items { out.new.items ≡ out.old.items ++ tag_lines tag }
     ensures len { vec_len out.new ≤ vec_len out.old + MAX_TAG + 8 }

@@ -15,6 +15,7 @@ is_short statuses.BadRequest = lit≤ tt
 is_short statuses.NotFound = lit≤ tt
 is_short statuses.MethodNotAllowed = lit≤ tt
 is_short statuses.Conflict = lit≤ tt
+is_short statuses.Gone = lit≤ tt
 is_short statuses.PreconditionFailed = lit≤ tt
 is_short statuses.PayloadTooLarge = lit≤ tt
 is_short statuses.RangeNotSatisfiable = lit≤ tt

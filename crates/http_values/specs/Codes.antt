@@ -13,6 +13,7 @@ code_of statuses.BadRequest = 400
 code_of statuses.NotFound = 404
 code_of statuses.MethodNotAllowed = 405
 code_of statuses.Conflict = 409
+code_of statuses.Gone = 410
 code_of statuses.PreconditionFailed = 412
 code_of statuses.PayloadTooLarge = 413
 code_of statuses.RangeNotSatisfiable = 416

@@ -25,6 +25,8 @@ pub enum Status {
     MethodNotAllowed,
     /// 409
     Conflict,
+    /// 410
+    Gone,
     /// 412
     PreconditionFailed,
     /// 413
@@ -57,6 +59,7 @@ impl Status {
             Status::NotFound => StatusCode::NOT_FOUND,
             Status::MethodNotAllowed => StatusCode::METHOD_NOT_ALLOWED,
             Status::Conflict => StatusCode::CONFLICT,
+            Status::Gone => StatusCode::GONE,
             Status::PreconditionFailed => StatusCode::PRECONDITION_FAILED,
             Status::PayloadTooLarge => StatusCode::PAYLOAD_TOO_LARGE,
             Status::RangeNotSatisfiable => StatusCode::RANGE_NOT_SATISFIABLE,

@@ -12,7 +12,8 @@ use Rattle.tile_service.proofs.Runs.Callers.{HasRun, run_begins, run_on_all, tak
 use Rattle.map_replies.specs.declared.service.MapReplies.{MapReplies}
 use Rattle.tile_service.specs.Service.{status_of}
 use Rattle.map_replies.specs.Meanings.{Means, DiskFailed}
-use Rattle.map_replies.specs.State.{access_of, asked_service, ServiceReplies, ServiceFails, ServiceReads, Course, course, Tells, TellsCut, TellsRead}
+use Rattle.map_replies.specs.State.{access_of, tags_of, settings_of, asked_service, ServiceReplies, ServiceFails, ServiceReads}
+use Rattle.map_replies.specs.State.{Course, course, Tells, TellsCut, TellsRead}
 use Rattle.map_replies.specs.Tickets.{KeepsTickets}
 use Rattle.map_replies.proofs.TicketLemmas.{run_reads}
 use Rattle.http_serve.specs.declared.handlers.Ticket.{Ticket}
@@ -35,11 +36,11 @@ module _ {D : Type 0} (sectors : D → ℕ) (honest : D → Type 0) (history : D
         course new (so.run ++ is.0.0),
         (
           is.0.0,
-          subst (λ (s : MapReplies D). Means (access_of s) (DiskFailed faults (asked_service s) (asked_service new))
+          subst (λ (s : MapReplies D). Means (access_of s) (tags_of s) (DiskFailed faults (asked_service s) (asked_service new))
               (status_of (asked_service s)) (status_of (asked_service new)) request reply is.0.0) (sym here) is.0.1,
           subst (λ (s : MapReplies D). TakesAll sectors honest history (asked_service s) is.0.0 (asked_service new)) (sym here) is.0.2,
           refl,
-          subst (λ (s : MapReplies D). access_of new ≡ access_of s) (sym here) is.1,
+          subst (λ (s : MapReplies D). settings_of new ≡ settings_of s) (sym here) is.1,
           subst (λ (s : MapReplies D). KeepsTickets honest history s.calls new.calls) (sym here) is.2,
         ),
         (refl, run_on_all sectors honest history (asked_service first) (asked_service old) (asked_service new) so.run is.0.0 along.1 is.0.2),

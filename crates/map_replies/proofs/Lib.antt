@@ -4,7 +4,13 @@ mod CheckedEdits
 pub mod Connections
 mod TicketLemmas
 mod PartLemmas
+mod FeedLemmas
+mod ListedReplies
+mod ListLemmas
 mod Pushed
 mod SendingLemmas
 mod Texts
 mod Told
+mod TileLemmas
+mod PageLemmas
+mod TagLemmas

@@ -1,12 +1,14 @@
 -- Lengths of words, and values without floats.
-use Rattle.std.proofs.Common.{◌≡◌, ◌≤◌, List, [], ◌∷◌, false, map, length, refl, arith}
+use Rattle.std.proofs.Common.{◌≡◌, ◌≤◌, ℕ, List, [], ◌∷◌, false, map, length, refl, arith}
 use Rattle.serde_json.specs.View.{items_of}
 use Rattle.serde_json.specs.Written.{has_float, items_have_float, members_have_float}
 use Rattle.tile_routes.specs.Methods.{allow_of, name_of}
-use Rattle.tile_routes.specs.Paths.{Asked, asked_tile, asked_feature, asked_from, asked_view, asked_action, asked_nothing}
+use Rattle.tile_routes.specs.Paths.{Asked, asked_tile, asked_feature, asked_from, asked_page, asked_edits, asked_view, asked_action, asked_nothing}
 use Rattle.feature_model.specs.declared.feature.World.{World}
 use Rattle.feature_model.specs.Data.{GeometryData, world_points, world_lines, world_polygons, ValueData, text_value}
-use Rattle.feature_model.specs.Data.{natural_value, negative_value, truth_value, TagData, FeatureData}
+use Rattle.feature_model.specs.Data.{natural_value, negative_value, truth_value, TagData, FeatureData, ChangeData, EditData, put, delete}
+use Rattle.edit_json.specs.Batches.{asked_json, asked_of}
+use Rattle.edit_json.specs.Numbered.{numbered_edit}
 use Rattle.edit_json.specs.Json.{json_of, point_json, points_json, lines_json, shape_json, shape_of, value_json, tags_json}
 
 -- the methods that a path allows make a short word
@@ -15,6 +17,8 @@ unfolding name_of
 allow_short (asked_tile z x y format) = omega arith
 allow_short (asked_feature id) = omega arith
 allow_short (asked_from id) = omega arith
+allow_short (asked_page id) = omega arith
+allow_short (asked_edits number) = omega arith
 allow_short (asked_view view) = omega arith
 allow_short (asked_action action) = omega arith
 allow_short asked_nothing = omega arith
@@ -50,3 +54,16 @@ tags_whole (t ∷ ts) = rw (value_whole t.value, tags_whole ts) refl
 
 pub feature_whole : (f : FeatureData) → has_float (json_of f) ≡ false
 feature_whole f = rw (shape_whole f.geometry, tags_whole f.tags) refl
+
+-- ---- nor has an edit
+
+change_whole : (c : ChangeData) → has_float (asked_json (asked_of c)) ≡ false
+change_whole (put id f) = rw (feature_whole f) refl
+change_whole (delete id) = refl
+
+changes_whole : (cs : EditData) → items_have_float (items_of (map asked_json (map asked_of cs))) ≡ false
+changes_whole [] = refl
+changes_whole (c ∷ cs) = rw (change_whole c, changes_whole cs) refl
+
+pub edit_whole : (number : ℕ) (cs : EditData) → has_float (numbered_edit number cs) ≡ false
+edit_whole number cs = rw (changes_whole cs) refl

@@ -9,7 +9,9 @@ use Rattle.sector_disk.proofs.AskedLaws.{writes_on, reads_may, reads_none}
 use Rattle.published_tiles.specs.declared.place.ArchivePlace.{ArchivePlace}
 use Rattle.tile_service.specs.Machine.{Happening, Runs}
 use Rattle.tile_service.specs.Runs.{IsTrusted, way_of}
-use Rattle.tile_service.specs.Service.{ServiceView, IsUp, IsPlaceIn, HasArchive, ShowsArchive, state_of, status_of, archive_of}
+use Rattle.edit_journal.specs.Appends.{ring_of}
+use Rattle.edit_journal.specs.Ring.{sector_at}
+use Rattle.tile_service.specs.Service.{ServiceView, StaysInUse, IsUp, IsPlaceIn, HasArchive, ShowsArchive, state_of, status_of, archive_of}
 use Rattle.tile_service.specs.Stored.{Stored}
 use Rattle.tile_service.specs.Tickets.{IsHeld}
 use Rattle.tile_service.proofs.Runs.Callers.{HasRun}
@@ -18,6 +20,7 @@ use Rattle.tile_service.proofs.Runs.OneEvent.{runs_less}
 use Rattle.tile_service.specs.declared.fault.ServiceFault.{ServiceFault}
 use Rattle.tile_service.specs.declared.fault.ServiceFault.TheVariants.{Device}
 use Rattle.tile_service.proofs.Archive.Tickets as tickets
+use Rattle.tile_service.proofs.Tiles.Tags.{knows_same}
 use Rattle.http_serve.specs.declared.handlers.Ticket.{Ticket}
 use Rattle.map_replies.specs.declared.calls.Calls.{Calls}
 use Rattle.map_replies.specs.declared.service.MapReplies.{MapReplies}
@@ -53,6 +56,8 @@ module _ {D : Type 0} (sectors : D → ℕ) (honest : D → Type 0) (history : D
       version = ap (λ (s : ServiceView D). s.version) same ∙ so.version;
       asked = writes_on so.asked (reads_may reads);
       doubt = λ index lt is. ap (λ (s : ServiceView D). s.broken) same ∙ so.doubt index lt is;
+      knows = λ n was known. knows_same now new (ap (λ (s : ServiceView D). s.features) same) (ap (λ (s : ServiceView D). s.touched) same)
+          (ap (λ (s : ServiceView D). s.journal.last) same) n was (so.knows n was known);
       keeps_archive = λ none. let so_far = so.keeps_archive none in record {
         generation = ap (λ (s : ServiceView D). s.generation) same ∙ so_far.generation;
         snapshot_len = ap (λ (s : ServiceView D). s.snapshot_len) same ∙ so_far.snapshot_len;
@@ -60,6 +65,12 @@ module _ {D : Type 0} (sectors : D → ℕ) (honest : D → Type 0) (history : D
         shows = λ archive shown is_honest. subst (λ (s : ServiceView D). ShowsArchive (history new.disk) s archive) (sym same)
             (subst (λ (h : History). ShowsArchive h now archive) (sym (reads.same_history is_honest))
             (so_far.shows archive shown (reads.was_honest is_honest)));
+        journal = record {
+          stays = subst (λ (s : ServiceView D). StaysInUse first.journal s.journal) (sym same) so_far.journal.stays;
+          reads = λ is_honest offset lt.
+              ap (λ (h : History). seen h (sector_at (ring_of first.journal) (first.journal.place + offset))) (reads.same_history is_honest)
+              ∙ so_far.journal.reads (reads.was_honest is_honest) offset lt;
+        };
       };
       up = λ stored is_honest up unbroken. let so_far = so.up stored (reads.was_honest is_honest) up (unbroken_before unbroken) in record {
         reached = so_far.reached;

@@ -1,4 +1,4 @@
--- What a request asks of the published archive, and its conditions on the archive's entity tag (RFC 9110, 13).
+-- What a request asks of the published archive or of a tile, and its conditions on an entity tag (RFC 9110, 13).
 use Rattle.std.specs.Prelude.{ℕ, List, Bool, true, false, cond, not, Option, Some, None, option_map}
 use Rattle.http_requests.specs.Requests.{RequestView}
 use Rattle.http_serve.specs.Tags.{names_tag}
@@ -8,15 +8,16 @@ use Rattle.map_replies.specs.declared.conditions.ArchiveAsk.{ArchiveAsk}
 use Rattle.map_replies.specs.declared.conditions.Judged.{Judged}
 use Rattle.map_replies.specs.declared.conditions.Judged.TheVariants.{Holds, Fails, Unchanged}
 
--- the values of the only fields range, if-match and if-none-match
+-- the values of the only fields range, if-match and if-none-match, and the number that tags of tiles begin with, if tiles have tags
 pub record AskView : Type 0 where
   pub range : Option (List ℕ)
   pub if_match : Option (List ℕ)
   pub if_none_match : Option (List ℕ)
+  pub tags : Option ℕ
 
 -- what a request asks
-abbrev pub ask_of : RequestView → AskView
-ask_of request = record { range = request.range; if_match = request.if_match; if_none_match = request.if_none_match }
+abbrev pub ask_of : (tags : Option ℕ) → RequestView → AskView
+ask_of tags request = record { range = request.range; if_match = request.if_match; if_none_match = request.if_none_match; tags = tags }
 
 -- the same, as the program has it
 abbrev pub ask_view : ArchiveAsk → AskView
@@ -24,6 +25,7 @@ ask_view ask = record {
   range = option_map (λ value. value.now) ask.range;
   if_match = option_map (λ value. value.now) ask.if_match;
   if_none_match = option_map (λ value. value.now) ask.if_none_match;
+  tags = ask.tags;
 }
 
 -- a range is ignored unless the method is GET (RFC 9110, 14.2)

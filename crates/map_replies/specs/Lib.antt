@@ -1,6 +1,9 @@
 pub mod Bodies
 pub mod Conditions
+pub mod Feed
+pub mod Lists
 pub mod Meanings
+pub mod Pages
 pub mod Parts
 pub mod Sending
 pub mod Served

@@ -1,26 +1,35 @@
 -- Which happenings of the service a reply reports: one table, for a single reply and for a connection.
-use Rattle.std.specs.Prelude.{◌≡◌, ◌≢◌, ◌<◌, ◌⊎◌, ℕ, List, [], ◌∷◌, ◌++◌, length, map, All, Option, None, IfSome, Result, Ok, Err, IfOk, IfErr}
+use Rattle.std.specs.Prelude.{◌≡◌, ◌≢◌, ◌<◌, ◌≤◌, ◌+◌, ◌⊎◌, ℕ, List, [], ◌∷◌, ◌++◌, length, map, All, Bool, true, false, Option, Some, None, IfSome}
+use Rattle.std.specs.Prelude.{Result, Ok, Err, IfOk, IfErr}
 use Rattle.http_requests.specs.Requests.{RequestView}
 use Rattle.http_serve.specs.Reply.{ReplyView}
-use Rattle.http_serve.specs.Tags.{tag_text}
+use Rattle.http_serve.specs.Tags.{tag_text, weak_text}
 use Rattle.http_serve.specs.declared.replies.EntityTag.{EntityTag}
+use Rattle.http_serve.specs.declared.replies.WeakTag.{WeakTag}
 use Rattle.sector_disk.specs.Disk.{History, HasFailed}
 use Rattle.tile_routes.specs.declared.method.Method.{Method}
 use Rattle.tile_routes.specs.declared.method.Method.TheVariants.{Put, Delete}
 use Rattle.tile_routes.specs.declared.fault.RouteFault.{RouteFault}
 use Rattle.tile_routes.specs.declared.fault.RouteFault.TheVariants as routes
+use Rattle.tile_routes.specs.declared.target.TileFormat.{TileFormat}
 use Rattle.tile_routes.specs.declared.target.Action.{Action}
 use Rattle.tile_routes.specs.declared.target.Action.TheVariants as actions
 use Rattle.tile_routes.specs.declared.target.View.{View}
 use Rattle.tile_routes.specs.declared.target.View.TheVariants as views
 use Rattle.tile_routes.specs.Methods.{method_on}
-use Rattle.tile_routes.specs.Paths.{Asked, asked_tile, asked_feature, asked_from, asked_view, asked_action, asked_nothing, asked_by, granted}
+use Rattle.tile_routes.specs.Paths.{Asked, asked_tile, asked_feature, asked_from, asked_page, asked_edits, asked_view, asked_action, asked_nothing}
+use Rattle.tile_routes.specs.Paths.{asked_by, granted}
 use Rattle.tile_routes.specs.declared.access.Access.{Access}
+use Rattle.edit_journal.specs.Records.{RecordData}
+use Rattle.edit_journal.specs.declared.fault.JournalFault.{JournalFault}
+use Rattle.edit_journal.specs.declared.fault.JournalFault.TheVariants as journals
+use Rattle.edit_text.specs.Recorded.{RecordedEdit}
 use Rattle.feature_model.specs.Data.{FeatureData, EditData, put, delete, number_of}
 use Rattle.feature_model.specs.Seen.{SeenData}
 use Rattle.feature_store.specs.Store.{FeatureMap}
 use Rattle.tile_service.specs.Machine.{Happening, single, batched, recorded_in, recorded_change, edit, begin, step, cancel, check}
-use Rattle.tile_service.specs.Machine.{got, tile, look, look_from, metadata, read}
+use Rattle.tile_service.specs.Machine.{OrMemory, got, tile, tile_number, look, look_from, metadata, read, list_edits}
+use Rattle.tile_service.specs.Replayed.{AreRecordsFor}
 use Rattle.tile_service.specs.Runs.{begin_and_steps, IsUnfinished, TakesAll}
 use Rattle.tile_service.specs.Seen.{IsAsSeen}
 use Rattle.tile_service.specs.Service.{ServiceView, status_of}
@@ -29,16 +38,21 @@ use Rattle.tile_service.specs.declared.status.Status.{Status}
 use Rattle.tile_service.specs.declared.fault.ServiceFault.{ServiceFault}
 use Rattle.tile_service.specs.declared.fault.ServiceFault.TheVariants.{Device}
 use Rattle.map_replies.specs.declared.fault.RequestFault.{RequestFault}
-use Rattle.map_replies.specs.declared.fault.RequestFault.TheVariants.{NotFound, Condition, Memory}
+use Rattle.map_replies.specs.declared.fault.RequestFault.TheVariants.{NotFound, Condition, Gone, Memory, Device as DeviceFailed, Damaged}
 use Rattle.map_replies.specs.declared.parts.ArchiveRange.{ArchiveRange}
 use Rattle.map_replies.specs.declared.parts.ArchiveRange.TheVariants.{Beyond}
 use Rattle.map_replies.specs.Bodies.{SaysFeature, SaysChanges, CheckedEdit, SaysChecked, HasBodyFault, HasBatchFault, HasCheckedFault}
-use Rattle.map_replies.specs.Conditions.{AskView, ask_of, ask_for, judged}
+use Rattle.map_replies.specs.Conditions.{AskView, ask_of, ask_for, is_known, judged}
 use Rattle.map_replies.specs.declared.conditions.Judged.{Judged}
 use Rattle.map_replies.specs.declared.conditions.Judged.TheVariants.{Holds, Fails, Unchanged}
+use Rattle.map_replies.specs.Feed.{changes_of, feed_body}
+use Rattle.map_replies.specs.declared.feed.TheConstants.{FEED_BYTES}
 use Rattle.map_replies.specs.Parts.{IsPart, start_of, size_of, archive_tag, part_reply, unchanged_reply, bytes_reply}
-use Rattle.map_replies.specs.Words.{refusal_of, not_allowed_reply, outcome_reply, changed_reply, left_reply, published_reply, cancel_reply}
-use Rattle.map_replies.specs.Words.{shown_reply, content_reply, found_reply, numbered_reply, metadata_reply, status_reply}
+use Rattle.map_replies.specs.Words.{refusal_of, not_allowed_reply, json_reply, outcome_reply, changed_reply, left_reply, published_reply}
+use Rattle.map_replies.specs.Words.{cancel_reply, shown_reply, content_reply, tagged_reply, same_tile_reply, found_reply, numbered_reply}
+use Rattle.map_replies.specs.Words.{metadata_reply, status_reply}
+use Rattle.map_replies.specs.Pages.{Entry, AreEnough, page_reply, looks_from}
+use Rattle.map_replies.specs.declared.pages.TheConstants.{PAGE_BYTES}
 
 -- ---- one call of the service
 
@@ -159,6 +173,53 @@ abbrev pub MeansArchive : (failed : Type 0) → (tag : EntityTag) → AskView �
 MeansArchive failed tag ask reply happenings = ((tag.length ≡ 0) × MeansRefusal NotFound reply happenings)
     ⊎ ((0 < tag.length) × MeansJudged failed tag (judged (tag_text tag) ask) ask.range reply happenings)
 
+-- ---- features
+
+-- A page of the features from an id on, or out of memory.
+abbrev pub MeansPage : ℕ → ReplyView → List Happening → Type 0
+MeansPage id reply happenings = MeansRefusal Memory reply happenings ⊎ ((es : List Entry) × (next : Option Entry)
+    × AreEnough PAGE_BYTES es next × (reply ≡ page_reply es next) × (happenings ≡ looks_from id es next))
+
+-- ---- tiles
+
+-- A tile that has a tag: of the run of the service that began with this number, and of the number of the tile. If if-none-match names the
+-- tag, the client has the tile, and none is made; else the tile is shown with its tag. Out of memory nothing happens.
+abbrev pub MeansTagged : (start : ℕ) → (if_none_match : Option (List ℕ)) → (z x y : ℕ) → TileFormat → ReplyView → List Happening → Type 0
+MeansTagged start if_none_match z x y format reply happenings = MeansRefusal Memory reply happenings ⊎ ((number : ℕ)
+    × (let tag : WeakTag = record { start = start; number = number } in
+    ((is_known (weak_text tag) if_none_match ≡ true) × (reply ≡ same_tile_reply tag) × (happenings ≡ tile_number z x y number ∷ []))
+    ⊎ ((is_known (weak_text tag) if_none_match ≡ false) × (outcome : OrMemory (Option (List ℕ)))
+    × (reply ≡ shown_reply (tagged_reply format tag) outcome) × (happenings ≡ tile_number z x y number ∷ tile z x y outcome ∷ []))))
+
+-- a tile: with a tag, if tiles have tags
+abbrev pub MeansTile : (tags : Option ℕ) → (if_none_match : Option (List ℕ)) → (z x y : ℕ) → TileFormat → ReplyView → List Happening → Type 0
+MeansTile None if_none_match z x y format = MeansCall (tile z x y) (shown_reply (content_reply format))
+MeansTile (Some start) if_none_match z x y format = MeansTagged start if_none_match z x y format
+
+-- ---- edits that are listed
+
+-- The reply to what was read of the edits from a number on: they are listed with their numbers, and the number of the last edit of all is
+-- told. Damaged: the disk gives something else than records of edits.
+abbrev pub ListedAs : (failed : Type 0) → (last number : ℕ) → Result (List RecordData) JournalFault → ReplyView → Type 0
+ListedAs failed last number (Ok records) reply =
+    ((edits : List RecordedEdit) × AreRecordsFor records edits × (reply ≡ json_reply (feed_body number (changes_of edits) last)))
+    ⊎ (reply ≡ refusal_of Memory) ⊎ (((edits : List RecordedEdit) → ¬ AreRecordsFor records edits) × (reply ≡ refusal_of Damaged))
+ListedAs failed last number (Err journals.Device) reply = failed × (reply ≡ refusal_of DeviceFailed)
+ListedAs failed last number (Err journals.Memory) reply = reply ≡ refusal_of Memory
+ListedAs failed last number (Err journals.Damaged) reply = reply ≡ refusal_of Damaged
+ListedAs failed last number (Err fault) reply = ⊥
+
+-- the edits from a number on are read
+abbrev pub MeansFound : (failed : Type 0) → (last number : ℕ) → ReplyView → List Happening → Type 0
+MeansFound failed last number reply happenings = (outcome : Result (List RecordData) JournalFault)
+    × ListedAs failed last number outcome reply × (happenings ≡ list_edits number FEED_BYTES outcome ∷ [])
+
+-- The edits from a number on are asked for. Those up to the last published one are gone, and there are none from behind the next one on.
+abbrev pub MeansList : (failed : Type 0) → (old : Status) → ℕ → ReplyView → List Happening → Type 0
+MeansList failed old number reply happenings = ((number ≤ old.published) × MeansRefusal Gone reply happenings)
+    ⊎ ((old.edits + 1 < number) × MeansRefusal NotFound reply happenings)
+    ⊎ ((old.published < number) × (number ≤ old.edits + 1) × MeansFound failed old.edits number reply happenings)
+
 -- ---- routed requests: old and new are what the service tells of itself before and after, failed says that its disk has failed meanwhile
 
 abbrev pub MeansOnFeature : (failed : Type 0) → (version : ℕ) → ℕ → Method → List ℕ → ReplyView → List Happening → Type 0
@@ -189,9 +250,11 @@ MeansAction failed old new actions.PublishCancel body = OrNoMemory (MeansCall ca
 -- a method that the path allows
 abbrev pub MeansAllowed : (failed : Type 0) → (old new : Status) → Asked → Method → AskView → List ℕ
     → ReplyView → List Happening → Type 0
-MeansAllowed failed old new (asked_tile z x y format) method ask body = MeansCall (tile z x y) (shown_reply (content_reply format))
+MeansAllowed failed old new (asked_tile z x y format) method ask body = MeansTile ask.tags ask.if_none_match z x y format
 MeansAllowed failed old new (asked_feature id) method ask body = MeansOnFeature failed old.version id method body
 MeansAllowed failed old new (asked_from id) method ask body = MeansCall (look_from id) (shown_reply numbered_reply)
+MeansAllowed failed old new (asked_page id) method ask body = MeansPage id
+MeansAllowed failed old new (asked_edits number) method ask body = MeansList failed old number
 MeansAllowed failed old new (asked_view view) method ask body = MeansView failed old new view method ask
 MeansAllowed failed old new (asked_action action) method ask body = MeansAction failed old new action body
 MeansAllowed failed old new asked_nothing method ask body = MeansRefusal NotFound
@@ -210,10 +273,10 @@ abbrev pub asked_for : Access → RequestView → Asked
 asked_for access request = granted access (asked_by request.path)
 
 -- the reply to a request, which is routed by its method, its condition and its path
-abbrev pub Means : Access → (failed : Type 0) → (old new : Status) → RequestView → ReplyView → List Happening → Type 0
-Means access failed old new request =
+abbrev pub Means : Access → (tags : Option ℕ) → (failed : Type 0) → (old new : Status) → RequestView → ReplyView → List Happening → Type 0
+Means access tags failed old new request =
     MeansMethod failed old new (asked_for access request) (method_on request.method request.conditional (asked_for access request))
-    (ask_of request) request.body
+    (ask_of tags request) request.body
 
 -- ---- a single reply
 
@@ -239,5 +302,5 @@ module _ {D : Type 0} (sectors : D → ℕ) (honest : D → Type 0) (history : D
         Answers (MeansMethod (DiskFailed faults old new) (status_of old) (status_of new) asked method ask body) old new
 
     -- the reply to a request
-    abbrev pub Replies : Access → ServiceView D → RequestView → ReplyView → ServiceView D → Type 0
-    Replies access old request reply new = Answers (Means access (DiskFailed faults old new) (status_of old) (status_of new) request) old new reply
+    abbrev pub Replies : Access → (tags : Option ℕ) → ServiceView D → RequestView → ReplyView → ServiceView D → Type 0
+    Replies access tags old request reply new = Answers (Means access tags (DiskFailed faults old new) (status_of old) (status_of new) request) old new reply

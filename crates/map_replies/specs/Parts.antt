@@ -4,6 +4,7 @@ use Rattle.http_values.specs.Ranges.{IsRange}
 use Rattle.http_serve.specs.Reply.{ReplyView}
 use Rattle.http_serve.specs.declared.replies.EntityTag.{EntityTag}
 use Rattle.http_serve.specs.declared.replies.ContentRange.TheVariants as ranges
+use Rattle.http_serve.specs.declared.replies.Tag.TheVariants.{Strong}
 use Rattle.tile_service.specs.declared.fault.ServiceFault.TheVariants.{Device}
 use Rattle.tile_service.specs.declared.status.Status.{Status}
 use Rattle.map_replies.specs.declared.parts.ArchiveRange.{ArchiveRange}
@@ -49,15 +50,15 @@ archive_tag status = record { generation = status.generation; edit = status.publ
 -- archive it has the tag.
 abbrev pub part_reply : ArchiveRange → (tag : EntityTag) → (content : List ℕ) → ReplyView
 part_reply Whole tag content =
-    record { status = 200; kind = Some octets_type; range = None; tag = Some tag; allow = None; content = content }
+    record { status = 200; kind = Some octets_type; range = None; tag = Some (Strong tag); allow = None; content = content }
 part_reply (Between first last) tag content =
-    record { status = 206; kind = Some octets_type; range = Some (ranges.Part first last tag.length); tag = Some tag; allow = None; content = content }
+    record { status = 206; kind = Some octets_type; range = Some (ranges.Part first last tag.length); tag = Some (Strong tag); allow = None; content = content }
 part_reply Beyond tag content =
     record { status = 416; kind = Some text_type; range = Some (ranges.Unsatisfied tag.length); tag = None; allow = None; content = range_word }
 
 -- 304 Not Modified, with the tag of the archive that the client has
 abbrev pub unchanged_reply : EntityTag → ReplyView
-unchanged_reply tag = record { status = 304; kind = None; range = None; tag = Some tag; allow = None; content = [] }
+unchanged_reply tag = record { status = 304; kind = None; range = None; tag = Some (Strong tag); allow = None; content = [] }
 
 -- the reply with a part if its bytes were read, or the refusal Device if the disk failed
 abbrev pub bytes_reply : ArchiveRange → (tag : EntityTag) → Option (List ℕ) → ReplyView

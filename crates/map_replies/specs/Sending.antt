@@ -9,10 +9,11 @@ use Rattle.tile_routes.specs.declared.method.Method.{Method}
 use Rattle.tile_routes.specs.declared.fault.RouteFault.{RouteFault}
 use Rattle.tile_routes.specs.declared.target.View.TheVariants.{Archive}
 use Rattle.tile_routes.specs.Paths.{Asked, asked_view}
-use Rattle.tile_service.specs.Machine.{read}
+use Rattle.tile_service.specs.Machine.{OrMemory, got, no_memory, read}
 use Rattle.tile_service.specs.Runs.{Takes}
 use Rattle.tile_service.specs.Service.{ServiceView, status_of}
 use Rattle.map_replies.specs.declared.fault.RequestFault.{RequestFault}
+use Rattle.map_replies.specs.declared.fault.RequestFault.TheVariants.{Memory}
 use Rattle.map_replies.specs.declared.parts.ArchiveRange.{ArchiveRange}
 use Rattle.map_replies.specs.declared.parts.ArchiveRange.TheVariants.{Whole, Between, Beyond}
 use Rattle.map_replies.specs.declared.parts.Sending.{Sending}
@@ -26,6 +27,12 @@ use Rattle.map_replies.specs.Words.{refusal_of}
 abbrev pub IsAnswered : (P : ReplyView → Type 0) → Result Reply RequestFault → Type 0
 IsAnswered P (Ok reply) = P (reply_view [] reply)
 IsAnswered P (Err fault) = P (refusal_of fault)
+
+-- a result is the reply with what was shown, or out of memory where nothing was
+abbrev pub IsShownAs : {A : Type 0} → (reply_of : A → ReplyView) → OrMemory A → Result Reply RequestFault → Type 0
+IsShownAs reply_of (got a) (Ok reply) = reply_view [] reply ≡ reply_of a
+IsShownAs reply_of no_memory (Err fault) = fault ≡ Memory
+IsShownAs reply_of outcome result = ⊥
 
 -- a reply satisfies P, and also Q if its content is read in parts
 abbrev pub IsAnswer : (P Q : ReplyView → Type 0) → Reply → Type 0

@@ -20,6 +20,14 @@ use Rattle.tile_routes.specs.declared.access.Access.{Access}
 abbrev pub access_of : {D : Type 0} → MapReplies D → Access
 access_of s = s.access
 
+-- the number that tags of tiles begin with, if tiles have tags
+abbrev pub tags_of : {D : Type 0} → MapReplies D → Option ℕ
+tags_of s = s.tags
+
+-- which paths it serves, and how tiles are tagged
+abbrev pub settings_of : {D : Type 0} → MapReplies D → Access × Option ℕ
+settings_of s = (s.access, s.tags)
+
 -- the service that it calls
 abbrev pub asked_service : {D : Type 0} → MapReplies D → ServiceView D
 asked_service s = s.calls.service
@@ -37,28 +45,28 @@ sending_ticket s = ticket_for s.calls
 
 -- over a disk with these sectors, this honesty, this history and this count of faults
 module _ {D : Type 0} (sectors : D → ℕ) (honest : D → Type 0) (history : D → History) (faults : D → ℕ) where
-  -- one reply to one request; the same paths are served as before, and tickets are held that were
+  -- one reply to one request; the same paths are served as before, with the same tags, and tickets are held that were
   abbrev pub ServiceReplies : MapReplies D → RequestView → ReplyView → MapReplies D → Type 0
   ServiceReplies old request reply new =
-      Replies sectors honest history faults (access_of old) (asked_service old) request reply (asked_service new) × (access_of new ≡ access_of old)
+      Replies sectors honest history faults (access_of old) (tags_of old) (asked_service old) request reply (asked_service new) × (settings_of new ≡ settings_of old)
       × KeepsTickets honest history old.calls new.calls
 
   -- the same for a reply whose content is being read in parts: the request is for the archive
   abbrev pub ServiceSends : MapReplies D → RequestView → ReplyView → MapReplies D → Type 0
   ServiceSends old request reply new =
       SendsMethod sectors honest history faults (asked_for (access_of old) request)
-      (method_on request.method request.conditional (asked_for (access_of old) request)) (ask_of request)
+      (method_on request.method request.conditional (asked_for (access_of old) request)) (ask_of (tags_of old) request)
       (asked_service old) new.calls.sending (asked_service new) reply
-      × (access_of new ≡ access_of old) × KeepsTickets honest history old.calls new.calls
+      × (settings_of new ≡ settings_of old) × KeepsTickets honest history old.calls new.calls
 
   -- the same for a reply whose content couldn't be read to its end: the disk has failed
   abbrev pub ServiceFails : MapReplies D → RequestView → ReplyView → MapReplies D → Type 0
   ServiceFails old request reply new = ServiceReplies old request reply new × DiskFailed faults (asked_service old) (asked_service new)
 
-  -- bytes of a ticket's content were read, or couldn't be; the same paths are served as before
+  -- bytes of a ticket's content were read, or couldn't be; the same paths are served as before, with the same tags
   abbrev pub ServiceReads : MapReplies D → Ticket → ℕ → Option (List ℕ) → MapReplies D → Type 0
   ServiceReads old ticket offset outcome new =
-      ReadsRest sectors honest history old.calls ticket offset outcome new.calls × (access_of new ≡ access_of old)
+      ReadsRest sectors honest history old.calls ticket offset outcome new.calls × (settings_of new ≡ settings_of old)
 
 -- ---- a connection
 
@@ -72,13 +80,13 @@ course replies run = record { replies = replies; run = run }
 
 module _ {D : Type 0} (sectors : D → ℕ) (honest : D → Type 0) (history : D → History) (faults : D → ℕ) where
   -- One reply to one request: it reports happenings, the service takes them all, and they are appended to the run. The same paths are
-  -- served as before, and tickets are held that were.
+  -- served as before, with the same tags, and tickets are held that were.
   abbrev pub Tells : Course D → RequestView → ReplyView → Course D → Type 0
   Tells old request reply new = (happenings : List Happening)
-      × Means (access_of old.replies) (DiskFailed faults (asked_service old.replies) (asked_service new.replies))
+      × Means (access_of old.replies) (tags_of old.replies) (DiskFailed faults (asked_service old.replies) (asked_service new.replies))
       (status_of (asked_service old.replies)) (status_of (asked_service new.replies)) request reply happenings
       × TakesAll sectors honest history (asked_service old.replies) happenings (asked_service new.replies)
-      × (new.run ≡ old.run ++ happenings) × (access_of new.replies ≡ access_of old.replies)
+      × (new.run ≡ old.run ++ happenings) × (settings_of new.replies ≡ settings_of old.replies)
       × KeepsTickets honest history old.replies.calls new.replies.calls
 
   -- the same for a reply whose content couldn't be read to its end: the disk has failed

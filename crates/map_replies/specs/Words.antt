@@ -1,9 +1,11 @@
 -- The replies of the service.
-use Rattle.std.specs.Prelude.{ℕ, List, ◌++◌, Bool, codes, decimal, Option, Some, None, Result, Ok, Err, if◌then◌else◌}
+use Rattle.std.specs.Prelude.{ℕ, List, [], ◌++◌, Bool, codes, decimal, Option, Some, None, Result, Ok, Err, if◌then◌else◌}
 use Rattle.hex.specs.Hex.{encode_lower}
 use Rattle.serde_json.specs.Data.{Data}
 use Rattle.serde_json.specs.Written.{compact_text}
 use Rattle.http_serve.specs.Reply.{ReplyView, plain_reply}
+use Rattle.http_serve.specs.declared.replies.Tag.TheVariants.{Weak}
+use Rattle.http_serve.specs.declared.replies.WeakTag.{WeakTag}
 use Rattle.feature_model.specs.Data.{FeatureData}
 use Rattle.edit_json.specs.Json.{json_of}
 use Rattle.feature_model.specs.declared.fault.EditFault.{EditFault}
@@ -18,7 +20,7 @@ use Rattle.tile_service.specs.declared.status.Status.{Status}
 use Rattle.tile_service.specs.declared.fault.ServiceFault.{ServiceFault}
 use Rattle.tile_service.specs.declared.fault.ServiceFault.TheVariants as services
 use Rattle.map_replies.specs.declared.fault.RequestFault.{RequestFault}
-use Rattle.map_replies.specs.declared.fault.RequestFault.TheVariants.{NotFound, Json, Edit, Condition, Memory}
+use Rattle.map_replies.specs.declared.fault.RequestFault.TheVariants.{NotFound, Json, Edit, Condition, Gone, Memory, Device, Damaged}
 
 unfoldable pub text_type : List ℕ
 text_type = codes "text/plain"
@@ -71,7 +73,10 @@ fault_word NotFound = codes "NotFound\n"
 fault_word Json = codes "Json\n"
 fault_word (Edit fault) = edit_word fault
 fault_word Condition = codes "Condition\n"
+fault_word Gone = codes "Gone\n"
 fault_word Memory = codes "Memory\n"
+fault_word Device = codes "Device\n"
+fault_word Damaged = codes "Damaged\n"
 
 abbrev pub edit_status : EditFault → ℕ
 edit_status edits.Memory = 503
@@ -82,7 +87,10 @@ fault_status NotFound = 404
 fault_status Json = 400
 fault_status (Edit fault) = edit_status fault
 fault_status Condition = 412
+fault_status Gone = 410
 fault_status Memory = 503
+fault_status Device = 500
+fault_status Damaged = 500
 
 abbrev pub service_status : ServiceFault → ℕ
 service_status services.Broken = 500
@@ -256,3 +264,17 @@ tile_reply format bytes = plain_reply 200 (Some (format_type format)) (format_co
 abbrev pub content_reply : TileFormat → Option (List ℕ) → ReplyView
 content_reply format None = empty_reply
 content_reply format (Some bytes) = tile_reply format bytes
+
+-- ---- tags of tiles
+
+-- the same reply with the tag of a tile
+abbrev pub with_tag : WeakTag → ReplyView → ReplyView
+with_tag tag reply = record reply { tag = Some (Weak tag) }
+
+-- the content of a tile with this tag, or 204 with the tag if the tile is empty
+abbrev pub tagged_reply : TileFormat → WeakTag → Option (List ℕ) → ReplyView
+tagged_reply format tag content = with_tag tag (content_reply format content)
+
+-- 304 Not Modified, with the tag of the tile that the client has
+abbrev pub same_tile_reply : WeakTag → ReplyView
+same_tile_reply tag = record { status = 304; kind = None; range = None; tag = Some (Weak tag); allow = None; content = [] }

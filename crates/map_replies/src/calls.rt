@@ -107,9 +107,11 @@ impl<D: Sectors + Drop> Calls<D> {
         ensures held { KeepsTickets D.honest D.history self.old self.new }
     {
         match target {
-            Target::Tile(at, format) => self.tile(at, format),
+            Target::Tile(at, format) => self.tile(at, format, ask),
             Target::Feature(id) => self.on_feature(id, method, body),
             Target::FeatureFrom(id) => self.feature_from(id),
+            Target::FeaturePage(id) => self.feature_page(id),
+            Target::EditsFrom(number) => self.edits_from(number),
             Target::View(view) => self.on_view(view, method, ask),
             Target::Action(action) => self.on_action(action, body),
             Target::Nothing => Err(RequestFault::NotFound),

@@ -1,18 +1,20 @@
-//! What a request asks of the published archive, and what its conditions come to (RFC 9110, 13).
+//! What a request asks of the published archive or of a tile, and what its conditions come to (RFC 9110, 13).
 ghost use Rattle.std.specs.Prelude.{◌≡◌, IfOk, option_map};
-ghost use Rattle.http_serve.specs.Tags.{tag_text};
+ghost use Rattle.http_serve.specs.Tags.{tag_text, weak_text};
 ghost use Rattle.map_replies.specs.Conditions.{ask_for, ask_view, is_known, is_other, judged};
 
-use http_serve::{EntityTag, names_tag};
+use http_serve::{EntityTag, WeakTag, names_tag};
 use std::alloc::{AllocError, Global};
 use tile_routes::Method;
 
-/// What a request asks of the archive: the values of its only fields range, if-match and if-none-match.
+/// What a request asks of the archive or of a tile: the values of its only fields range, if-match and if-none-match; and the number that
+/// tags of tiles begin with, if tiles have tags.
 #[derive(Clone, Copy)]
 pub(crate) struct ArchiveAsk<'a> {
     pub(crate) range: Option<&'a [u8]>,
     pub(crate) if_match: Option<&'a [u8]>,
     pub(crate) if_none_match: Option<&'a [u8]>,
+    pub(crate) tags: Option<u64>,
 }
 
 /// What the conditions of a request come to.
@@ -59,6 +61,21 @@ fn is_known(tag: &[u8], if_none_match: Option<&[u8]>) -> bool
         Some(value) => names_tag(true, tag, value),
         None => false,
     }
+}
+
+/// Whether if-none-match is there, and names the tag of a tile. The only error is out of memory, and comes only if the field is there.
+pub(crate) fn names_tile(
+    alloc: Global,
+    tag: WeakTag,
+    if_none_match: Option<&[u8]>,
+) -> Result<bool, AllocError>
+    ensures { IfOk result (λ known. known ≡ is_known (weak_text tag) (option_map (λ value. value.now) if_none_match.entry)) }
+{
+    if if_none_match.is_none() {
+        return Ok(false);
+    }
+    let tag = tag.text(alloc)?;
+    Ok(is_known(&tag, if_none_match))
 }
 
 /// What the conditions come to, for the archive with this tag. The only error is out of memory, and comes only if there is a condition.

@@ -12,8 +12,14 @@ pub(crate) enum RequestFault {
     Edit(EditFault),
     /// The request would change something, and comes under a condition.
     Condition,
+    /// Edits that were published are asked for: the journal doesn't have them any more.
+    Gone,
     /// An allocation failed.
     Memory,
+    /// A call of the disk failed.
+    Device,
+    /// The disk gives something else than was written.
+    Damaged,
 }
 
 impl From<EditFault> for RequestFault {

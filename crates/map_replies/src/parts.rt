@@ -6,7 +6,7 @@ ghost use Rattle.map_replies.specs.declared.parts.TheConstants.{FIRST_BYTES};
 ghost use Rattle.map_replies.specs.Parts.{IsPart, octets_type, range_word, part_reply, unchanged_reply};
 ghost use Rattle.map_replies.specs.Words.{text_type, service_refusal};
 
-use http_serve::{Content, ContentRange, EntityTag, Reply, Status};
+use http_serve::{Content, ContentRange, EntityTag, Reply, Status, Tag};
 use http_values::byte_range;
 use sector_disk::SECTOR_BYTES;
 use tile_routes::Method;
@@ -79,7 +79,7 @@ pub(crate) fn whole(tag: EntityTag, content: Content) -> Reply
         status: Status::Ok,
         kind: Some("application/octet-stream"),
         range: None,
-        tag: Some(tag),
+        tag: Some(Tag::Strong(tag)),
         allow: None,
         content,
     }
@@ -100,7 +100,7 @@ pub(crate) fn between(first: u64, last: u64, tag: EntityTag, content: Content) -
             last,
             total: tag.length,
         }),
-        tag: Some(tag),
+        tag: Some(Tag::Strong(tag)),
         allow: None,
         content,
     }
@@ -131,7 +131,7 @@ pub(crate) fn unchanged(tag: EntityTag) -> Reply
         status: Status::NotModified,
         kind: None,
         range: None,
-        tag: Some(tag),
+        tag: Some(Tag::Strong(tag)),
         allow: None,
         content: Content::Empty,
     }

@@ -9,12 +9,12 @@ ghost use Rattle.map_replies.specs.Words.{outcome_reply, changed_word, changed_r
 ghost use Rattle.map_replies.specs.Words.{published_body, published_reply, cancel_reply};
 ghost use Rattle.map_replies.specs.Words.{format_type, format_content, content_reply, tile_reply, refusal_of};
 ghost use Rattle.tile_routes.specs.Targets.{asked_of};
-ghost use Rattle.map_replies.specs.Words.{text_type, json_type, tile_type};
+ghost use Rattle.map_replies.specs.Words.{text_type, json_type, tile_type, with_tag, same_tile_reply};
 ghost use Rattle.map_replies.specs.declared.replies.TheConstants.{MAX_TEXT};
 
 use crate::fault::RequestFault;
 use feature_model::EditFault;
-use http_serve::{Content, Reply, Status};
+use http_serve::{Content, Reply, Status, Tag, WeakTag};
 use http_values::{MAX_DIGITS, push_number, push_text};
 use std::alloc::{AllocError, Global};
 use std::rc::RcSlice;
@@ -107,7 +107,10 @@ fn fault_word(fault: RequestFault) -> &'static [u8]
         RequestFault::Json => b"Json\n",
         RequestFault::Edit(fault) => edit_word(fault),
         RequestFault::Condition => b"Condition\n",
+        RequestFault::Gone => b"Gone\n",
         RequestFault::Memory => b"Memory\n",
+        RequestFault::Device => b"Device\n",
+        RequestFault::Damaged => b"Damaged\n",
     }
 }
 
@@ -147,7 +150,9 @@ fn fault_status(fault: RequestFault) -> Status
         RequestFault::Json => Status::BadRequest,
         RequestFault::Edit(fault) => edit_status(fault),
         RequestFault::Condition => Status::PreconditionFailed,
+        RequestFault::Gone => Status::Gone,
         RequestFault::Memory => Status::ServiceUnavailable,
+        RequestFault::Device | RequestFault::Damaged => Status::InternalServerError,
     }
 }
 
@@ -403,4 +408,36 @@ pub(crate) fn tile(
         None => Ok(empty()),
         Some(bytes) => some_tile(alloc, format, bytes),
     }
+}
+
+/// The same reply with the tag of a tile.
+pub(crate) fn with_tag(reply: Reply, tag: WeakTag) -> Reply
+    requires { IsWhole reply }
+    ensures reply { reply_view [] result ≡ with_tag tag (reply_view [] reply) }
+    ensures writable { IsWhole result }
+{
+    let Reply {
+        status,
+        kind,
+        range,
+        tag: _,
+        allow,
+        content,
+    } = reply;
+    Reply {
+        status,
+        kind,
+        range,
+        tag: Some(Tag::Weak(tag)),
+        allow,
+        content,
+    }
+}
+
+/// The reply to a client that has the tile with this tag.
+pub(crate) fn same_tile(tag: WeakTag) -> Reply
+    ensures reply { reply_view [] result ≡ same_tile_reply tag }
+    ensures writable { IsWhole result }
+{
+    with_tag(Reply::plain(Status::NotModified, None, Content::Empty), tag)
 }

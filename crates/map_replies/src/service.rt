@@ -1,5 +1,5 @@
 //! The replies of a map.
-ghost use Rattle.std.specs.Prelude.{◌≡◌};
+ghost use Rattle.std.specs.Prelude.{◌≡◌, Some, None};
 ghost use Rattle.http_serve.specs.declared.connection.TheConstants.{MAX_READS};
 ghost use Rattle.map_replies.specs.Served.{ServesMap};
 
@@ -22,21 +22,25 @@ use tile_service::Service;
 pub struct MapReplies<D: Sectors + Drop> {
     routes: Routes,
     access: Access,
+    /// The number that tags of tiles begin with, if tiles have tags.
+    tags: Option<u64>,
     calls: Calls<D>,
 }
 
 impl<D: Sectors + Drop> MapReplies<D> {
-    ghost use Rattle.map_replies.specs.State.{access_of, asked_service};
+    ghost use Rattle.map_replies.specs.State.{access_of, asked_service, tags_of};
 
-    /// The handler of requests for those of these routes that this access serves, over this service.
+    /// The handler of requests for those of these routes that this access serves, over this service. Tiles have no tags.
     pub fn new(alloc: Global, routes: Routes, access: Access, service: Service<D>) -> MapReplies<D>
         ensures service { asked_service result ≡ service }
         ensures access { access_of result ≡ access }
+        ensures tags { tags_of result ≡ None }
         ensures oldest { result.calls.oldest ≡ 0 }
     {
         MapReplies {
             routes,
             access,
+            tags: None,
             calls: Calls {
                 alloc,
                 service,
@@ -46,6 +50,28 @@ impl<D: Sectors + Drop> MapReplies<D> {
                 },
                 oldest: 0,
             },
+        }
+    }
+
+    /// The same, but tiles have tags, which begin with this number. It is to differ from that of any earlier handler whose tiles a client may
+    /// still have: with equal tags of one handler tiles have the same layers, and nothing is known of the tags of two.
+    pub fn with_tags(self, start: u64) -> MapReplies<D>
+        ensures service { asked_service result ≡ asked_service self }
+        ensures access { access_of result ≡ access_of self }
+        ensures tags { tags_of result ≡ Some start }
+        ensures oldest { result.calls.oldest ≡ self.calls.oldest }
+    {
+        let MapReplies {
+            routes,
+            access,
+            tags: _,
+            calls,
+        } = self;
+        MapReplies {
+            routes,
+            access,
+            tags: Some(start),
+            calls,
         }
     }
 
@@ -75,6 +101,7 @@ impl<D: Sectors + Drop> Handler for MapReplies<D> {
             range: request.range,
             if_match: request.if_match,
             if_none_match: request.if_none_match,
+            tags: self.tags,
         };
         match self.calls.respond(target, method, ask, request.body) {
             Ok(reply) => reply,

@@ -1,31 +1,34 @@
 //! Reads of the map.
-ghost use Rattle.std.specs.Prelude.{◌≡◌, [], Some, IfOk, IfErr};
+ghost use Rattle.std.specs.Prelude.{◌≡◌, [], Some, IfOk, IfErr, option_map};
 ghost use Rattle.edit_json.specs.Json.{json_of};
 ghost use Rattle.feature_model.specs.Limits.{FeatureFits};
 ghost use Rattle.edit_text.specs.Views.{feature_view};
 ghost use Rattle.http_serve.specs.Reply.{reply_view, IsWhole};
 ghost use Rattle.serde_json.specs.Written.{compact_text};
-ghost use Rattle.tile_service.specs.Machine.{tile, look, look_from, metadata};
+ghost use Rattle.tile_service.specs.Machine.{OrMemory, tile, look, look_from, metadata};
+ghost use Rattle.tile_service.specs.Runs.{Takes};
 ghost use Rattle.tile_service.specs.Service.{status_of};
-ghost use Rattle.map_replies.specs.Meanings.{MeansCall, MeansStatus, OrNoMemory, Answers, DiskFailed};
-ghost use Rattle.map_replies.specs.Sending.{IsAnswered};
+ghost use Rattle.map_replies.specs.Conditions.{ask_view};
+ghost use Rattle.map_replies.specs.Meanings.{MeansCall, MeansTagged, MeansTile, MeansStatus, OrNoMemory, Answers, DiskFailed};
+ghost use Rattle.map_replies.specs.Sending.{IsAnswered, IsShownAs};
 ghost use Rattle.map_replies.specs.Words.{json_reply, shown_reply, content_reply, found_reply, numbered_body, numbered_reply, metadata_reply};
 ghost use Rattle.map_replies.specs.Tickets.{KeepsTickets};
 
 use crate::calls::Calls;
+use crate::conditions::{ArchiveAsk, names_tile};
 use crate::fault::RequestFault;
 use crate::{replies, telling};
 use edit_json::feature_to_json;
 use edit_text::FeatureText;
 use hilbert_id::TileAt;
-use http_serve::Reply;
+use http_serve::{Reply, WeakTag};
 use http_values::{MAX_DIGITS, push_number, push_text};
 use sector_disk::Sectors;
 use std::alloc::{AllocError, Global};
 use tile_routes::TileFormat;
 
 /// The text of a feature.
-fn feature_text(alloc: Global, feature: FeatureText<'_>) -> Result<Vec<u8>, AllocError>
+pub(crate) fn feature_text(alloc: Global, feature: FeatureText<'_>) -> Result<Vec<u8>, AllocError>
     requires { FeatureFits (feature_view feature) }
     ensures { IfOk result (λ text. text.items ≡ compact_text (json_of (feature_view feature.entry))) }
 {
@@ -48,7 +51,7 @@ fn feature_value(alloc: Global, feature: FeatureText<'_>) -> Result<Reply, Reque
 
 /// The text of a feature with its id.
 #[tactic(auto, unfolding(crate::specs::Words::numbered_body))]
-fn numbered_body(alloc: Global, feature: &[u8], id: u64) -> Result<Vec<u8>, AllocError>
+pub(crate) fn numbered_body(alloc: Global, feature: &[u8], id: u64) -> Result<Vec<u8>, AllocError>
     ensures { IfOk result (λ text. text.items ≡ numbered_body feature.now id) }
 {
     let mut text = Vec::with_capacity(alloc, feature.len() + MAX_DIGITS + 18)?;
@@ -77,10 +80,10 @@ fn numbered_value(alloc: Global, id: u64, feature: FeatureText<'_>) -> Result<Re
 }
 
 impl<D: Sectors + Drop> Calls<D> {
-    /// The tile, in this format.
-    pub(crate) fn tile(&mut self, at: TileAt, format: TileFormat) -> Result<Reply, RequestFault>
-        ensures answered { IsAnswered (Answers D.sectors D.honest D.history
-            (MeansCall (tile at.z at.x at.y) (shown_reply (content_reply format))) self.old.service self.new.service) result }
+    /// The tile, in this format, and without a tag.
+    fn cut_tile(&mut self, at: TileAt, format: TileFormat) -> Result<Reply, RequestFault>
+        ensures shown { (outcome : OrMemory _) × Takes D.sectors D.honest D.history self.old.service (tile at.z at.x at.y outcome) self.new.service
+            × IsShownAs (content_reply format) outcome result }
         ensures writable { IfOk result IsWhole }
         ensures held { KeepsTickets D.honest D.history self.old self.new }
     {
@@ -90,6 +93,51 @@ impl<D: Sectors + Drop> Calls<D> {
         match replies::tile(self.alloc, format, content) {
             Ok(reply) => Ok(reply),
             Err(AllocError) => Err(RequestFault::Memory),
+        }
+    }
+
+    /// The tile, in this format, with its tag, unless the client has the tile with this tag.
+    fn tagged_tile(
+        &mut self,
+        at: TileAt,
+        format: TileFormat,
+        start: u64,
+        if_none_match: Option<&[u8]>,
+    ) -> Result<Reply, RequestFault>
+        ensures answered { IsAnswered (Answers D.sectors D.honest D.history
+            (MeansTagged start (option_map (λ value. value.now) if_none_match.entry) at.z at.x at.y format) self.old.service self.new.service) result }
+        ensures writable { IfOk result IsWhole }
+        ensures held { KeepsTickets D.honest D.history self.old self.new }
+    {
+        let tag = WeakTag {
+            start,
+            number: self.service.tile_number(at),
+        };
+        match names_tile(self.alloc, tag, if_none_match) {
+            Ok(true) => Ok(replies::same_tile(tag)),
+            Ok(false) => match self.cut_tile(at, format) {
+                Ok(reply) => Ok(replies::with_tag(reply, tag)),
+                Err(fault) => Err(fault),
+            },
+            Err(AllocError) => Err(RequestFault::Memory),
+        }
+    }
+
+    /// The tile, in this format.
+    pub(crate) fn tile(
+        &mut self,
+        at: TileAt,
+        format: TileFormat,
+        ask: ArchiveAsk<'_>,
+    ) -> Result<Reply, RequestFault>
+        ensures answered { IsAnswered (Answers D.sectors D.honest D.history
+            (MeansTile ask.entry.tags (ask_view ask.entry).if_none_match at.z at.x at.y format) self.old.service self.new.service) result }
+        ensures writable { IfOk result IsWhole }
+        ensures held { KeepsTickets D.honest D.history self.old self.new }
+    {
+        match ask.tags {
+            None => self.cut_tile(at, format),
+            Some(start) => self.tagged_tile(at, format, start, ask.if_none_match),
         }
     }
 

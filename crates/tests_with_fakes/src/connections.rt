@@ -9,7 +9,7 @@ mod fields;
 
 use crate::streams::{Gives, Takes, take_from};
 use http_serve::{
-    Buffers, Content, ContentFault, ContentRange, EntityTag, Handler, Reply, Request, ServeFault,
+    Buffers, Content, ContentFault, ContentRange, EntityTag, Handler, Reply, Request, ServeFault, Tag,
     Served, Status, names_tag, serve_with,
 };
 use std::alloc::{AllocError, Global};
@@ -123,7 +123,7 @@ fn unchanged() -> Reply
         status: Status::NotModified,
         kind: Some("text/plain"),
         range: Some(ContentRange::Unsatisfied { total: 1_234 }),
-        tag: Some(WHOLE),
+        tag: Some(Tag::Strong(WHOLE)),
         allow: None,
         content: Content::Fixed(b"never sent"),
     }
@@ -141,7 +141,7 @@ fn part_of_all() -> Reply
             last: 43,
             total: 1_234,
         }),
-        tag: Some(WHOLE),
+        tag: Some(Tag::Strong(WHOLE)),
         allow: None,
         content: Content::Fixed(b"42"),
     }

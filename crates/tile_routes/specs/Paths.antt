@@ -60,7 +60,9 @@ served_paths =
     ∷ (codes "/publish/cancel", routes.Action actions.PublishCancel)
     ∷ (codes "/admin/status", routes.View views.Status)
     ∷ (codes "/admin/features/from/{id}", routes.FeatureFrom)
+    ∷ (codes "/admin/features/page/{id}", routes.FeaturePage)
     ∷ (codes "/admin/edits", routes.Action actions.CheckedEdits)
+    ∷ (codes "/admin/edits/from/{number}", routes.EditsFrom)
     ∷ []
 
 -- these, as the router keeps them
@@ -73,6 +75,10 @@ pub data Asked : Type 0 where
   asked_feature : ℕ → Asked
   -- the first feature with this number or a greater one
   asked_from : ℕ → Asked
+  -- a page of the features from this number on
+  asked_page : ℕ → Asked
+  -- the edits from this number on
+  asked_edits : ℕ → Asked
   asked_view : View → Asked
   asked_action : Action → Asked
   asked_nothing : Asked
@@ -102,6 +108,14 @@ abbrev pub from_asked : Option ℕ → Asked
 from_asked None = asked_nothing
 from_asked (Some id) = asked_from id
 
+abbrev pub page_asked : Option ℕ → Asked
+page_asked None = asked_nothing
+page_asked (Some id) = asked_page id
+
+abbrev pub edits_asked : Option ℕ → Asked
+edits_asked None = asked_nothing
+edits_asked (Some number) = asked_edits number
+
 abbrev pub tile_asked : Option ℕ → Option ℕ → Option ℕ → TileFormat → Asked
 tile_asked (Some z) (Some x) (Some y) format =
     if is_served z x y then asked_tile z x y format else asked_nothing
@@ -127,6 +141,8 @@ asked_on routes.Tile parts =
     named_tile (number_of (part_named (codes "z") parts)) (number_of (part_named (codes "x") parts)) (row_and_format (part_named (codes "y") parts))
 asked_on routes.Feature parts = feature_asked (number_of (part_named (codes "id") parts))
 asked_on routes.FeatureFrom parts = from_asked (number_of (part_named (codes "id") parts))
+asked_on routes.FeaturePage parts = page_asked (number_of (part_named (codes "id") parts))
+asked_on routes.EditsFrom parts = edits_asked (number_of (part_named (codes "number") parts))
 asked_on (routes.View view) parts = asked_view view
 asked_on (routes.Action action) parts = asked_action action
 
@@ -143,6 +159,8 @@ asked_by path = if list_all is_ascii path then asked_at (first served_rows path)
 -- a path under /admin/
 abbrev pub is_admin : Asked → Bool
 is_admin (asked_from id) = true
+is_admin (asked_page id) = true
+is_admin (asked_edits number) = true
 is_admin (asked_view views.Status) = true
 is_admin (asked_action actions.CheckedEdits) = true
 is_admin asked = false

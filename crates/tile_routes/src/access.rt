@@ -24,6 +24,8 @@ impl Target {
             (
                 Access::Map,
                 Target::FeatureFrom(_)
+                | Target::FeaturePage(_)
+                | Target::EditsFrom(_)
                 | Target::View(View::Status)
                 | Target::Action(Action::CheckedEdits),
             ) => Target::Nothing,

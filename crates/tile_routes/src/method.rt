@@ -72,7 +72,11 @@ impl Target {
         ensures { result.now ≡ methods_of (asked_of self) }
     {
         match self {
-            Target::Tile(..) | Target::FeatureFrom(_) | Target::View(_) => &[
+            Target::Tile(..)
+            | Target::FeatureFrom(_)
+            | Target::FeaturePage(_)
+            | Target::EditsFrom(_)
+            | Target::View(_) => &[
                 Method::Get,
                 Method::Head,
             ],
@@ -108,7 +112,11 @@ impl Target {
         ensures { result.now ≡ allow_of (asked_of self) }
     {
         match self {
-            Target::Tile(..) | Target::FeatureFrom(_) | Target::View(_) => "GET, HEAD",
+            Target::Tile(..)
+            | Target::FeatureFrom(_)
+            | Target::FeaturePage(_)
+            | Target::EditsFrom(_)
+            | Target::View(_) => "GET, HEAD",
             Target::Feature(_) => "GET, HEAD, PUT, DELETE",
             Target::Action(_) => "POST",
             Target::Nothing => "",

@@ -7,7 +7,7 @@ ghost use Rattle.matchit.specs.Params.{AllText};
 ghost use Rattle.tile_routes.specs.Paths.{served_rows, with_routes, AllFit, asked_on, part_named, asked_at, asked_by};
 ghost use Rattle.tile_routes.specs.Targets.{asked_of, IsInRange, parts_of, row_path};
 
-use crate::target::{Action, Target, View, feature_target, from_target, tile_target};
+use crate::target::{Action, Target, View, edits_target, feature_target, from_target, page_target, tile_target};
 use matchit::{InsertError, Params, Router};
 use std::alloc::{AllocError, Global};
 use std::marker::Model;
@@ -18,6 +18,8 @@ pub(crate) enum Route {
     Tile,
     Feature,
     FeatureFrom,
+    FeaturePage,
+    EditsFrom,
     View(View),
     Action(Action),
 }
@@ -53,7 +55,9 @@ const SERVED: &[(&str, Route)] = &[
     ("/publish/cancel", Route::Action(Action::PublishCancel)),
     ("/admin/status", Route::View(View::Status)),
     ("/admin/features/from/{id}", Route::FeatureFrom),
+    ("/admin/features/page/{id}", Route::FeaturePage),
     ("/admin/edits", Route::Action(Action::CheckedEdits)),
+    ("/admin/edits/from/{number}", Route::EditsFrom),
 ];
 
 /// The router of a table of paths that don't conflict.
@@ -119,6 +123,8 @@ fn route_target(route: Route, params: &Params<'_, '_>) -> Target
         Route::Tile => tile_target(part(params, "z"), part(params, "x"), part(params, "y")),
         Route::Feature => feature_target(part(params, "id")),
         Route::FeatureFrom => from_target(part(params, "id")),
+        Route::FeaturePage => page_target(part(params, "id")),
+        Route::EditsFrom => edits_target(part(params, "number")),
         Route::View(view) => Target::View(view),
         Route::Action(action) => Target::Action(action),
     }

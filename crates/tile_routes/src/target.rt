@@ -2,7 +2,7 @@
 ghost use Rattle.std.specs.Prelude.{◌≡◌, IsTrue};
 ghost use Rattle.std.specs.Option.{option_map};
 ghost use Rattle.tile_routes.specs.Number.{number_of};
-ghost use Rattle.tile_routes.specs.Paths.{asked_tile, is_served, feature_asked, from_asked, named_tile, row_and_format};
+ghost use Rattle.tile_routes.specs.Paths.{asked_tile, is_served, feature_asked, from_asked, page_asked, edits_asked, named_tile, row_and_format};
 ghost use Rattle.tile_routes.specs.Targets.{asked_of, IsInRange, row_view};
 
 use crate::number::path_number;
@@ -56,6 +56,11 @@ pub enum Target {
     /// `/admin/features/from/{id}`: the first feature with this number or a greater one; the number is below
     /// `feature_model::NUMBER_END`.
     FeatureFrom(u64),
+    /// `/admin/features/page/{id}`: the features from this number on, a page of them; the number is below `feature_model::NUMBER_END`.
+    FeaturePage(u64),
+    /// `/admin/edits/from/{number}`: the edits from this number on that the journal still has; the number is below
+    /// `feature_model::NUMBER_END`.
+    EditsFrom(u64),
     /// A path that GET and HEAD show.
     View(View),
     /// A path that POST does something at.
@@ -82,6 +87,28 @@ pub(crate) fn from_target(id: &[u8]) -> Target
 {
     match path_number(id) {
         Some(id) => Target::FeatureFrom(id),
+        None => Target::Nothing,
+    }
+}
+
+/// A page of the features from the number that the text writes on.
+pub(crate) fn page_target(id: &[u8]) -> Target
+    ensures asked { asked_of result ≡ page_asked (number_of id.now) }
+    ensures range { IsInRange result }
+{
+    match path_number(id) {
+        Some(id) => Target::FeaturePage(id),
+        None => Target::Nothing,
+    }
+}
+
+/// The edits from the number that the text writes on.
+pub(crate) fn edits_target(number: &[u8]) -> Target
+    ensures asked { asked_of result ≡ edits_asked (number_of number.now) }
+    ensures range { IsInRange result }
+{
+    match path_number(number) {
+        Some(number) => Target::EditsFrom(number),
         None => Target::Nothing,
     }
 }

@@ -3,5 +3,6 @@ pub mod BatchLimits
 pub mod EditStored
 pub mod JournalAppend
 pub mod Limits
+pub mod ListedEdits
 pub mod SeenFeatures
 pub mod ServiceAfter

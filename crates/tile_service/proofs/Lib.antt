@@ -3,4 +3,4 @@ pub mod Disk
 mod Edits
 pub mod Publications
 pub mod Runs
-mod Tiles
+pub mod Tiles

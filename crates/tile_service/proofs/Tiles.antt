@@ -2,3 +2,4 @@
 pub mod Cached
 pub mod EarlierMaps
 pub mod SharedRead
+pub mod Tags

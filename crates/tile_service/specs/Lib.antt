@@ -1,6 +1,8 @@
 pub mod After
 pub mod Events
+pub mod Inside
 pub mod Limits
+pub mod Listing
 pub mod Machine
 pub mod Opening
 pub mod Publishing
@@ -9,6 +11,6 @@ pub mod Runs
 pub mod Seen
 pub mod Service
 pub mod Stored
+pub mod Tags
 pub mod Tickets
 pub mod Tiles
-pub mod Inside

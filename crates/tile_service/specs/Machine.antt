@@ -3,7 +3,8 @@ use Rattle.std.specs.Prelude.{◌≡◌, ◌⊎◌, ◌<◌, ◌≤◌, ◌+◌,
 use Rattle.std.specs.Prelude.{Result, Ok, Err}
 use Rattle.generations.specs.Areas.{journal_sectors, area_sectors, sectors_of}
 use Rattle.generations.specs.declared.sizes.TheConstants.{FIRST_VERSION}
-use Rattle.edit_journal.specs.Records.{parts_of}
+use Rattle.edit_journal.specs.Records.{RecordData, parts_of}
+use Rattle.edit_journal.specs.declared.fault.JournalFault.{JournalFault}
 use Rattle.edit_text.specs.Recorded.{RecordedEdit, recorded_text}
 use Rattle.feature_model.specs.Data.{FeatureData, ChangeData, EditData, put, delete}
 use Rattle.feature_model.specs.declared.fault.EditFault.{EditFault as LimitFault}
@@ -84,6 +85,8 @@ pub data Happening : Type 0 where
   check : Result (Unit {0}) ServiceFault → Happening
   -- the tile of a zoom, a column and a row: its bytes, or None if it is empty
   tile : ℕ → ℕ → ℕ → OrMemory (Option (List ℕ)) → Happening
+  -- the number of such a tile: that of the newest edit that can have touched it
+  tile_number : ℕ → ℕ → ℕ → ℕ → Happening
   -- the feature of an id
   look : ℕ → OrMemory (Option FeatureData) → Happening
   -- the first feature with an id or a greater one, and its id
@@ -92,6 +95,8 @@ pub data Happening : Type 0 where
   metadata : OrMemory Data → Happening
   -- the bytes of the archive from an offset on, or None if the disk failed
   read : ℕ → Option (List ℕ) → Happening
+  -- the records of the edits from a number on, until their texts have this many bytes or more, or why they can't be read
+  list_edits : (number bytes : ℕ) → Result (List RecordData) JournalFault → Happening
 
 -- ---- what is refused
 
@@ -304,7 +309,8 @@ IfTold (got a) Is = Is a
 IfTold no_memory Is = Unit {0}
 
 -- One happening, and the state after it. A tile may be read from the disk: its content is that of the map if the disk is trusted.
--- The bytes of the archive are specified from the disk, since the machine of a broken service doesn't know them.
+-- The bytes of the archive and the edits since are specified from the disk, since the machine of a broken service doesn't know them, and the
+-- number of a tile from the cells of the world.
 abbrev pub Happens : (trusted : Type 0) → ServiceState → Happening → ServiceState → Type 0
 Happens trusted old (edit call e outcome) new = AnswersEdit old call e outcome new
 Happens trusted old (begin outcome) new = AnswersBegin old outcome new
@@ -312,10 +318,12 @@ Happens trusted old (step outcome) new = AnswersStep old outcome new
 Happens trusted old (cancel outcome) new = AnswersCancel old outcome new
 Happens trusted old (check outcome) new = AnswersCheck old outcome new
 Happens trusted old (tile z x y outcome) new = IfTold outcome (λ content. trusted → IsTileContent (layers old.features z x y) content) × (new ≡ old)
+Happens trusted old (tile_number z x y n) new = new ≡ old
 Happens trusted old (look id outcome) new = IfTold outcome (λ f. f ≡ feature_at old.features id) × (new ≡ old)
 Happens trusted old (look_from id outcome) new = IfTold outcome (λ f. f ≡ feature_from old.features id) × (new ≡ old)
 Happens trusted old (metadata outcome) new = IfTold outcome (λ d. IsMetadata old.features d) × (new ≡ old)
 Happens trusted old (read at outcome) new = new ≡ old
+Happens trusted old (list_edits number bytes outcome) new = new ≡ old
 
 -- the happenings in order
 abbrev pub Runs : (trusted : Type 0) → ServiceState → List Happening → ServiceState → Type 0

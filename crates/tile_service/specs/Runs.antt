@@ -13,11 +13,14 @@ use Rattle.tile_service.specs.declared.fault.ServiceFault.{ServiceFault}
 use Rattle.tile_service.specs.declared.fault.ServiceFault.TheVariants.{Device}
 use Rattle.tile_service.specs.declared.publishing.TheConstants.{STEP_SECTORS}
 use Rattle.tile_service.specs.declared.publishing_whole.Published.{Published}
-use Rattle.tile_service.specs.Machine.{no_memory, Happening, Call, edit, begin, step, cancel, check, tile, look, look_from, metadata, read}
+use Rattle.tile_service.specs.Machine.{no_memory, Happening, Call, edit, begin, step, cancel, check, tile, tile_number, look, look_from, metadata}
+use Rattle.tile_service.specs.Machine.{read, list_edits}
 use Rattle.tile_service.specs.Machine.{places_for, Happens, Runs}
 use Rattle.tile_service.specs.Service.{PublicationView, ServiceView, Known, IsUp, state_of, known_after, left_of}
 use Rattle.tile_service.specs.Service.{ShowsArchive, KeepsArchive, KeepsArea, ReadsFrom, EventLeaves, TellsDevice, stored_after}
+use Rattle.tile_service.specs.Listing.{ShowsEdits, ListsFrom}
 use Rattle.tile_service.specs.Stored.{Stored, Holds, with_edit}
+use Rattle.tile_service.specs.Tags.{StillKnows, IsNumbered, KeepsLayers}
 
 -- ---- the edits of a run
 
@@ -176,9 +179,10 @@ Reaches start way happenings s = (generation : ℕ) × (journal_at : ℕ) × (ar
 
 -- ---- what a service makes of a run
 
--- bytes of the archive are asked for
+-- bytes of the archive are asked for, or edits of the journal
 abbrev pub IsRead : Happening → Type 0
 IsRead (read at outcome) = Unit {0}
+IsRead (list_edits number bytes outcome) = Unit {0}
 IsRead happening = ⊥
 
 -- a beginning and then steps, with these outcomes
@@ -213,6 +217,8 @@ module _ {D : Type 0} (sectors : D → ℕ) (honest : D → Type 0) (history : D
   abbrev pub ChangesOnly : Happening → ServiceView D → ServiceView D → Type 0
   ChangesOnly (tile z x y outcome) old new = CachesOnly old new
   ChangesOnly (read at outcome) old new = CachesOnly old new
+  ChangesOnly (tile_number z x y n) old new = new ≡ old
+  ChangesOnly (list_edits number bytes outcome) old new = CachesOnly old new
   ChangesOnly (look id outcome) old new = new ≡ old
   ChangesOnly (look_from id outcome) old new = new ≡ old
   ChangesOnly (metadata outcome) old new = new ≡ old
@@ -224,6 +230,8 @@ module _ {D : Type 0} (sectors : D → ℕ) (honest : D → Type 0) (history : D
     pub machine : (known : Known) → Happens (IsTrusted old new) (state_of known old) happening (state_of (known_after known old happening) new)
     -- bytes of the archive are those that the disk has there, for a broken service too
     pub archive : (archive : List ℕ) → ShowsArchive (history old.disk) old archive → honest new.disk → ReadsFrom archive happening
+    -- edits that are listed are those that the disk has in the journal, for a broken service too
+    pub listed : (edits : List RecordedEdit) → ShowsEdits (history old.disk) old edits → honest new.disk → ListsFrom old.journal.edits edits happening
     -- the archive is unchanged until another one is installed
     pub keeps_archive : (happening ≡ step (Ok 0) → ⊥) → KeepsArchive honest history old new
     -- after a fault of the disk it is broken
@@ -232,7 +240,11 @@ module _ {D : Type 0} (sectors : D → ℕ) (honest : D → Type 0) (history : D
     pub version : new.version ≡ old.version
     pub asked : MayWrite sectors honest old.disk new.disk
     pub changes : ChangesOnly happening old new
-    -- a broken service doesn't write, and reads only the archive
+    -- each map that it knew is still known
+    pub knows : StillKnows old new
+    -- the number of a tile is that of its cells
+    pub numbered : IsNumbered old happening
+    -- a broken service doesn't write, and reads only the archive and the journal
     pub untouched : old.broken ≡ true → ¬ IsRead happening → new.disk ≡ old.disk
     pub any_moment : (stored : Stored) → honest new.disk → IsUp (sectors old.disk) (history old.disk) stored old
         → LeavesOnly (history old.disk) (history new.disk) (EventLeaves (sectors old.disk) old.size stored old.publication happening)
@@ -254,6 +266,8 @@ module _ {D : Type 0} (sectors : D → ℕ) (honest : D → Type 0) (history : D
     -- only numbers of cells that the box of a changed feature touches are changed, the box that it had or the one that it gets
     pub touches : MatchResult outcome (λ number. StaysElsewhere (marks_after old.features e.changes number []) old.touched new.touched)
         (λ fault. new.touched ≡ old.touched)
+    -- each map that it knew is still known
+    pub knows : StillKnows old new
     -- cached tiles stay
     pub cached : new.kept ≡ old.kept
     -- the archive is unchanged
@@ -276,6 +290,10 @@ module _ {D : Type 0} (sectors : D → ℕ) (honest : D → Type 0) (history : D
   TakesAll old [] new = new ≡ old
   TakesAll old (happening ∷ happenings) new = (between : ServiceView D) × Takes old happening between × TakesAll between happenings new
 
+  -- The number of a tile as a tag: after any happenings, where the tile has this number again, its layers are the same.
+  abbrev pub IsTag : (z x y number : ℕ) → ServiceView D → Type 0
+  IsTag z x y number now = (happenings : List Happening) (later : ServiceView D) → TakesAll now happenings later → KeepsLayers z x y number now later
+
   -- The happenings in order. A crash at any moment leaves a prefix of the run's edits: all that were acknowledged by then, and none
   -- requested later. A service that isn't broken at the end continues from what was acknowledged.
   pub record TakesRun (old : ServiceView D) (happenings : List Happening) (new : ServiceView D) : Type 0 where
@@ -286,6 +304,8 @@ module _ {D : Type 0} (sectors : D → ℕ) (honest : D → Type 0) (history : D
     pub after : (stored : Stored) → honest new.disk → IsUp (sectors old.disk) (history old.disk) stored old → new.broken ≡ false
         → (reached : Stored) × IsUp (sectors new.disk) (history new.disk) reached new
         × Reaches stored (way_of stored.edits old.publication) happenings reached
+    -- each map that it knew is still known
+    pub knows : StillKnows old new
     -- the archive is unchanged, unless another one was installed
     pub keeps_archive : ¬ Contains happenings (step (Ok 0)) → KeepsArchive honest history old new
 

@@ -13,7 +13,7 @@ use Rattle.generations.specs.Sectors.{IsVersion}
 use Rattle.generations.specs.declared.root.Root.{Root}
 use Rattle.edit_journal.specs.Appends.{ring_of}
 use Rattle.edit_journal.specs.Releases.{IsCounted, IsBehind}
-use Rattle.edit_journal.specs.Ring.{places_of}
+use Rattle.edit_journal.specs.Ring.{sector_at, places_of}
 use Rattle.edit_journal.specs.declared.fault.JournalFault.{JournalFault}
 use Rattle.edit_journal.specs.declared.fault.JournalFault.TheVariants as journals
 use Rattle.edit_journal.specs.declared.journal.Journal.{Journal}
@@ -225,12 +225,28 @@ shown_archive image service =
 abbrev pub ShowsArchive : {D : Type 0} → History → ServiceView D → List ℕ → Type 0
 ShowsArchive history service archive = AreItsBytes (archive_of service).first (archive_of service).len archive (seen history)
 
--- The archive that is served is unchanged: its place and lengths are the same, and an honest disk still has it there.
+-- What a journal had in use is in use, in the same places.
+pub record StaysInUse (old new : Journal) : Type 0 where
+  pub ring : ring_of new ≡ ring_of old
+  pub place : new.place ≡ old.place
+  pub edits : new.edits ≡ old.edits
+  pub used : old.used ≤ new.used
+
+-- An honest disk still has what it had in the places that were in use.
+pub record KeepsJournal {D : Type 0} (honest : D → Type 0) (history : D → History) (old new : ServiceView D) : Type 0 where
+  pub stays : StaysInUse old.journal new.journal
+  pub reads : honest new.disk → (offset : ℕ) → offset < old.journal.used
+      → seen (history new.disk) (sector_at (ring_of old.journal) (old.journal.place + offset))
+      ≡ seen (history old.disk) (sector_at (ring_of old.journal) (old.journal.place + offset))
+
+-- The archive that is served is unchanged: its place and lengths are the same, and an honest disk still has it there. And so is what the
+-- journal has in use.
 pub record KeepsArchive {D : Type 0} (honest : D → Type 0) (history : D → History) (old new : ServiceView D) : Type 0 where
   pub generation : new.generation ≡ old.generation
   pub snapshot_len : new.snapshot_len ≡ old.snapshot_len
   pub archive_len : new.archive_len ≡ old.archive_len
   pub shows : (archive : List ℕ) → ShowsArchive (history old.disk) old archive → honest new.disk → ShowsArchive (history new.disk) new archive
+  pub journal : KeepsJournal honest history old new
 
 -- The area of a generation is unchanged: an honest disk still gives what it gave of each of its sectors.
 abbrev pub KeepsArea : {D : Type 0} (honest : D → Type 0) (history : D → History) (generation : ℕ) → (old new : ServiceView D) → Type 0

@@ -8,6 +8,7 @@ mod editing;
 mod event;
 mod fault;
 mod formatting;
+mod listing;
 mod opening;
 mod published;
 mod publishing;
@@ -21,6 +22,7 @@ mod status;
 
 pub use event::{Answer, Event};
 pub use fault::ServiceFault;
+pub use listing::broken_still_shows_its_edits;
 pub use publishing_whole::Published;
 pub use service::Service;
 pub use status::Status;

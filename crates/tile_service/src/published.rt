@@ -26,6 +26,13 @@ impl<D: Sectors + Drop> Service<D> {
         self.journal.edits
     }
 
+    /// The number of the last edit, 0 if none.
+    pub fn last(&self) -> u64
+        ensures { result ≡ self.now.journal.last }
+    {
+        self.journal.last
+    }
+
     /// Where the published archive is.
     pub fn archive(&self) -> ArchivePlace
         ensures is { result ≡ archive_of self.now }

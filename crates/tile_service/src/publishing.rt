@@ -142,6 +142,7 @@ impl<D: Sectors + Drop> Service<D> {
         ensures fault { IfErr result (λ fault. fault ≡ Device) }
         ensures broken { OnErr result (self.new ≡ record self.old { disk = self.new.disk; broken = true }) }
         ensures size { self.new.size ≡ self.old.size }
+        ensures touched { self.new.touched ≡ self.old.touched }
         ensures state { (known : Known) → OnOk result (state_of (known_installed known (Some publication)) self.new
             ≡ after_install (state_of known (with_publication self.old publication)) (going_of known.publishing publication)) }
         ensures disk { MayWrite D.sectors D.honest self.old.disk self.new.disk }
@@ -188,6 +189,7 @@ impl<D: Sectors + Drop> Service<D> {
             (state_of (known_after known (with_publication self.old publication) (step result)) self.new) }
         ensures fault { IfErr result (λ fault. fault ≡ Device) }
         ensures size { self.new.size ≡ self.old.size }
+        ensures touched { self.new.touched ≡ self.old.touched }
         ensures disk { MayWrite D.sectors D.honest self.old.disk self.new.disk }
         ensures failed { TellsFailure result (D.faults self.old.disk) (D.faults self.new.disk) }
         ensures archive { (result ≡ Ok 0 → ⊥) → KeepsArchive D.honest D.history self.old self.new }
@@ -289,6 +291,7 @@ impl<D: Sectors + Drop> Service<D> {
         ensures machine { (known : Known) → AnswersStep (state_of known self.old) result
             (state_of (known_after known self.old (step result)) self.new) }
         ensures size { self.new.size ≡ self.old.size }
+        ensures touched { self.new.touched ≡ self.old.touched }
         ensures disk { MayWrite D.sectors D.honest self.old.disk self.new.disk }
         ensures failed { TellsDevice result (D.faults self.old.disk) (D.faults self.new.disk) }
         ensures refused { IfErr result (λ fault. fault ≢ Device → self.new ≡ self.old) }

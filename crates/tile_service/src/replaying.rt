@@ -52,7 +52,7 @@ fn make(cached: &mut CachedMap, changes: Vec<Prepared>) -> Result<(), StoreFault
         Ok(()) => {}
         Err(AllocError) => return Err(StoreFault::Memory),
     }
-    cached.make_edit(changes, number);
+    cached.make_edit(changes, number, &mut None);
     Ok(())
 }
 

@@ -14,9 +14,10 @@ ghost use Rattle.sector_disk.specs.Asked.{OnlyReads};
 ghost use Rattle.tile_cache.specs.Kept.{kept_at, fresh};
 ghost use Rattle.tile_cache.specs.Touched.{IsNewestOf};
 ghost use Rattle.tile_service.specs.Machine.{tile, Happens};
-ghost use Rattle.tile_service.specs.Runs.{IsTrusted};
+ghost use Rattle.tile_service.specs.Runs.{IsTag, IsTrusted};
 ghost use Rattle.tile_service.specs.Service.{Known, IsUp, IsShared, state_of, tile_outcome};
 ghost use Rattle.tile_service.specs.Stored.{Stored};
+ghost use Rattle.tile_service.specs.Tags.{TellsNumber};
 ghost use Rattle.tile_service.specs.declared.fault.ServiceFault.TheVariants.{Memory};
 
 use crate::fault::ServiceFault;
@@ -160,6 +161,16 @@ impl<D: Sectors + Drop> Service<D> {
             Ok(content) => Ok(content),
             Err(AllocError) => Err(ServiceFault::Memory),
         }
+    }
+
+    /// The number of a tile: that of the newest edit that can have touched it, or of a later one; 0 if none was made since the service was
+    /// opened. It is a tag of the tile within a run of the service: whenever the tile has this number again, its layers are the same. It
+    /// doesn't allocate, and the disk isn't read.
+    pub fn tile_number(&self, at: TileAt) -> u64
+        ensures told { TellsNumber self.now at.z at.x at.y result }
+        ensures tag { IsTag D.sectors D.honest D.history at.z at.x at.y result self.now }
+    {
+        self.map.newest(at)
     }
 
     /// The JSON metadata of the map after the last acknowledged edit, as in an archive of its tiles: as compact text, which reads as it.

@@ -119,6 +119,15 @@ const ADMIN: Word = Word {
     help: "Serves the paths under /admin/ too: the status, the list of features, and checked edits",
 };
 
+/// Whether tiles have entity tags.
+const ETAGS: Word = Word {
+    id: "ETAGS",
+    name: "ETAGS",
+    given: Given::Long("etags"),
+    takes: Takes::Nothing,
+    help: "Gives tiles entity tags, and answers 304 to a client that has a tile which is unchanged",
+};
+
 /// Whether the first failure of the disk ends the command.
 const STOPS: Word = Word {
     id: "STOPS",
@@ -148,7 +157,7 @@ static COMMANDS: [Row; 9] = [
     ),
     (
         "demo",
-        &[SECTORS, ADMIN, VERBOSE],
+        &[SECTORS, ADMIN, ETAGS, VERBOSE],
         "Serves one connection on standard input and output over an empty map in memory",
     ),
     (
@@ -163,12 +172,12 @@ static COMMANDS: [Row; 9] = [
     ),
     (
         "pipe",
-        &[DISK, ADMIN, VERBOSE],
+        &[DISK, ADMIN, ETAGS, VERBOSE],
         "Serves one connection on standard input and output over the map of a disk file",
     ),
     (
         "serve",
-        &[DISK, PORT, CONNECTIONS, ADMIN, STOPS, VERBOSE],
+        &[DISK, PORT, CONNECTIONS, ADMIN, ETAGS, STOPS, VERBOSE],
         "Serves the map of a disk file on a port of 127.0.0.1 to many clients by turns",
     ),
     (

@@ -7,7 +7,7 @@ use crate::noted::Noted;
 use crate::place::{OpenPath, identity_of};
 use crate::printing::print_number;
 use crate::regular::{ReadFile, open_regular};
-use crate::serving::{Peers, serve};
+use crate::serving::{Peers, Settings, serve};
 use crate::watching::{Watch, Watched};
 use file_disk::{FileDisk, NewFile, Start, SystemFile, Zeros};
 use generations::StoreFault;
@@ -20,7 +20,6 @@ use std::io::{self, ErrorKind};
 use std::mem::ManuallyDrop;
 use std::os::fd::AsRawFd;
 use std::os::unix::fs::PermissionsExt;
-use tile_routes::Access;
 
 /// How many standard streams a process has. Their descriptors are the first ones.
 const STREAMS: i32 = 3;
@@ -148,12 +147,12 @@ pub(crate) fn shared_disk(rt: &HostRuntime, path: &str) -> Result<(ReadFile, u32
 fn serve_disk<D: Sectors + Drop>(
     rt: &HostRuntime,
     disk: D,
-    access: Access,
+    settings: Settings,
     peers: Peers,
     looks: &Looks<'_>,
 ) -> Result<(), CommandFault> {
-    match opened_service(rt.alloc(), disk, access) {
-        Ok(map) => serve(rt, map, peers, looks),
+    match opened_service(rt.alloc(), disk, settings.access) {
+        Ok(map) => serve(rt, settings.tagged(map), peers, looks),
         Err((_, fault)) => Err(CommandFault::Store(fault)),
     }
 }
@@ -163,7 +162,7 @@ fn serve_disk<D: Sectors + Drop>(
 pub(crate) fn serve_file<S: Start>(
     rt: &HostRuntime,
     path: &str,
-    access: Access,
+    settings: Settings,
     peers: Peers,
     start: S,
 ) -> Result<(), CommandFault> {
@@ -181,7 +180,7 @@ pub(crate) fn serve_file<S: Start>(
     };
     match BoxedDisk::new(rt.alloc(), FileDisk::new(file, place.bytes, start)) {
         Ok(disk) => with_cause(
-            serve_disk(rt, disk, access, peers, &Looks::new(watched)),
+            serve_disk(rt, disk, settings, peers, &Looks::new(watched)),
             &cause,
         ),
         Err(AllocError) => Err(CommandFault::Store(StoreFault::Memory)),

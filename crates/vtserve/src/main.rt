@@ -30,7 +30,7 @@ use generations::StoreFault;
 use listening::listening_of;
 use looks::Looks;
 use map_server::fresh_service;
-use serving::{Peers, serve};
+use serving::{Peers, Settings, run_number, serve};
 use std::fmt::Display;
 use std::io;
 use std::process::ExitCode;
@@ -78,9 +78,9 @@ fn ended(
 }
 
 /// Serves one connection on standard input and output, over the empty map on a disk in memory.
-fn demo(rt: &HostRuntime, sectors: u64, access: Access) -> Result<(), CommandFault> {
-    match fresh_service(rt.alloc(), sectors, access) {
-        Ok(map) => serve(rt, map, Peers::Streams, &Looks::new(None)),
+fn demo(rt: &HostRuntime, sectors: u64, settings: Settings) -> Result<(), CommandFault> {
+    match fresh_service(rt.alloc(), sectors, settings.access) {
+        Ok(map) => serve(rt, settings.tagged(map), Peers::Streams, &Looks::new(None)),
         Err(fault) => Err(CommandFault::of_new_disk(fault)),
     }
 }
@@ -100,6 +100,12 @@ fn run(rt: &HostRuntime, matches: &ArgMatches<'_>) -> ExitCode {
     } else {
         Access::Map
     };
+    let tags = if words.get_flag("ETAGS") {
+        run_number(rt)
+    } else {
+        None
+    };
+    let settings = Settings { access, tags };
     let told = if words.get_flag("VERBOSE") {
         Told::Cause
     } else {
@@ -107,12 +113,12 @@ fn run(rt: &HostRuntime, matches: &ArgMatches<'_>) -> ExitCode {
     };
     let outcome = match name {
         "copy" => copy_file(rt, paths, Unknown),
-        "demo" => demo(rt, sectors, access),
+        "demo" => demo(rt, sectors, settings),
         "export" => done_with_file(rt, paths, Task::Export, Unknown),
         "format" => format_file(rt, paths.path, sectors),
-        "pipe" => serve_file(rt, paths.path, access, Peers::Streams, Unknown),
+        "pipe" => serve_file(rt, paths.path, settings, Peers::Streams, Unknown),
         "serve" => match listening_of(words) {
-            Some(asked) => serve_file(rt, paths.path, access, Peers::Port(asked), Unknown),
+            Some(asked) => serve_file(rt, paths.path, settings, Peers::Port(asked), Unknown),
             None => return ExitCode::from(2),
         },
         "show" => return show_file(rt, paths.path, told),

@@ -77,7 +77,7 @@ pub(crate) fn delete(answer: &mut Answer, map: &mut CachedMap, id: u64) {
     let Some(number) = map.last().checked_add(1) else {
         return answer.say("numbers spent");
     };
-    let found = map.remove(id, number);
+    let found = map.remove(id, number, &mut None);
     edited(answer, number, map);
     write!(answer, ", was there {found}");
 }
@@ -96,7 +96,7 @@ fn make(answer: &mut Answer, map: &mut CachedMap, edit: Edit)
     let Ok(changes) = map.prepare(&edit.changes) else {
         return answer.refuse();
     };
-    map.make_edit(changes, number);
+    map.make_edit(changes, number, &mut None);
     edited(answer, number, map);
 }
 
@@ -189,10 +189,11 @@ fn layers(answer: &mut Answer, store: &Store, at: TileAt) {
 }
 
 /// The tiles to come, each with its id.
-fn list_tiles(answer: &mut Answer, tiles: &mut Tiles<'_>) {
+fn list_tiles(answer: &mut Answer, store: &Store, tiles: &mut Tiles) {
+    let now = store.moment();
     answer.push('[');
     for _ in 0..u64::MAX {
-        match tiles.next() {
+        match tiles.next(store, &now) {
             Ok(Some((id, bytes))) => {
                 answer.item();
                 write!(answer, "({id}, \"");
@@ -209,7 +210,7 @@ fn list_tiles(answer: &mut Answer, tiles: &mut Tiles<'_>) {
 /// All tiles, each with its id.
 fn tiles(answer: &mut Answer, store: &Store) {
     match store.tiles() {
-        Ok(mut tiles) => list_tiles(answer, &mut tiles),
+        Ok(mut tiles) => list_tiles(answer, store, &mut tiles),
         Err(_) => answer.refuse(),
     }
 }

@@ -5,7 +5,8 @@ use Rattle.sector_disk.specs.Asked.{MayWrite}
 use Rattle.sector_disk.specs.Disk.{History, seen}
 use Rattle.published_tiles.specs.declared.place.ArchivePlace.{ArchivePlace}
 use Rattle.edit_text.specs.Recorded.{RecordedEdit}
-use Rattle.tile_service.specs.Machine.{ServiceState, Happening, Call, edit, begin, step, cancel, check, tile, look, look_from, metadata, read}
+use Rattle.tile_service.specs.Machine.{ServiceState, Happening, Call, edit, begin, step, cancel, check, tile, tile_number, look, look_from, metadata}
+use Rattle.tile_service.specs.Machine.{read, list_edits}
 use Rattle.tile_service.specs.Machine.{Refuses, Happens, Runs}
 use Rattle.tile_service.specs.Runs.{IsTrusted, Takes, TakesEdit, TakesRun}
 use Rattle.tile_service.specs.Service.{ServiceView, KeepsArea, IsPlaceIn, HasArchive, SyncsDisk, archive_of, state_of, known_after}
@@ -40,10 +41,12 @@ happens_rises trusted old new (cancel (Err fault)) goes = refused_rises _ old ne
 happens_rises trusted old new (check (Ok done)) goes = same_rises old new goes.1
 happens_rises trusted old new (check (Err fault)) goes = refused_rises _ old new fault goes
 happens_rises trusted old new (tile z x y outcome) goes = same_rises old new goes.1
+happens_rises trusted old new (tile_number z x y n) goes = same_rises old new goes
 happens_rises trusted old new (look id outcome) goes = same_rises old new goes.1
 happens_rises trusted old new (look_from id outcome) goes = same_rises old new goes.1
 happens_rises trusted old new (metadata outcome) goes = same_rises old new goes.1
 happens_rises trusted old new (read at outcome) goes = same_rises old new goes
+happens_rises trusted old new (list_edits number bytes outcome) goes = same_rises old new goes
 
 runs_rise : (trusted : Type 0) (old new : ServiceState) (hs : List Happening) → Runs trusted old hs new → old.generation ≤ new.generation
 runs_rise trusted old new [] run = same_rises old new run

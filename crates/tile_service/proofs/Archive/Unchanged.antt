@@ -8,11 +8,13 @@ use Rattle.sector_disk.specs.Disk.{Image, History, seen}
 use Rattle.sector_bytes.specs.Bytes.{sector_piece}
 use Rattle.sector_bytes.specs.Source.{AreItsBytes}
 use Rattle.generations.specs.Areas.{journal_sectors, area_sectors, area_start, sectors_of}
-use Rattle.edit_journal.specs.Appends.{IsFree, ReadsAsBefore}
-use Rattle.edit_journal.specs.Ring.{Ring}
+use Rattle.edit_journal.specs.Appends.{ring_of, start_of, IsFree, ReadsAsBefore}
+use Rattle.edit_journal.specs.Ring.{Ring, RecordStart, sector_at}
+use Rattle.edit_journal.specs.declared.journal.Journal.{Journal}
+use Rattle.generations.specs.declared.sizes.TheConstants.{JOURNAL_START}
 use Rattle.published_tiles.specs.declared.place.ArchivePlace.{ArchivePlace}
 use Rattle.tile_service.specs.Publishing.{IsInArea, IsBeside}
-use Rattle.tile_service.specs.Service.{PublicationView, ServiceView, KeepsArchive, KeepsArea, IsPlaceIn, HasArchive, archive_of}
+use Rattle.tile_service.specs.Service.{PublicationView, ServiceView, StaysInUse, KeepsArchive, KeepsArea, IsPlaceIn, HasArchive, archive_of}
 use Rattle.tile_service.specs.Stored.{journal_ring}
 use Rattle.tile_service.specs.Tiles.{archive_place}
 use Rattle.tile_service.specs.declared.fault.ServiceFault.{ServiceFault}
@@ -97,6 +99,34 @@ module _ (n generation : ℕ) (old new : Image) where
   pub root_area : (root : ℕ) → root < 3 → ((at : ℕ) → (at ≡ root → ⊥) → new at ≡ old at) → (at : ℕ) → IsInArea n generation at → new at ≡ old at
   root_area root low others at inside = others at (λ is. omega (arith, inside.0, is, low))
 
+-- ---- the places of the journal that are in use
+
+pub same_stays : (old new : Journal) → new ≡ old → StaysInUse old new
+same_stays old new same = record {
+  ring = ap ring_of same;
+  place = ap (λ (j : Journal). j.place) same;
+  edits = ap (λ (j : Journal). j.edits) same;
+  used = omega (arith, ap (λ (j : Journal). j.used) same);
+}
+
+pub more_stays : (old new : Journal) → ring_of new ≡ ring_of old → start_of new.place new.edits ≡ start_of old.place old.edits → old.used ≤ new.used
+    → StaysInUse old new
+more_stays old new ring start used = record {
+  ring = ring;
+  place = ap (λ (s : RecordStart). s.place) start;
+  edits = omega (arith, ap (λ (s : RecordStart). s.number) start);
+  used = used;
+}
+
+-- their sectors come after those of the roots, and before the areas
+low_in_use : (n : ℕ) (journal : Journal) → ring_of journal ≡ journal_ring n → (offset : ℕ) → offset < journal.used
+    → (JOURNAL_START ≤ sector_at (ring_of journal) (journal.place + offset))
+    × (sector_at (ring_of journal) (journal.place + offset) < JOURNAL_START + journal_sectors n)
+low_in_use n journal ring offset lt =
+    let first : journal.first ≡ JOURNAL_START = ap (λ (r : Ring). r.first) ring in
+    let places : journal.places ≡ journal_sectors n = ap (λ (r : Ring). r.places) ring in
+    (omega (arith, first), omega (arith, first, places, mod_below (journal.place + offset) journal.places (omega (arith, lt, journal.room))))
+
 -- ---- of a service
 
 module _ {D : Type 0} (honest : D → Type 0) (history : D → History) where
@@ -104,8 +134,9 @@ module _ {D : Type 0} (honest : D → Type 0) (history : D → History) where
   pub beside_keeps : (old inside : ServiceView D) → old ≡ inside → (disk : D) (publication : Option PublicationView) (broken : Bool) (next : ℕ)
       → sectors_of inside.snapshot_len + sectors_of inside.archive_len ≤ area_sectors inside.size → next ≡ suc inside.generation
       → (honest disk → IsBeside inside.size next (seen (history inside.disk)) (seen (history disk)))
+      → ring_of inside.journal ≡ journal_ring inside.size
       → KeepsArchive honest history old (record inside { disk = disk; publication = publication; broken = broken })
-  beside_keeps old inside is disk publication broken next fits next_is beside =
+  beside_keeps old inside is disk publication broken next fits next_is beside ring =
       subst (λ (s : ServiceView D). KeepsArchive honest history s (record inside { disk = disk; publication = publication; broken = broken })) (sym is)
       (record {
         generation = refl;
@@ -114,30 +145,54 @@ module _ {D : Type 0} (honest : D → Type 0) (history : D → History) where
         shows = λ archive shown is_honest. beside_shown inside.size inside.generation inside.snapshot_len inside.archive_len fits archive
             (seen (history inside.disk)) (seen (history disk))
             (subst (λ (g : ℕ). IsBeside inside.size g (seen (history inside.disk)) (seen (history disk))) next_is (beside is_honest)) shown;
+        journal = record {
+          stays = same_stays inside.journal inside.journal refl;
+          reads = λ is_honest offset lt.
+              let low = low_in_use inside.size inside.journal ring offset lt in
+              beside is_honest (sector_at (ring_of inside.journal) (inside.journal.place + offset)) (λ area. omega (arith, low.1, area.0));
+        };
       })
 
   -- so does the write of a root, done or failed,
   pub root_keeps : (inside : ServiceView D) (disk : D) (root : ℕ) → sectors_of inside.snapshot_len + sectors_of inside.archive_len ≤ area_sectors inside.size
       → root < 3 → (honest disk → (at : ℕ) → (at ≡ root → ⊥) → seen (history disk) at ≡ seen (history inside.disk) at)
+      → ring_of inside.journal ≡ journal_ring inside.size
       → KeepsArchive honest history inside (record inside { disk = disk; broken = true })
-  root_keeps inside disk root fits low others = record {
+  root_keeps inside disk root fits low others ring = record {
     generation = refl;
     snapshot_len = refl;
     archive_len = refl;
     shows = λ archive shown is_honest. root_shown inside.size inside.generation inside.snapshot_len inside.archive_len fits archive
         (seen (history inside.disk)) (seen (history disk)) root low (others is_honest) shown;
+    journal = record {
+      stays = same_stays inside.journal inside.journal refl;
+      reads = λ is_honest offset lt.
+          let behind = low_in_use inside.size inside.journal ring offset lt in
+          others is_honest (sector_at (ring_of inside.journal) (inside.journal.place + offset)) (λ is. omega (arith, behind.0, is, low));
+    };
   }
 
   -- a service whose publication is another shows the same,
   pub shows_the_same : (old : ServiceView D) (publication : Option PublicationView) → KeepsArchive honest history old (record old { publication = publication })
-  shows_the_same old publication = record { generation = refl; snapshot_len = refl; archive_len = refl; shows = λ archive shown is_honest. shown }
+  shows_the_same old publication = record {
+    generation = refl;
+    snapshot_len = refl;
+    archive_len = refl;
+    shows = λ archive shown is_honest. shown;
+    journal = record { stays = same_stays old.journal old.journal refl; reads = λ is_honest offset lt. refl };
+  }
 
   -- and so does an append to the journal, done or failed
   pub append_keeps : (old new : ServiceView D) → new.size ≡ old.size → new.generation ≡ old.generation → new.snapshot_len ≡ old.snapshot_len
       → new.archive_len ≡ old.archive_len → sectors_of old.snapshot_len + sectors_of old.archive_len ≤ area_sectors old.size
       → (ring : Ring) → ring ≡ journal_ring old.size → (place used : ℕ) (disk : D) → new.disk ≡ disk
-      → (honest disk → ReadsAsBefore ring place used (seen (history old.disk)) (seen (history disk))) → KeepsArchive honest history old new
-  append_keeps old new size generation snapshot_len archive_len fits ring ring_is place used disk disk_is reads = record {
+      → (honest disk → ReadsAsBefore ring place used (seen (history old.disk)) (seen (history disk)))
+      → StaysInUse old.journal new.journal
+      → (honest disk → (offset : ℕ) → offset < old.journal.used
+      → seen (history disk) (sector_at (ring_of old.journal) (old.journal.place + offset))
+      ≡ seen (history old.disk) (sector_at (ring_of old.journal) (old.journal.place + offset)))
+      → KeepsArchive honest history old new
+  append_keeps old new size generation snapshot_len archive_len fits ring ring_is place used disk disk_is reads stays in_use = record {
     generation = generation;
     snapshot_len = snapshot_len;
     archive_len = archive_len;
@@ -147,6 +202,13 @@ module _ {D : Type 0} (honest : D → Type 0) (history : D → History) where
         (subst (λ (d : D). ReadsAsBefore (journal_ring old.size) place used (seen (history old.disk)) (seen (history d))) (sym disk_is)
         (subst (λ (r : Ring). ReadsAsBefore r place used (seen (history old.disk)) (seen (history disk))) ring_is
         (reads (subst honest disk_is is_honest)))) shown);
+    journal = record {
+      stays = stays;
+      reads = λ is_honest offset lt.
+          subst (λ (d : D). seen (history d) (sector_at (ring_of old.journal) (old.journal.place + offset))
+          ≡ seen (history old.disk) (sector_at (ring_of old.journal) (old.journal.place + offset))) (sym disk_is)
+          (in_use (subst honest disk_is is_honest) offset lt);
+    };
   }
     where
       same_place : archive_of new ≡ archive_of old
@@ -172,6 +234,21 @@ module _ {D : Type 0} (honest : D → Type 0) (history : D → History) where
     snapshot_len = second.snapshot_len ∙ first.snapshot_len;
     archive_len = second.archive_len ∙ first.archive_len;
     shows = λ archive shown is_honest. second.shows archive (first.shows archive shown (stays is_honest)) is_honest;
+    journal = record {
+      stays = record {
+        ring = second.journal.stays.ring ∙ first.journal.stays.ring;
+        place = second.journal.stays.place ∙ first.journal.stays.place;
+        edits = second.journal.stays.edits ∙ first.journal.stays.edits;
+        used = omega (arith, first.journal.stays.used, second.journal.stays.used);
+      };
+      reads = λ is_honest offset lt.
+          subst (λ (r : Ring). seen (history new.disk) (sector_at r (old.journal.place + offset))
+          ≡ seen (history middle.disk) (sector_at r (old.journal.place + offset))) first.journal.stays.ring
+          (subst (λ (p : ℕ). seen (history new.disk) (sector_at (ring_of middle.journal) (p + offset))
+          ≡ seen (history middle.disk) (sector_at (ring_of middle.journal) (p + offset))) first.journal.stays.place
+          (second.journal.reads is_honest offset (omega (arith, lt, first.journal.stays.used))))
+          ∙ first.journal.reads (stays is_honest) offset lt;
+    };
   }
 
   -- an installation that fails leaves it, after such writes too

@@ -73,7 +73,7 @@ record_at (r ∷ records) (e ∷ edits) (suc i) are lt = record_at records edits
     (record { are_recorded = All-tail IsRecorded e edits are.are_recorded; are_records = ap (drop 1) are.are_records }) (omega (arith, lt))
 
 -- a record of no edit is in no list of edits' records
-none_replayed : (before : List RecordData) (r : RecordData) (rest : List RecordData) → ((e : RecordedEdit) → IsRecordFor r e → ⊥)
+pub none_replayed : (before : List RecordData) (r : RecordData) (rest : List RecordData) → ((e : RecordedEdit) → IsRecordFor r e → ⊥)
     → (edits : List RecordedEdit) → AreRecordsFor (before ++ r ∷ rest) edits → ⊥
 none_replayed before r rest none edits are =
     let found = record_at (before ++ r ∷ rest) edits (length before) are (omega (arith, length-append before (r ∷ rest))) in

@@ -24,6 +24,7 @@ use Rattle.tile_service.specs.Runs.{TakesEdit}
 use Rattle.tile_service.specs.Service.{PublicationView, ServiceView, CountsDevice, count_at, Publishes, IsUp, MayStand, EventLeaves, told_as, archive_of}
 use Rattle.tile_service.specs.Stored.{Stored, Holds, Keeps, CanRecord, record_for, with_edit, map_of, stored_records, journal_ring, journal_start}
 use Rattle.tile_service.specs.Tiles.{archive_place}
+use Rattle.tile_service.proofs.Archive.Unchanged.{same_stays}
 use Rattle.tile_service.specs.declared.fault.ServiceFault.{ServiceFault}
 use Rattle.tile_service.specs.declared.fault.ServiceFault.TheVariants.{Device}
 use Rattle.tile_service.specs.declared.service.Service.TheInside.{Inside}
@@ -64,8 +65,15 @@ refuses_edit sectors honest history failures old new call e fault same other =
       unwritten = λ not. refl;
       unchanged = λ not. refl;
       touches = refl;
+      knows = λ n was known. known;
       cached = refl;
-      keeps_archive = record { generation = refl; snapshot_len = refl; archive_len = refl; shows = λ archive shown is_honest. shown };
+      keeps_archive = record {
+        generation = refl;
+        snapshot_len = refl;
+        archive_len = refl;
+        shows = λ archive shown is_honest. shown;
+        journal = record { stays = same_stays old.journal old.journal refl; reads = λ is_honest offset lt. refl };
+      };
       keeps_areas = λ generation is_honest at inside. refl;
       any_moment = λ stored is_honest up. started (history old.disk) _ (λ image may. inl (up.keeps image may));
       acknowledged = λ stored is_honest up. tt;

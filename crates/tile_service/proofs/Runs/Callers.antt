@@ -9,29 +9,37 @@ use Rattle.sector_disk.specs.Asked.{MayWrite, OnlyReads}
 use Rattle.sector_disk.specs.Disk.{History, seen}
 use Rattle.sector_disk.specs.Moments.{LeavesOnly}
 use Rattle.sector_disk.proofs.AskedLaws.{writes_on, reads_may}
+use Rattle.edit_journal.specs.Appends.{ring_of}
+use Rattle.edit_journal.specs.Records.{RecordData}
+use Rattle.edit_journal.specs.Ring.{sector_at}
+use Rattle.edit_journal.specs.declared.fault.JournalFault.{JournalFault}
 use Rattle.edit_text.specs.Recorded.{RecordedEdit}
 use Rattle.feature_model.specs.Data.{FeatureData}
 use Rattle.feature_store.specs.Store.{feature_at, feature_from}
 use Rattle.map_metadata.specs.Metadata.{IsMetadata}
 use Rattle.serde_json.specs.Data.{Data}
-use Rattle.tile_service.specs.Machine.{ServiceState, OrMemory, Happening, Call, edit, begin, step, cancel, check, tile, look, look_from, metadata, read}
+use Rattle.tile_service.specs.Machine.{ServiceState, OrMemory, Happening, Call, edit, begin, step, cancel, check, tile, tile_number, look, look_from}
+use Rattle.tile_service.specs.Machine.{metadata, read, list_edits}
 use Rattle.tile_service.specs.Machine.{IfTold, AnswersEdit, AnswersBegin, AnswersStep, AnswersCancel, AnswersCheck, Happens, Runs}
 use Rattle.tile_service.specs.Runs.{IsDoubtful, happening_at, all_edits, way_of, Way, Progress, starts, progress_of, NoneInDoubt, Reaches}
 use Rattle.tile_service.specs.Runs.{begin_and_steps, IsTrusted, ChangesOnly, Takes, TakesEdit, TakesAll, TakesRun}
 use Rattle.tile_service.specs.Service.{PublicationView, ServiceView, Known, Publishes, IsUp, state_of, known_after}
 use Rattle.tile_service.specs.Service.{ShowsArchive, KeepsArchive, ReadsFrom, EventLeaves, shown_archive, stored_after}
+use Rattle.tile_service.specs.Listing.{ShowsEdits, ListsFrom}
 use Rattle.tile_service.specs.Stored.{Stored, Holds, Keeps, last_of}
+use Rattle.tile_service.specs.Tags.{StillKnows, TellsNumber, IsNumbered}
 use Rattle.tile_service.specs.declared.fault.ServiceFault.{ServiceFault}
 use Rattle.tile_service.specs.declared.fault.ServiceFault.TheVariants.{Device}
 use Rattle.tile_service.proofs.Archive.Read.{archive_there, archive_is_shown, shown_is_seen}
 use Rattle.tile_service.proofs.Runs.DiskAfter.{RunLeaves, IsHere, by_next, doubt_breaks, goes_on_by, run_starts, run_goes_on, run_fits, reaches_on}
 use Rattle.tile_service.proofs.Runs.DiskAfter.{published_within, sized_as, starts_by}
 use Rattle.tile_service.proofs.Runs.Progress.{Within, IsSince, has_start, has_last, progress_on, progress_edits, way_seen, way_after}
-use Rattle.tile_service.proofs.Archive.Unchanged.{keeps_on}
+use Rattle.tile_service.proofs.Archive.Unchanged.{keeps_on, same_stays}
 use Rattle.tile_service.proofs.Publications.WholePublication.{steps_more}
 use Rattle.tile_service.proofs.Runs.OneEvent.{no_known, clash, is_false, doubt_breaks_it, IsQuiet, broken_stays, broken_halts, broken_refuses}
 use Rattle.tile_service.proofs.Runs.OneEvent.{broken_unchecked, after_step, after_edit, after_check, kept_for, edit_version, step_version, check_version}
-use Rattle.tile_service.proofs.Runs.OneEvent.{happens_less, runs_less, runs_on, writes_nothing}
+use Rattle.tile_service.proofs.Runs.OneEvent.{happens_less, runs_less, runs_on, writes_nothing, step_map, check_map}
+use Rattle.tile_service.proofs.Tiles.Tags.{knows_same}
 
 -- The image that is seen of a disk has the archive that the service continues from.
 pub archive_shown : {D : Type 0} (count : ℕ) (history : History) (stored : Stored) (service : ServiceView D) → IsUp count history stored service
@@ -66,6 +74,7 @@ module _ {D : Type 0} (sectors : D → ℕ) (honest : D → Type 0) (history : D
     pub asked : MayWrite sectors honest old.disk now.disk
     pub doubt : (index : ℕ) → index < length events → IsDoubtful (happening_at events index) → now.broken ≡ true
     pub keeps_archive : ¬ Contains events (step (Ok 0)) → KeepsArchive honest history old now
+    pub knows : StillKnows old now
     pub up : (stored : Stored) → honest now.disk → IsUp (sectors old.disk) (history old.disk) stored old → now.broken ≡ false
         → IsUpAfter old events now stored
     pub leaves : (stored : Stored) → honest now.disk → IsUp (sectors old.disk) (history old.disk) stored old
@@ -94,7 +103,14 @@ module _ {D : Type 0} (sectors : D → ℕ) (honest : D → Type 0) (history : D
     version = refl;
     asked = record { same_count = refl; was_honest = λ is_honest. is_honest };
     doubt = λ index lt. absurd (omega (arith, lt));
-    keeps_archive = λ none. record { generation = refl; snapshot_len = refl; archive_len = refl; shows = λ archive shown is_honest. shown };
+    keeps_archive = λ none. record {
+      generation = refl;
+      snapshot_len = refl;
+      archive_len = refl;
+      shows = λ archive shown is_honest. shown;
+      journal = record { stays = same_stays old.journal old.journal refl; reads = λ is_honest offset lt. refl };
+    };
+    knows = λ n was known. known;
     up = λ stored is_honest up unbroken. record { reached = stored; is_up = up; reaches = has_start stored; way_is = refl };
     leaves = λ stored is_honest up. run_starts (sectors old.disk) old.size stored (way_of stored.edits old.publication) (history old.disk)
         (within_of stored old.publication (up_since stored old up)) up.keeps;
@@ -115,6 +131,10 @@ module _ {D : Type 0} (sectors : D → ℕ) (honest : D → Type 0) (history : D
     archive_len = ap (λ (s : ServiceView D). s.archive_len) same;
     shows = λ archive shown is_honest. subst (λ (s : ServiceView D). ShowsArchive (history new.disk) s archive) (sym same)
         (subst (λ (h : History). ShowsArchive h old archive) (sym (unwritten is_honest)) shown);
+    journal = record {
+      stays = same_stays old.journal new.journal (ap (λ (s : ServiceView D). s.journal) same);
+      reads = λ is_honest offset lt. ap (λ (h : History). seen h (sector_at (ring_of old.journal) (old.journal.place + offset))) (unwritten is_honest);
+    };
   }
 
   with_published : (old new : ServiceView D) → new ≡ record old { publication = new.publication }
@@ -141,6 +161,10 @@ module _ {D : Type 0} (sectors : D → ℕ) (honest : D → Type 0) (history : D
         publication : old.publication ≡ new.publication
         publication = sym (ap (λ (s : ServiceView D). s.publication) same)
 
+    knows_read : StillKnows old new
+    knows_read = knows_same old new (ap (λ (s : ServiceView D). s.features) same) (ap (λ (s : ServiceView D). s.touched) same)
+        (ap (λ (s : ServiceView D). s.journal.last) same)
+
     -- a tile that is shown reads the disk at most
     pub tile_step : (old.broken ≡ true → new.disk ≡ old.disk)
         → ((stored : Stored) → IsUp (sectors old.disk) (history old.disk) stored old → honest new.disk
@@ -151,12 +175,15 @@ module _ {D : Type 0} (sectors : D → ℕ) (honest : D → Type 0) (history : D
     tile_step untouched still_up z x y outcome machine = record {
       machine = machine;
       archive = λ archive shows honest. tt;
+      listed = λ edits shows honest. tt;
       keeps_archive = λ other. shows_same;
       doubt = λ is. absurd is;
       size = ap (λ (s : ServiceView D). s.size) same;
       version = ap (λ (s : ServiceView D). s.version) same;
       asked = reads_may reads;
       changes = record { same = same; unwritten = reads.same_history };
+      knows = knows_read;
+      numbered = tt;
       untouched = λ broken is. untouched broken;
       any_moment = λ stored is_honest up. writes_nothing (sectors old.disk) old.size stored old.publication (tile z x y outcome)
           (history old.disk) (history new.disk) (reads.same_history is_honest) up.keeps;
@@ -171,6 +198,7 @@ module _ {D : Type 0} (sectors : D → ℕ) (honest : D → Type 0) (history : D
         → Takes sectors honest history old (read at outcome) new
     read_step still_up at outcome from = record {
       archive = from;
+      listed = λ edits shows honest. tt;
       keeps_archive = λ other. shows_same;
       machine = λ known. ap (λ (s : ServiceView D). state_of known s) same;
       doubt = λ is. absurd is;
@@ -178,11 +206,58 @@ module _ {D : Type 0} (sectors : D → ℕ) (honest : D → Type 0) (history : D
       version = ap (λ (s : ServiceView D). s.version) same;
       asked = reads_may reads;
       changes = record { same = same; unwritten = reads.same_history };
+      knows = knows_read;
+      numbered = tt;
       untouched = λ broken not. absurd (not tt);
       any_moment = λ stored is_honest up. writes_nothing (sectors old.disk) old.size stored old.publication (read at outcome)
           (history old.disk) (history new.disk) (reads.same_history is_honest) up.keeps;
       after = λ stored is_honest up not. still_up stored up is_honest;
     }
+
+    -- and a list of edits
+    pub list_step : ((stored : Stored) → IsUp (sectors old.disk) (history old.disk) stored old → honest new.disk
+        → IsUp (sectors new.disk) (history new.disk) stored new)
+        → (number bytes : ℕ) (outcome : Result (List RecordData) JournalFault)
+        → ((edits : List RecordedEdit) → ShowsEdits (history old.disk) old edits → honest new.disk
+        → ListsFrom old.journal.edits edits (list_edits number bytes outcome))
+        → Takes sectors honest history old (list_edits number bytes outcome) new
+    list_step still_up number bytes outcome from = record {
+      archive = λ archive shows honest. tt;
+      listed = from;
+      keeps_archive = λ other. shows_same;
+      machine = λ known. ap (λ (s : ServiceView D). state_of known s) same;
+      doubt = λ is. absurd is;
+      size = ap (λ (s : ServiceView D). s.size) same;
+      version = ap (λ (s : ServiceView D). s.version) same;
+      asked = reads_may reads;
+      changes = record { same = same; unwritten = reads.same_history };
+      knows = knows_read;
+      numbered = tt;
+      untouched = λ broken not. absurd (not tt);
+      any_moment = λ stored is_honest up. writes_nothing (sectors old.disk) old.size stored old.publication (list_edits number bytes outcome)
+          (history old.disk) (history new.disk) (reads.same_history is_honest) up.keeps;
+      after = λ stored is_honest up not. still_up stored up is_honest;
+    }
+
+  -- the number of a tile is told, which changes nothing
+  pub number_step : (old : ServiceView D) (z x y n : ℕ) → TellsNumber old z x y n → Takes sectors honest history old (tile_number z x y n) old
+  number_step old z x y n told = record {
+    machine = λ known. refl;
+    archive = λ archive shows honest. tt;
+    listed = λ edits shows honest. tt;
+    keeps_archive = λ other. same_archive old old refl (λ is_honest. refl);
+    doubt = λ is. absurd is;
+    size = refl;
+    version = refl;
+    asked = record { same_count = refl; was_honest = λ is_honest. is_honest };
+    changes = refl;
+    knows = λ n was known. known;
+    numbered = told;
+    untouched = λ broken is. refl;
+    any_moment = λ stored is_honest up.
+        writes_nothing (sectors old.disk) old.size stored old.publication (tile_number z x y n) (history old.disk) (history old.disk) refl up.keeps;
+    after = λ stored is_honest up not. up;
+  }
 
   -- a look at a feature changes nothing
   pub look_step : (old : ServiceView D) (id : ℕ) (outcome : OrMemory (Option FeatureData))
@@ -190,12 +265,15 @@ module _ {D : Type 0} (sectors : D → ℕ) (honest : D → Type 0) (history : D
   look_step old id outcome found = record {
     machine = λ known. (found, refl);
     archive = λ archive shows honest. tt;
+    listed = λ edits shows honest. tt;
     keeps_archive = λ other. same_archive old old refl (λ is_honest. refl);
     doubt = λ is. absurd is;
     size = refl;
     version = refl;
     asked = record { same_count = refl; was_honest = λ is_honest. is_honest };
     changes = refl;
+    knows = λ n was known. known;
+    numbered = tt;
     untouched = λ broken is. refl;
     any_moment = λ stored is_honest up.
         writes_nothing (sectors old.disk) old.size stored old.publication (look id outcome) (history old.disk) (history old.disk) refl up.keeps;
@@ -208,12 +286,15 @@ module _ {D : Type 0} (sectors : D → ℕ) (honest : D → Type 0) (history : D
   look_from_step old id outcome found = record {
     machine = λ known. (found, refl);
     archive = λ archive shows honest. tt;
+    listed = λ edits shows honest. tt;
     keeps_archive = λ other. same_archive old old refl (λ is_honest. refl);
     doubt = λ is. absurd is;
     size = refl;
     version = refl;
     asked = record { same_count = refl; was_honest = λ is_honest. is_honest };
     changes = refl;
+    knows = λ n was known. known;
+    numbered = tt;
     untouched = λ broken is. refl;
     any_moment = λ stored is_honest up.
         writes_nothing (sectors old.disk) old.size stored old.publication (look_from id outcome) (history old.disk) (history old.disk) refl up.keeps;
@@ -226,12 +307,15 @@ module _ {D : Type 0} (sectors : D → ℕ) (honest : D → Type 0) (history : D
   metadata_step old outcome is = record {
     machine = λ known. (is, refl);
     archive = λ archive shows honest. tt;
+    listed = λ edits shows honest. tt;
     keeps_archive = λ other. same_archive old old refl (λ is_honest. refl);
     doubt = λ is. absurd is;
     size = refl;
     version = refl;
     asked = record { same_count = refl; was_honest = λ is_honest. is_honest };
     changes = refl;
+    knows = λ n was known. known;
+    numbered = tt;
     untouched = λ broken is. refl;
     any_moment = λ stored is_honest up.
         writes_nothing (sectors old.disk) old.size stored old.publication (metadata outcome) (history old.disk) (history old.disk) refl up.keeps;
@@ -245,12 +329,15 @@ module _ {D : Type 0} (sectors : D → ℕ) (honest : D → Type 0) (history : D
   edit_step failures old new call e outcome machine takes = record {
     machine = machine;
     archive = λ archive shown honest. tt;
+    listed = λ edits shows honest. tt;
     keeps_archive = λ other. takes.keeps_archive;
     doubt = doubt_breaks_it (Unit {0}) (state_of no_known old) (state_of no_known new) (edit call e outcome) (machine no_known);
     size = takes.size;
     version = edit_version (state_of no_known old) (state_of no_known new) call e outcome (machine no_known);
     asked = takes.asked;
     changes = tt;
+    knows = takes.knows;
+    numbered = tt;
     untouched = λ broken is. broken_refuses (state_of no_known old) (state_of no_known new) call e outcome (machine no_known) takes.unwritten broken;
     any_moment = takes.any_moment;
     after = λ stored is_honest up not. after_edit (λ (s : Stored). IsUp (sectors new.disk) (history new.disk) s new) old.size stored old.publication
@@ -262,11 +349,13 @@ module _ {D : Type 0} (sectors : D → ℕ) (honest : D → Type 0) (history : D
       → ((known : Known) → Happens (IsTrusted sectors honest history old new) (state_of known old) happening (state_of (known_after known old happening) new))
       → new ≡ record old { publication = new.publication }
       → ((stored : Stored) → IsUp (sectors old.disk) (history old.disk) stored old → IsUp (sectors new.disk) (history new.disk) stored new)
-      → ((archive : List ℕ) → ReadsFrom archive happening) → ¬ IsDoubtful happening → ChangesOnly sectors honest history happening old new
+      → ((archive : List ℕ) → ReadsFrom archive happening) → ((edits : List RecordedEdit) → ListsFrom old.journal.edits edits happening)
+      → IsNumbered old happening → ¬ IsDoubtful happening → ChangesOnly sectors honest history happening old new
       → ((stored : Stored) → stored_after old.size stored old.publication happening ≡ stored) → Takes sectors honest history old happening new
-  publication_step old new happening machine same up_still reads sure changes stays_stored = record {
+  publication_step old new happening machine same up_still reads lists numbered sure changes stays_stored = record {
     machine = machine;
     archive = λ archive shows honest. reads archive;
+    listed = λ edits shows honest. lists edits;
     keeps_archive = λ other. same_archive old new (with_published old new same) (λ is_honest. ap (λ (s : ServiceView D). history s.disk) same);
     doubt = λ is. absurd (sure is);
     size = ap (λ (s : ServiceView D). s.size) same;
@@ -276,6 +365,9 @@ module _ {D : Type 0} (sectors : D → ℕ) (honest : D → Type 0) (history : D
       was_honest = λ is_honest. subst (λ (d : D). honest d) (ap (λ (s : ServiceView D). s.disk) same) is_honest;
     };
     changes = changes;
+    knows = knows_same old new (ap (λ (s : ServiceView D). s.features) same) (ap (λ (s : ServiceView D). s.touched) same)
+        (ap (λ (s : ServiceView D). s.journal.last) same);
+    numbered = numbered;
     untouched = λ broken is. ap (λ (s : ServiceView D). s.disk) same;
     any_moment = λ stored is_honest up. writes_nothing (sectors old.disk) old.size stored old.publication happening
         (history old.disk) (history new.disk) (ap (λ (s : ServiceView D). history s.disk) same) up.keeps;
@@ -290,7 +382,7 @@ module _ {D : Type 0} (sectors : D → ℕ) (honest : D → Type 0) (history : D
       → ((stored : Stored) → IsUp (sectors old.disk) (history old.disk) stored old → IsUp (sectors new.disk) (history new.disk) stored new)
       → Takes sectors honest history old (begin outcome) new
   begin_step old new outcome machine same up_still =
-      publication_step old new (begin outcome) machine same up_still (λ archive. tt) (λ is. is) tt (λ stored. refl)
+      publication_step old new (begin outcome) machine same up_still (λ archive. tt) (λ edits. tt) tt (λ is. is) tt (λ stored. refl)
 
   -- and so is its cancellation
   pub cancel_step : (old new : ServiceView D) (outcome : Result (Unit {0}) ServiceFault)
@@ -299,12 +391,12 @@ module _ {D : Type 0} (sectors : D → ℕ) (honest : D → Type 0) (history : D
       → ((stored : Stored) → IsUp (sectors old.disk) (history old.disk) stored old → IsUp (sectors new.disk) (history new.disk) stored new)
       → Takes sectors honest history old (cancel outcome) new
   cancel_step old new outcome machine same up_still =
-      publication_step old new (cancel outcome) machine same up_still (λ archive. tt) (λ is. is) tt (λ stored. refl)
+      publication_step old new (cancel outcome) machine same up_still (λ archive. tt) (λ edits. tt) tt (λ is. is) tt (λ stored. refl)
 
   -- what a step of it does
   pub step_step : (old new : ServiceView D) (outcome : Result ℕ ServiceFault)
       → ((known : Known) → AnswersStep (state_of known old) outcome (state_of (known_after known old (step outcome)) new))
-      → new.size ≡ old.size → MayWrite sectors honest old.disk new.disk
+      → new.size ≡ old.size → new.touched ≡ old.touched → MayWrite sectors honest old.disk new.disk
       → IfErr outcome (λ fault. fault ≢ Device → new ≡ old)
       → ((stored : Stored) → honest new.disk → IsUp (sectors old.disk) (history old.disk) stored old
       → LeavesOnly (history old.disk) (history new.disk) (EventLeaves (sectors old.disk) old.size stored old.publication (step outcome)))
@@ -312,15 +404,20 @@ module _ {D : Type 0} (sectors : D → ℕ) (honest : D → Type 0) (history : D
       → OnOk outcome (IsUp (sectors new.disk) (history new.disk) (stored_after old.size stored old.publication (step outcome)) new))
       → ((outcome ≡ Ok 0 → ⊥) → KeepsArchive honest history old new)
       → Takes sectors honest history old (step outcome) new
-  step_step old new outcome machine size asked same leaves up_after shows = record {
+  step_step old new outcome machine size touched asked same leaves up_after shows = record {
     machine = machine;
     archive = λ archive shown honest. tt;
+    listed = λ edits shows honest. tt;
     keeps_archive = λ other. shows (λ (is : outcome ≡ Ok 0). other (ap step is));
     doubt = doubt_breaks_it (Unit {0}) (state_of no_known old) (state_of (known_after no_known old (step outcome)) new) (step outcome) (machine no_known);
     size = size;
     version = step_version (state_of no_known old) (state_of (known_after no_known old (step outcome)) new) outcome (machine no_known);
     asked = asked;
     changes = tt;
+    knows =
+        let is = step_map (state_of no_known old) (state_of (known_after no_known old (step outcome)) new) outcome (machine no_known) in
+        knows_same old new is.0 touched is.1;
+    numbered = tt;
     untouched = λ broken is. broken_halts (state_of no_known old) (state_of (known_after no_known old (step outcome)) new) outcome (machine no_known)
         (kept_for (λ (s : ServiceView D). s.disk ≡ old.disk) old new outcome same refl) broken;
     any_moment = leaves;
@@ -332,7 +429,7 @@ module _ {D : Type 0} (sectors : D → ℕ) (honest : D → Type 0) (history : D
   -- a check of the disk, by what the call says
   pub check_step : (old new : ServiceView D) (outcome : Result (Unit {0}) ServiceFault)
       → ((known : Known) → AnswersCheck (state_of known old) outcome (state_of known new))
-      → new.size ≡ old.size → MayWrite sectors honest old.disk new.disk
+      → new.size ≡ old.size → new.touched ≡ old.touched → MayWrite sectors honest old.disk new.disk
       → IfErr outcome (λ fault. fault ≢ Device → new ≡ old)
       → ((stored : Stored) → honest new.disk → IsUp (sectors old.disk) (history old.disk) stored old
       → LeavesOnly (history old.disk) (history new.disk) (Holds (sectors old.disk) old.size stored))
@@ -340,15 +437,20 @@ module _ {D : Type 0} (sectors : D → ℕ) (honest : D → Type 0) (history : D
       → OnOk outcome (IsUp (sectors new.disk) (history new.disk) stored new))
       → KeepsArchive honest history old new
       → Takes sectors honest history old (check outcome) new
-  check_step old new outcome machine size asked same leaves up_after shows = record {
+  check_step old new outcome machine size touched asked same leaves up_after shows = record {
     machine = machine;
     archive = λ archive shown honest. tt;
+    listed = λ edits shows honest. tt;
     keeps_archive = λ other. shows;
     doubt = doubt_breaks_it (Unit {0}) (state_of no_known old) (state_of no_known new) (check outcome) (machine no_known);
     size = size;
     version = check_version (state_of no_known old) (state_of no_known new) outcome (machine no_known);
     asked = asked;
     changes = tt;
+    knows =
+        let is = check_map (state_of no_known old) (state_of no_known new) outcome (machine no_known) in
+        knows_same old new is.0 touched is.1;
+    numbered = tt;
     untouched = λ broken is. broken_unchecked (state_of no_known old) (state_of no_known new) outcome (machine no_known)
         (kept_for (λ (s : ServiceView D). s.disk ≡ old.disk) old new outcome same refl) broken;
     any_moment = leaves;
@@ -376,6 +478,7 @@ module _ {D : Type 0} (sectors : D → ℕ) (honest : D → Type 0) (history : D
   broken_unwritten : (now new : ServiceView D) (event : Happening) → Takes sectors honest history now event new → now.broken ≡ true → honest new.disk
       → history new.disk ≡ history now.disk
   broken_unwritten now new (read at outcome) goes broken is_honest = goes.changes.unwritten is_honest
+  broken_unwritten now new (list_edits number bytes outcome) goes broken is_honest = goes.changes.unwritten is_honest
   broken_unwritten now new event goes broken is_honest = ap history (goes.untouched broken (λ is. is))
 
   module _ (old now new : ServiceView D) (events : List Happening) (event : Happening)
@@ -481,6 +584,7 @@ module _ {D : Type 0} (sectors : D → ℕ) (honest : D → Type 0) (history : D
       keeps_archive = λ none. keeps_on honest history old now new
           (so.keeps_archive (λ has. none (Contains-append_left events (event ∷ []) (step (Ok 0)) has))) goes.asked.was_honest
           (goes.keeps_archive (λ is. none (Contains-append_right events (event ∷ []) (step (Ok 0)) (0, omega arith, is))));
+      knows = λ n was known. goes.knows n was (so.knows n was known);
       up = up_on;
       leaves = leaves_on;
     }
@@ -533,4 +637,5 @@ module _ {D : Type 0} (sectors : D → ℕ) (honest : D → Type 0) (history : D
     );
     after = λ stored is_honest up unbroken. let then_up = so.up stored is_honest up unbroken in (then_up.reached, then_up.is_up, then_up.reaches);
     keeps_archive = so.keeps_archive;
+    knows = so.knows;
   }

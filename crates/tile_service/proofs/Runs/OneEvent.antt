@@ -7,7 +7,8 @@ use Rattle.sector_disk.specs.Disk.{History, Image, HasFailed}
 use Rattle.sector_disk.specs.Moments.{LeavesOnly}
 use Rattle.sector_disk.proofs.History.{started}
 use Rattle.edit_text.specs.Recorded.{RecordedEdit}
-use Rattle.tile_service.specs.Machine.{ServiceState, got, no_memory, Happening, Call, edit, begin, step, cancel, check, tile, look, look_from, metadata, read}
+use Rattle.tile_service.specs.Machine.{ServiceState, got, no_memory, Happening, Call, edit, begin, step, cancel, check, tile, tile_number, look}
+use Rattle.tile_service.specs.Machine.{look_from, metadata, read, list_edits}
 use Rattle.tile_service.specs.Machine.{Refuses, AnswersEdit, AnswersStep, AnswersCheck, Happens, Runs}
 use Rattle.tile_service.specs.Runs.{Progress, edits_by, IsDoubtful, progress_after}
 use Rattle.tile_service.specs.Service.{PublicationView, Known, CountsDevice, TellsDevice, EventLeaves, stored_after}
@@ -119,6 +120,8 @@ broken_stays trusted old new (check (Err fault)) goes broken = let is = refuses_
 )
 broken_stays trusted old new (tile z x y outcome) goes broken =
     (goes.1, record { edits_nothing = refl; publishes_nothing = λ p. refl; no_doubt = λ doubt. doubt })
+broken_stays trusted old new (tile_number z x y n) goes broken =
+    (goes, record { edits_nothing = refl; publishes_nothing = λ p. refl; no_doubt = λ doubt. doubt })
 broken_stays trusted old new (look id outcome) goes broken =
     (goes.1, record { edits_nothing = refl; publishes_nothing = λ p. refl; no_doubt = λ doubt. doubt })
 broken_stays trusted old new (look_from id outcome) goes broken =
@@ -126,6 +129,8 @@ broken_stays trusted old new (look_from id outcome) goes broken =
 broken_stays trusted old new (metadata outcome) goes broken =
     (goes.1, record { edits_nothing = refl; publishes_nothing = λ p. refl; no_doubt = λ doubt. doubt })
 broken_stays trusted old new (read at outcome) goes broken =
+    (goes, record { edits_nothing = refl; publishes_nothing = λ p. refl; no_doubt = λ doubt. doubt })
+broken_stays trusted old new (list_edits number bytes outcome) goes broken =
     (goes, record { edits_nothing = refl; publishes_nothing = λ p. refl; no_doubt = λ doubt. doubt })
 
 -- it refuses an edit for another fault than the disk's,
@@ -169,6 +174,31 @@ step_version old new (Err fault) goes = refused_version _ old new fault goes
 pub check_version : (old new : ServiceState) (outcome : Result (Unit {0}) ServiceFault) → AnswersCheck old outcome new → new.version ≡ old.version
 check_version old new (Ok done) goes = ap (λ (s : ServiceState). s.version) goes.1
 check_version old new (Err fault) goes = refused_version _ old new fault goes
+
+-- ---- the map
+
+-- the same map, with the same last edit
+abbrev SameMap : (old new : ServiceState) → Type 0
+SameMap old new = (new.features ≡ old.features) × (new.last ≡ old.last)
+
+same_map : (old new : ServiceState) → new ≡ old → SameMap old new
+same_map old new same = (ap (λ (s : ServiceState). s.features) same, ap (λ (s : ServiceState). s.last) same)
+
+refused_map : (is_there : Type 0) (old new : ServiceState) (fault : ServiceFault) → Refuses is_there old fault new → SameMap old new
+refused_map is_there old new Broken goes = same_map old new goes.1
+refused_map is_there old new Device goes = (ap (λ (s : ServiceState). s.features) goes.2, ap (λ (s : ServiceState). s.last) goes.2)
+refused_map is_there old new fault goes = same_map old new goes.2
+
+-- no step changes it,
+pub step_map : (old new : ServiceState) (outcome : Result ℕ ServiceFault) → AnswersStep old outcome new → SameMap old new
+step_map old new (Ok left) (way, inl w) = (ap (λ (s : ServiceState). s.features) w.2, ap (λ (s : ServiceState). s.last) w.2)
+step_map old new (Ok left) (way, inr w) = (ap (λ (s : ServiceState). s.features) w.2, ap (λ (s : ServiceState). s.last) w.2)
+step_map old new (Err fault) goes = refused_map _ old new fault goes
+
+-- and no check of the disk
+pub check_map : (old new : ServiceState) (outcome : Result (Unit {0}) ServiceFault) → AnswersCheck old outcome new → SameMap old new
+check_map old new (Ok done) goes = same_map old new goes.1
+check_map old new (Err fault) goes = refused_map _ old new fault goes
 
 -- ---- calls of the disk that failed
 

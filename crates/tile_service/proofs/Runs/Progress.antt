@@ -6,7 +6,8 @@ use Rattle.std.proofs.lemmas.List.{take-append-le, take_all, take_at, append-nil
 use Rattle.edit_text.specs.Recorded.{RecordedEdit}
 use Rattle.feature_store.specs.Store.{FeatureMap}
 use Rattle.tile_service.specs.After.{after}
-use Rattle.tile_service.specs.Machine.{Publication, ServiceState, Happening, edit, begin, step, cancel, check, tile, look, look_from, metadata, read}
+use Rattle.tile_service.specs.Machine.{Publication, ServiceState, Happening, edit, begin, step, cancel, check, tile, tile_number, look, look_from}
+use Rattle.tile_service.specs.Machine.{metadata, read, list_edits}
 use Rattle.tile_service.specs.Machine.{Happens, HasPublication, GoesOn}
 use Rattle.tile_service.specs.Publishing.{published}
 use Rattle.tile_service.specs.Runs.{edits_by, IsDoubtful, acknowledged, all_edits, Way, way_of, Progress, starts, stepped, progress_after, progress_of, fitting}
@@ -322,7 +323,9 @@ module _ (last : ℕ) (old new : ServiceState) (p : Progress) (is : way_in last 
   way_after trusted (check (Err Broken)) goes edits not = same_way goes.1
   way_after trusted (check (Err fault)) goes edits not = same_way goes.2
   way_after trusted (tile z x y outcome) goes edits not = same_way goes.1
+  way_after trusted (tile_number z x y n) goes edits not = same_way goes
   way_after trusted (look id outcome) goes edits not = same_way goes.1
   way_after trusted (look_from id outcome) goes edits not = same_way goes.1
   way_after trusted (metadata outcome) goes edits not = same_way goes.1
   way_after trusted (read at outcome) goes edits not = same_way goes
+  way_after trusted (list_edits number bytes outcome) goes edits not = same_way goes

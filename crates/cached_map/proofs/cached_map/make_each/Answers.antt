@@ -47,6 +47,8 @@ loop-change-preserved c =
           (ap (λ m. marks_of m change number (marks_after first done number marks)) inv.map_is ∙ sym (marks_push first done change number marks)
           ∙ ap (λ cs. marks_after first cs number marks) one_more)
           (c.make_one.ensures.stays (marks_after first done number marks) start (inv.stays marks start stay));
+      moment = c.make_one.ensures.moment ∙ inv.moment;
+      as_of = λ is. c.make_one.ensures.as_of (inv.as_of is);
       room = omega (
         arith,
         inv.room,

@@ -1,6 +1,5 @@
 use Rattle.std.specs.Option.{option_map}
 use Rattle.std.proofs.lemmas.Result.{IfOk-weaker}
-use Rattle.feature_store.specs.Inside.{entries_data}
 use Rattle.feature_store.proofs.Walk.{place_within, zoom_within, tile_found, bytes_are}
 use Rattle.feature_store.proofs.all_tiles.bytes_at.Goals as goal
 
@@ -21,7 +20,7 @@ tile_of_numbers-requires-clause-shown c =
 pub returns : goal.returns
 returns c =
     let at = c.unwrap-at.result in
-    let m = entries_data c.args.features.now.entries in
+    let m = c.args.moment.now.features in
     let is = tile_found c.tile_of.result at c.args.id c.unwrap-at.ensures c.tile_of.ensures.tile in
     IfOk-weaker c.tile_of_numbers.result _ _ (λ o bytes. bytes_are m at.z at.x at.y c.args.id (option_map (λ v. v.items) o) is bytes)
     c.tile_of_numbers.ensures

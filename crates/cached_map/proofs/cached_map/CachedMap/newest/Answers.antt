@@ -1,5 +1,5 @@
 use Rattle.tile_cache.specs.declared.cached_tiles.Origin.TheVariants.{Cut}
-use Rattle.cached_map.proofs.Kept.{newest_most, same_since}
+use Rattle.cached_map.proofs.Kept.{known_now, newest_most, same_since}
 use Rattle.cached_map.proofs.cached_map.CachedMap.newest.Goals as goal
 
 pub returns-clause-most : goal.returns-clause-most
@@ -18,3 +18,8 @@ returns-clause-since c =
 
 pub returns-clause-of_cells : goal.returns-clause-of_cells
 returns-clause-of_cells c = rw (← c.self.view_is) c.newest.ensures.of_cells
+
+pub returns-clause-now : goal.returns-clause-now
+returns-clause-now c =
+    let inside = c.self.inside in
+    rw (← c.self.view_is) (known_now Cut inside.store.features inside.touched inside.last inside.kept c.self.invariant)

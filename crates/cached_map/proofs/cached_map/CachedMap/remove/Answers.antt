@@ -16,16 +16,16 @@ before c =
 abbrev after : After-mark_some → CachedView
 after c =
     record {
-      features = c.remove-bounds.new.self.features;
-      spare = c.remove-bounds.new.self.spare;
+      features = c.remove_keeping-bounds.new.self.features;
+      spare = c.remove_keeping-bounds.new.self.spare;
       last = c.args.number;
       touched = c.mark_some.new.touched;
       kept = c.self.inside.kept;
     }
 
 edited : (c : After-mark_some) → IsEdited (before c) (after c) (removal (before c) (after c) c.args.id)
-edited c = removed (before c) (after c) c.args.id c.len-count.ensures.map (rw (← c.self.view_is) at c.requires.later) c.remove-bounds.ensures.map
-    (λ marks remembers. subst (λ o. Remembers c.mark_some.new.touched (with_box o c.args.number marks)) c.remove-bounds.ensures.bounds
+edited c = removed (before c) (after c) c.args.id c.len-count.ensures.map (rw (← c.self.view_is) at c.requires.later) c.remove_keeping-bounds.ensures.map
+    (λ marks remembers. subst (λ o. Remembers c.mark_some.new.touched (with_box o c.args.number marks)) c.remove_keeping-bounds.ensures.bounds
     (c.mark_some.ensures.remembers marks remembers))
 
 pub invariant_of-self : goal.invariant_of-self
@@ -51,7 +51,7 @@ returns-clause-marks c =
 stays : (c : After-mark_some) → StaysElsewhere (with_mark (feature_at c.self.inside.store.features c.args.id) c.args.number []) c.self.inside.touched
     c.mark_some.new.touched
 stays c =
-    subst (λ o. StaysElsewhere (with_box o c.args.number []) c.self.inside.touched c.mark_some.new.touched) c.remove-bounds.ensures.bounds
+    subst (λ o. StaysElsewhere (with_box o c.args.number []) c.self.inside.touched c.mark_some.new.touched) c.remove_keeping-bounds.ensures.bounds
     (c.mark_some.ensures.stays [] c.self.inside.touched (λ at all. refl))
 
 pub returns-clause-stays : goal.returns-clause-stays

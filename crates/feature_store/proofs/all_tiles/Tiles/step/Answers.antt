@@ -1,8 +1,8 @@
-use Rattle.std.proofs.Common.{◌≡◌, ℕ, List, Option, Vec, Global, refl, sym, subst, arith}
+use Rattle.std.proofs.Common.{◌≡◌, ℕ, List, Option, Vec, Global, refl, sym, ap, subst, ◌∙◌, arith}
 use Rattle.std.specs.Option.{option_map}
 use Rattle.feature_store.specs.Indexed.{ShowsAll}
 use Rattle.feature_store.specs.Left.{left_of}
-use Rattle.feature_store.specs.Store.{FeatureMap, IsMap}
+use Rattle.feature_store.specs.Store.{FeatureMap}
 use Rattle.feature_store.specs.Tiles.{TilesView, IsBytesAt, IsStep, ShowsNothingFrom}
 use Rattle.feature_store.proofs.Zooms.{from_below, place_here, nothing_between, shows_step, one_less, left_some, none_from}
 use Rattle.feature_store.proofs.Walk.{place_within}
@@ -37,9 +37,6 @@ returns-in_default-clause-none c =
     (none_from m c.self.invariant.is_map new.zoom c.self.inside.from (left_of new.walk) new.next c.in_default.is c.in_ok-look_ahead.ensures.none
     (c.look_ahead.ensures.stay c.self.inside.from c.self.invariant.left))
 
-pub bytes_at-requires-clause-map : goal.bytes_at-requires-clause-map
-bytes_at-requires-clause-map c = subst IsMap (sym c.features-features.ensures) c.self.invariant.is_map
-
 pub bytes_at-requires-clause-place : goal.bytes_at-requires-clause-place
 bytes_at-requires-clause-place c =
     let m = c.self.inside.map in
@@ -55,7 +52,7 @@ bytes_at-requires-clause-shown c z x y zoom is =
     let left = left_some m new.zoom c.self.inside.from (left_of new.walk) new.next c.in-Some.id c.in-Some.numbers c.in-Some.is
     (c.look_ahead.ensures.stay c.self.inside.from c.self.invariant.left) in
     let same : c.deref.result.now ≡ c.in-Some.numbers.items = c.deref.ensures.value in
-    subst (λ (k : FeatureMap). ShowsAll k z x y c.deref.result.now) (sym c.features-features.ensures)
+    subst (λ (k : FeatureMap). ShowsAll k z x y c.deref.result.now) (sym (c.requires.same ∙ sym (ap (λ (v : TilesView). v.features) c.self.view_is)))
     (subst (ShowsAll m z x y) (sym same)
     (shows_step m c.self.invariant.is_map new.zoom c.self.inside.from (c.in-Some.id, c.in-Some.numbers.items) (left_of new.walk) left z x y zoom is))
 
@@ -97,6 +94,7 @@ returns-clause-tile c =
       here = from_below m is_map new.zoom c.self.inside.from t (left_of new.walk) left;
       place = place_here m is_map new.zoom c.self.inside.from t (left_of new.walk) left c.look_ahead.ensures.zoom;
       between = nothing_between m is_map new.zoom c.self.inside.from t (left_of new.walk) left;
-      bytes_are = subst (λ (k : FeatureMap). IsBytesAt k c.in-Some.id bytes) c.features-features.ensures c.in_ok-bytes.ensures;
+      bytes_are = subst (λ (k : FeatureMap). IsBytesAt k c.in-Some.id bytes) (c.requires.same ∙ sym (ap (λ (v : TilesView). v.features) c.self.view_is))
+          c.in_ok-bytes.ensures;
     } in
     (subst (λ (v : TilesView). IsStep v.features v.from c.in-Some.id bytes) c.self.view_is step, refl)

@@ -12,4 +12,4 @@ returns c =
     let boxes = c.deref.ensures.value ∙ c.self.invariant in
     rw (← c.self.view_is)
     (subst (λ bs. IfOk c.new.result (λ walk. AreTilesOf zoom bs walk.left))
-    (c.in_ok-tiles.ensures ∙ ap (boxes_in zoom) boxes ∙ same_boxes zoom (entries_data c.self.inside.features.now.entries)) c.new.ensures)
+    (c.in_ok-tiles.ensures ∙ ap (boxes_in zoom) boxes ∙ same_boxes zoom (entries_data c.self.inside.features.value.entries)) c.new.ensures)

@@ -1,11 +1,12 @@
-use Rattle.std.proofs.Common.{ℕ, Vec, Global, sym, ap, subst}
+use Rattle.std.proofs.Common.{◌≡◌, ℕ, Vec, Global, sym, ap, subst}
 use Rattle.std.specs.Prelude.{IfOk}
 use Rattle.std.specs.Option.{option_map}
 use Rattle.std.proofs.lemmas.Result.{IfOk-weaker}
 use Rattle.feature_store.specs.Inside.{entries_data}
 use Rattle.feature_store.specs.Content.{IsTileContent}
+use Rattle.feature_store.specs.Indexed.{ShowsAll}
 use Rattle.feature_store.specs.Layers.{layers}
-use Rattle.feature_store.specs.Store.{StoreView}
+use Rattle.feature_store.specs.Store.{FeatureMap, StoreView}
 use Rattle.feature_store.specs.Tiles.{tile_bytes}
 use Rattle.feature_store.proofs.Finished.{content_is}
 use Rattle.feature_store.proofs.Unique.{outside, no_tile}
@@ -21,12 +22,11 @@ returns-then-at-gt-MAX_ZOOM-clause-content c =
     let at = c.args.at in
     outside c.args.self.now.features at.z at.x at.y (no_tile at.z at.x at.y c.if-at-gt-MAX_ZOOM.true)
 
-pub tile_of_numbers-requires-clause-map : goal.tile_of_numbers-requires-clause-map
-tile_of_numbers-requires-clause-map c = c.self.invariant.is_map
-
 pub tile_of_numbers-requires-clause-shown : goal.tile_of_numbers-requires-clause-shown
 tile_of_numbers-requires-clause-shown c =
-    rw c.deref.ensures.value (c.in_ok-numbers.ensures (entries_data c.self.inside.features.entries) c.self.invariant.is_map c.self.invariant.indexed)
+    let at = c.args.at in
+    subst (λ (m : FeatureMap). ShowsAll m at.z at.x at.y c.deref.result.now) (sym c.of-now.ensures.features)
+    (rw c.deref.ensures.value (c.in_ok-numbers.ensures (entries_data c.self.inside.features.entries) c.self.invariant.is_map c.self.invariant.indexed))
 
 pub returns-clause-content : goal.returns-clause-content
 returns-clause-content c =
@@ -35,6 +35,7 @@ returns-clause-content c =
     let content : IfOk c.tile_of_numbers.result (λ o. IsTileContent (layers inside at.z at.x at.y) (option_map (λ (v : Vec ℕ Global). v.items) o)) =
     IfOk-weaker c.tile_of_numbers.result _ _
     (λ o is. content_is inside at.z at.x at.y (option_map (λ (v : Vec ℕ Global). v.items) o) c.self.invariant.is_map is)
-    c.tile_of_numbers.ensures in
+    (subst (λ (m : FeatureMap). IfOk c.tile_of_numbers.result
+    (λ o. option_map (λ (v : Vec ℕ Global). v.items) o ≡ tile_bytes (layers m at.z at.x at.y))) c.of-now.ensures.features c.tile_of_numbers.ensures) in
     subst (λ (s : StoreView). IfOk c.tile_of_numbers.result
     (λ o. IsTileContent (layers s.features at.z at.x at.y) (option_map (λ (v : Vec ℕ Global). v.items) o))) c.self.view_is content

@@ -30,6 +30,16 @@ returns-in-FeatureFrom-clause-words g c = whole_words c.feature_from.result c.fe
 pub returns-in-FeatureFrom-clause-held : goal.returns-in-FeatureFrom-clause-held
 returns-in-FeatureFrom-clause-held g c = c.feature_from.ensures.held
 
+pub returns-in-EditsFrom-clause-answered : goal.returns-in-EditsFrom-clause-answered
+returns-in-EditsFrom-clause-answered g c =
+    rw c.in-EditsFrom.is (whole_answer _ _ c.edits_from.result c.edits_from.ensures.answered c.edits_from.ensures.writable)
+
+pub returns-in-EditsFrom-clause-words : goal.returns-in-EditsFrom-clause-words
+returns-in-EditsFrom-clause-words g c = whole_words c.edits_from.result c.edits_from.ensures.writable
+
+pub returns-in-EditsFrom-clause-held : goal.returns-in-EditsFrom-clause-held
+returns-in-EditsFrom-clause-held g c = c.edits_from.ensures.held
+
 pub returns-in-View-clause-answered : goal.returns-in-View-clause-answered
 returns-in-View-clause-answered g c = rw c.in-View.is c.on_view.ensures.answered
 
@@ -48,3 +58,13 @@ returns-in-Action-clause-words g c = whole_words c.on_action.result c.on_action.
 
 pub returns-in-Action-clause-held : goal.returns-in-Action-clause-held
 returns-in-Action-clause-held g c = c.on_action.ensures.held
+
+pub returns-in-FeaturePage-clause-answered : goal.returns-in-FeaturePage-clause-answered
+returns-in-FeaturePage-clause-answered g c =
+    rw c.in-FeaturePage.is (whole_answer _ _ c.feature_page.result c.feature_page.ensures.answered c.feature_page.ensures.writable)
+
+pub returns-in-FeaturePage-clause-words : goal.returns-in-FeaturePage-clause-words
+returns-in-FeaturePage-clause-words g c = whole_words c.feature_page.result c.feature_page.ensures.writable
+
+pub returns-in-FeaturePage-clause-held : goal.returns-in-FeaturePage-clause-held
+returns-in-FeaturePage-clause-held g c = c.feature_page.ensures.held

@@ -13,7 +13,7 @@ returns-clause-answered g c =
     let call = c.check.ensures in
     changed_first d.sectors d.honest d.history _ _ check (λ outcome. status_reply (status_of c.check.new.self)) _ _ c.check.result _
     (c.told.ensures.reply ∙ ap status_reply c.status.ensures) call.failed
-    (check_step d.sectors d.honest d.history _ _ c.check.result call.machine (ap (λ s. s.size) call.same) call.disk
+    (check_step d.sectors d.honest d.history _ _ c.check.result call.machine (ap (λ s. s.size) call.same) (ap (λ s. s.touched) call.same) call.disk
     call.refused call.any_moment call.after call.archive)
 
 pub returns-clause-held : goal.returns-clause-held

@@ -1,56 +1,12 @@
-use Rattle.std.proofs.Common.{ap, option_map, refl}
-use Rattle.std.specs.Rc.{rc_slice_items}
-use Rattle.tile_service.specs.Machine.{got, no_memory, tile}
-use Rattle.tile_service.specs.Service.{state_of}
-use Rattle.tile_service.proofs.Runs.Callers.{tile_step}
-use Rattle.map_replies.specs.Words.{shown_reply, content_reply}
-use Rattle.map_replies.proofs.Answering.{called}
-use Rattle.map_replies.proofs.TicketLemmas.{held_reading}
+use Rattle.map_replies.specs.Words.{content_reply}
+use Rattle.map_replies.proofs.TileLemmas.{plain_tile}
 use Rattle.map_replies.proofs.calls.Calls.tile.Goals as goal
 
-pub returns-in-Ok-tile-clause-answered : goal.returns-in-Ok-tile-clause-answered
-returns-in-Ok-tile-clause-answered g c =
+pub returns-in-None-clause-answered : goal.returns-in-None-clause-answered
+returns-in-None-clause-answered g c =
     let d = g.D.Sectors in
-    let at = c.args.at in
-    let call = c.tile.ensures in
-    let outcome = got (option_map rc_slice_items c.in-Ok.content) in
-    called d.sectors d.honest d.history (tile at.z at.x at.y) (shown_reply (content_reply c.args.format)) _ _ outcome _ c.in-Ok-tile.ensures.reply
-    (tile_step d.sectors d.honest d.history _ _ call.same call.disk call.untouched call.up at.z at.x at.y outcome
-    c.in-Ok.ensures.machine)
+    rw c.in-None.is (plain_tile d.sectors d.honest d.history c.args.at.z c.args.at.x c.args.at.y c.args.format c.args.self.now.service
+    c.cut_tile.new.self.service c.cut_tile.result c.cut_tile.ensures.shown)
 
--- it was shown, and there is no memory for the reply
-pub returns-in-Err-clause-answered : goal.returns-in-Err-clause-answered
-returns-in-Err-clause-answered g c =
-    let d = g.D.Sectors in
-    let at = c.args.at in
-    let call = c.tile.ensures in
-    called d.sectors d.honest d.history (tile at.z at.x at.y) (shown_reply (content_reply c.args.format)) _ _ no_memory _ refl
-    (tile_step d.sectors d.honest d.history _ _ call.same call.disk call.untouched call.up at.z at.x at.y no_memory
-    (λ known. (tt, ap (λ s. state_of known s) call.same)))
-
-pub returns-in_default-clause-answered : goal.returns-in_default-clause-answered
-returns-in_default-clause-answered g c =
-    let d = g.D.Sectors in
-    let at = c.args.at in
-    let call = c.tile.ensures in
-    called d.sectors d.honest d.history (tile at.z at.x at.y) (shown_reply (content_reply c.args.format)) _ _ no_memory _ refl
-    (tile_step d.sectors d.honest d.history _ _ call.same call.disk call.untouched call.up at.z at.x at.y no_memory
-    (λ known. (tt, ap (λ s. state_of known s) call.same)))
-
-pub returns-in-Ok-tile-clause-held : goal.returns-in-Ok-tile-clause-held
-returns-in-Ok-tile-clause-held g c =
-    let d = g.D.Sectors in
-    λ place first held. held_reading d.sectors d.honest d.history place first c.args.self.now.oldest c.args.self.now.service _ held
-    c.tile.ensures.disk (ap (λ s. s.size) c.tile.ensures.same) (ap (λ s. s.generation) c.tile.ensures.same)
-
-pub returns-in-Err-clause-held : goal.returns-in-Err-clause-held
-returns-in-Err-clause-held g c =
-    let d = g.D.Sectors in
-    λ place first held. held_reading d.sectors d.honest d.history place first c.args.self.now.oldest c.args.self.now.service _ held
-    c.tile.ensures.disk (ap (λ s. s.size) c.tile.ensures.same) (ap (λ s. s.generation) c.tile.ensures.same)
-
-pub returns-in_default-clause-held : goal.returns-in_default-clause-held
-returns-in_default-clause-held g c =
-    let d = g.D.Sectors in
-    λ place first held. held_reading d.sectors d.honest d.history place first c.args.self.now.oldest c.args.self.now.service _ held
-    c.tile.ensures.disk (ap (λ s. s.size) c.tile.ensures.same) (ap (λ s. s.generation) c.tile.ensures.same)
+pub returns-in-Some-clause-answered : goal.returns-in-Some-clause-answered
+returns-in-Some-clause-answered g c = rw c.in-Some.is c.tagged_tile.ensures.answered

@@ -32,6 +32,7 @@ returns-in-Ok-clause-replied g c =
       range = option_map (λ value. value.now) request.range;
       if_match = option_map (λ value. value.now) request.if_match;
       if_none_match = option_map (λ value. value.now) request.if_none_match;
+      tags = c.args.self.now.tags;
     } in
     let body = c.args.request.now.body.now in
     let method = c.method-method.ensures in
@@ -63,6 +64,7 @@ returns-in-Err-clause-replied g c =
       range = option_map (λ value. value.now) request.range;
       if_match = option_map (λ value. value.now) request.if_match;
       if_none_match = option_map (λ value. value.now) request.if_none_match;
+      tags = c.args.self.now.tags;
     } in
     let body = c.args.request.now.body.now in
     let path = granted c.args.self.now.access (asked_by c.args.request.now.path.now) in

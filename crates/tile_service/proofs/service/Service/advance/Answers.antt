@@ -113,19 +113,19 @@ returns-clause-after g c = rw (← c.self.view_is, ← c.publication.view_is) (�
 pub returns-in-Err-clause-archive : goal.returns-in-Err-clause-archive
 returns-in-Err-clause-archive g c other =
     beside_keeps g.D.Sectors.honest g.D.Sectors.history _ _ (sym c.self.view_is) c.write_sectors.new.disk c.self.inside.publication true
-    (c.self.inside.root.generation + 1) c.self.invariant.area (next_one _) c.write_sectors.ensures.beside
+    (c.self.inside.root.generation + 1) c.self.invariant.area (next_one _) c.write_sectors.ensures.beside c.self.invariant.ring
 
 pub returns-then-left-le-STEP_SECTORS-clause-archive : goal.returns-then-left-le-STEP_SECTORS-clause-archive
 returns-then-left-le-STEP_SECTORS-clause-archive g c = install_keeps g.D.Sectors.honest g.D.Sectors.history _ _ c.install_now.new.self
     c.install_now.result
     (beside_keeps g.D.Sectors.honest g.D.Sectors.history _ _ (sym c.self.view_is) c.write_sectors.new.disk c.self.inside.publication c.self.inside.broken
-    (c.self.inside.root.generation + 1) c.self.invariant.area (next_one _) c.write_sectors.ensures.beside)
+    (c.self.inside.root.generation + 1) c.self.invariant.area (next_one _) c.write_sectors.ensures.beside c.self.invariant.ring)
     c.install_now.ensures.disk.was_honest c.install_now.ensures.told c.install_now.ensures.archive
 
 pub returns-clause-archive : goal.returns-clause-archive
 returns-clause-archive g c other =
     beside_keeps g.D.Sectors.honest g.D.Sectors.history _ _ (sym c.self.view_is) c.write_sectors.new.disk _ c.self.inside.broken
-    (c.self.inside.root.generation + 1) c.self.invariant.area (next_one _) c.write_sectors.ensures.beside
+    (c.self.inside.root.generation + 1) c.self.invariant.area (next_one _) c.write_sectors.ensures.beside c.self.invariant.ring
 
 pub returns-in-Err-clause-area : goal.returns-in-Err-clause-area
 returns-in-Err-clause-area g c = rw (← c.self.view_is) (λ honest. beside_area c.self.inside.layout.sectors c.self.inside.root.generation _ _
@@ -251,3 +251,12 @@ returns-clause-failed g c = rw (← c.self.view_is) c.in-Ok.ensures.failed
 
 pub returns-clause-steps : goal.returns-clause-steps
 returns-clause-steps g c = rw (← c.self.view_is) (λ honest. few_steps _ _ _ _ _ (c.write_sectors.ensures.steps honest) c.min-more.ensures)
+
+pub returns-in-Err-clause-touched : goal.returns-in-Err-clause-touched
+returns-in-Err-clause-touched g c = ap (λ s. s.touched) c.self.view_is
+
+pub returns-then-left-le-STEP_SECTORS-clause-touched : goal.returns-then-left-le-STEP_SECTORS-clause-touched
+returns-then-left-le-STEP_SECTORS-clause-touched g c = c.install_now.ensures.touched ∙ ap (λ s. s.touched) c.self.view_is
+
+pub returns-clause-touched : goal.returns-clause-touched
+returns-clause-touched g c = ap (λ s. s.touched) c.self.view_is

@@ -2,9 +2,9 @@ use Rattle.sector_disk.proofs.History.{any_sync, started}
 use Rattle.tile_service.specs.declared.fault.ServiceFault.TheVariants.{Broken}
 use Rattle.tile_service.specs.Inside.{service_view}
 use Rattle.tile_service.proofs.Runs.DeviceFaults.{counted_failed, other_fault}
-use Rattle.tile_service.proofs.Disk.Synced.{sync_leaves_stored, up_synced, sync_shows}
+use Rattle.tile_service.proofs.Disk.Synced.{sync_leaves_stored, up_synced, sync_shows, sync_seen}
 use Rattle.std.proofs.Common.{inl, inr, None, refl}
-use Rattle.tile_service.proofs.Archive.Unchanged.{shows_the_same}
+use Rattle.tile_service.proofs.Archive.Unchanged.{shows_the_same, same_stays}
 use Rattle.tile_service.proofs.Publications.Steps.{service_on_disk, service_idle}
 use Rattle.tile_service.proofs.service.Service.check.Goals as goal
 
@@ -92,6 +92,10 @@ returns-in-Ok-clause-archive g c = rw (← c.self.view_is) (record {
   snapshot_len = refl;
   archive_len = refl;
   shows = λ archive shown is_honest. sync_shows _ _ (any_sync c.sync.result _ _ (c.sync.ensures.syncs is_honest)) (service_view c.self.inside) archive shown;
+  journal = record {
+    stays = same_stays c.self.inside.journal c.self.inside.journal refl;
+    reads = λ is_honest offset lt. sync_seen _ _ (any_sync c.sync.result _ _ (c.sync.ensures.syncs is_honest)) _;
+  };
 })
 
 pub returns-in-Err-clause-archive : goal.returns-in-Err-clause-archive
@@ -100,4 +104,8 @@ returns-in-Err-clause-archive g c = rw (← c.self.view_is) (record {
   snapshot_len = refl;
   archive_len = refl;
   shows = λ archive shown is_honest. sync_shows _ _ (any_sync c.sync.result _ _ (c.sync.ensures.syncs is_honest)) (service_view c.self.inside) archive shown;
+  journal = record {
+    stays = same_stays c.self.inside.journal c.self.inside.journal refl;
+    reads = λ is_honest offset lt. sync_seen _ _ (any_sync c.sync.result _ _ (c.sync.ensures.syncs is_honest)) _;
+  };
 })

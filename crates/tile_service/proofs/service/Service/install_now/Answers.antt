@@ -113,7 +113,13 @@ returns-clause-failed g c = rw (← c.self.view_is) c.in-Err.ensures.failed
 
 pub returns-clause-archive : goal.returns-clause-archive
 returns-clause-archive g c = rw (← c.self.view_is) (root_keeps g.D.Sectors.honest g.D.Sectors.history (service_view c.self.inside) c.install.new.disk
-    (1 + (c.self.inside.root.generation + 1) % 2) c.self.invariant.area (omega arith) c.install.ensures.others)
+    (1 + (c.self.inside.root.generation + 1) % 2) c.self.invariant.area (omega arith) c.install.ensures.others c.self.invariant.ring)
 
 pub returns-clause-steps : goal.returns-clause-steps
 returns-clause-steps g c = rw (← c.self.view_is) c.install.ensures.steps
+
+pub returns-in-Ok-clause-touched : goal.returns-in-Ok-clause-touched
+returns-in-Ok-clause-touched g c = ap (λ s. s.touched) c.self.view_is
+
+pub returns-clause-touched : goal.returns-clause-touched
+returns-clause-touched g c = ap (λ s. s.touched) c.self.view_is

@@ -144,3 +144,12 @@ returns-in-Some-clause-after g c = rw (← c.self.view_is) (λ stored honest.
     → OnOk c.advance.result (IsUp (g.D.Sectors.sectors c.advance.new.self.disk) (g.D.Sectors.history c.advance.new.self.disk)
     (stored_after s.size stored s.publication (step c.advance.result)) c.advance.new.self))
     (with_it g c) (c.advance.ensures.after stored honest))
+
+pub returns-then-self-clause-touched : goal.returns-then-self-clause-touched
+returns-then-self-clause-touched g c = refl
+
+pub returns-in-None-clause-touched : goal.returns-in-None-clause-touched
+returns-in-None-clause-touched g c = ap (λ s. s.touched) c.self.view_is
+
+pub returns-in-Some-clause-touched : goal.returns-in-Some-clause-touched
+returns-in-Some-clause-touched g c = c.advance.ensures.touched ∙ ap (λ s. s.touched) c.self.view_is

@@ -1,9 +1,9 @@
 use Rattle.std.specs.Prelude.{option_map}
-use Rattle.std.proofs.Common.{◌≡◌, ◌≢◌, Ok, Err, ◌∙◌, ℕ, List, [], refl, sym, ap, subst, arith, length}
+use Rattle.std.proofs.Common.{◌≡◌, ◌≢◌, ◌+◌, Ok, Err, ◌∙◌, ℕ, List, [], refl, sym, ap, subst, arith, length}
 use Rattle.cached_map.specs.Cached.{CachedView, marks_after}
 use Rattle.edit_journal.specs.Appends.{ring_of, IsAppendFault, TakesSteps}
 use Rattle.edit_journal.specs.Records.{IsRecordLength, parts_of, record_of}
-use Rattle.edit_journal.specs.Ring.{Ring}
+use Rattle.edit_journal.specs.Ring.{Ring, sector_at}
 use Rattle.edit_text.specs.Recorded.{IsRecorded, text_in, FitsVersion}
 use Rattle.feature_model.specs.Data.{ChangeData, edit_data}
 use Rattle.feature_store.specs.Store.{edited, snapshot}
@@ -16,9 +16,12 @@ use Rattle.tile_service.specs.Stored.{stored_records}
 use Rattle.tile_service.specs.declared.fault.ServiceFault.TheVariants.{Device, Memory}
 use Rattle.tile_service.proofs.Runs.DeviceFaults.{other_fault}
 use Rattle.tile_service.proofs.Tiles.EarlierMaps.{since_on, now_on, right_on}
+use Rattle.tile_service.proofs.Tiles.Tags.{same_known}
+use Rattle.edit_journal.specs.declared.journal.Journal.{Journal}
 use Rattle.tile_service.proofs.Edits.EditStored.{up_is_at, refuses_edit, append_counts, refused_unchanged, append_any_moment, refused_any_moment, up_with_edit}
 use Rattle.tile_service.proofs.Edits.ServiceAfter.{service_on, refused_service, append_later, append_room, append_free, append_refuses}
-use Rattle.tile_service.proofs.Archive.Unchanged.{append_keeps, append_area}
+use Rattle.tile_service.proofs.Archive.Unchanged.{append_keeps, append_area, more_stays, same_stays}
+use Rattle.edit_journal.proofs.ReadAgain.{in_use_taken}
 use Rattle.tile_service.proofs.Edits.Limits.{text_length, short_after_edit, short_enough}
 use Rattle.tile_service.proofs.service.Service.write_edit.Goals as goal
 
@@ -70,10 +73,18 @@ returns-in-Ok-append-clause-takes g c = rw (← c.self.view_is) (λ call. record
       c.make_edit.new.self.touched) c.prepare.ensures.same (subst (λ (cs : List ChangeData).
       StaysElsewhere (marks_after c.prepare.new.cached.features cs c.in-Ok-append.number []) c.prepare.new.cached.touched c.make_edit.new.self.touched)
       c.in-Ok.ensures.prepared c.make_edit.ensures.stays);
+  knows =
+      let last : c.make_edit.new.self.last ≡ c.append.new.self.last =
+      omega (arith, c.make_edit.ensures.last, c.in-Ok-append.ensures.number, c.in-Ok-append.ensures.last) in
+      since_on c.self.inside.map c.prepare.new.cached c.make_edit.new.self c.self.inside.journal.last c.append.new.self.last c.self.invariant.last_is
+      c.prepare.ensures.same last c.make_edit.ensures.since;
   cached = c.make_edit.ensures.kept ∙ ap (λ m. m.kept) c.prepare.ensures.same;
   keeps_archive = append_keeps g.D.Sectors.honest g.D.Sectors.history _ _ refl refl refl refl c.self.invariant.area
       (ring_of c.self.inside.journal) c.self.invariant.ring c.self.inside.journal.place c.self.inside.journal.used c.append.new.disk refl
-      c.append.ensures.reads;
+      c.append.ensures.reads
+      (more_stays c.self.inside.journal c.append.new.self c.append.ensures.same.0 c.append.ensures.same.1 (omega (arith, c.in-Ok-append.ensures.used)))
+      (λ honest offset lt. c.append.ensures.reads honest (sector_at (ring_of c.self.inside.journal) (c.self.inside.journal.place + offset))
+      (in_use_taken c.self.inside.journal offset lt));
   keeps_areas = λ generation honest. append_area c.self.inside.layout.sectors generation _ _ (ring_of c.self.inside.journal) c.self.invariant.ring
       c.self.inside.journal.place c.self.inside.journal.used (c.append.ensures.reads honest);
   any_moment = (λ stored honest up.
@@ -124,12 +135,18 @@ returns-clause-takes g c = rw (← c.self.view_is) (λ call. record {
   unwritten = λ other. ap (λ s. s.disk) (unchanged g c other);
   unchanged = unchanged g c;
   touches = ap (λ s. s.touched) c.fail.ensures.same ∙ ap (λ m. m.touched) c.prepare.ensures.same;
+  knows = same_known c.self.inside.map c.prepare.new.cached c.self.inside.journal.last c.append.new.self.last c.fail.new.self
+      c.prepare.ensures.same (ap (λ (j : Journal). j.last) c.in-Err-append.ensures.kept) (ap (λ s. s.features) c.fail.ensures.same)
+      (ap (λ s. s.touched) c.fail.ensures.same) (ap (λ s. s.journal.last) c.fail.ensures.same);
   cached = ap (λ s. s.kept) c.fail.ensures.same ∙ ap (λ m. m.kept) c.prepare.ensures.same;
   keeps_archive = append_keeps g.D.Sectors.honest g.D.Sectors.history _ _ (ap (λ s. s.size) c.fail.ensures.same)
       (ap (λ s. s.generation) c.fail.ensures.same) (ap (λ s. s.snapshot_len) c.fail.ensures.same) (ap (λ s. s.archive_len) c.fail.ensures.same)
       c.self.invariant.area
       (ring_of c.self.inside.journal) c.self.invariant.ring c.self.inside.journal.place c.self.inside.journal.used c.append.new.disk
-      (ap (λ s. s.disk) c.fail.ensures.same) c.append.ensures.reads;
+      (ap (λ s. s.disk) c.fail.ensures.same) c.append.ensures.reads
+      (same_stays c.self.inside.journal c.fail.new.self.journal (ap (λ s. s.journal) c.fail.ensures.same ∙ c.in-Err-append.ensures.kept))
+      (λ honest offset lt. c.append.ensures.reads honest (sector_at (ring_of c.self.inside.journal) (c.self.inside.journal.place + offset))
+      (in_use_taken c.self.inside.journal offset lt));
   keeps_areas = rw (ap (λ s. s.disk) c.fail.ensures.same) (λ generation honest. append_area c.self.inside.layout.sectors generation _ _
       (ring_of c.self.inside.journal) c.self.invariant.ring c.self.inside.journal.place c.self.inside.journal.used (c.append.ensures.reads honest));
   any_moment = rw (ap (λ s. s.disk) c.fail.ensures.same) (λ stored honest up.

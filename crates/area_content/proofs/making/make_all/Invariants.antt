@@ -1,0 +1,15 @@
+use Rattle.std.proofs.Common.{◌≡◌, ◌-◌}
+use Rattle.hilbert_id.specs.declared.number.TheConstants.{TILE_IDS}
+use Rattle.area_content.specs.declared.draft.Stage.TheVariants.{Going}
+use Rattle.area_content.proofs.making.make_all.Given as goal
+
+abbrev pub invariant-loop-fault : goal.invariant-loop-fault
+invariant-loop-fault l = record {
+  stage : l.draft.stage ≡ Going;
+  features : l.draft.features ≡ l.initial.draft.features;
+  metadata : l.draft.metadata ≡ l.initial.draft.metadata;
+  area : l.draft.area ≡ l.initial.draft.area;
+}
+
+abbrev pub decreases-loop-fault : goal.decreases-loop-fault
+decreases-loop-fault l = TILE_IDS - l.draft.from

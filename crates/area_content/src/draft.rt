@@ -1,0 +1,175 @@
+//! The content of an area in the making, by steps between which the map may be edited.
+ghost use Rattle.std.specs.Prelude.{◌≡◌, ◌<◌, ◌≤◌, ◌^◌, Ok, true, false, IfOk, IfErr};
+ghost use Rattle.hilbert_id.specs.declared.number.TheConstants.{TILE_IDS};
+ghost use Rattle.feature_store.specs.Moments.{IsAsOf};
+ghost use Rattle.feature_store.specs.Store.{FeatureMap, IsMap, snapshot};
+ghost use Rattle.pm_metadata.specs.Archive.{IsMetadata};
+ghost use Rattle.area_content.specs.Content.{sectors_taken};
+ghost use Rattle.area_content.specs.Faults.{AreWritten, IsBuiltFor, IsContentFault};
+
+use crate::archive::{archive_of, make_next};
+use crate::content::{AreaContent, within};
+use crate::fault::ContentFault;
+use feature_store::{Moment, Store, Tiles};
+use pm_build::ArchiveBuilder;
+use std::alloc::{AllocError, Global};
+use std::marker::Model;
+
+/// How far a draft is.
+#[derive(Clone, Copy, PartialEq, Eq)]
+pub enum Stage {
+    /// Tiles are left to make.
+    Going,
+    /// The tiles are made.
+    Made,
+    /// A step has failed.
+    Failed,
+}
+
+/// The content of an area for a map as of a moment, in the making. Each step makes one tile, and the map may be edited between two of them
+/// (`feature_store::Store::place_after`, `remove_after`). What it holds is the snapshot, the boxes of the features, the contents of the
+/// tiles so far, which fit into the area, and the tile in hand.
+#[derive(Drop)]
+pub struct ContentDraft {
+    text: Vec<u8>,
+    metadata: Vec<u8>,
+    tiles: Tiles,
+    builder: ArchiveBuilder,
+    area: u64,
+    stage: Stage,
+    alloc: Global,
+}
+
+impl Model for ContentDraft {
+    ghost use Rattle.area_content.specs.Drafts.{DraftView};
+
+    ghost Value = { DraftView };
+
+    ghost use Rattle.area_content.specs.DraftInside.{draft_view, IsDraft};
+
+    ghost view = { draft_view };
+
+    ghost invariant = { IsDraft };
+}
+
+/// The content of the tiles that are written, with the snapshot `text`, if it fits in an area of `area` sectors.
+fn content_with(
+    alloc: Global,
+    builder: ArchiveBuilder,
+    text: Vec<u8>,
+    metadata: &[u8],
+    area: u64,
+) -> Result<AreaContent, ContentFault>
+    requires { IsMetadata metadata.now }
+    ensures snapshot { IfOk result (λ c. c.snapshot ≡ text.items) }
+    ensures built { (m : FeatureMap) → IsMap m → text.items ≡ snapshot m → AreWritten m metadata.now area builder
+        → IfOk result (λ c. IsBuiltFor m metadata.now c.archive) }
+    ensures fits { IfOk result (λ c. sectors_taken c ≤ area) }
+    ensures fault { (m : FeatureMap) → IsMap m → text.items ≡ snapshot m → AreWritten m metadata.now area builder
+        → IfErr result (IsContentFault m metadata.now area) }
+{
+    let archive = match archive_of(alloc, builder, metadata) {
+        Ok(archive) => archive,
+        Err(_) => return Err(ContentFault::Memory),
+    };
+    within(AreaContent::of(text, archive), area)
+}
+
+impl ContentDraft {
+    ghost use Rattle.area_content.specs.declared.draft.Stage.TheVariants.{Going, Made};
+
+    /// The content of the map as it is now, for an area of `area` sectors, with no tile made. `metadata` is the JSON object in the archive.
+    /// The only error is out of memory.
+    pub fn of(
+        alloc: Global,
+        store: &Store,
+        metadata: &[u8],
+        area: u64,
+    ) -> Result<ContentDraft, AllocError>
+        requires metadata { IsMetadata metadata.now }
+        requires area { area < 2 ^ 23 }
+        ensures features { IfOk result (λ d. d.features ≡ store.now.features) }
+        ensures metadata { IfOk result (λ d. d.metadata ≡ metadata.now) }
+        ensures area { IfOk result (λ d. d.area ≡ area) }
+        ensures stage { IfOk result (λ d. d.stage ≡ Going) }
+    {
+        let text = store.snapshot_text()?;
+        let mut kept = Vec::with_capacity(alloc, metadata.len())?;
+        kept.extend_from_slice(metadata)?;
+        let tiles = store.tiles()?;
+        Ok(ContentDraft {
+            text,
+            metadata: kept,
+            tiles,
+            builder: ArchiveBuilder::new(alloc),
+            area,
+            stage: Stage::Going,
+            alloc,
+        })
+    }
+
+    /// Makes the next tile of the moment, `store` being the map as it is now. It is true if tiles are left.
+    ///
+    /// # Errors
+    ///
+    /// As `content_of`, for the map of the moment. The draft is of no use then.
+    pub fn step(&mut self, store: &Store, moment: &Moment) -> Result<bool, ContentFault>
+        requires stage { self.old.stage ≡ Going }
+        requires same { moment.now.features ≡ self.old.features }
+        requires there { moment.now.lost ≡ false }
+        requires as_of { IsAsOf moment.now store.now.features }
+        ensures features { self.new.features ≡ self.old.features }
+        ensures metadata { self.new.metadata ≡ self.old.metadata }
+        ensures area { self.new.area ≡ self.old.area }
+        ensures going { result ≡ Ok true → self.new.stage ≡ Going }
+        ensures further { result ≡ Ok true → (self.old.from < self.new.from) × (self.new.from ≤ TILE_IDS) }
+        ensures made { result ≡ Ok false → self.new.stage ≡ Made }
+        ensures fault { IfErr result (IsContentFault self.old.features self.old.metadata self.old.area) }
+    {
+        self.stage = Stage::Failed;
+        let result = make_next(
+            &mut self.tiles,
+            &mut self.builder,
+            store,
+            moment,
+            &self.text,
+            &self.metadata,
+            self.area,
+        );
+        match result {
+            Ok(true) => {
+                self.stage = Stage::Going;
+                Ok(true)
+            }
+            Ok(false) => {
+                self.stage = Stage::Made;
+                Ok(false)
+            }
+            Err(fault) => Err(fault),
+        }
+    }
+
+    /// The content, once the tiles are made.
+    ///
+    /// # Errors
+    ///
+    /// As `content_of`, for the map of the moment.
+    pub fn finish(self) -> Result<AreaContent, ContentFault>
+        requires { self.stage ≡ Made }
+        ensures snapshot { IfOk result (λ c. c.snapshot ≡ snapshot self.features) }
+        ensures built { IfOk result (λ c. IsBuiltFor self.features self.metadata c.archive) }
+        ensures fits { IfOk result (λ c. sectors_taken c ≤ self.area) }
+        ensures fault { IfErr result (IsContentFault self.features self.metadata self.area) }
+    {
+        let ContentDraft {
+            text,
+            metadata,
+            tiles: _,
+            builder,
+            area,
+            stage: _,
+            alloc,
+        } = self;
+        content_with(alloc, builder, text, &metadata, area)
+    }
+}

@@ -1,0 +1,5 @@
+use Rattle.begin_law.proofs.Drafts.{drafted_on}
+use Rattle.begin_law.proofs.laws.stays_drafted.Goals as goal
+
+pub returns : goal.returns
+returns c = drafted_on

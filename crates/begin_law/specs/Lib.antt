@@ -1,0 +1,3 @@
+pub mod Begun
+pub mod Beside
+pub mod Drafted
