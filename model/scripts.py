@@ -5,7 +5,8 @@
     python3 model/scripts.py --check    compares them with those that are there, and ends with 1 where one differs
 
 A module of `MODULES` has the name of its crate, `CRATE`, and a function `files` from which its files come, by their names. Modules of one crate stand side
-by side: each writes the part of its script that `PART` names.
+by side: each writes the part of its script that `PART` names. At the end comes what the folder `worked` of the crate has: examples whose answers no model
+made, and which nothing here writes anew.
 """
 import importlib
 import itertools
@@ -26,8 +27,14 @@ def differs(path, text, check):
     return not same
 
 
+def worked(crate, file):
+    """The worked examples of a crate, and their answers: they are copied as they are."""
+    path = CRATES / crate / "worked" / file
+    return path.read_text() if path.exists() else ""
+
+
 def files_of(modules):
-    """The files of a crate: those of its modules, one after the other. The lines of a part are behind one that names it, which has no answer."""
+    """The files of a crate: those of its modules, one after the other. The lines of a part follow one that names it, which has no answer."""
     found = {"stdin": "", "stdout": ""}
     for module in modules:
         found["stdin"] += f"part {module.PART}\n"
@@ -41,7 +48,7 @@ def main(check):
     modules = [importlib.import_module(name) for name in MODULES]
     for crate, of_crate in itertools.groupby(modules, lambda module: module.CRATE):
         for file, text in files_of(of_crate).items():
-            differ += differs(CRATES / crate / file, text, check)
+            differ += differs(CRATES / crate / file, text + worked(crate, file), check)
     return 1 if check and differ else 0
 
 
