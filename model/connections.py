@@ -7,6 +7,7 @@ import re
 from collections import namedtuple
 
 import features
+import listings
 from disk import SECTOR, Change
 from limits import MAX_ZOOM
 from machine import Refused, as_stored
@@ -28,6 +29,7 @@ PHRASES = {
     404: "Not Found",
     405: "Method Not Allowed",
     409: "Conflict",
+    410: "Gone",
     412: "Precondition Failed",
     413: "Payload Too Large",
     416: "Range Not Satisfiable",
@@ -255,7 +257,7 @@ def json_reply(value):
     return Reply(200, JSON, features.compact(value).encode())
 
 
-STATUS_OF_REFUSAL = {"NotFound": 404, "Busy": 409, "Idle": 409, "NeedsUpgrade": 409, "Device": 500, "Broken": 500, "JournalFull": 507, "AreaFull": 507,
+STATUS_OF_REFUSAL = {"NotFound": 404, "Gone": 410, "NumbersSpent": 500, "Busy": 409, "Idle": 409, "NeedsUpgrade": 409, "Device": 500, "Broken": 500, "JournalFull": 507, "AreaFull": 507,
                      "TooManyTiles": 507}
 WORD_OF_LIMIT = {"Long": "E8 Long", "Reach": "E9 Reach"}
 
@@ -283,14 +285,17 @@ ROUTES = [
 ADMIN_ROUTES = [
     (rb"/admin/status", "status", "GET, HEAD"),
     (rb"/admin/features/from/" + NUMBER, "from", "GET, HEAD"),
+    (rb"/admin/features/page/" + NUMBER, "page", "GET, HEAD"),
     (rb"/admin/edits", "checked", "POST"),
+    (rb"/admin/edits/from/" + NUMBER, "feed", "GET, HEAD"),
+    (rb"/admin/edits/at/" + NUMBER, "numbered", "POST"),
 ]
 # Methods that change something, of which nothing has an entity tag.
 CHANGING = (b"PUT", b"DELETE", b"POST")
 
 
 def is_in_range(name, numbers):
-    if name in ("feature", "from"):
+    if name in ("feature", "from", "page", "feed", "numbered"):
         return numbers[0] < 2**63
     return name != "tile" or numbers[0] <= MAX_ZOOM and max(numbers[1:]) < 2 ** numbers[0]
 
@@ -334,6 +339,14 @@ def checked_batch(service, body):
     changed = service.first_changed([(change.number, feature) for change, feature in zip(changes, seen)])
     if changed is not None:
         return refusal(409, f"Changed {changed}")
+    return json_reply({"edit": service.batch([as_stored(change) for change in changes])})
+
+
+def numbered_batch(service, number, body):
+    """A batch that is made if it gets this number."""
+    changes = read_body(body, features.body_of)
+    if listings.next_number(service) != number:
+        return refusal(409, f"Next {service.last + 1}")
     return json_reply({"edit": service.batch([as_stored(change) for change in changes])})
 
 
@@ -462,6 +475,12 @@ def reply_to(service, request, is_admin):
             return batch(service, request.body)
         if name == "checked":
             return checked_batch(service, request.body)
+        if name == "numbered":
+            return numbered_batch(service, numbers[0], request.body)
+        if name == "page":
+            return json_reply(listings.page(service, numbers[0]))
+        if name == "feed":
+            return json_reply(listings.edits_from(service, numbers[0]))
         if name == "tile":
             return tile_reply(service, numbers, ending)
         if name == "from":

@@ -132,6 +132,8 @@ class Service:
         self.publication, self.broken, self.attempted = None, False, []
         self.snapshot, self.map, self.last, self.cells, self.boxes = found.snapshot, dict(found.snapshot), found.root.edits, {}, []
         self.kept, self.directories = {}, None
+        # The edits since the last publication, as the journal has them.
+        self.recorded = list(found.records)
         for record in found.records:
             self.apply(record.changes)
 
@@ -175,6 +177,7 @@ class Service:
         self.attempted = changes
         self.changed(lambda: append(self.disk, self.layout.place, self.next_place(), self.last + 1, text, self.version))
         self.used += need
+        self.recorded.append(Record(self.version, changes))
         self.apply(changes)
         return self.last
 
@@ -251,6 +254,7 @@ class Service:
             return
         root = Root(generation, going.edits, going.place, *going.lengths)
         install(self.disk, root)
+        self.recorded = self.recorded[root.edits - self.root.edits :]
         self.root, self.snapshot, self.used = root, going.map, self.used - going.used
         self.publication, self.directories = None, None
 

@@ -12,6 +12,7 @@ import reply_heads
 import reply_hostile
 import reply_hostile_edits
 import reply_listening
+import reply_listings
 import reply_publications
 import reply_random
 import reply_routes
@@ -102,7 +103,8 @@ def hold_to_examples():
 
 
 BLOCKS = [*reply_heads.BLOCKS, *reply_routes.BLOCKS, *reply_edits.BLOCKS, *reply_publications.BLOCKS, reply_random.at_random, *reply_hostile.BLOCKS]
-BLOCKS += [*reply_hostile_edits.BLOCKS, *reply_turns.BLOCKS, *reply_admin.BLOCKS, *reply_checked.BLOCKS, *reply_listening.BLOCKS]
+BLOCKS += [*reply_hostile_edits.BLOCKS, *reply_turns.BLOCKS, *reply_admin.BLOCKS, *reply_checked.BLOCKS, *reply_listings.BLOCKS]
+BLOCKS += reply_listening.BLOCKS
 
 
 def files():

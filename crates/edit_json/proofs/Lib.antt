@@ -1,5 +1,5 @@
 mod ListLaws
-mod BatchLaws
+pub mod BatchLaws
 mod SoFar
 mod ListLemmas
 mod OutlineLemmas

@@ -7,8 +7,10 @@ mod PartLemmas
 mod FeedLemmas
 mod ListedReplies
 mod ListLemmas
+mod NumberedEdits
 mod Pushed
 mod SendingLemmas
+mod StandbyLaws
 mod Texts
 mod Told
 mod TileLemmas

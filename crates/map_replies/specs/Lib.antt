@@ -7,6 +7,7 @@ pub mod Pages
 pub mod Parts
 pub mod Sending
 pub mod Served
+pub mod Standby
 pub mod State
 pub mod Tickets
 pub mod Words

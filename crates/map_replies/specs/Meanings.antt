@@ -17,7 +17,7 @@ use Rattle.tile_routes.specs.declared.target.Action.TheVariants as actions
 use Rattle.tile_routes.specs.declared.target.View.{View}
 use Rattle.tile_routes.specs.declared.target.View.TheVariants as views
 use Rattle.tile_routes.specs.Methods.{method_on}
-use Rattle.tile_routes.specs.Paths.{Asked, asked_tile, asked_feature, asked_from, asked_page, asked_edits, asked_view, asked_action, asked_nothing}
+use Rattle.tile_routes.specs.Paths.{Asked, asked_tile, asked_feature, asked_from, asked_page, asked_edits, asked_numbered, asked_view, asked_action, asked_nothing}
 use Rattle.tile_routes.specs.Paths.{asked_by, granted}
 use Rattle.tile_routes.specs.declared.access.Access.{Access}
 use Rattle.edit_journal.specs.Records.{RecordData}
@@ -48,7 +48,7 @@ use Rattle.map_replies.specs.declared.conditions.Judged.TheVariants.{Holds, Fail
 use Rattle.map_replies.specs.Feed.{changes_of, feed_body}
 use Rattle.map_replies.specs.declared.feed.TheConstants.{FEED_BYTES}
 use Rattle.map_replies.specs.Parts.{IsPart, start_of, size_of, archive_tag, part_reply, unchanged_reply, bytes_reply}
-use Rattle.map_replies.specs.Words.{refusal_of, not_allowed_reply, json_reply, outcome_reply, changed_reply, left_reply, published_reply}
+use Rattle.map_replies.specs.Words.{refusal_of, not_allowed_reply, json_reply, outcome_reply, changed_reply, not_next_reply, left_reply, published_reply}
 use Rattle.map_replies.specs.Words.{cancel_reply, shown_reply, content_reply, tagged_reply, same_tile_reply, found_reply, numbered_reply}
 use Rattle.map_replies.specs.Words.{metadata_reply, status_reply}
 use Rattle.map_replies.specs.Pages.{Entry, AreEnough, page_reply, looks_from}
@@ -132,6 +132,18 @@ pub record ReplacesSeen (m : FeatureMap) (body : List ℕ) : Type 0 where
   pub says : SaysChecked body edit
   pub numbers : map number_of edit.changes ≡ map (λ s. s.id) edit.seen
   pub seen : All (IsAsSeen m) edit.seen
+
+-- ---- edits that are made only if they get a number
+
+-- The changes are made as one edit, as without a number, if that gets this one. If it would get another one, nothing happens.
+abbrev pub MeansNumbered : (failed : Type 0) → (old : Status) → ℕ → EditData → ReplyView → List Happening → Type 0
+MeansNumbered failed old number cs reply happenings =
+    ((number ≡ old.edits + 1) × MeansEdit failed (edit batched (recorded_in old.version cs)) reply happenings)
+    ⊎ ((number ≢ old.edits + 1) × (reply ≡ not_next_reply old.edits) × (happenings ≡ []))
+
+-- the same of the changes of the body
+abbrev pub MeansNumberedBatch : (failed : Type 0) → (old : Status) → ℕ → List ℕ → ReplyView → List Happening → Type 0
+MeansNumberedBatch failed old number body = MeansBody (SaysChanges body) (HasBatchFault body) (MeansNumbered failed old number)
 
 -- ---- a whole publication
 
@@ -255,6 +267,7 @@ MeansAllowed failed old new (asked_feature id) method ask body = MeansOnFeature 
 MeansAllowed failed old new (asked_from id) method ask body = MeansCall (look_from id) (shown_reply numbered_reply)
 MeansAllowed failed old new (asked_page id) method ask body = MeansPage id
 MeansAllowed failed old new (asked_edits number) method ask body = MeansList failed old number
+MeansAllowed failed old new (asked_numbered number) method ask body = MeansNumberedBatch failed old number body
 MeansAllowed failed old new (asked_view view) method ask body = MeansView failed old new view method ask
 MeansAllowed failed old new (asked_action action) method ask body = MeansAction failed old new action body
 MeansAllowed failed old new asked_nothing method ask body = MeansRefusal NotFound

@@ -1,5 +1,5 @@
 -- The replies of the service.
-use Rattle.std.specs.Prelude.{ℕ, List, [], ◌++◌, Bool, codes, decimal, Option, Some, None, Result, Ok, Err, if◌then◌else◌}
+use Rattle.std.specs.Prelude.{ℕ, ◌+◌, ◌-◌, ◌^◌, nat_eq, List, [], ◌++◌, Bool, codes, decimal, Option, Some, None, Result, Ok, Err, if◌then◌else◌}
 use Rattle.hex.specs.Hex.{encode_lower}
 use Rattle.serde_json.specs.Data.{Data}
 use Rattle.serde_json.specs.Written.{compact_text}
@@ -162,6 +162,15 @@ changed_word id = codes "Changed " ++ decimal id ++ codes "\n"
 -- 409 Conflict, with that word
 abbrev pub changed_reply : ℕ → ReplyView
 changed_reply id = plain_reply 409 (Some text_type) (changed_word id)
+
+-- the word of an edit that would get another number than it has to: the number that the next edit gets
+unfoldable pub next_word : (next : ℕ) → List ℕ
+next_word next = codes "Next " ++ decimal next ++ codes "\n"
+
+-- 409 Conflict, with that word, after the edit of this number; or the refusal if the numbers are spent
+abbrev pub not_next_reply : (last : ℕ) → ReplyView
+not_next_reply last =
+    if nat_eq last (2 ^ 64 - 1) then service_refusal services.NumbersSpent else plain_reply 409 (Some text_type) (next_word (last + 1))
 
 -- what was published: the length of the archive in bytes, the sequence number of the last edit in it, and its generation
 unfoldable pub published_body : Published → List ℕ

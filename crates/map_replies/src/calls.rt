@@ -112,6 +112,7 @@ impl<D: Sectors + Drop> Calls<D> {
             Target::FeatureFrom(id) => self.feature_from(id),
             Target::FeaturePage(id) => self.feature_page(id),
             Target::EditsFrom(number) => self.edits_from(number),
+            Target::EditsAt(number) => self.numbered_batch(number, body),
             Target::View(view) => self.on_view(view, method, ask),
             Target::Action(action) => self.on_action(action, body),
             Target::Nothing => Err(RequestFault::NotFound),

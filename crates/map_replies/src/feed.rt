@@ -34,7 +34,7 @@ use serde_json::Value;
 use std::alloc::{AllocError, Global};
 
 /// Edits are told until their texts, as the journal has them, have this many bytes together.
-const FEED_BYTES: usize = 65_536;
+const FEED_BYTES: usize = 16_384;
 
 /// The JSON value of a change.
 fn change_value(alloc: Global, change: &Prepared) -> Result<Value, AllocError>

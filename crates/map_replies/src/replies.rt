@@ -5,7 +5,7 @@ ghost use Rattle.http_serve.specs.Reply.{content_bytes, reply_view, InParts, IsW
 ghost use Rattle.http_values.specs.Codes.{code_of};
 ghost use Rattle.map_replies.specs.Words.{fault_word, service_word, edit_word, full_word, fault_status, service_status, edit_status};
 ghost use Rattle.map_replies.specs.Words.{service_refusal, not_allowed_reply, json_reply, empty_reply, number_body, number_reply};
-ghost use Rattle.map_replies.specs.Words.{outcome_reply, changed_word, changed_reply, left_reply};
+ghost use Rattle.map_replies.specs.Words.{outcome_reply, changed_word, changed_reply, next_word, not_next_reply, left_reply};
 ghost use Rattle.map_replies.specs.Words.{published_body, published_reply, cancel_reply};
 ghost use Rattle.map_replies.specs.Words.{format_type, format_content, content_reply, tile_reply, refusal_of};
 ghost use Rattle.tile_routes.specs.Targets.{asked_of};
@@ -300,6 +300,38 @@ pub(crate) fn changed(text: Vec<u8>, id: u64) -> Reply
         Status::Conflict,
         Some("text/plain"),
         Content::Whole(changed_word(text, id)),
+    )
+}
+
+/// The word of an edit that would get another number than it has to, with a line feed: the number that the next edit gets.
+#[tactic(auto, unfolding(crate::specs::Words::next_word))]
+fn next_word(text: Vec<u8>, next: u64) -> Vec<u8>
+    requires empty { text.items ≡ [] }
+    requires room { MAX_TEXT ≤ vec_capacity text }
+    ensures { result.items ≡ next_word next }
+{
+    let mut text = text;
+    push_text(&mut text, b"Next ");
+    push_number(&mut text, next);
+    push_text(&mut text, b"\n");
+    text
+}
+
+/// The reply with that word, after the edit of number `last`, or with the refusal if the numbers are spent. It doesn't allocate.
+#[tactic(auto, unfolding(crate::specs::Words::text_type))]
+pub(crate) fn not_next(text: Vec<u8>, last: u64) -> Reply
+    requires empty { text.items ≡ [] }
+    requires room { MAX_TEXT ≤ vec_capacity text }
+    ensures reply { reply_view [] result ≡ not_next_reply last }
+    ensures writable { IsWhole result }
+{
+    if last == u64::MAX {
+        return service_refusal(text, ServiceFault::NumbersSpent);
+    }
+    Reply::plain(
+        Status::Conflict,
+        Some("text/plain"),
+        Content::Whole(next_word(text, last + 1)),
     )
 }
 

@@ -6,7 +6,7 @@ use Rattle.tile_routes.specs.declared.fault.RouteFault.{RouteFault}
 use Rattle.tile_routes.specs.declared.fault.RouteFault.TheVariants.{NotFound, NotAllowed, Conditional}
 use Rattle.tile_routes.specs.declared.method.Method.{Method}
 use Rattle.tile_routes.specs.declared.method.Method.TheVariants.{Get, Head, Put, Delete, Post}
-use Rattle.tile_routes.specs.Paths.{Asked, asked_tile, asked_feature, asked_from, asked_page, asked_edits, asked_view, asked_action, asked_nothing}
+use Rattle.tile_routes.specs.Paths.{Asked, asked_tile, asked_feature, asked_from, asked_page, asked_edits, asked_numbered, asked_view, asked_action, asked_nothing}
 
 -- a method's name in a request's first line
 unfoldable pub name_of : Method → List ℕ
@@ -34,6 +34,7 @@ methods_of (asked_feature id) = Get ∷ Head ∷ Put ∷ Delete ∷ []
 methods_of (asked_from id) = Get ∷ Head ∷ []
 methods_of (asked_page id) = Get ∷ Head ∷ []
 methods_of (asked_edits number) = Get ∷ Head ∷ []
+methods_of (asked_numbered number) = Post ∷ []
 methods_of (asked_view view) = Get ∷ Head ∷ []
 methods_of (asked_action action) = Post ∷ []
 methods_of asked_nothing = []

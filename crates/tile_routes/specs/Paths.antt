@@ -63,6 +63,7 @@ served_paths =
     ∷ (codes "/admin/features/page/{id}", routes.FeaturePage)
     ∷ (codes "/admin/edits", routes.Action actions.CheckedEdits)
     ∷ (codes "/admin/edits/from/{number}", routes.EditsFrom)
+    ∷ (codes "/admin/edits/at/{number}", routes.EditsAt)
     ∷ []
 
 -- these, as the router keeps them
@@ -79,6 +80,8 @@ pub data Asked : Type 0 where
   asked_page : ℕ → Asked
   -- the edits from this number on
   asked_edits : ℕ → Asked
+  -- an edit, if it gets this number
+  asked_numbered : ℕ → Asked
   asked_view : View → Asked
   asked_action : Action → Asked
   asked_nothing : Asked
@@ -116,6 +119,10 @@ abbrev pub edits_asked : Option ℕ → Asked
 edits_asked None = asked_nothing
 edits_asked (Some number) = asked_edits number
 
+abbrev pub numbered_asked : Option ℕ → Asked
+numbered_asked None = asked_nothing
+numbered_asked (Some number) = asked_numbered number
+
 abbrev pub tile_asked : Option ℕ → Option ℕ → Option ℕ → TileFormat → Asked
 tile_asked (Some z) (Some x) (Some y) format =
     if is_served z x y then asked_tile z x y format else asked_nothing
@@ -143,6 +150,7 @@ asked_on routes.Feature parts = feature_asked (number_of (part_named (codes "id"
 asked_on routes.FeatureFrom parts = from_asked (number_of (part_named (codes "id") parts))
 asked_on routes.FeaturePage parts = page_asked (number_of (part_named (codes "id") parts))
 asked_on routes.EditsFrom parts = edits_asked (number_of (part_named (codes "number") parts))
+asked_on routes.EditsAt parts = numbered_asked (number_of (part_named (codes "number") parts))
 asked_on (routes.View view) parts = asked_view view
 asked_on (routes.Action action) parts = asked_action action
 
@@ -161,6 +169,7 @@ abbrev pub is_admin : Asked → Bool
 is_admin (asked_from id) = true
 is_admin (asked_page id) = true
 is_admin (asked_edits number) = true
+is_admin (asked_numbered number) = true
 is_admin (asked_view views.Status) = true
 is_admin (asked_action actions.CheckedEdits) = true
 is_admin asked = false

@@ -6,9 +6,9 @@ use Rattle.matchit.specs.declared.params.Params.{Params}
 use Rattle.feature_model.specs.declared.limits.TheConstants.{MAX_ZOOM, NUMBER_END}
 use Rattle.tile_routes.specs.declared.routes.Route.{Route}
 use Rattle.tile_routes.specs.declared.target.Target.{Target}
-use Rattle.tile_routes.specs.declared.target.Target.TheVariants.{Tile, Feature, FeatureFrom, FeaturePage, EditsFrom, View, Action, Nothing}
+use Rattle.tile_routes.specs.declared.target.Target.TheVariants.{Tile, Feature, FeatureFrom, FeaturePage, EditsFrom, EditsAt, View, Action, Nothing}
 use Rattle.tile_routes.specs.declared.target.TileFormat.{TileFormat}
-use Rattle.tile_routes.specs.Paths.{Asked, asked_tile, asked_feature, asked_from, asked_page, asked_edits, asked_view, asked_action, asked_nothing}
+use Rattle.tile_routes.specs.Paths.{Asked, asked_tile, asked_feature, asked_from, asked_page, asked_edits, asked_numbered, asked_view, asked_action, asked_nothing}
 
 -- what a target asks for
 abbrev pub asked_of : Target → Asked
@@ -17,6 +17,7 @@ asked_of (Feature id) = asked_feature id
 asked_of (FeatureFrom id) = asked_from id
 asked_of (FeaturePage id) = asked_page id
 asked_of (EditsFrom number) = asked_edits number
+asked_of (EditsAt number) = asked_numbered number
 asked_of (View view) = asked_view view
 asked_of (Action action) = asked_action action
 asked_of Nothing = asked_nothing
@@ -28,6 +29,7 @@ IsInRange (Feature id) = id < NUMBER_END
 IsInRange (FeatureFrom id) = id < NUMBER_END
 IsInRange (FeaturePage id) = id < NUMBER_END
 IsInRange (EditsFrom number) = number < NUMBER_END
+IsInRange (EditsAt number) = number < NUMBER_END
 IsInRange other = Unit {0}
 
 -- a path's text with its route

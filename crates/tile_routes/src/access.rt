@@ -26,6 +26,7 @@ impl Target {
                 Target::FeatureFrom(_)
                 | Target::FeaturePage(_)
                 | Target::EditsFrom(_)
+                | Target::EditsAt(_)
                 | Target::View(View::Status)
                 | Target::Action(Action::CheckedEdits),
             ) => Target::Nothing,

@@ -81,7 +81,7 @@ impl Target {
                 Method::Head,
             ],
             Target::Feature(_) => &[Method::Get, Method::Head, Method::Put, Method::Delete],
-            Target::Action(_) => &[Method::Post],
+            Target::EditsAt(_) | Target::Action(_) => &[Method::Post],
             Target::Nothing => &[],
         }
     }
@@ -118,7 +118,7 @@ impl Target {
             | Target::EditsFrom(_)
             | Target::View(_) => "GET, HEAD",
             Target::Feature(_) => "GET, HEAD, PUT, DELETE",
-            Target::Action(_) => "POST",
+            Target::EditsAt(_) | Target::Action(_) => "POST",
             Target::Nothing => "",
         }
     }

@@ -7,7 +7,7 @@ ghost use Rattle.matchit.specs.Params.{AllText};
 ghost use Rattle.tile_routes.specs.Paths.{served_rows, with_routes, AllFit, asked_on, part_named, asked_at, asked_by};
 ghost use Rattle.tile_routes.specs.Targets.{asked_of, IsInRange, parts_of, row_path};
 
-use crate::target::{Action, Target, View, edits_target, feature_target, from_target, page_target, tile_target};
+use crate::target::{Action, Target, View, edits_target, feature_target, from_target, numbered_target, page_target, tile_target};
 use matchit::{InsertError, Params, Router};
 use std::alloc::{AllocError, Global};
 use std::marker::Model;
@@ -20,6 +20,7 @@ pub(crate) enum Route {
     FeatureFrom,
     FeaturePage,
     EditsFrom,
+    EditsAt,
     View(View),
     Action(Action),
 }
@@ -58,6 +59,7 @@ const SERVED: &[(&str, Route)] = &[
     ("/admin/features/page/{id}", Route::FeaturePage),
     ("/admin/edits", Route::Action(Action::CheckedEdits)),
     ("/admin/edits/from/{number}", Route::EditsFrom),
+    ("/admin/edits/at/{number}", Route::EditsAt),
 ];
 
 /// The router of a table of paths that don't conflict.
@@ -125,6 +127,7 @@ fn route_target(route: Route, params: &Params<'_, '_>) -> Target
         Route::FeatureFrom => from_target(part(params, "id")),
         Route::FeaturePage => page_target(part(params, "id")),
         Route::EditsFrom => edits_target(part(params, "number")),
+        Route::EditsAt => numbered_target(part(params, "number")),
         Route::View(view) => Target::View(view),
         Route::Action(action) => Target::Action(action),
     }

@@ -2,7 +2,7 @@
 ghost use Rattle.std.specs.Prelude.{◌≡◌, IsTrue};
 ghost use Rattle.std.specs.Option.{option_map};
 ghost use Rattle.tile_routes.specs.Number.{number_of};
-ghost use Rattle.tile_routes.specs.Paths.{asked_tile, is_served, feature_asked, from_asked, page_asked, edits_asked, named_tile, row_and_format};
+ghost use Rattle.tile_routes.specs.Paths.{asked_tile, is_served, feature_asked, from_asked, page_asked, edits_asked, numbered_asked, named_tile, row_and_format};
 ghost use Rattle.tile_routes.specs.Targets.{asked_of, IsInRange, row_view};
 
 use crate::number::path_number;
@@ -61,6 +61,9 @@ pub enum Target {
     /// `/admin/edits/from/{number}`: the edits from this number on that the journal still has; the number is below
     /// `feature_model::NUMBER_END`.
     EditsFrom(u64),
+    /// `/admin/edits/at/{number}`: makes several changes as one edit, if that gets this number, which is below
+    /// `feature_model::NUMBER_END`.
+    EditsAt(u64),
     /// A path that GET and HEAD show.
     View(View),
     /// A path that POST does something at.
@@ -109,6 +112,17 @@ pub(crate) fn edits_target(number: &[u8]) -> Target
 {
     match path_number(number) {
         Some(number) => Target::EditsFrom(number),
+        None => Target::Nothing,
+    }
+}
+
+/// The edit of the number that the text writes.
+pub(crate) fn numbered_target(number: &[u8]) -> Target
+    ensures asked { asked_of result ≡ numbered_asked (number_of number.now) }
+    ensures range { IsInRange result }
+{
+    match path_number(number) {
+        Some(number) => Target::EditsAt(number),
         None => Target::Nothing,
     }
 }

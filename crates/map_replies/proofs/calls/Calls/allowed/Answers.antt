@@ -68,3 +68,13 @@ returns-in-FeaturePage-clause-words g c = whole_words c.feature_page.result c.fe
 
 pub returns-in-FeaturePage-clause-held : goal.returns-in-FeaturePage-clause-held
 returns-in-FeaturePage-clause-held g c = c.feature_page.ensures.held
+
+pub returns-in-EditsAt-clause-answered : goal.returns-in-EditsAt-clause-answered
+returns-in-EditsAt-clause-answered g c =
+    rw c.in-EditsAt.is (whole_answer _ _ c.numbered_batch.result c.numbered_batch.ensures.answered c.numbered_batch.ensures.writable)
+
+pub returns-in-EditsAt-clause-words : goal.returns-in-EditsAt-clause-words
+returns-in-EditsAt-clause-words g c = whole_words c.numbered_batch.result c.numbered_batch.ensures.writable
+
+pub returns-in-EditsAt-clause-held : goal.returns-in-EditsAt-clause-held
+returns-in-EditsAt-clause-held g c = c.numbered_batch.ensures.held

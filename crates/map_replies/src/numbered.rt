@@ -1,0 +1,63 @@
+//! Edits that are made only if they get a number.
+ghost use Rattle.std.specs.Prelude.{◌≡◌, ◌≤◌, ◌+◌, ◌↔◌, [], map, vec_capacity, IsTrue, IfOk};
+ghost use Rattle.http_serve.specs.Reply.{reply_view, IsWhole};
+ghost use Rattle.feature_model.specs.Data.{change_data};
+ghost use Rattle.tile_service.specs.Service.{status_of};
+ghost use Rattle.map_replies.specs.Meanings.{MeansNumbered, MeansNumberedBatch, Answers, DiskFailed};
+ghost use Rattle.map_replies.specs.Sending.{IsAnswered};
+ghost use Rattle.map_replies.specs.declared.replies.TheConstants.{MAX_TEXT};
+ghost use Rattle.map_replies.specs.Tickets.{KeepsTickets};
+
+use crate::bodies::changes_in;
+use crate::calls::Calls;
+use crate::fault::RequestFault;
+use crate::replies;
+use feature_model::Change;
+use http_serve::Reply;
+use sector_disk::Sectors;
+
+/// Whether the edit after the last one has this number.
+fn is_next(last: u64, number: u64) -> bool
+    ensures { IsTrue result ↔ (number ≡ last + 1) }
+{
+    number > last && number - last == 1
+}
+
+impl<D: Sectors + Drop> Calls<D> {
+    /// Makes changes as one edit if that gets the number. It doesn't allocate for the reply.
+    fn make_numbered(&mut self, text: Vec<u8>, number: u64, changes: Vec<Change>) -> Reply
+        requires empty { text.items ≡ [] }
+        requires room { MAX_TEXT ≤ vec_capacity text }
+        ensures answered { Answers D.sectors D.honest D.history
+            (MeansNumbered (DiskFailed D.faults self.old.service self.new.service) (status_of self.old.service) number (map change_data changes.items))
+            self.old.service self.new.service (reply_view [] result) }
+        ensures writable { IsWhole result }
+        ensures held { KeepsTickets D.honest D.history self.old self.new }
+    {
+        let last = self.service.last();
+        if !is_next(last, number) {
+            return replies::not_next(text, last);
+        }
+        let outcome = self.service.batch(changes);
+        replies::outcome(text, outcome)
+    }
+
+    /// Makes the changes in the body as one edit, all of them or none, if that gets the number.
+    #[tactic(auto, using(crate::proofs::Answering::body_refused))]
+    pub(crate) fn numbered_batch(&mut self, number: u64, body: &[u8]) -> Result<Reply, RequestFault>
+        ensures answered { IsAnswered (Answers D.sectors D.honest D.history
+            (MeansNumberedBatch (DiskFailed D.faults self.old.service self.new.service) (status_of self.old.service) number body.now)
+            self.old.service self.new.service) result }
+        ensures writable { IfOk result IsWhole }
+        ensures held { KeepsTickets D.honest D.history self.old self.new }
+    {
+        let changes = match changes_in(self.alloc, body) {
+            Ok(changes) => changes,
+            Err(fault) => return Err(fault),
+        };
+        let Ok(text) = replies::outcome_space(self.alloc) else {
+            return Err(RequestFault::Memory);
+        };
+        Ok(self.make_numbered(text, number, changes))
+    }
+}

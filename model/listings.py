@@ -1,0 +1,84 @@
+"""What the paths under `/admin/` list: edits since the last publication, and features by pages; and edits that are made under a number. From
+docs/HTTP.md. It shares no code with the product."""
+import features
+from crashes import Failed
+from disk import parts_of, record_text
+from machine import Refused
+
+# Edits are listed until their texts, as the journal has them, have so many bytes, and features until their JSON has so many.
+FEED_BYTES = 16384
+PAGE_BYTES = 65536
+
+
+def until(items, size_of, most):
+    """The first items, until they have so many bytes together: at least one, if there is one."""
+    found, size = [], 0
+    for item in items:
+        if size >= most:
+            break
+        found.append(item)
+        size += size_of(item)
+    return found
+
+
+# ---- the feed
+
+
+def asked(change):
+    """A change as the body of an edit has it."""
+    return {"delete": change.number} if change.feature is None else {"put": change.number, "feature": change.feature}
+
+
+def read_places(service, first, count):
+    """Reads so many places of the journal, the first of which is so many places behind that of the root."""
+    for offset in range(first, first + count):
+        service.disk.read(service.layout.place(service.root.journal_at + offset))
+
+
+def find_place(service, offset):
+    """Reads the places by which the record behind so many places is found: those in use are halved."""
+    low, high = 0, service.used
+    while low < high:
+        middle = low + (high - low) // 2
+        read_places(service, middle, 1)
+        low, high = (middle + 1, high) if middle < offset else (low, middle)
+
+
+def edits_from(service, number):
+    """The edits from a number on that the journal has, as JSON."""
+    published = service.root.edits
+    if number <= published:
+        raise Refused("Gone")
+    if number > service.last + 1:
+        raise Refused("NotFound")
+    size_of = lambda record: len(record_text(record))  # noqa: E731
+    before, behind = service.recorded[: number - published - 1], service.recorded[number - published - 1 :]
+    listed = until(behind, size_of, FEED_BYTES)
+    offset = sum(parts_of(size_of(record)) for record in before)
+    try:
+        find_place(service, offset)
+        read_places(service, offset, sum(parts_of(size_of(record)) for record in listed))
+    except Failed as failed:
+        raise Refused("Device") from failed
+    edits = [{"changes": [asked(change) for change in record.changes], "edit": number + index} for index, record in enumerate(listed)]
+    return {"edits": edits, "last": service.last}
+
+
+# ---- pages of features
+
+
+def page(service, number):
+    """The features from a number on, and the number behind them, as JSON."""
+    numbers = sorted(other for other in service.map if other >= number)
+    found = until([{"feature": service.map[other], "id": other} for other in numbers], lambda entry: len(features.compact(entry).encode()), PAGE_BYTES)
+    return {"features": found, "next": numbers[len(found)] if len(found) < len(numbers) else None}
+
+
+# ---- edits under a number
+
+
+def next_number(service):
+    """The number that the next edit gets."""
+    if service.last == 2**64 - 1:
+        raise Refused("NumbersSpent")
+    return service.last + 1
