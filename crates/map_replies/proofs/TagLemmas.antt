@@ -15,10 +15,10 @@ use Rattle.tile_routes.specs.declared.fault.RouteFault.TheVariants as routes
 use Rattle.tile_routes.specs.declared.method.Method.{Method}
 use Rattle.tile_routes.specs.declared.target.TileFormat.{TileFormat}
 use Rattle.tile_service.specs.Machine.{OrMemory, got, no_memory, Happening, tile, tile_number}
-use Rattle.tile_service.specs.Runs.{TakesAll}
+use Rattle.tile_service.specs.Runs.{TakesAll, TakesRun}
 use Rattle.tile_service.specs.Service.{ServiceView, status_of}
 use Rattle.tile_service.specs.Tags.{TellsNumber}
-use Rattle.tile_service.proofs.Tiles.Tags.{is_tag, takes_then}
+use Rattle.tile_service.proofs.Tiles.Tags.{knows_all, knows_on, same_layers}
 use Rattle.map_replies.specs.Conditions.{AskView, ask_of}
 use Rattle.map_replies.specs.Meanings.{MeansMethod, MeansTagged, Replies, asked_for, DiskFailed}
 use Rattle.map_replies.specs.Words.{shown_reply, tagged_reply}
@@ -86,7 +86,7 @@ module _ {D : Type 0} (sectors : D → ℕ) (honest : D → Type 0) (history : D
 
   pub equal_tags : (access : Access) (start : ℕ) (first between second after : ServiceView D) (run : List Happening) (one other : RequestView)
       (reply again : ReplyView) (tag : Tag) (z x y : ℕ) (f g : TileFormat)
-      → Replies sectors honest history faults access (Some start) first one reply between → TakesAll sectors honest history between run second
+      → Replies sectors honest history faults access (Some start) first one reply between → TakesRun sectors honest history between run second
       → Replies sectors honest history faults access (Some start) second other again after
       → asked_for access one ≡ asked_tile z x y f → asked_for access other ≡ asked_tile z x y g → reply.tag ≡ Some tag → again.tag ≡ Some tag
       → layers second.features z x y ≡ layers first.features z x y
@@ -94,5 +94,6 @@ module _ {D : Type 0} (sectors : D → ℕ) (honest : D → Type 0) (history : D
       let old = told access start z x y f first between one reply tag replies asked has in
       let new = told access start z x y g second after other again tag more other_asked other_has in
       let same : new.0 ≡ old.0 = ap (λ (t : WeakTag). t.number) (same_weak _ _ (sym new.1 ∙ old.1)) in
-      let way = takes_then sectors honest history first between second replies.0 run replies.2 takes in
-      is_tag sectors honest history first z x y old.0 old.2 way.0 second way.1 (subst (λ (n : ℕ). TellsNumber second z x y n) same new.2).is
+      same_layers first second z x y old.0 old.2
+      (knows_on first between second (knows_all sectors honest history first replies.0 between replies.2) takes.knows)
+      (subst (λ (n : ℕ). TellsNumber second z x y n) same new.2).is

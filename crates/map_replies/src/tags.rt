@@ -9,7 +9,7 @@ ghost use Rattle.tile_routes.specs.Paths.{asked_tile};
 ghost use Rattle.tile_routes.specs.declared.access.Access.{Access};
 ghost use Rattle.tile_routes.specs.declared.target.TileFormat.{TileFormat};
 ghost use Rattle.tile_service.specs.Machine.{Happening};
-ghost use Rattle.tile_service.specs.Runs.{TakesAll};
+ghost use Rattle.tile_service.specs.Runs.{TakesRun};
 ghost use Rattle.tile_service.specs.Service.{ServiceView};
 
 use sector_disk::Sectors;
@@ -21,7 +21,7 @@ pub fn equal_tags_are_equal_tiles<D: Sectors>()
     ensures { (access : Access) (start : ℕ) (first between second after : ServiceView D) (run : List Happening) (one other : RequestView)
         (reply again : ReplyView) (tag : Tag) (z x y : ℕ) (f g : TileFormat)
         → Replies D.sectors D.honest D.history D.faults access (Some start) first one reply between
-        → TakesAll D.sectors D.honest D.history between run second
+        → TakesRun D.sectors D.honest D.history between run second
         → Replies D.sectors D.honest D.history D.faults access (Some start) second other again after
         → asked_for access one ≡ asked_tile z x y f → asked_for access other ≡ asked_tile z x y g
         → reply.tag ≡ Some tag → again.tag ≡ Some tag

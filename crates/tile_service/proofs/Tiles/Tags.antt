@@ -7,7 +7,7 @@ use Rattle.feature_store.specs.Store.{FeatureMap}
 use Rattle.tile_service.specs.Machine.{Happening}
 use Rattle.tile_service.specs.Runs.{IsTag, Takes, TakesAll}
 use Rattle.tile_service.specs.Service.{ServiceView}
-use Rattle.tile_service.specs.Tags.{Knows, StillKnows, TellsNumber}
+use Rattle.tile_service.specs.Tags.{Knows, StillKnows, TellsNumber, KeepsLayers}
 
 module _ {D : Type 0} where
   -- with the same map, numbers of cells and last edit it knows what it knew
@@ -27,8 +27,15 @@ module _ {D : Type 0} where
       (subst (λ (cells : List ℕ). WasMap new.features cells journal n was) (sym (touched ∙ ap (λ (v : CachedView). v.touched) same))
       (subst (λ (m : FeatureMap). WasMap m map.touched journal n was) (sym (features ∙ ap (λ (v : CachedView). v.features) same)) known))
 
-  knows_on : (old between new : ServiceView D) → StillKnows old between → StillKnows between new → StillKnows old new
+  pub knows_on : (old between new : ServiceView D) → StillKnows old between → StillKnows between new → StillKnows old new
   knows_on old between new first then n was known = then n was (first n was known)
+
+  -- where it still is known what was, a tile with this number has the layers that it had
+  pub same_layers : (old new : ServiceView D) (z x y number : ℕ) → TellsNumber old z x y number → StillKnows old new
+      → KeepsLayers z x y number old new
+  same_layers old new z x y number told still has =
+      known_layers new.features new.touched new.journal.last old.journal.last number old.features z x y
+      (still old.journal.last old.features told.knows) has told.most
 
   module _ (sectors : D → ℕ) (honest : D → Type 0) (history : D → History) where
     -- after any happenings a service still knows what it knew
@@ -40,13 +47,4 @@ module _ {D : Type 0} where
 
     -- the number of a tile is a tag of it
     pub is_tag : (now : ServiceView D) (z x y number : ℕ) → TellsNumber now z x y number → IsTag sectors honest history z x y number now
-    is_tag now z x y number told happenings later goes has =
-        known_layers later.features later.touched later.journal.last now.journal.last number now.features z x y
-        (knows_all now happenings later goes now.journal.last now.features told.knows) has told.most
-
-    -- happenings after others
-    pub takes_then : (old between new : ServiceView D) (first then : List Happening) → TakesAll sectors honest history old first between
-        → TakesAll sectors honest history between then new → (all : List Happening) × TakesAll sectors honest history old all new
-    takes_then old between new [] then same goes = (then, subst (λ (s : ServiceView D). TakesAll sectors honest history s then new) same goes)
-    takes_then old between new (h ∷ first) then goes more =
-        let rest = takes_then goes.0 between new first then goes.2 more in (h ∷ rest.0, (goes.0, goes.1, rest.1))
+    is_tag now z x y number told happenings later goes = same_layers now later z x y number told (knows_all now happenings later goes)
