@@ -3,6 +3,7 @@ pub mod Callers
 pub mod DeviceFaults
 pub mod DiskAfter
 pub mod EventAnswers
+pub mod Headlines
 pub mod OneEvent
 pub mod Progress
 pub mod States

@@ -1,5 +1,6 @@
 pub mod After
 pub mod Events
+pub mod Headline
 pub mod Inside
 pub mod Limits
 pub mod Listing

@@ -1,5 +1,5 @@
 -- The edits that the journal of a service has.
-use Rattle.std.specs.Prelude.{◌≡◌, ◌≢◌, ◌≤◌, ◌+◌, ◌-◌, ℕ, List, map, drop, All, Result, Ok, Err, MatchResult, Vec}
+use Rattle.std.specs.Prelude.{◌≡◌, ◌≢◌, ◌+◌, ◌-◌, ℕ, List, map, drop, All, Result, Ok, Err, MatchResult, Vec}
 use Rattle.std.proofs.Common.{Global}
 use Rattle.sector_disk.specs.Disk.{History}
 use Rattle.edit_journal.specs.Lists.{HasRecords, first_bytes}

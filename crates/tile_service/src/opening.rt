@@ -1,5 +1,5 @@
 //! A service made from what a disk holds.
-ghost use Rattle.std.specs.Prelude.{◌≡◌, ◌⊎◌, ◌≤◌, ◌+◌, ◌*◌, false, ℕ, List, length, None, IfErr, IfOk, OnOk, MatchResult};
+ghost use Rattle.std.specs.Prelude.{◌≡◌, ◌⊎◌, ◌≤◌, ◌+◌, ◌*◌, false, ℕ, List, length, take, None, IfErr, IfOk, OnOk, MatchResult};
 ghost use Rattle.sector_disk.specs.Asked.{MayWrite, OnlyReads};
 ghost use Rattle.sector_disk.specs.Disk.{seen};
 ghost use Rattle.sector_disk.specs.Disk.History.{synced};
@@ -15,9 +15,12 @@ ghost use Rattle.cached_map.specs.Cached.{AreReadRight};
 ghost use Rattle.feature_store.specs.Store.{snapshot};
 ghost use Rattle.published_tiles.specs.Published.{ArePublished};
 ghost use Rattle.published_tiles.specs.declared.place.ArchivePlace.{ArchivePlace};
+ghost use Rattle.tile_service.specs.Headline.{WasStopped, HasSomeFirst};
+ghost use Rattle.tile_service.specs.Machine.{Happening};
 ghost use Rattle.tile_service.specs.Opening.{HasSnapshot, IsReplayed, IsRead, IsOpened, IsContentFault, IsOpenFault, HasNoOpenFault, HasLiveRoot};
 ghost use Rattle.tile_service.specs.Opening.{recovery_told_as};
-ghost use Rattle.tile_service.specs.Service.{IsUp};
+ghost use Rattle.tile_service.specs.Runs.{way_of};
+ghost use Rattle.tile_service.specs.Service.{ServiceView, IsUp};
 ghost use Rattle.tile_service.specs.Stored.{Stored, Holds, journal_ring};
 
 use crate::replaying::replay;
@@ -215,6 +218,17 @@ impl<D: Sectors + Drop> Service<D> {
         ensures opened { (n : ℕ) (stored : Stored) → Holds (D.sectors disk) n stored (seen (D.history disk))
             → IfOk result (λ service. D.honest service.disk → (service.size ≡ n) × IsUp (D.sectors service.disk) (D.history service.disk) stored service) }
         ensures refused { (n : ℕ) (stored : Stored) → Holds (D.sectors disk) n stored (seen (D.history disk))
+            → IfErr result (λ e. D.honest e.0 → (e.1 ≡ Device) ⊎ (e.1 ≡ Memory)) }
+
+        // The headline. A disk that a run left, stopped at any moment, opens to a service of the map after some first edits of the run, every
+        // acknowledged edit among them; and its archive is that of the map after its own first edits. Only a call of the disk or an allocation
+        // can fail.
+        ensures headline { (start : Stored) (old new : ServiceView D) (happenings : List Happening) (k m : ℕ)
+            → WasStopped D.sectors D.honest D.history start old happenings new k m disk
+            → IfOk result (λ service. D.honest service.disk → HasSomeFirst (D.sectors service.disk) (D.history service.disk) start
+            (way_of start.edits old.publication) (take m happenings) k service) }
+        ensures no_other_fault { (start : Stored) (old new : ServiceView D) (happenings : List Happening) (k m : ℕ)
+            → WasStopped D.sectors D.honest D.history start old happenings new k m disk
             → IfErr result (λ e. D.honest e.0 → (e.1 ≡ Device) ⊎ (e.1 ≡ Memory)) }
     {
         let mut disk = disk;

@@ -5,7 +5,7 @@ use Rattle.cached_map.specs.Cached.{CachedView, WasMap}
 use Rattle.cached_map.proofs.Kept.{known_layers}
 use Rattle.feature_store.specs.Store.{FeatureMap}
 use Rattle.tile_service.specs.Machine.{Happening}
-use Rattle.tile_service.specs.Runs.{IsTag, Takes, TakesAll}
+use Rattle.tile_service.specs.Runs.{IsTag, TakesAll}
 use Rattle.tile_service.specs.Service.{ServiceView}
 use Rattle.tile_service.specs.Tags.{Knows, StillKnows, TellsNumber, KeepsLayers}
 

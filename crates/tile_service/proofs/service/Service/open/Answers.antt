@@ -1,6 +1,8 @@
-use Rattle.std.proofs.Common.{None, false, refl}
+use Rattle.std.proofs.Common.{None, false, take, refl}
 use Rattle.sector_disk.specs.Disk.{seen}
+use Rattle.tile_service.specs.Runs.{fitting}
 use Rattle.tile_service.proofs.Disk.Opened.{opens, no_other_fault, read_sound}
+use Rattle.tile_service.proofs.Runs.Headlines.{was_left, opens_to_first}
 use Rattle.tile_service.proofs.service.Service.open.Goals as goal
 
 pub returns-in-Ok-clause-opened : goal.returns-in-Ok-clause-opened
@@ -86,3 +88,18 @@ invariant_of-result g c = record {
   going = tt;
   told = tt;
 }
+
+pub returns-in-Ok-clause-headline : goal.returns-in-Ok-clause-headline
+returns-in-Ok-clause-headline g c start old new happenings k m was honest =
+    let d = g.D.Sectors in
+    let fits = was_left d.sectors d.honest d.history start old new happenings k m c.args.disk was in
+    opens_to_first d.sectors d.honest d.history start _ (take m happenings) k (d.sectors c.args.disk) old.size c.args.disk _ fits
+    (returns-in-Ok-clause-opened g c old.size
+    (fitting start fits.edits fits.i fits.j fits.fits.0 fits.fits.1 fits.fits.2) fits.fits.3 honest).1
+
+pub returns-in-Err-clause-no_other_fault : goal.returns-in-Err-clause-no_other_fault
+returns-in-Err-clause-no_other_fault g c start old new happenings k m was honest =
+    let d = g.D.Sectors in
+    let fits = was_left d.sectors d.honest d.history start old new happenings k m c.args.disk was in
+    returns-in-Err-clause-refused g c old.size
+    (fitting start fits.edits fits.i fits.j fits.fits.0 fits.fits.1 fits.fits.2) fits.fits.3 honest
