@@ -11,8 +11,7 @@ registry, the network); they are counted, and not run.
 The commands of a page run in one bash, in order, in a fresh folder with copies of examples/, docs/ and crates/vtserve/stdin, as in a
 clone, with PROGRAM in crates/vtserve/out/ and on the PATH. Each page has its own network, processes, /etc, /usr/local and /var/lib
 (`unshare` and an overlay, so this needs root on Linux): ports and paths are as written, and nothing of the machine changes. Prints
-each difference and the counts, and ends with 1 if there is a difference. --show prints all that the commands print. Without --page it
-also sees that docs/LEMMAS.md is as bench/tools/lemmas.py writes it.
+each difference and the counts, and ends with 1 if there is a difference. --show prints all that the commands print.
 """
 import argparse
 import os
@@ -176,8 +175,6 @@ def main():
         apart = ["unshare", "--net", "--mount", "--pid", "--fork", "--kill-child", "--mount-proc"]
         again = [sys.executable, os.path.abspath(__file__), program, "--page", page, "--inside", *(["--show"] if words.show else [])]
         differ += subprocess.run([*apart, *again], check=False).returncode != 0
-    if not words.page:
-        differ += subprocess.run([sys.executable, os.path.join(TOP, "bench", "tools", "lemmas.py"), "--check"], check=False).returncode != 0
     print(f"{len(words.page or PAGES)} pages, {differ} differ")
     return 1 if differ else 0
 

@@ -2,31 +2,27 @@
 """Finds a lemma by its name, and the lemmas that state something of a definition.
 
     python3 bench/tools/lemmas.py NAME..       prints each lemma of this name, and each whose statement names this definition, with file and line
-    python3 bench/tools/lemmas.py --write      writes docs/LEMMAS.md: for each file of definitions the lemma files of its crate that speak of it
-    python3 bench/tools/lemmas.py --check      ends with 1 if that page isn't what --write writes
+    python3 bench/tools/lemmas.py --unused     prints each lemma that nothing names but itself: it can go
 
 A definition is a name that a file of crates/CRATE/specs/ declares. A lemma file is a file of crates/CRATE/proofs/ that is no proof of
 a function (Answers.antt, Invariants.antt, Proof.antt) and no list of modules (Lib.antt; a folder's
 list, beside it, states nothing). Names are resolved by the `use` lines.
 """
 import argparse
+import collections
 import re
 import sys
 from pathlib import Path
 
 ROOT = Path(__file__).resolve().parents[2]
 CRATES = ROOT / "crates"
-PAGE = ROOT / "docs" / "LEMMAS.md"
-MOST = 8
 NO_LEMMAS = {"Answers.antt", "Invariants.antt", "Proof.antt", "Lib.antt"}
 DEFINED = re.compile(r"^ *(?:(?:abbrev|unfoldable) pub|pub record|pub data) ([^\s:({]+)", re.M)
 LOCAL = re.compile(r"^ *(?:abbrev|unfoldable|record|data|use|module|mutual|pub (?:record|data|mod)|mod)\b")
 STATED = re.compile(r"^( *)(?:pub )?([A-Za-z_][\w'≢≡-]*) : ")
+NAMED = re.compile(r"[A-Za-z_][\w'≢≡-]*")
+READ = re.compile(r"Laws$|^LimitNumbers$|^StepLimit$|Forms$|^Examples$|^Unique$")
 WORD = re.compile(r"[A-Za-z_][\w'-]*(?:\.[A-Za-z_][\w'-]*)*")
-HEAD = """# Lemma files by definition
-
-For whoever mends a proof. A row is a file of definitions, `specs/FILE.antt` of its crate, and the files of the same crate's `proofs/` with the most lemmas that name one of these definitions; files of definitions that no lemma names are left out. [PROOFS.md](PROOFS.md) says how to get from an open goal to here; `python3 bench/tools/lemmas.py NAME` lists the lemmas about one definition, in all crates. This page is written by `python3 bench/tools/lemmas.py --write`.
-"""
 
 
 def crates():
@@ -114,29 +110,25 @@ def spoken_of(crate):
             yield path, module, line, name, set(named(statement, names))
 
 
-def table(crate):
-    """The rows of a crate."""
-    counts = {}
-    for _, module, _, _, found in spoken_of(crate):
-        for other in {where for owner, where, _ in found if owner == crate}:
-            counts.setdefault(other, {}).setdefault(module, 0)
-            counts[other][module] += 1
-    for module, says, _ in definitions(crate):
-        files = sorted(counts.get(module, {}).items(), key=lambda item: (-item[1], item[0]))
-        if not files:
-            continue
-        listed = ", ".join(f"`{name}`" for name, _ in files[:MOST]) + (f", and {len(files) - MOST} more" if len(files) > MOST else "")
-        yield f"| `{module}` | {says} | {listed} |"
-
-
-def page():
-    """The text of docs/LEMMAS.md."""
-    parts = [HEAD]
+def unused():
+    """Prints each lemma that no other line has than its own, but for laws, limits and worked forms, which are there to be read, and for those that
+    docs/PROMISES.md names. Returns how many."""
+    promised = set(NAMED.findall((ROOT / "docs" / "PROMISES.md").read_text()))
+    texts = [path.read_text() for path in CRATES.rglob("*") if path.suffix in (".rt", ".antt") and "out" not in path.parts]
+    count = collections.Counter(word for text in texts for word in NAMED.findall(text))
+    found = 0
     for crate in crates():
-        rows = list(table(crate))
-        if rows and lemma_files(crate):
-            parts.append(f"\n## {crate}\n\n| Definitions | What they define | Lemma files |\n|---|---|---|\n" + "\n".join(rows) + "\n")
-    return "".join(parts)
+        for path, _, line, name, _ in spoken_of(crate):
+            if name not in promised and not READ.search(path.stem) and count[name] == own_lines(path.read_text().split("\n"), line, name):
+                print(f"{path.relative_to(ROOT)}:{line}: {name}")
+                found += 1
+    return found
+
+
+def own_lines(lines, line, name):
+    """How many lines of a file declare a lemma or are one of its clauses."""
+    depth = indented(lines[line - 1])
+    return 1 + sum(indented(other) == depth and NAMED.findall(other)[:1] == [name] for other in lines[line:])
 
 
 def about(names):
@@ -153,15 +145,10 @@ def about(names):
 def main():
     parser = argparse.ArgumentParser(description=__doc__, formatter_class=argparse.RawDescriptionHelpFormatter)
     parser.add_argument("names", nargs="*", metavar="NAME")
-    parser.add_argument("--write", action="store_true")
-    parser.add_argument("--check", action="store_true")
+    parser.add_argument("--unused", action="store_true")
     words = parser.parse_args()
-    if words.write:
-        PAGE.write_text(page())
-    elif words.check:
-        same = PAGE.read_text() == page()
-        print("docs/LEMMAS.md is as it is written" if same else "docs/LEMMAS.md is older than the crates: python3 bench/tools/lemmas.py --write")
-        return 0 if same else 1
+    if words.unused:
+        print(f"{unused()} lemmas are named nowhere else")
     elif about(words.names) == 0:
         print("no lemma has or names " + " ".join(words.names))
         return 1

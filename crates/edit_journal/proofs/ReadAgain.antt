@@ -179,11 +179,6 @@ pub first_full : (room : ℕ) (found rs all : List RecordData) → room ≡ 0 �
 first_full room found rs all full so_far =
     sym (append-nil found) ∙ ap (λ (rest : List RecordData). found ++ rest) (sym (first_none room rs full)) ∙ so_far
 
--- or no record
-pub first_whole : (room : ℕ) (found rs all : List RecordData) → rs ≡ [] → found ++ first_bytes room rs ≡ all → found ≡ all
-first_whole room found rs all none so_far =
-    sym (append-nil found) ∙ ap (λ (rest : List RecordData). found ++ rest) (sym (ap (first_bytes room) none)) ∙ so_far
-
 -- one more record is read
 pub first_next : (room left : ℕ) (found more rs rest all : List RecordData) (q : RecordData) → (room ≡ 0 → ⊥) → left ≡ room - length q.text
     → more ≡ found ++ q ∷ [] → rs ≡ q ∷ rest → found ++ first_bytes room rs ≡ all → more ++ first_bytes left rest ≡ all
@@ -195,12 +190,6 @@ first_next room left found more rs rest all q some left_is more_is is so_far =
     ∙ so_far
 
 -- ---- a journal up to one of its records
-
--- there are no more records after the last
-pub none_behind : (rs : List RecordData) (edits last : ℕ) → last ≡ edits + length rs → drop (last - edits) rs ≡ []
-none_behind rs edits last is =
-    let all : last - edits ≡ length rs = omega (arith, is) in
-    ap (λ (n : ℕ). drop n rs) all ∙ drop-length rs
 
 -- the places of the records up to one are no more than all
 pub places_up_to : (rs : List RecordData) (count : ℕ) → places_of (take count rs) ≤ places_of rs

@@ -6,10 +6,6 @@ module _ {Fault A : Type 0} where
   abbrev pub goes_on : List A → Read Fault (List A) → Read Fault (List A)
   goes_on xs rest = rest >>= (λ ys. Ok (xs ++ ys))
 
-  pub goes_on-nil : (rest : Read Fault (List A)) → goes_on [] rest ≡ rest
-  goes_on-nil (Err e) = refl
-  goes_on-nil (Ok ys) = refl
-
   pub goes_on-cons : (xs : List A) (x : A) (rest : Read Fault (List A))
       → goes_on xs (rest >>= (λ ys. Ok (x ∷ ys))) ≡ goes_on (xs ++ x ∷ []) rest
   goes_on-cons xs x (Err e) = refl

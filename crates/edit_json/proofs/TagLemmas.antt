@@ -46,14 +46,6 @@ keys_more Q s t k e n d = let P : List (String Global) → Type 0 = λ ks. All I
   λ q. All-tail IsName (string_bytes k) (texts_of t) (subst P e (d.1 q)),
 )
 
-pub keys_fault : (Q : Type 0) (s t : List (String Global)) (k : String Global) → s ≡ k ∷ t → ¬ IsName (string_bytes k) → Decide s Q → ¬ Q
-keys_fault Q s t k e n d q = let P : List (String Global) → Type 0 = λ ks. All IsName (texts_of ks) in
-    n (All-head IsName (string_bytes k) (texts_of t) (subst P e (d.1 q)))
-
-pub keys_end : (Q : Type 0) (s : List (String Global)) → s ≡ [] → Decide s Q → Q
-keys_end Q s e d = let P : List (String Global) → Type 0 = λ ks. All IsName (texts_of ks) in
-    d.0 (subst P (sym e) (All-nil IsName))
-
 -- ---- the order of keys
 
 texts_below : (k : String Global) (ks : List (String Global)) → AllByRecursion (λ l. string_cmp k l ≡ Less) ks

@@ -34,13 +34,6 @@ pub end_append : (from : Pt) (ls ms : List (List Pt)) → end_of from (ls ++ ms)
 end_append from [] ms = refl
 end_append from (l ∷ ls) ms = end_append (last_of from l) ls ms
 
--- one line more
-pub lines_push : (closed : Bool) (from : Pt) (ls : List (List Pt)) (l : List Pt)
-    → lines_spelled closed from (ls ++ l ∷ []) ≡ lines_spelled closed from ls ++ line_spelled closed (end_of from ls) l
-unfolding lines_spelled
-lines_push closed from ls l =
-    lines_append closed from ls (l ∷ []) ∙ ap (λ (r : List ℕ). lines_spelled closed from ls ++ r) (append-nil (line_spelled closed (end_of from ls) l))
-
 -- one point more
 pub steps_push : (from : Pt) (ps : List Pt) (q : Pt) → steps from (ps ++ q ∷ []) ≡ steps from ps ++ step (last_of from ps) q
 steps_push from ps q = steps_append from ps (q ∷ []) ∙ ap (λ (r : List ℕ). steps from ps ++ r) (append-nil (step (last_of from ps) q))

@@ -23,12 +23,6 @@ shift_64 k le =
     let e = four_is k in
     omega (arith, small, e)
 
-pub side_next : (zoom : ℕ) → 0 < zoom → 2 * 2 ^ (zoom - 1) ≡ 2 ^ zoom
-side_next zoom lt = next zoom (zoom - 1) (omega arith)
-  where
-    next : (zoom k : ℕ) → zoom ≡ suc k → 2 * 2 ^ k ≡ 2 ^ zoom
-    next zoom k e = rw (e, pow-succ' 2 k) refl
-
 pub four_next : (zoom : ℕ) → 0 < zoom → 4 * 4 ^ (zoom - 1) ≡ 4 ^ zoom
 four_next zoom lt = next zoom (zoom - 1) (omega arith)
   where

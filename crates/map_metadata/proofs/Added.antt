@@ -42,9 +42,6 @@ pub with_features-append : (o : Option (ℕ × ℕ)) (fs gs : List FeatureData) 
 with_features-append o [] gs = refl
 with_features-append o (f ∷ fs) gs = with_features-append (Some (with_feature o f)) fs gs
 
-kinds_of-append : (ts us : List TagData) (key : List ℕ) → kinds_of (ts ++ us) key ≡ kinds_of ts key ++ kinds_of us key
-kinds_of-append ts us key = filter_map-append (λ t. if bytes_eq t.key key then Some (kind_of t.value) else None) ts us
-
 pub features_in-append : (m n : FeatureMap) (name : List ℕ) → features_in (m ++ n) name ≡ features_in m name ++ features_in n name
 features_in-append m n name = filter_map-append (λ e. if bytes_eq e.1.layer name then Some e.1 else None) m n
 
@@ -137,9 +134,6 @@ adds_more a b c m n first second = record {
       ∙ ap (with_kinds (kind_in a name key)) (sym (kinds_in-append (features_in m name) (features_in n name) key))
       ∙ ap (λ fs. with_kinds (kind_in a name key) (kinds_in fs key)) (sym (features_in-append m n name));
 }
-
-pub sums_none : (a : Layers) → a.entries ≡ [] → SumsUp a []
-sums_none a none = record { zooms = λ name. rw none refl; kinds = λ name key. rw none refl }
 
 pub sums_more : (b c : Layers) (m n : FeatureMap) → SumsUp b m → Adds b c n → SumsUp c (m ++ n)
 sums_more b c m n first second = record {

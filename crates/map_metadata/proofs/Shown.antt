@@ -29,9 +29,6 @@ use Rattle.map_metadata.specs.Summaries.{fields_data, layer_data, HasOrder}
 
 -- ---- kinds
 
-differ_more : (j k : FieldKind) (ks : List FieldKind) → Differ ks → Differ (j ∷ k ∷ ks)
-differ_more j k ks differ kind all = differ kind (All-tail (λ l. l ≡ kind) k ks (All-tail (λ l. l ≡ kind) j (k ∷ ks) all))
-
 differ_behind : (j k : FieldKind) (ks : List FieldKind) → Differ (j ∷ ks) → Differ (j ∷ k ∷ ks)
 differ_behind j k ks differ kind all =
     differ kind (All-cons (λ l. l ≡ kind) j ks (All-head (λ l. l ≡ kind) j (k ∷ ks) all)

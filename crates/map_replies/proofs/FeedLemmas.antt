@@ -96,14 +96,6 @@ so_far_more first xs i x number more before middle after lt is number_is more_is
           ∙ ap (edit_texts first) (sym (map-append (λ (f : RecordedEdit). f.changes) edits (e ∷ [])))),
     )
 
-pub so_far_none : (first : ℕ) (xs : List Record) (text : List ℕ) → IsSoFar first (records_of (take 0 xs)) text text
-so_far_none first xs text = ([], record { are_recorded = All-nil IsRecorded; are_records = refl }, sym (append-nil text))
-
-pub so_far_all : (first : ℕ) (xs : List Record) (i : ℕ) (before after : List ℕ) → length xs ≤ i → IsSoFar first (records_of (take i xs)) before after
-    → IsSoFar first (records_of xs) before after
-so_far_all first xs i before after past so_far =
-    subst (λ (rs : List RecordData). IsSoFar first rs before after) (ap records_of (take_all i xs past)) so_far
-
 -- a record of no edit is none of edits' records
 pub no_edits : (xs : List Record) (i : ℕ) (x : Record) (fault : RequestFault) → i < length xs → x ≡ get_or xs i x → IsTextFault (record_data x) fault
     → IsListFault (records_of xs) fault

@@ -12,12 +12,6 @@ use Rattle.map_replies.specs.Words.{outcome_reply, not_next_reply}
 use Rattle.map_replies.proofs.Answering.{device_failed}
 
 module _ {D : Type 0} (sectors : D → ℕ) (honest : D → Type 0) (history : D → History) where
-  -- it would get another number
-  pub told_next : (failed : Type 0) (old : ServiceView D) (number : ℕ) (cs : EditData) (reply : ReplyView)
-      → number ≢ old.journal.last + 1 → reply ≡ not_next_reply old.journal.last
-      → Answers sectors honest history (MeansNumbered failed (status_of old) number cs) old old reply
-  told_next failed old number cs reply other is = ([], inr (other, is, refl), refl)
-
   -- it would get this one, and was asked for
   pub made_numbered : (before after : ℕ) (number : ℕ) (cs : EditData) (old new : ServiceView D) (outcome : Result ℕ ServiceFault) (reply : ReplyView)
       → number ≡ old.journal.last + 1 → reply ≡ outcome_reply outcome → TellsDevice outcome before after

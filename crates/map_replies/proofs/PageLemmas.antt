@@ -35,9 +35,6 @@ abbrev pub Completes : (m : FeatureMap) → (bytes id : ℕ) → (done : List En
 Completes m bytes id done left from = (es : List Entry) (next : Option Entry) → AreFrom m from es next → AreEnough left es next
     → AreFrom m id (done ++ es) next × AreEnough bytes (done ++ es) next
 
-pub completes_none : (m : FeatureMap) (bytes id : ℕ) → Completes m bytes id [] bytes id
-completes_none m bytes id es next from enough = (from, enough)
-
 -- one more entry
 pub completes_more : (m : FeatureMap) (bytes id left from : ℕ) (done : List Entry) (e : Entry) → 0 < left → feature_from m from ≡ Some e
     → Completes m bytes id done left from → Completes m bytes id (done ++ e ∷ []) (left - length (listed e)) (e.0 + 1)

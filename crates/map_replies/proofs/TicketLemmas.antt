@@ -106,14 +106,6 @@ module _ {D : Type 0} (sectors : D → ℕ) (honest : D → Type 0) (history : D
   held_stepped (Err fault) place first oldest old new refused stepped held =
       subst (λ (s : ServiceView D). IsHeld honest history place first oldest s) (sym (refused (λ e. cc))) held
 
-  -- and so after a read by another one
-  pub held_rest : (old new : Calls D) (ticket : Ticket) (offset : ℕ) (outcome : Option (List ℕ))
-      → ReadsRest sectors honest history old ticket offset outcome new → KeepsTickets honest history old new
-  held_rest old new ticket offset outcome is place first held =
-      subst (λ (n : ℕ). IsHeld honest history place first n new.service) (sym is.oldest)
-      (held_reading place first old.oldest old.service new.service held is.disk
-      (ap (λ (s : ServiceView D). s.size) is.same) (ap (λ (s : ServiceView D). s.generation) is.same))
-
   -- ---- reads
 
   -- nothing is read

@@ -36,16 +36,3 @@ at_value IsFirst body d Gone json is = absurd is
 at_value IsFirst body d Memory json is = absurd is
 at_value IsFirst body d Device json is = absurd is
 at_value IsFirst body d Damaged json is = absurd is
-
--- a value in a body that isn't a feature
-pub value_fault : (body : List ℕ) (d : Data) (fault : RequestFault) → IsJson body d → IsEditFault (IsFirstJsonFault d) fault → HasBodyFault body fault
-value_fault body d fault json is = at_value IsFirstJsonFault body d fault json is
-
--- a value in a body that isn't a batch
-pub batch_fault : (body : List ℕ) (d : Data) (fault : RequestFault) → IsJson body d → IsEditFault (IsFirstBatchFault d) fault → HasBatchFault body fault
-batch_fault body d fault json is = at_value IsFirstBatchFault body d fault json is
-
--- a value in a body that isn't a checked edit
-pub checked_fault : (body : List ℕ) (d : Data) (fault : RequestFault) → IsJson body d → IsEditFault (IsFirstCheckedFault d) fault
-    → HasCheckedFault body fault
-checked_fault body d fault json is = at_value IsFirstCheckedFault body d fault json is

@@ -106,21 +106,6 @@ other_by pool entry query (suc index) old new true is absent within taken update
     ∙ other_named pool query index (length pool) old (bytes_eq (get_or pool index []) query) refl not_held before
     ∙ sym (index_in_push pool entry query absent ∙ rw is refl)
 
--- where the others have it already
-known_named : (pool : List (List ℕ)) (query : List ℕ) (index at : ℕ) (old : Option ℕ) (same : Bool) → bytes_eq (get_or pool index []) query ≡ same
-    → Some at ≡ index_in pool query → led pool (suc index) query old ≡ index_in pool query → led pool (suc index) query (Some at) ≡ index_in pool query
-known_named pool query index at old false is known before = rw is known
-known_named pool query index at old true is known before = rw is (rw is at before)
-
-known_by : (pool : List (List ℕ)) (query : List ℕ) (number at : ℕ) (old new : Option ℕ) (same : Bool)
-    → (same ≡ true → (number ≡ 0 → ⊥) × (Some at ≡ index_in pool query))
-    → new ≡ cond same (Some at) old → led pool number query old ≡ index_in pool query → led pool number query new ≡ index_in pool query
-known_by pool query number at old new false known update before = ap (λ (o : Option ℕ). led pool number query o) update ∙ before
-known_by pool query zero at old new true known update before = absurd ((known refl).0 refl)
-known_by pool query (suc index) at old new true known update before =
-    ap (λ (o : Option ℕ). led pool (suc index) query o) update
-    ∙ known_named pool query index at old (bytes_eq (get_or pool index []) query) refl (known refl).1 before
-
 -- ---- a pool of keys or values
 
 -- of entries that are written alike the slot is one
@@ -249,29 +234,3 @@ other_free {K} spelled coded cmp same codes old new entry slots index taken free
     let apart : bytes_eq (spelled entry) (spelled q) ≡ false = apart_by spelled entry q (bytes_eq (spelled entry) (spelled q)) refl
     (λ alike. taken (ap (λ (p : ℕ). slice_index slots p) (sym (same_place spelled coded codes entry q alike)) ∙ empty)) in
     updates q ∙ rw (same entry q, apart) (free q empty)
-
--- the others have it already
-pub known_looked : {K : Type 0} (spelled : K → List ℕ) (coded : K → ℕ) (cmp : K → K → Ordering)
-    → ((a b : K) → is_eq (cmp a b) ≡ bytes_eq (spelled a) (spelled b))
-    → ((a b : K) → spelled a ≡ spelled b → coded a ≡ coded b) → (old new : K → Option ℕ) (items : List K) (entry : K) (slots : List ℕ) (index : ℕ)
-    → Some index ≡ index_in (map spelled items) (spelled entry) → (slice_index slots (place_of (coded entry)) ≡ 0 → ⊥)
-    → ((q : K) → led (map spelled items) (slice_index slots (place_of (coded q))) (spelled q) (old q) ≡ index_in (map spelled items) (spelled q))
-    → ((q : K) → new q ≡ cond (is_eq (cmp entry q)) (Some index) (old q)) → (q : K)
-    → led (map spelled items) (slice_index slots (place_of (coded q))) (spelled q) (new q) ≡ index_in (map spelled items) (spelled q)
-known_looked {K} spelled coded cmp same codes old new items entry slots index known taken looked updates q =
-    let pool = map spelled items in
-    known_by pool (spelled q) (slice_index slots (place_of (coded q))) index (old q) (new q) (bytes_eq (spelled entry) (spelled q))
-    (λ alike. (
-      λ empty. taken (ap (λ (p : ℕ). slice_index slots p) (sym (same_place spelled coded codes entry q alike)) ∙ empty),
-      known ∙ ap (λ (bytes : List ℕ). index_in pool bytes) ((bytes_eq-Decides (spelled entry) (spelled q)).0 alike),
-    ))
-    (updates q ∙ rw (same entry q) refl) (looked q)
-
--- what the others answer, if it isn't the next index
-known_from : (found index : Option ℕ) (at next : ℕ) → found ≡ index → at ≡ unwrap_or found next → (at ≡ next → ⊥) → Some at ≡ index
-known_from None index at next e numbered apart = absurd (apart numbered)
-known_from (Some n) index at next e numbered apart = ap Some numbered ∙ e
-
-pub known_index : (pool : List (List ℕ)) (entry : List ℕ) (found : Option ℕ) (at next : ℕ) → found ≡ index_in pool entry → at ≡ unwrap_or found next
-    → (at ≡ next → ⊥) → Some at ≡ index_in pool entry
-known_index pool entry found at next e numbered apart = known_from found (index_in pool entry) at next e numbered apart

@@ -29,29 +29,7 @@ module _ (number : ℕ) where
         (λ (is : get_or ys at 0 ≡ number). inr (same ∙ is)) (r.only at)) (λ (is : get_or zs at 0 ≡ number). inr is) (s.only at);
   }
 
-  pub rises_at : (xs : List ℕ) (at : ℕ) → at < length xs → RisesTo number xs (set xs at (max (get_or xs at 0) number))
-  rises_at xs at lt = record {
-    length = length-set xs at (max (get_or xs at 0) number);
-    rises = λ other. either (λ (same : other ≡ at). subst (λ k. get_or xs k 0 ≤ get_or (set xs at (max (get_or xs at 0) number)) k 0) (sym same)
-        (omega (arith, get_or-set_same xs at (max (get_or xs at 0) number) 0 lt)))
-        (λ (apart : other ≡ at → ⊥). omega (arith, get_or-set_other xs at other (max (get_or xs at 0) number) 0 apart)) (cases_eq other at);
-    only = λ other. either (λ (same : other ≡ at).
-        subst (λ k. let new = get_or (set xs at (max (get_or xs at 0) number)) k 0 in (new ≡ get_or xs k 0) ⊎ (new ≡ number)) (sym same)
-        (rw (get_or-set_same xs at (max (get_or xs at 0) number) 0 lt) (max_is (get_or xs at 0) number)))
-        (λ (apart : other ≡ at → ⊥). inl (get_or-set_other xs at other (max (get_or xs at 0) number) 0 apart)) (cases_eq other at);
-  }
-
-  -- the cells of a row up to the one raised last
-  pub raised_more : (level row first at : ℕ) (xs ys : List ℕ) → RisesTo number xs ys → number ≤ cell_at ys level at row
-      → ((k : ℕ) → first ≤ k → k < at → number ≤ cell_at xs level k row) → (k : ℕ) → first ≤ k → k < at + 1 → number ≤ cell_at ys level k row
-  raised_more level row first at xs ys r here before k le lt =
-      either (λ (less : k < at). omega (arith, before k le less, r.rises (place_in level k row)))
-      (λ (not_less : at ≤ k). let same : at ≡ k = omega (arith, lt, not_less) in subst (λ j. number ≤ cell_at ys level j row) same here) (cases_lt k at)
-
 -- ---- what stays
-
-pub stays_none : (Raised : ℕ → Type 0) (xs : List ℕ) → StaysBut Raised xs xs
-stays_none Raised xs at out = refl
 
 pub stays_again : (Raised : ℕ → Type 0) (xs ys zs : List ℕ) → StaysBut Raised xs ys → StaysBut Raised ys zs → StaysBut Raised xs zs
 stays_again Raised xs ys zs r s at out = s at out ∙ r at out
@@ -59,9 +37,6 @@ stays_again Raised xs ys zs r s at out = s at out ∙ r at out
 -- the same with more places
 pub stays_wider : (P Q : ℕ → Type 0) (xs ys : List ℕ) → ((at : ℕ) → P at → Q at) → StaysBut P xs ys → StaysBut Q xs ys
 stays_wider P Q xs ys more r at out = r at (λ p. out (more at p))
-
-pub stays_set : (Raised : ℕ → Type 0) (xs : List ℕ) (at n : ℕ) → Raised at → StaysBut Raised xs (set xs at n)
-stays_set Raised xs at n is other out = get_or-set_other xs at other n 0 (λ (same : other ≡ at). out (subst Raised (sym same) is))
 
 -- of cells that share a number one is among the first SIDE
 pub wrapped : (first last n : ℕ) → first ≤ n → n ≤ last → (k : ℕ) × (first ≤ k) × (k < min last (first + (SIDE - 1)) + 1) × (k % SIDE ≡ n % SIDE)
@@ -153,14 +128,6 @@ pub record IsNewestBelow (cells : List ℕ) (b : WorldBox) (below n : ℕ) : Typ
   pub found : (level : ℕ) × IsLookedAt level b × IsGreatestIn cells level (cells_of level b) n
 
 module _ (cells : List ℕ) (b : WorldBox) where
-  pub first_newest : (n : ℕ) → IsGreatestIn cells 0 (cells_of 0 b) n → IsNewestBelow cells b 1 n
-  first_newest n is = record {
-    least = λ level m lt looked of_m.
-        let zero_level : level ≡ 0 = omega (arith, lt) in
-        greatest_below cells 0 (cells_of 0 b) n m is (subst (λ k. IsGreatestIn cells k (cells_of k b) m) zero_level of_m);
-    found = (0, record { is = omega arith; narrow = inl refl }, is);
-  }
-
   -- a level more, which is looked at
   pub newest_more : (at n m : ℕ) → at < LEVELS → IsNarrow (cells_of at b) → IsGreatestIn cells at (cells_of at b) m → IsNewestBelow cells b at n
       → IsNewestBelow cells b (at + 1) (min m n)

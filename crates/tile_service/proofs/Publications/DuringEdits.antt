@@ -27,17 +27,6 @@ module _ (n : ℕ) (stored : Stored) (taken : ℕ) (archive : List ℕ) where
   pub begins : (history : History) → CanPublish n stored taken archive → IsUnderWay n stored taken archive 0 history
   begins history can = record { can = can; first = none_written (snapshot (map_at stored taken)) archive n (suc stored.generation) (seen history) }
 
-  -- A write of the next sector that succeeds brings it one further.
-  pub goes_further : (result : Result (Unit {0}) DiskFault) (written : ℕ) (sector : List ℕ) (old new : History)
-      → IsUnderWay n stored taken archive written old → IsContentSector (snapshot (map_at stored taken)) archive written sector
-      → Writes result (area_start n (suc stored.generation) + written) sector old new
-      → OnOk result (IsUnderWay n stored taken archive (written + 1) new)
-  goes_further (Ok done) written sector old new was is writes = record {
-    can = was.can;
-    first = write_stands (snapshot (map_at stored taken)) archive n (suc stored.generation) (Ok done) written sector old new was.first is writes;
-  }
-  goes_further (Err fault) written sector old new was is writes = tt
-
   -- With an edit in the journal it is where it was,
   pub goes_on_with_edit : (edit : RecordedEdit) (written place used : ℕ) (old new : History) → IsUnderWay n stored taken archive written old
       → ReadsAsBefore (journal_ring n) place used (seen old) (seen new) → IsUnderWay n (with_edit stored edit) taken archive written new
@@ -95,10 +84,6 @@ module _ (start : Stored) (edits : List RecordedEdit) (i j taken n generation jo
 
       drops : drop taken (drop j (take i edits)) ≡ drop (j + taken) (take i edits)
       drops = drop-drop taken j (take i edits)
-
-  pub fits_published : (sectors : ℕ) (image : Image) → Holds sectors n (published n (fitting start edits i j generation journal_at archive) taken next) image
-      → Fits sectors n start edits i (j + taken) image
-  fits_published sectors image holds = (suc generation, place_behind, next, subst (λ (s : Stored). Holds sectors n s image) published_fits holds)
 
 -- ---- the definitions aren't empty
 

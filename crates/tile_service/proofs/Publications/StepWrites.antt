@@ -21,9 +21,6 @@ write_moment at bytes old new (inr (inr is)) = omega (arith, ap moment is)
 
 -- a sync, reported as done or as failed, takes one moment at most, changes nothing that a read gives, and leaves what is stored
 module _ (old new : History) (syncs : (new ≡ old) ⊎ (new ≡ synced old)) where
-  pub sync_moment : moment new ≤ moment old + 1
-  sync_moment = ⊎_elim (λ same. omega (arith, ap moment same)) (λ is. omega (arith, ap moment is)) syncs
-
   pub sync_first : (n generation : ℕ) (snapshot archive : List ℕ) (written : ℕ) → HasFirst n generation snapshot archive written (seen old)
       → HasFirst n generation snapshot archive written (seen new)
   sync_first n generation snapshot archive written first = ⊎_elim

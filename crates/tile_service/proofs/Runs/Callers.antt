@@ -41,11 +41,6 @@ use Rattle.tile_service.proofs.Runs.OneEvent.{broken_unchecked, after_step, afte
 use Rattle.tile_service.proofs.Runs.OneEvent.{happens_less, runs_less, runs_on, writes_nothing, step_map, check_map}
 use Rattle.tile_service.proofs.Tiles.Tags.{knows_same}
 
--- The image that is seen of a disk has the archive that the service continues from.
-pub archive_shown : {D : Type 0} (count : ℕ) (history : History) (stored : Stored) (service : ServiceView D) → IsUp count history stored service
-    → shown_archive (seen history) service ≡ stored.archive
-archive_shown count history stored service up = archive_is_shown count history stored service up
-
 -- It shows that archive,
 pub stored_shows : {D : Type 0} (count : ℕ) (history : History) (stored : Stored) (service : ServiceView D) → IsUp count history stored service
     → ShowsArchive history service stored.archive

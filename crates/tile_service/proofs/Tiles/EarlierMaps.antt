@@ -13,13 +13,6 @@ none_of : (k : ℕ) → ◌≡◌ {A = List RecordedEdit} (take k []) []
 none_of zero = refl
 none_of (suc k) = refl
 
--- Before any edit only the map of this moment is known.
-pub were_none : (m : FeatureMap) (cells : List ℕ) (last : ℕ) → WasMap m cells last last m → WereMaps m cells last last m []
-were_none m cells last now k le =
-    let same : last ≡ last + k = omega (arith, le) in
-    subst (λ (n : ℕ). WasMap m cells last n (after m (take k []))) same
-    (subst (λ (es : List RecordedEdit). WasMap m cells last last (after m es)) (sym (none_of k)) now)
-
 -- With one more edit, the map after that edit is known too.
 module _ (m : FeatureMap) (cells : List ℕ) (last : ℕ) (new : FeatureMap) (then : List ℕ) (number : ℕ)
     (since : (n : ℕ) (was : FeatureMap) → WasMap m cells last n was → WasMap new then number n was) (now : WasMap new then number number new) where
