@@ -43,9 +43,7 @@ STATUS_OF = {"Head": 400, "Host": 400, "Coding": 501, "Expect": 417, "Length": 4
 
 # A head: its version as its last digit, its fields as pairs of a name in lower case and a value, and how many bytes it has.
 Head = namedtuple("Head", "method target minor fields size")
-# A request: `conditional` is whether it is to be done only if an entity tag is, or isn't, what its sender says. `if_match` and `if_none_match`
-# are the values of these fields where there is one, or None.
-Request = namedtuple("Request", "method path range conditional if_match if_none_match body close size")
+Request = namedtuple("Request", "method path fields body close size")
 
 
 class Fault(Exception):
@@ -145,17 +143,17 @@ def head_in(taken):
 
 
 def values(head, name):
+    """The values of the fields of this name, of a head or of a request."""
     return [value for field, value in head.fields if field == name]
 
 
 def body_size(head):
     """How many bytes the body has, or the word of the first rule that the fields break."""
-    hosts = len(values(head, b"host"))
-    if hosts > 1 or hosts == 0 and head.minor == 1:
+    if head.minor == 1 and len(values(head, b"host")) != 1:
         raise Rejected("Host")
     if values(head, b"transfer-encoding"):
         raise Rejected("Coding")
-    if values(head, b"expect") and head.minor == 1:
+    if values(head, b"expect"):
         raise Rejected("Expect")
     lengths = values(head, b"content-length")
     if len(lengths) > 1 or lengths and not re.fullmatch(rb"[0-9]+", lengths[0]):
@@ -170,22 +168,6 @@ def only(head, name):
     """The value of the one field of a name, or None."""
     found = values(head, name)
     return found[0] if len(found) == 1 else None
-
-
-def range_of(head):
-    """The value of the one range, or None. A range under a condition counts as none: the whole is right whether the condition holds or not."""
-    return None if values(head, b"if-range") else only(head, b"range")
-
-
-def is_conditional(head):
-    return bool(values(head, b"if-match") or values(head, b"if-none-match"))
-
-
-def path_of(target):
-    """The path of a target, without scheme and authority in absolute form (RFC 9112, 3.2.2) if that names a host (RFC 9110, 4.2.1)."""
-    path = target.split(b"?")[0]
-    absolute = re.fullmatch(rb"(?i:https?)://[^/:][^/]*(/.*)?", path, re.DOTALL)
-    return (absolute[1] or b"/") if absolute else path
 
 
 def asks_to_close(head):
@@ -220,8 +202,7 @@ def request_of(taken, held):
         raise Rejected(rejected.args[0], bare, head.size) from None
     if size > len(held):
         raise Rejected("Short", bare, None)
-    tags = is_conditional(head), only(head, b"if-match"), only(head, b"if-none-match")
-    return Request(head.method, path_of(head.target), range_of(head), *tags, held[head.size : size], asks_to_close(head), size)
+    return Request(head.method, head.target.split(b"?")[0], head.fields, held[head.size : size], asks_to_close(head), size)
 
 
 # ---- replies
@@ -290,8 +271,6 @@ ADMIN_ROUTES = [
     (rb"/admin/edits/from/" + NUMBER, "feed", "GET, HEAD"),
     (rb"/admin/edits/at/" + NUMBER, "numbered", "POST"),
 ]
-# Methods that change something, of which nothing has an entity tag.
-CHANGING = (b"PUT", b"DELETE", b"POST")
 
 
 def is_in_range(name, numbers):
@@ -325,10 +304,6 @@ def read_body(body, reads):
         raise Unread(fault.args[0]) from fault
 
 
-def put(service, number, body):
-    return json_reply({"edit": service.put(*as_stored(Change(number, read_body(body, features.feature_of))))})
-
-
 def batch(service, body):
     return json_reply({"edit": service.batch([as_stored(change) for change in read_body(body, features.body_of)])})
 
@@ -348,15 +323,6 @@ def numbered_batch(service, number, body):
     if listings.next_number(service) != number:
         return refusal(409, f"Next {service.last + 1}")
     return json_reply({"edit": service.batch([as_stored(change) for change in changes])})
-
-
-def tile_reply(service, at, ending):
-    content = service.tile(*at)
-    if not content:
-        return Reply(204)
-    if ending == b"hex":
-        return Reply(200, TEXT, content.hex().encode())
-    return Reply(200, "application/vnd.mapbox-vector-tile", content)
 
 
 def parts_read(service, first, count):
@@ -379,6 +345,15 @@ def tag_of(root):
     return f'"{root.generation}-{root.edits}-{root.archive_len}"'
 
 
+# ---- conditions, which are looked at where replies have entity tags
+
+
+def condition(request, name):
+    """The value of a condition, or None. Several fields of its name are one list (RFC 9110, 5.3)."""
+    found = values(request, name)
+    return b", ".join(found) if found else None
+
+
 def names(value, *tags):
     """Whether the value of a condition is an asterisk, or has one of these entity tags in its list (RFC 9110, 13.1.1, 13.1.2, 5.6.1)."""
     return value == b"*" or any(member.strip(b" \t") in tags for member in value.split(b","))
@@ -389,25 +364,67 @@ def refused_condition(request, tag):
     `if-match`, weakly for `if-none-match` (RFC 9110, 13.2.2, 8.8.3.2).
     """
     text = tag.encode()
-    if request.if_match is not None and not names(request.if_match, text):
+    if_match, if_none_match = condition(request, b"if-match"), condition(request, b"if-none-match")
+    if if_match is not None and not names(if_match, text):
         return refusal(412, "Condition")
-    if request.if_none_match is not None and names(request.if_none_match, text, b"W/" + text):
+    if if_none_match is not None and names(if_none_match, text, b"W/" + text):
         return Reply(304, tag=tag)
     return None
 
 
+def wanted(request):
+    """What the conditions of a request want of the feature that it changes: that it is `there`, or `absent`, nothing, or what can't be met. Only an
+    asterisk asks for no tag, of which a feature has none."""
+    if_match, if_none_match = condition(request, b"if-match"), condition(request, b"if-none-match")
+    wants = {(None, None): "free", (b"*", None): "there", (None, b"*"): "absent"}
+    return wants.get((if_match, if_none_match), "never")
+
+
+def meets(wants, is_there):
+    return wants == "free" or wants == ("there" if is_there else "absent")
+
+
+def range_of(request, is_tagged):
+    """The value of the one range, or None. A range under a condition counts as none: the whole is right whether the condition holds or not."""
+    return None if is_tagged and values(request, b"if-range") else only(request, b"range")
+
+
+# ---- what is shown
+
+
+def tile_content(service, at, ending, tag):
+    content = service.tile(*at)
+    if not content:
+        return Reply(204, tag=tag)
+    if ending == b"hex":
+        return Reply(200, TEXT, content.hex().encode(), tag=tag)
+    return Reply(200, "application/vnd.mapbox-vector-tile", content, tag=tag)
+
+
+def tile_reply(service, at, ending, request):
+    """A tile. Where replies have tags its own is a weak one, and who names it gets no tile, and none is made."""
+    if service.start is None:
+        return tile_content(service, at, ending, None)
+    text = f'"{service.start}-{service.number_of(at)}"'
+    if_none_match = condition(request, b"if-none-match")
+    if if_none_match is not None and names(if_none_match, text.encode(), b"W/" + text.encode()):
+        return Reply(304, tag="W/" + text)
+    return tile_content(service, at, ending, "W/" + text)
+
+
 def archive_reply(service, request):
     """The archive or the part of it that a GET asks for. A HEAD reads nothing, and nothing is read where a condition doesn't hold."""
-    total, tag = service.root.archive_len, tag_of(service.root)
+    total, is_tagged = service.root.archive_len, service.start is not None
     if total == 0:
         raise Refused("NotFound")
-    refused = refused_condition(request, tag)
+    tag = tag_of(service.root) if is_tagged else None
+    refused = refused_condition(request, tag) if is_tagged else None
     if refused is not None:
         return refused
     kind = "application/octet-stream"
     if request.method == b"HEAD":
         return Reply(200, kind, length=total, tag=tag)
-    asked = re.fullmatch(rb"bytes=([0-9]{1,18})-([0-9]{1,18})", request.range or b"")
+    asked = re.fullmatch(rb"bytes=([0-9]{1,18})-([0-9]{1,18})", range_of(request, is_tagged) or b"")
     first, last = (int(asked[1]), int(asked[2])) if asked else (0, total - 1)
     if asked is None or first > last:
         status, first, last, said = 200, 0, total - 1, None
@@ -422,14 +439,18 @@ def archive_reply(service, request):
     return Reply(status, kind, content_range=said, parts=parts, length=last - first + 1, tag=tag)
 
 
-def on_feature(service, number, request):
-    if request.method == b"PUT":
-        return put(service, number, request.body)
-    if request.method == b"DELETE":
-        return json_reply({"edit": service.delete(number)})
-    if number not in service.map:
-        raise Refused("NotFound")
-    return json_reply(service.map[number])
+def on_feature(service, number, request, wants):
+    """A feature, or an edit of it. The body is read before what is there is looked at."""
+    if request.method in (b"GET", b"HEAD"):
+        if number not in service.map:
+            raise Refused("NotFound")
+        return json_reply(service.map[number])
+    if wants == "never":
+        return refusal(412, "Condition")
+    change = as_stored(Change(number, read_body(request.body, features.feature_of))) if request.method == b"PUT" else None
+    if not meets(wants, number in service.map):
+        return refusal(412, "Condition")
+    return json_reply({"edit": service.put(*change) if change else service.delete(number)})
 
 
 def first_from(service, number):
@@ -466,11 +487,12 @@ def reply_to(service, request, is_admin):
     name, numbers, ending, allow = route
     if request.method not in allow.encode().split(b", "):
         return refusal(405, "Method", allow=allow)
-    if request.conditional and request.method in CHANGING:
+    wants = "free" if service.start is None else wanted(request)
+    if request.method == b"POST" and wants != "free":
         return refusal(412, "Condition")
     try:
         if name == "feature":
-            return on_feature(service, numbers[0], request)
+            return on_feature(service, numbers[0], request, wants)
         if name == "edits":
             return batch(service, request.body)
         if name == "checked":
@@ -482,7 +504,7 @@ def reply_to(service, request, is_admin):
         if name == "feed":
             return json_reply(listings.edits_from(service, numbers[0]))
         if name == "tile":
-            return tile_reply(service, numbers, ending)
+            return tile_reply(service, tuple(numbers), ending, request)
         if name == "from":
             return first_from(service, numbers[0])
         if name == "status":

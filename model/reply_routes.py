@@ -117,52 +117,61 @@ def routes(script):
     script.ask(put(7), request("DELETE", "/features/7"), request("GET", "/map/0/0/0.hex"), request("GET", "/features/7"))
 
 
-CONDITIONS = ["if-match: *", 'IF-MATCH: "1-1-223"', "if-match:", "if-none-match: *", 'If-None-Match: "a", W/"b"']
+# Conditions that nothing meets that is changed here, and those that aren't any.
+CONDITIONS = ['IF-MATCH: "1-1-223"', "if-match:", 'If-None-Match: "a", W/"b"', "if-match: *, *"]
 NO_CONDITIONS = ["if-matches: *", "x-if-match: *", "if_match: *", "if-none: *", "if-modified-since: x", "if-unmodified-since: x", 'if-range: "x"']
 ONE_EDIT = b'{"changes":[{"put":8,"feature":%s}]}' % BODY
 CHECKED_EDIT = b'{"changes":[{"put":8,"feature":%s,"was":null}]}' % BODY
 
 
-def changing(number, *fields):
-    """Requests that change something: a feature that is there, one that isn't, and the publication."""
-    edits = [request("PUT", f"/features/{number}", BODY, *fields), request("DELETE", f"/features/{number}", b"", *fields)]
-    edits += [request("POST", "/edits", ONE_EDIT, *fields), request("POST", "/admin/edits", CHECKED_EDIT, *fields)]
+def actions(*fields):
+    """Requests that change something but a single feature."""
+    edits = [request("POST", "/edits", ONE_EDIT, *fields), request("POST", "/admin/edits", CHECKED_EDIT, *fields)]
     return edits + [request("POST", "/publish" + name, b"", *fields) for name in ("", "/begin", "/step", "/cancel")]
 
 
+def changing(number, *fields):
+    """Requests that change something: a feature that is there, one that isn't, and the publication."""
+    return [request("PUT", f"/features/{number}", BODY, *fields), request("DELETE", f"/features/{number}", b"", *fields), *actions(*fields)]
+
+
 def conditions(script):
-    script.say("Requests under a condition on entity tags: those that change something are refused, and nothing is changed.")
+    script.say("Requests under a condition on entity tags, where replies have them: those that change something are refused, and nothing is changed.")
+    script.tags(17)
     with_point(script)
     script.admin()
     shows = [request("GET", path) for path in ("/features/7", "/features/8", "/map/0/0/0.hex", "/map.pmtiles", "/admin/status")]
     for field in CONDITIONS:
         script.ask(*changing(7, field), *changing(8, field), *shows, sizes="4096,1")
+    for field in ("if-match: *", "if-none-match: *"):
+        script.ask(*actions(field), *shows, sizes="4096,1")
     script.ask(request("PUT", "/features/8", BODY, *CONDITIONS), shows[1])
-    script.note("Those that read are answered as without one.")
-    for field in CONDITIONS[::3]:
+    script.note("Those that read are answered as without one, but for what has a tag.")
+    for field in ("if-match: x", "if-match: *", "if-none-match: *"):
         for method in ("GET", "HEAD"):
             script.ask(*(request(method, path, b"", field) for path in ("/features/7", "/features/8", "/map/0/0/0.hex", "/map/metadata", "/map.pmtiles")))
     script.note("A path that isn't served and a method that isn't are named before, and what is wrong with a head, a length or a body's size.")
-    for field in ("if-match: *", "if-none-match: *"):
+    for field in ("if-match: x", "if-none-match: *"):
         script.ask(request("PUT", "/features/07", BODY, field), request("DELETE", "/", b"", field), request("POST", "/features/7", BODY, field))
         script.ask(request("PUT", "/map/metadata", BODY, field), request("DELETE", "/edits", b"", field), request("PATCH", "/features/7", BODY, field))
         for bad in ("content-length: x", "content-length: 65537", "expect: 100-continue", "transfer-encoding: chunked", "host: y"):
             script.wait(request("PUT", "/features/8", b"", field, bad))
         script.ask(request("PUT", "/features/8", BODY, field)[:-1])
     script.note("It is named before what is wrong with the body's text, with the feature, or with the disk, of which no call is made.")
-    script.ask(*(request("PUT", "/features/7", body, "if-match: *") for body in (b"", b"{", b"[]", BODY.replace(b'"p"', b'""'))))
-    script.ask(request("DELETE", "/features/9", b"", "if-match: *"), request("POST", "/edits", b'{"changes":[]}', "if-match: *"))
+    script.ask(*(request("PUT", "/features/7", body, "if-match: x") for body in (b"", b"{", b"[]", BODY.replace(b'"p"', b'""'))))
+    script.ask(request("DELETE", "/features/9", b"", "if-match: x"), request("POST", "/edits", b'{"changes":[]}', "if-match: *"))
     script.admin("from", 1)
-    script.ask(*changing(7, "if-match: *"), shows[0], put(8), request("PUT", "/features/8", BODY, "if-match: *"), put(8))
+    script.ask(*changing(7, "if-match: x"), shows[0], put(8), request("PUT", "/features/8", BODY, "if-match: x"), put(8))
     script.note("The body is passed over whole; the connection stays, unless it is to be closed.")
     with_point(script)
-    script.ask(request("PUT", "/features/8", shows[0], "if-none-match: *"), *shows[:2])
-    script.ask(request("PUT", "/features/8", BODY, "if-none-match: *", "connection: close"), shows[0])
-    script.ask(request("PUT", "/features/8", BODY, "if-none-match: *").replace(b"HTTP/1.1", b"HTTP/1.0"), shows[0])
+    script.ask(request("PUT", "/features/8", shows[0], "if-none-match: x"), *shows[:2])
+    script.ask(request("PUT", "/features/8", BODY, "if-none-match: x", "connection: close"), shows[0])
+    script.ask(request("PUT", "/features/8", BODY, "if-none-match: x").replace(b"HTTP/1.1", b"HTTP/1.0"), shows[0])
     script.ask(shows[1])
     script.note("Fields of other names, and other conditions, aren't looked at.")
     for number, field in enumerate(NO_CONDITIONS, 10):
         script.ask(request("PUT", f"/features/{number}", BODY, field), request("DELETE", f"/features/{number}", b"", field))
+    script.tags()
 
 
 def worked_tiles(script):

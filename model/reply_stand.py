@@ -6,6 +6,7 @@ from crashes import FROM, MADE, NONE, NOT_MADE, Faulty, Memory
 from disk import FIRST_VERSION, SECTOR, Fault
 from features import compact
 from machine import Service
+from tagged import TaggedService
 
 FORMAT = {13: "\\r", 10: "\\n", 9: "\\t", 92: "\\x5c"}
 MAX_TOLD, FRONT = 2000, 300
@@ -65,7 +66,7 @@ class Stand:
     """A disk, and the service on it while it is open."""
 
     def __init__(self):
-        self.disk, self.service, self.is_admin = Memory(1), None, False
+        self.disk, self.service, self.is_admin, self.start = Memory(1), None, False, None
 
     def zeros(self, sectors):
         self.disk, self.service = Memory(sectors), None
@@ -108,7 +109,8 @@ class Stand:
         counted = Faulty(self.disk)
         try:
             Service(counted)
-            self.service = Service(Faulty(self.disk, KINDS[kind], counted.calls + number))
+            self.service = TaggedService(Faulty(self.disk, KINDS[kind], counted.calls + number))
+            self.service.start = self.start
         except Fault as fault:
             return fault.args[0]
         return "open"
@@ -156,6 +158,11 @@ class Script:
 
     def admin(self, kind="", number=0):
         self.add(f"admin {kind} {number}" if kind else "admin", self.stand.open(kind, number, True))
+
+    def tags(self, start=None):
+        """What is opened from now on has entity tags, of which those of tiles begin with this number, or has none."""
+        self.stand.start = start
+        self.add("tags" if start is None else f"tags {start}", "tags")
 
     def writer(self, size=None, room=None, end="fails"):
         self.room = room

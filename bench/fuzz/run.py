@@ -40,6 +40,7 @@ from machine import Service
 from odd_edits import odd_edit
 from reply_random import random_feature, random_request
 from reply_stand import PUBLISH, put, request
+from tagged import TaggedService
 from wire import varint
 
 TARGETS = ["verify", "show", "demo", "pipe", "upgrade"]
@@ -255,7 +256,7 @@ def wanted_of_show(held):
 
 
 def replies_of(memory, asked):
-    return 0, connections.outcome(Service(memory), asked, 4096).written, b""
+    return 0, connections.outcome(TaggedService(memory), asked, 4096).written, b""
 
 
 def memory_of(held):

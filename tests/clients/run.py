@@ -82,24 +82,23 @@ def routes(cases, folder):
         whole = archive()
         said = '{"archive":%d,"edits":1,"generation":1}' % len(whole)
         same(cases, "a publication", curl(url + "/publish", "-X", "POST"), wanted(200, JSON, said))
-        tag = [("etag", f'"1-1-{len(whole)}"')]
-        same(cases, "the archive, as the standard has it", curl(url + "/map.pmtiles"), wanted(200, BYTES, whole, more=tag))
-        head = ("HTTP/1.1 200 OK", [("content-type", BYTES), *tag, ("content-length", str(len(whole)))], b"")
+        same(cases, "the archive, as the standard has it", curl(url + "/map.pmtiles"), wanted(200, BYTES, whole))
+        head = ("HTTP/1.1 200 OK", [("content-type", BYTES), ("content-length", str(len(whole)))], b"")
         cases.show("HEAD of it", curl(url + "/map.pmtiles", "--head"), head)
         parts = [("0-6", 0, 7), ("0-126", 0, 127), ("00-000", 0, 1), ("200-999", 200, len(whole)), ("222-222", 222, 223)]
         for asked, first, end in parts:
-            more = [("content-range", f"bytes {first}-{end - 1}/{len(whole)}"), *tag]
+            more = [("content-range", f"bytes {first}-{end - 1}/{len(whole)}")]
             reply = curl(url + "/map.pmtiles", "-H", f"Range: bytes={asked}")
             same(cases, f"bytes {asked} of it", reply, wanted(206, BYTES, whole[first:end], more=more))
         beyond = refusal(416, "Range", more=[("content-range", f"bytes */{len(whole)}")])
         same(cases, "bytes behind its end", curl(url + "/map.pmtiles", "-H", f"Range: bytes={len(whole)}-999"), beyond)
         for asked in ["bytes=-5", "bytes=0-", "bytes=9-8", "bytes=0-1,3-4", "Bytes=0-1", "bytes = 0-1"]:
             reply = curl(url + "/map.pmtiles", "-H", f"Range: {asked}")
-            same(cases, f"range: {asked} is as none", reply, wanted(200, BYTES, whole, more=tag))
-        for value in (tag[0][1], '"1-1-1"'):
-            reply = curl(url + "/map.pmtiles", "-H", "Range: bytes=0-6", "-H", f"If-Range: {value}")
-            same(cases, f"a part under if-range: {value}", reply, wanted(200, BYTES, whole, more=tag))
-        archive_under_conditions(cases, url, whole, tag)
+            same(cases, f"range: {asked} is as none", reply, wanted(200, BYTES, whole))
+        part = wanted(206, BYTES, whole[:7], more=[("content-range", f"bytes 0-6/{len(whole)}")])
+        for condition in ("If-Range: x", 'If-Match: "1-1-1"', "If-None-Match: *"):
+            reply = curl(url + "/map.pmtiles", "-H", "Range: bytes=0-6", "-H", condition)
+            same(cases, f"without --etags {condition} isn't looked at", reply, part)
         same(cases, "a step of no publication", curl(url + "/publish/step", "-X", "POST"), refusal(409, "Idle"))
         same(cases, "a cancellation of none", curl(url + "/publish/cancel", "-X", "POST"), refusal(409, "Idle"))
         begun = curl(url + "/publish/begin", "-X", "POST")
@@ -110,16 +109,46 @@ def routes(cases, folder):
         curl(url + "/publish/begin", "-X", "POST")
         same(cases, "an edit between the steps", curl(url + "/features/8", "-X", "PUT", body=feature("q")), wanted(200, JSON, '{"edit":2}'))
         same(cases, "the last step", curl(url + "/publish/step", "-X", "POST"), wanted(200, JSON, '{"left":0}'))
-        before, tag = tag[0][1], [("etag", f'"2-1-{len(whole)}"')]
-        same(cases, "the archive is that of the beginning, by another tag", curl(url + "/map.pmtiles"), wanted(200, BYTES, whole, more=tag))
-        same(cases, "it is sent to who has the one before", curl(url + "/map.pmtiles", "-H", f"If-None-Match: {before}"), wanted(200, BYTES, whole, more=tag))
+        same(cases, "the archive is that of the beginning", curl(url + "/map.pmtiles"), wanted(200, BYTES, whole))
         same(cases, "DELETE", curl(url + "/features/8", "-X", "DELETE"), wanted(200, JSON, '{"edit":3}'))
         same(cases, "it is gone", curl(url + "/features/8"), refusal(404, "NotFound"))
-        mirror(cases, "", folder, url)
         path = os.path.join(folder, "map.pmtiles")
         subprocess.run(["curl", "--silent", "--output", path, url + "/map.pmtiles"], check=True)
         judged = subprocess.run([PROGRAM, "verify", path], capture_output=True, text=True)
         cases.show("verify of what curl kept", (judged.returncode, judged.stdout), (0, "ok: 3 tiles, 2 entries, 1 contents\n"))
+
+
+def tags(cases, folder):
+    """Entity tags and conditions, with --etags."""
+    with Server(folder, "tags", more=["--admin", "--etags"]) as server:
+        url = server.url
+        same(cases, "a PUT under if-match: * of what isn't there", curl(url + "/features/7", "-X", "PUT", "-H", "If-Match: *", body=feature()), refusal(412, "Condition"))
+        reply = curl(url + "/features/7", "-X", "PUT", "-H", "If-None-Match: *", body=feature())
+        same(cases, "a PUT under if-none-match: * of what isn't there", reply, wanted(200, JSON, '{"edit":1}'))
+        reply = curl(url + "/features/7", "-X", "PUT", "-H", "If-None-Match: *", body=feature("q"))
+        same(cases, "and of what is there", reply, refusal(412, "Condition"))
+        tile = curl(url + "/map/0/0/0.mvt")
+        tag = field(tile, "etag")
+        cases.show("a tile has a weak tag", re.fullmatch(r'W/"[1-9][0-9]*-1"', tag) is not None, True)
+        for value, status in ((tag, 304), (tag[2:], 304), (f'"a", {tag}', 304), ('W/"1-1"', 200)):
+            cases.show(f"a tile under if-none-match: {value}", status_of(curl(url + "/map/0/0/0.mvt", "-H", f"If-None-Match: {value}")), status)
+        whole = archive()
+        curl(url + "/publish", "-X", "POST")
+        tag = [("etag", f'"1-1-{len(whole)}"')]
+        same(cases, "the archive, with its tag", curl(url + "/map.pmtiles"), wanted(200, BYTES, whole, more=tag))
+        for value in (tag[0][1], '"1-1-1"'):
+            reply = curl(url + "/map.pmtiles", "-H", "Range: bytes=0-6", "-H", f"If-Range: {value}")
+            same(cases, f"a part under if-range: {value}", reply, wanted(200, BYTES, whole, more=tag))
+        archive_under_conditions(cases, url, whole, tag)
+        curl(url + "/publish", "-X", "POST")
+        before, tag = tag[0][1], [("etag", f'"2-1-{len(whole)}"')]
+        same(cases, "another archive has another tag", curl(url + "/map.pmtiles", "-H", f"If-None-Match: {before}"), wanted(200, BYTES, whole, more=tag))
+        mirror(cases, "", folder, url)
+        for condition in ('If-Match: "x"', 'If-None-Match: "a"'):
+            for path, method in (("/features/7", "PUT"), ("/features/7", "DELETE"), ("/edits", "POST"), ("/publish", "POST"), ("/admin/edits", "POST")):
+                reply = curl(url + path, "-X", method, "-H", condition, body=feature())
+                same(cases, f"{method} {path} under {condition}", reply, refusal(412, "Condition"))
+        same(cases, "a DELETE under if-match: *", curl(url + "/features/7", "-X", "DELETE", "-H", "If-Match: *"), wanted(200, JSON, '{"edit":2}'))
 
 
 def archive_under_conditions(cases, url, whole, tag):
@@ -135,7 +164,9 @@ def archive_under_conditions(cases, url, whole, tag):
         ([f'If-None-Match: "a",\t{text} , "b"'], known),
         (['If-None-Match: "1-1-1"'], sent),
         (["If-None-Match;"], sent),
-        ([f"If-None-Match: {text}", "If-None-Match: *"], sent),
+        ([f"If-None-Match: {text}", "If-None-Match: *"], known),
+        (['If-Match: "1-1-1"', f"If-Match: {text}"], sent),
+        (['If-Match: "1-1-1"', 'If-Match: "1-1-2"', *ranges], other),
         ([f"If-None-Match: {text}", *ranges], known),
         ([f"If-None-Match: {text}", "Range: bytes=999-1000"], known),
         ([f"If-None-Match: {text}", *ranges, f"If-Range: {text}"], known),
@@ -176,16 +207,19 @@ def refused_requests(cases, folder):
         same(cases, "a body of 65,537 bytes", curl(url + "/features/7", "-X", "PUT", body="x" * 65537), refusal(413, "Body", closes=True))
         same(cases, "a body of 65,536 bytes is read", curl(url + "/features/7", "-X", "PUT", body="x" * 65536), refusal(400, "Json"))
         same(cases, "HTTP/1.0 without a host", curl(tile, "--http1.0", "-H", "Host:"), wanted(204, closes=True))
-        same(cases, "an expectation in HTTP/1.0", curl(tile, "--http1.0", "-H", "Expect: 100-continue"), wanted(204, closes=True))
+        same(cases, "an expectation in HTTP/1.0", curl(tile, "--http1.0", "-H", "Expect: 100-continue"), refusal(417, "Expect", closes=True))
         same(cases, "connection: close", curl(tile, "-H", "Connection: Close"), wanted(204, closes=True))
         for name, sent, word in [
             ("a head cut short", b"GET / HTTP/1.1\r\nhost: x\r\n", "Head"),
             ("a body cut short", b"PUT /features/7 HTTP/1.1\r\nhost: x\r\ncontent-length: 9\r\n\r\nabc", "Short"),
             ("two lengths", b"PUT /features/7 HTTP/1.1\r\nhost: x\r\ncontent-length: 3\r\ncontent-length: 3\r\n\r\nabc", "Length"),
             ("two hosts", b"GET / HTTP/1.1\r\nhost: x\r\nhost: x\r\n\r\n", "Host"),
-            ("two hosts in HTTP/1.0", b"GET / HTTP/1.0\r\nhost: x\r\nhost: x\r\n\r\n", "Host"),
         ]:
             same(cases, f"{name} (a bare socket)", parsed(bare(server.port, sent)), refusal(400, word, closes=True))
+        sent = b"GET /map/0/0/0.mvt HTTP/1.0\r\nhost: x\r\nhost: x\r\n\r\n"
+        same(cases, "two hosts in HTTP/1.0 (a bare socket)", parsed(bare(server.port, sent)), wanted(204, closes=True))
+        sent = b"GET http://x/map/0/0/0.mvt HTTP/1.1\r\nhost: x\r\nconnection: close\r\n\r\n"
+        same(cases, "a target in absolute form (a bare socket)", parsed(bare(server.port, sent)), refusal(404, "NotFound", closes=True))
         features = ["/features", "/features/", "/features/07", "/features/9223372036854775808", "/features/%37"]
         tiles = ["/map/20/0/0.mvt", "/map/19/524288/0.mvt", "/map/1/2/0.mvt", "/map/0/0/0.png", "/map/00/0/0.mvt"]
         for path in ["/", "/publish/", *features, *tiles]:
@@ -202,11 +236,6 @@ def refused_requests(cases, folder):
             ("/publish/cancel", "DELETE", "POST"),
         ]:
             same(cases, f"{method} {path}", methods(curl(url + path, "-X", method)), refusal(405, "Method", more=[("allow", allowed)]))
-        for condition in ("If-Match: *", 'If-None-Match: "a"'):
-            for path, method in (("/features/7", "PUT"), ("/features/7", "DELETE"), ("/edits", "POST"), ("/publish", "POST"), ("/admin/edits", "POST")):
-                reply = curl(url + path, "-X", method, "-H", condition, body=feature())
-                same(cases, f"{method} {path} under {condition}", reply, refusal(412, "Condition"))
-            same(cases, f"a GET under {condition}", curl(tile, "-H", condition), wanted(204))
         big = "x" * 3000000
         replies = [curl(url + "/features/7", "-X", "PUT", "-H", "Expect:", body=big) for _ in range(60)]
         whole = [reply for reply in replies if (status_of(reply), reply[2]) == (413, b"Body\n")]
@@ -340,7 +369,7 @@ def restarts(cases, folder):
         curl(server.url + "/publish", "-X", "POST")
         server.end(signal.SIGKILL)
     with Server(folder, "stopped", connections=3) as server:
-        whole = wanted(200, BYTES, archive(), more=[("etag", '"1-1-223"')])
+        whole = wanted(200, BYTES, archive())
         same(cases, "the archive outlives a kill -9", curl(server.url + "/map.pmtiles"), whole)
         curl(server.url + "/map/0/0/0.mvt", "-H", "Connection: close")
         curl(server.url + "/map/0/0/0.mvt", "-H", "Expect: x")
@@ -540,7 +569,7 @@ def in_front(cases, folder):
         cases.say("no nginx: nothing is tried in front of the server")
         return
     brief = [("keepalive_timeout 30s", "keepalive_timeout 1s")]
-    with Server(folder, "behind") as server, Nginx(nginx, folder, server, brief) as front:
+    with Server(folder, "behind", more=["--admin", "--etags"]) as server, Nginx(nginx, folder, server, brief) as front:
         url = front.url
 
         def tile():
@@ -641,16 +670,18 @@ def in_front(cases, folder):
 
 
 def conditions(cases, url):
-    """Edits under a condition get to the server, which refuses them; what reads is answered."""
-    for field_of_it in ("If-Match: *", 'If-None-Match: "x"'):
+    """Edits under a condition get to the server, which refuses those that name tags; what reads is answered."""
+    for field_of_it, reads in (('If-Match: "x"', [200, 412, 412, 412]), ('If-None-Match: "x"', [200, 200, 200, 200])):
         words = ["-H", field_of_it, "-H", "Content-Type: application/json"]
         for path, method in (("/features/7", "PUT"), ("/features/7", "DELETE"), ("/edits", "POST"), ("/admin/edits", "POST"), ("/publish", "POST")):
             reply = curl(url + path, "-X", method, *words, body=feature("other"))
             cases.show(f"nginx: {method} {path} under {field_of_it}", (status_of(reply), reply[2]), (412, b"Condition\n"))
         found = [status_of(curl(url + path, *words)) for path in ("/features/7", "/map/0/0/0.mvt", "/map.pmtiles", "/map.json")]
-        cases.show(f"nginx: what reads under {field_of_it}", found, [200, 200, 200, 200])
-    found = [status_of(curl(url + "/map/0/0/0.mvt", "-H", name)) for name in ("If-None-Match: *", 'If-Match: "x"')]
-    cases.show("nginx: conditions on a tile, which it judges itself", found, [304, 412])
+        cases.show(f"nginx: what reads under {field_of_it}", found, reads)
+    tag = field(curl(url + "/map/0/0/0.mvt"), "etag")
+    values = (f"If-None-Match: {tag}", "If-None-Match: *", 'If-Match: "x"')
+    found = [status_of(curl(url + "/map/0/0/0.mvt", "-H", name)) for name in values]
+    cases.show("nginx: conditions on a tile, which it judges itself", found, [304, 304, 412])
     cases.show("nginx: feature 7 is as it was", curl(url + "/features/7")[2], SHOWN.encode())
 
 
@@ -746,6 +777,7 @@ def main():
         sys.exit("no curl: nothing is tried")
     parts = {
         "routes": routes,
+        "tags": tags,
         "requests": refused_requests,
         "features": refused_features,
         "full": full,

@@ -85,7 +85,7 @@ TILES = [get(path) for path in ("/map/0/0/0.mvt", "/map/0/0/0.hex", "/map/2/3/3.
 READS = [*map(get, ("/features/8", "/features/9", "/features/77", "/map/metadata", "/map.pmtiles", "/other", "/features/x")), request("POST", "/map.pmtiles")]
 RANGES = [get("/map.pmtiles", f"range: bytes={part}\r\n") for part in ("0-126", "127-", "100-9999", "9999-10000")]
 METADATA = get("/map/metadata")
-# Changes under a condition, which are refused, and a range under one.
+# Changes under a condition, which are refused, and a range under one. No tile: its tag differs from run to run.
 CONDITION = 'if-match: "1-6-420"\r\n'
 CONDITIONS = [request("PUT", "/features/7", feature(), CONDITION), request("DELETE", "/features/8", fields=CONDITION),
               request("POST", "/publish", fields=CONDITION), get("/features/8", CONDITION), get("/map.pmtiles", "range: bytes=0-1\r\nif-range: x\r\n")]
@@ -122,7 +122,7 @@ def first_disk(version, *records):
 # The records of a disk that was upgraded behind its second edit.
 RECORDS = [disk.Record(1, [disk.Change(1, POINT)]), disk.Record(1, [disk.Change(2, POINT)]), disk.Record(2, [disk.Change(1, None), disk.Change(3, POINT)])]
 
-# Each series: its name, the sectors of its disk or the disk, what was sent to the disk before, and the requests.
+# Each series: its name, the sectors of its disk or the disk, what was sent to the disk before, the requests, and more options of the command.
 SERIES = [
     ("edits, empty disk", 64, [], twice(EDITS)),
     ("bad bodies, empty disk", 64, [], twice([request("PUT", "/features/7", body) for body in BAD])),
@@ -132,8 +132,8 @@ SERIES = [
     ("tiles, published disk", 256, PUBLISHED[:4], twice(TILES)),
     ("tiles after edits", 256, PUBLISHED, twice(TILES)),
     ("reads, published disk", 256, PUBLISHED, twice([*READS, *RANGES, *HEADS])),
-    ("conditions, published disk", 256, PUBLISHED, twice(CONDITIONS)),
-    ("conditions of the archive", 256, PUBLISHED, twice(TAGGED)),
+    ("conditions, published disk", 256, PUBLISHED, twice(CONDITIONS), "--etags"),
+    ("conditions of the archive", 256, PUBLISHED, twice(TAGGED), "--etags"),
     ("metadata between edits", 256, PUBLISHED, twice([METADATA, put(7, KINDS), METADATA, request("DELETE", "/features/8"), METADATA])),
     ("publication, published disk", 256, PUBLISHED, twice(PUBLISH)),
     ("publication by steps", 1024, PUBLISHED + STEPPED, twice(STEPS)),
@@ -172,8 +172,8 @@ def replies_of(requests, written):
 class Stream:
     """A disk and the requests that are sent to it."""
 
-    def __init__(self, program, shim, folder, sectors, before, requests):
-        self.program, self.shim, self.requests = program, shim, requests
+    def __init__(self, program, shim, folder, sectors, before, requests, *more):
+        self.program, self.shim, self.requests, self.more = program, shim, requests, more
         self.first, self.disk, self.count = (os.path.join(folder, name) for name in ("first", "disk", "count"))
         if os.path.exists(self.first):
             os.remove(self.first)
@@ -187,7 +187,7 @@ class Stream:
 
     def served(self, requests, more):
         """The status, the bytes that the peer reads, and standard error of a process that serves requests."""
-        done = subprocess.run([self.program, "pipe", self.disk, "--admin"], input=requests, capture_output=True, timeout=60, env=more)
+        done = subprocess.run([self.program, "pipe", self.disk, "--admin", *self.more], input=requests, capture_output=True, timeout=60, env=more)
         return done.returncode, done.stdout, done.stderr
 
     def run(self, requests, refused=0):
@@ -249,7 +249,7 @@ class Connection(Stream):
         with socket.socket() as free:
             free.bind(("127.0.0.1", 0))
             port = free.getsockname()[1]
-        words = [self.program, "serve", self.disk, "--port", str(port), "--connections", "1"]
+        words = [self.program, "serve", self.disk, "--port", str(port), "--connections", "1", *self.more]
         child = subprocess.Popen(words, stdout=subprocess.PIPE, stderr=subprocess.PIPE, env=more)
         read = b""
         if child.stdout.readline():

@@ -1,7 +1,7 @@
 -- Values of content-length.
 use Rattle.std.proofs.Common.{◌≡◌, ℕ, ◌+◌, ◌-◌, ◌<◌, ◌≤◌, List, [], ◌∷◌, ◌++◌, Bool, true, false, ◌&&◌, cond, length, take, drop, map, refl, sym}
 use Rattle.std.proofs.Common.{ap, ◌∙◌, arith, get_or, Ok, Err, Result, nat_le}
-use Rattle.std.specs.List.{filter}
+use Rattle.std.specs.List.{filter, list_any}
 use Rattle.std.specs.Str.Parse.{digits_value}
 use Rattle.std.proofs.lemmas.List.{take_more, map-append, take-append-drop}
 use Rattle.std.proofs.lemmas.List.Elements.{filter-append}
@@ -20,8 +20,8 @@ use Rattle.httparse.specs.Grammar.{trim_ows}
 use Rattle.http_requests.specs.declared.fields.TheConstants.{MAX_BODY}
 use Rattle.http_requests.specs.declared.refusals.Refusal.{Refusal}
 use Rattle.http_requests.specs.declared.refusals.Refusal.TheVariants.{Host, Coding, Expect, Length, Body}
-use Rattle.http_requests.specs.Fields.{NamedValue, values_of, limited, stated_length, only_value, is_numeral, is_word, members, is_close, says_close}
-use Rattle.http_requests.specs.Fields.{framing, body_length, is_hosted, has_expectation, has_field}
+use Rattle.http_requests.specs.Fields.{NamedValue, values_of, limited, stated_length, only_value, is_numeral, is_word, members}
+use Rattle.http_requests.specs.Fields.{framing, body_length, is_hosted, has_field}
 
 -- more fields
 values-append : (word : List ℕ) (xs ys : List NamedValue) → values_of word (xs ++ ys) ≡ values_of word xs ++ values_of word ys
@@ -93,10 +93,10 @@ stated_bound (v ∷ w ∷ more) n e = cc
 pub framing_bound : (minor : ℕ) (fields : List NamedValue) (n : ℕ) → framing minor fields ≡ Ok n → n ≤ MAX_BODY
 framing_bound minor fields n e =
     let length : Result ℕ Refusal = body_length fields in
-    let behind_expect : Result ℕ Refusal = cond (has_expectation minor fields) (Err Expect) length in
+    let behind_expect : Result ℕ Refusal = cond (has_field (codes "expect") fields) (Err Expect) length in
     let behind_coding : Result ℕ Refusal = cond (has_field (codes "transfer-encoding") fields) (Err Coding) behind_expect in
     stated_bound (values_of (codes "content-length") fields) n (
-    spared (has_expectation minor fields) Expect length n (
+    spared (has_field (codes "expect") fields) Expect length n (
     spared (has_field (codes "transfer-encoding") fields) Coding behind_expect n (
     taken (is_hosted minor fields) behind_coding Host n e)))
 
@@ -130,14 +130,14 @@ no_index p xs none = by (nat_lt (position_or_len p xs) (length xs)) refl none
 pub rest_is : (k : ℕ) (xs : List ℕ) → take (length xs - k) (drop k xs) ≡ drop k xs
 rest_is k xs = take_all (length xs - k) (drop k xs) (omega (arith, length-drop k xs))
 
--- a field that says close is found
-pub close_at : (bytes : List ℕ) (fields : List HeaderSpan) (i : ℕ) (d : HeaderSpan) → i < length fields
-    → is_close (header_bytes bytes (get_or fields i d)) ≡ true → says_close (map (header_bytes bytes) fields) ≡ true
-close_at bytes [] i d at is = absurd (omega arith)
-close_at bytes (x ∷ fields) zero d at is = ap (λ (b : Bool). b || says_close (map (header_bytes bytes) fields)) is
-close_at bytes (x ∷ fields) (suc i) d at is =
-    let found = close_at bytes fields i d (omega arith) is in
-    ap (λ (b : Bool). is_close (header_bytes bytes x) || b) found ∙ or_true (is_close (header_bytes bytes x))
+-- a field of this kind is found
+pub some_at : (is_one : NamedValue → Bool) (bytes : List ℕ) (fields : List HeaderSpan) (i : ℕ) (d : HeaderSpan) → i < length fields
+    → is_one (header_bytes bytes (get_or fields i d)) ≡ true → list_any is_one (map (header_bytes bytes) fields) ≡ true
+some_at is_one bytes [] i d at is = absurd (omega arith)
+some_at is_one bytes (x ∷ fields) zero d at is = ap (λ (b : Bool). b || list_any is_one (map (header_bytes bytes) fields)) is
+some_at is_one bytes (x ∷ fields) (suc i) d at is =
+    let found = some_at is_one bytes fields i d (omega arith) is in
+    ap (λ (b : Bool). is_one (header_bytes bytes x) || b) found ∙ or_true (is_one (header_bytes bytes x))
   where
     or_true : (b : Bool) → b || true ≡ true
     or_true true = refl

@@ -6,9 +6,7 @@ use Rattle.std.proofs.Common.{Option, None, Some}
 use Rattle.http_requests.specs.Frame.{IsMissing}
 use Rattle.std.proofs.lemmas.List.{append-nil, take-append-drop, drop-drop, length-take, length-take-le, length-map}
 use Rattle.httparse.specs.Grammar.{RequestHead, IsRequestHead, ReadsRequest, print_request, HasNoRequest}
-use Rattle.std.specs.Prelude.{IfSome, option_map, codes}
-use Rattle.httparse.specs.declared.spans.Span.{Span}
-use Rattle.httparse.specs.Spans.{IsWithin, span_bytes, IsRequestAt, IsRequestWithin, RequestOverflows, header_bytes, name_and_value}
+use Rattle.httparse.specs.Spans.{IsHeaderWithin, IsRequestAt, IsRequestWithin, RequestOverflows, header_bytes, name_and_value}
 use Rattle.httparse.specs.declared.spans.HeaderSpan.{HeaderSpan}
 use Rattle.httparse.specs.declared.spans.RequestSpans.{RequestSpans}
 use Rattle.httparse.proofs.GrammarLemmas.{request_unique, request_prefix_free, ReadsRequest-append}
@@ -16,7 +14,7 @@ use Rattle.http_requests.specs.declared.refusals.TheConstants.{NO_HEAD}
 use Rattle.http_requests.specs.declared.refusals.Refusal.{Refusal}
 use Rattle.http_requests.specs.declared.refusals.Rejection.{Rejection}
 use Rattle.http_requests.specs.declared.refusals.Refusal.TheVariants.{Short}
-use Rattle.http_requests.specs.Fields.{NamedValue, framing, only_field, range_of, is_conditional, says_close}
+use Rattle.http_requests.specs.Fields.{NamedValue, framing, says_close}
 use Rattle.http_requests.specs.Frame.{IsFrameOf}
 use Rattle.http_requests.specs.declared.frames.TheConstants.{MAX_REQUEST}
 use Rattle.http_requests.specs.Requests.{Request, IsHead, IsRequest, HasNoHead, HasFault, IsFault, IsRefused, fields_of, has_head_method}
@@ -149,25 +147,14 @@ module _ (bytes : List ℕ) (fields : List HeaderSpan) (spans : RequestSpans) (h
       → framing spans.version (map (header_bytes bytes) (take spans.headers fields)) ≡ Ok n
       → spans.len + n ≤ length bytes → (close : Bool)
       → close ≡ spans.version == 0 || says_close (map (header_bytes bytes) (take spans.headers fields))
-      → (range : Option Span) → IfSome range (IsWithin (length bytes))
-      → option_map (span_bytes bytes) range ≡ range_of (map (header_bytes bytes) (take spans.headers fields))
-      → (conditional : Bool) → conditional ≡ is_conditional (map (header_bytes bytes) (take spans.headers fields))
-      → (if_match : Option Span) → IfSome if_match (IsWithin (length bytes))
-      → option_map (span_bytes bytes) if_match ≡ only_field (codes "if-match") (map (header_bytes bytes) (take spans.headers fields))
-      → (if_none_match : Option Span) → IfSome if_none_match (IsWithin (length bytes))
-      → option_map (span_bytes bytes) if_none_match ≡ only_field (codes "if-none-match") (map (header_bytes bytes) (take spans.headers fields))
-      → (request : Request) × IsFrameOf bytes (record {
+      → (request : Request) × IsFrameOf bytes fields (record {
         method = spans.method;
         target = spans.path;
+        fields = spans.headers;
         body = record { start = spans.len; end = spans.len + n };
-        range = range;
-        conditional = conditional;
-        if_match = if_match;
-        if_none_match = if_none_match;
         close = close;
       }) request
-  spans_frame within size room n e fits close closes range range_within range_is conditional conditional_is if_match if_match_within if_match_is
-      if_none_match if_none_match_within if_none_match_is =
+  spans_frame within size room n e fits close closes =
       let limit = within.section.len_fits in
       let method = within.method in
       let path = within.path in (
@@ -176,24 +163,23 @@ module _ (bytes : List ℕ) (fields : List HeaderSpan) (spans : RequestSpans) (h
           method_within = (method.0, omega arith);
           target_within = (path.0, omega arith);
           body_within = (omega arith, omega arith);
+          fields_within = λ k d at. wider (within.section.headers_fit k d at) limit;
+          few = within.section.count_fits;
           some = let e = at.len in let some = print_request_some h at.reads.0 in omega arith;
           is = spans_message size room n e (omega arith);
           method = at.method;
           target = at.path;
+          fields = at.fields;
           body =
               let same : spans.len + n - spans.len ≡ n = omega arith in
               ap (λ (k : ℕ). take k (drop spans.len bytes)) same;
-          range_within = range_within;
-          range = range_is ∙ ap range_of at.fields;
-          conditional = conditional_is ∙ ap is_conditional at.fields;
-          if_match_within = if_match_within;
-          if_match = if_match_is ∙ ap (only_field (codes "if-match")) at.fields;
-          if_none_match_within = if_none_match_within;
-          if_none_match = if_none_match_is ∙ ap (only_field (codes "if-none-match")) at.fields;
           close = closes ∙ ap (λ (k : ℕ). k == 0 || says_close (map (header_bytes bytes) (take spans.headers fields))) at.version
               ∙ ap (λ (named : List NamedValue). h.minor == 0 || says_close named) at.fields;
         },
       )
+    where
+      wider : {k n : ℕ} {s : HeaderSpan} → IsHeaderWithin k s → k ≤ n → IsHeaderWithin n s
+      wider is few = ((is.0.0, omega (arith, is.0.1, few)), (is.1.0, omega (arith, is.1.1, few)))
 
 -- ---- heads that aren't there
 

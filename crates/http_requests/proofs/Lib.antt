@@ -1,3 +1,4 @@
+mod ConditionForms
 pub mod FieldLemmas
 pub mod HeadLemmas
 pub mod InputLemmas
@@ -5,4 +6,3 @@ pub mod Laws
 mod LimitNumbers
 pub mod LineLemmas
 pub mod ReadingLemmas
-mod TargetForms

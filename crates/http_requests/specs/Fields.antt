@@ -1,6 +1,6 @@
--- What the header fields say about the request, its body and the connection.
+-- What the header fields say about the body and the connection.
 use Rattle.std.specs.Prelude.{ℕ, List, [], ◌∷◌, ◌≡◌, ◌<◌, ◌==◌, ◌&&◌, Bool, cond, nat_eq, nat_lt, nat_le, length, map, filter, codes, Option, None, Some}
-use Rattle.std.specs.Prelude.{Result, Ok, Err, ◌||◌, not}
+use Rattle.std.specs.Prelude.{Result, Ok, Err, ◌||◌}
 use Rattle.std.specs.List.{list_all, list_any, slice_split}
 use Rattle.std.specs.Char.{is_ascii_digit, to_ascii_lowercase}
 use Rattle.std.specs.Cmp.Lexicographic.{pointwise}
@@ -66,13 +66,9 @@ has_field word fields = nat_lt 0 (length (values_of word fields))
 abbrev pub host_count : List NamedValue → ℕ
 host_count fields = length (values_of (codes "host") fields)
 
--- exactly one host, or none in HTTP/1.0: HTTP/1.1 needs one, and more than one is refused in any version (RFC 9112, 3.2)
+-- exactly one host, which HTTP/1.0 doesn't ask for (RFC 9112, 3.2)
 abbrev pub is_hosted : (minor : ℕ) → List NamedValue → Bool
-is_hosted minor fields = host_count fields == 1 || (minor == 0 && host_count fields == 0)
-
--- the head expects something; in HTTP/1.0 an expectation is ignored (RFC 9110, 10.1.1)
-abbrev pub has_expectation : (minor : ℕ) → List NamedValue → Bool
-has_expectation minor fields = not (minor == 0) && has_field (codes "expect") fields
+is_hosted minor fields = minor == 0 || host_count fields == 1
 
 -- The length of the body, or the first reason why the head is refused: its host, a transfer coding, none of which is supported
 -- (RFC 9112, 6.1 and 6.3), an expectation, none of which is supported (RFC 9110, 10.1.1), or its length.
@@ -80,11 +76,11 @@ abbrev pub framing : (minor : ℕ) → List NamedValue → Result ℕ Refusal
 framing minor fields =
     cond (is_hosted minor fields)
     (cond (has_field (codes "transfer-encoding") fields) (Err Coding)
-    (cond (has_expectation minor fields) (Err Expect)
+    (cond (has_field (codes "expect") fields) (Err Expect)
     (body_length fields)))
     (Err Host)
 
--- ---- range
+-- ---- values
 
 -- the value, if there is exactly one
 abbrev pub only_value : List (List ℕ) → Option (List ℕ)
@@ -95,17 +91,6 @@ only_value (value ∷ other ∷ more) = None
 -- the value of the only field of this name, without surrounding white space; none if there is no such field, or more than one
 abbrev pub only_field : List ℕ → List NamedValue → Option (List ℕ)
 only_field word fields = only_value (values_of word fields)
-
--- The value of the only range field, without surrounding white space, if no field is named if-range: a range whose condition isn't
--- known to hold is ignored (RFC 9110, 13.1.5). That the condition could hold isn't looked at, so the whole is sent, which is always right.
-abbrev pub range_of : List NamedValue → Option (List ℕ)
-range_of fields = cond (has_field (codes "if-range") fields) None (only_field (codes "range") fields)
-
--- ---- conditions
-
--- the request comes under a condition on entity tags (RFC 9110, 13.1.1 and 13.1.2)
-abbrev pub is_conditional : List NamedValue → Bool
-is_conditional fields = has_field (codes "if-match") fields || has_field (codes "if-none-match") fields
 
 -- ---- lists
 

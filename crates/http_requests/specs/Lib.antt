@@ -1,3 +1,4 @@
+pub mod Conditions
 pub mod Fields
 pub mod Frame
 pub mod Input
@@ -5,4 +6,3 @@ pub mod Lines
 pub mod Requests
 pub mod Scans
 pub mod Search
-pub mod Targets

@@ -1,15 +1,16 @@
 -- The requests in the bytes of a connection.
-use Rattle.std.specs.Prelude.{◌≡◌, ℕ, ◌<◌, ◌≤◌, List, [], ◌∷◌, ◌++◌, Bool, true, false, ◌==◌, ◌||◌, length, map, Option, None, Some, option_map}
+use Rattle.std.specs.Prelude.{◌≡◌, ℕ, ◌<◌, ◌≤◌, List, [], ◌∷◌, ◌++◌, Bool, true, false, ◌==◌, ◌||◌, length, map, take, Option, None, Some}
 use Rattle.std.specs.Prelude.{Result, Ok, Err, ⊤, nat_eq, codes}
 use Rattle.std.specs.Cmp.Lexicographic.{pointwise}
+use Rattle.std.specs.List.{before_first}
 use Rattle.httparse.specs.Grammar.{RequestHead, ReadsRequest, print_request}
-use Rattle.httparse.specs.Spans.{name_and_value, span_bytes}
+use Rattle.httparse.specs.declared.spans.HeaderSpan.{HeaderSpan}
+use Rattle.httparse.specs.Spans.{name_and_value, header_bytes, span_bytes}
 use Rattle.http_requests.specs.declared.frames.Frame.{Frame}
 use Rattle.http_requests.specs.declared.frames.TheConstants.{MAX_HEAD, MAX_FIELDS}
 use Rattle.http_requests.specs.declared.refusals.Refusal.{Refusal}
 use Rattle.http_requests.specs.declared.refusals.Refusal.TheVariants.{Head, Short}
-use Rattle.http_requests.specs.Fields.{NamedValue, framing, only_field, range_of, is_conditional, says_close}
-use Rattle.http_requests.specs.Targets.{path_of}
+use Rattle.http_requests.specs.Fields.{NamedValue, framing, says_close}
 
 -- a request: its head and its body
 pub record Request : Type 0 where
@@ -47,39 +48,39 @@ has_head_method (Some head) = is_head head.method
 pub record RequestView : Type 0 where
   pub method : List ℕ
   pub path : List ℕ
-  -- the value of the only range field, if no field is named if-range
-  pub range : Option (List ℕ)
-  -- whether it comes under a condition on entity tags
-  pub conditional : Bool
-  -- the value of the only field if-match
-  pub if_match : Option (List ℕ)
-  -- the value of the only field if-none-match
-  pub if_none_match : Option (List ℕ)
+  -- the names and the values of its header fields, in order
+  pub fields : List NamedValue
   pub body : List ℕ
   -- whether the connection ends after the reply
   pub close : Bool
+
+-- b'?'
+abbrev pub question_mark : ℕ
+question_mark = 63
+
+-- a request's path: its target up to the first question mark
+abbrev pub path_of : List ℕ → List ℕ
+path_of target = before_first (λ byte. byte == question_mark) target
 
 abbrev pub request_view : Request → RequestView
 request_view request = record {
   method = request.head.method;
   path = path_of request.head.target;
-  range = range_of (fields_of request.head);
-  conditional = is_conditional (fields_of request.head);
-  if_match = only_field (codes "if-match") (fields_of request.head);
-  if_none_match = only_field (codes "if-none-match") (fields_of request.head);
+  fields = fields_of request.head;
   body = request.body;
   close = asks_to_close request.head;
 }
 
--- the request in a frame of the bytes
-abbrev pub request_view_at : List ℕ → Frame → RequestView
-request_view_at bytes frame = record {
+-- the fields in a frame of the bytes
+abbrev pub fields_at : List ℕ → List HeaderSpan → Frame → List NamedValue
+fields_at bytes spans frame = map (header_bytes bytes) (take frame.fields spans)
+
+-- the request in a frame of the bytes, whose fields are at these spans
+abbrev pub request_view_at : List ℕ → List HeaderSpan → Frame → RequestView
+request_view_at bytes spans frame = record {
   method = span_bytes bytes frame.method;
   path = path_of (span_bytes bytes frame.target);
-  range = option_map (span_bytes bytes) frame.range;
-  conditional = frame.conditional;
-  if_match = option_map (span_bytes bytes) frame.if_match;
-  if_none_match = option_map (span_bytes bytes) frame.if_none_match;
+  fields = fields_at bytes spans frame;
   body = span_bytes bytes frame.body;
   close = frame.close;
 }

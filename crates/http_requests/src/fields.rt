@@ -1,13 +1,13 @@
-//! What the header fields say about the request, its body and the connection (RFC 9110, 7.6.1, 8.6, 10.1.1 and 13.1; RFC 9112, 3.2 and 6).
+//! What the header fields say about the body and the connection (RFC 9110, 7.6.1, 8.6 and 10.1.1; RFC 9112, 3.2 and 6).
 ghost use Rattle.std.specs.Prelude.{◌≡◌, ◌≤◌, ◌<◌, ◌&&◌, ◌||◌, ◌==◌, ◌^◌, ℕ, true, length, map, reverse, codes, All, IfSome, MatchOption};
 ghost use Rattle.std.specs.List.{position, position_or_len};
 ghost use Rattle.std.specs.Char.{to_ascii_lowercase};
 ghost use Rattle.std.specs.Option.{option_map};
 ghost use Rattle.httparse.specs.Spans.{IsHeaderWithin, IsWithin, header_bytes, span_bytes};
 ghost use Rattle.httparse.specs.Grammar.{is_ows, skip_ows, trim_ows};
-ghost use Rattle.http_requests.specs.Fields.{is_word, IsStated, values_of, limited, numeral_length, only_field, range_of};
+ghost use Rattle.http_requests.specs.Fields.{is_word, IsStated, values_of, limited, numeral_length, only_field};
 ghost use Rattle.http_requests.specs.Fields.{members, members_from, lists_close, says_close};
-ghost use Rattle.http_requests.specs.Fields.{body_length, has_field, is_hosted, has_expectation, is_conditional, framing};
+ghost use Rattle.http_requests.specs.Fields.{body_length, has_field, is_hosted, framing};
 
 use crate::refusals::Refusal;
 use http_values::{are_digits, digits_number};
@@ -89,7 +89,7 @@ fn body_length(bytes: &[u8], fields: &[HeaderSpan]) -> Result<u64, Refusal>
 }
 
 /// Whether there is a field named `word`, given in lower case.
-fn has_field(bytes: &[u8], fields: &[HeaderSpan], word: &[u8]) -> bool
+pub(crate) fn has_field(bytes: &[u8], fields: &[HeaderSpan], word: &[u8]) -> bool
     requires fields { All (IsHeaderWithin (length bytes.now)) fields.now }
     requires word { map to_ascii_lowercase word.now ≡ word.now }
     ensures { result ≡ has_field word.now (map (header_bytes bytes.now) fields.now) }
@@ -100,24 +100,15 @@ fn has_field(bytes: &[u8], fields: &[HeaderSpan], word: &[u8]) -> bool
     }
 }
 
-/// Whether a head has exactly one host field. HTTP/1.0 needs none.
+/// Whether a head has exactly one host field, which HTTP/1.0 doesn't ask for.
 fn is_hosted(bytes: &[u8], version: u8, fields: &[HeaderSpan]) -> bool
     requires { All (IsHeaderWithin (length bytes.now)) fields.now }
     ensures { result ≡ is_hosted version (map (header_bytes bytes.now) fields.now) }
 {
     match find_stated(bytes, fields, b"host") {
-        Stated::Never => version == 0,
         Stated::Once(_) => true,
-        Stated::Often => false,
+        _ => version == 0,
     }
-}
-
-/// Whether an HTTP/1.1 head expects something. In HTTP/1.0 an expectation is ignored.
-fn has_expectation(bytes: &[u8], version: u8, fields: &[HeaderSpan]) -> bool
-    requires { All (IsHeaderWithin (length bytes.now)) fields.now }
-    ensures { result ≡ has_expectation version (map (header_bytes bytes.now) fields.now) }
-{
-    version != 0 && has_field(bytes, fields, b"expect")
 }
 
 /// The length of a request's body, or why its head is refused, by its version and its fields.
@@ -131,7 +122,7 @@ pub(crate) fn framing(bytes: &[u8], version: u8, fields: &[HeaderSpan]) -> Resul
     if has_field(bytes, fields, b"transfer-encoding") {
         return Err(Refusal::Coding);
     }
-    if has_expectation(bytes, version, fields) {
+    if has_field(bytes, fields, b"expect") {
         return Err(Refusal::Expect);
     }
     body_length(bytes, fields)
@@ -148,26 +139,6 @@ pub(crate) fn only_field(bytes: &[u8], fields: &[HeaderSpan], word: &[u8]) -> Op
         Stated::Once(value) => Some(value),
         _ => None,
     }
-}
-
-/// The value of the only range field, without surrounding white space, if there is no field if-range.
-pub(crate) fn range_of(bytes: &[u8], fields: &[HeaderSpan]) -> Option<Span>
-    requires { All (IsHeaderWithin (length bytes.now)) fields.now }
-    ensures value { option_map (span_bytes bytes.now) result ≡ range_of (map (header_bytes bytes.now) fields.now) }
-    ensures within { IfSome result (IsWithin (length bytes.now)) }
-{
-    if has_field(bytes, fields, b"if-range") {
-        return None;
-    }
-    only_field(bytes, fields, b"range")
-}
-
-/// Whether there is a condition on entity tags: a field if-match or if-none-match.
-pub(crate) fn is_conditional(bytes: &[u8], fields: &[HeaderSpan]) -> bool
-    requires { All (IsHeaderWithin (length bytes.now)) fields.now }
-    ensures { result ≡ is_conditional (map (header_bytes bytes.now) fields.now) }
-{
-    has_field(bytes, fields, b"if-match") || has_field(bytes, fields, b"if-none-match")
 }
 
 /// Whether a field name is connection.
@@ -239,7 +210,7 @@ fn trim_ows(bytes: &[u8]) -> &[u8]
 }
 
 /// The first member of a list, without the white space around it, and the list behind its comma, if there is one.
-pub fn split_member(list: &[u8]) -> (&[u8], Option<&[u8]>)
+pub(crate) fn split_member(list: &[u8]) -> (&[u8], Option<&[u8]>)
     ensures members { members list.now ≡ members_from result.0.now (option_map (λ rest. rest.now) result.1) }
     ensures shorter { IfSome result.1 (λ rest. length rest.now < length list.now) }
 {

@@ -4,9 +4,9 @@ ghost use Rattle.httparse.specs.Spans.{IsRequestWithin, IsRequestOf, IsHeaderWit
 ghost use Rattle.http_requests.specs.Fields.{says_close};
 ghost use Rattle.http_requests.specs.declared.frames.TheConstants.{MAX_HEAD, MAX_FIELDS};
 ghost use Rattle.http_requests.specs.Frame.{IsNext};
-ghost use Rattle.http_requests.specs.Requests.{is_head};
+ghost use Rattle.http_requests.specs.Requests.{is_head, path_of};
 
-use crate::fields::{MAX_BODY, framing, is_conditional, only_field, range_of, says_close};
+use crate::fields::{MAX_BODY, framing, position_or_len, says_close};
 use crate::refusals::{NO_HEAD, Refusal, Rejection};
 use httparse::Status;
 use httparse::spans::{EMPTY_HEADER_SPAN, HeaderSpan, RequestSpans, Span, parse_request};
@@ -18,22 +18,22 @@ pub(crate) const MAX_FIELDS: usize = 32;
 /// Maximum length of a request in bytes.
 pub const MAX_REQUEST: usize = MAX_HEAD + MAX_BODY as usize;
 
-/// Where the parts of a request are in the bytes that begin with it.
+/// Where the header fields of a request are in the bytes that begin with it.
+pub type FieldSpans = [HeaderSpan; MAX_FIELDS];
+
+/// Spans of no fields.
+pub const NO_FIELDS: FieldSpans = [EMPTY_HEADER_SPAN; MAX_FIELDS];
+
+/// Where the other parts of a request are in the bytes that begin with it.
 #[derive(Clone, Copy)]
 pub struct Frame {
     pub method: Span,
     /// The target, as received.
     pub target: Span,
+    /// How many header fields there are.
+    pub fields: usize,
     /// The body: the request ends where it does.
     pub body: Span,
-    /// The value of the only range field, if there is no field if-range.
-    pub range: Option<Span>,
-    /// Whether it comes under a condition on entity tags: it has a field if-match or if-none-match.
-    pub conditional: bool,
-    /// The value of the only field if-match. `None` if there is none, or more than one.
-    pub if_match: Option<Span>,
-    /// The value of the only field if-none-match. `None` if there is none, or more than one.
-    pub if_none_match: Option<Span>,
     /// Whether the request asks to close the connection.
     pub close: bool,
 }
@@ -58,9 +58,9 @@ pub enum Next {
     More(Missing),
 }
 
-/// What bytes begin with.
-pub(crate) fn find_request(bytes: &[u8]) -> Next
-    ensures { IsNext bytes.now result }
+/// What bytes begin with. If it is a request, its header fields are at the first `fields`.
+pub(crate) fn find_request(bytes: &[u8], fields: &mut FieldSpans) -> Next
+    ensures { IsNext bytes.now fields.new result }
 {
     let rejection = NO_HEAD;
     if bytes.is_empty() {
@@ -70,10 +70,9 @@ pub(crate) fn find_request(bytes: &[u8]) -> Next
         });
     }
     let full = bytes.len() >= MAX_HEAD;
-    let mut fields = [EMPTY_HEADER_SPAN; MAX_FIELDS];
-    match parse_request(bytes, &mut fields) {
+    match parse_request(bytes, fields) {
         Ok(Status::Complete(head)) if head.len > MAX_HEAD => Next::Refused(rejection),
-        Ok(Status::Complete(head)) => framed(bytes, &head, &fields),
+        Ok(Status::Complete(head)) => framed(bytes, &head, fields),
         Ok(Status::Partial) if full => Next::Refused(rejection),
         Ok(Status::Partial) => Next::More(Missing {
             rejection,
@@ -98,6 +97,13 @@ pub fn is_head(method: &[u8]) -> bool
     method == b"HEAD".as_slice()
 }
 
+/// A request's path: its target up to the first question mark.
+pub fn path_of(target: &[u8]) -> &[u8]
+    ensures { result.now ≡ path_of target.now }
+{
+    &target[..position_or_len(target, b'?')]
+}
+
 /// What bytes begin with, given their head.
 fn framed(bytes: &[u8], head: &RequestSpans, fields: &[HeaderSpan]) -> Next
     requires within { IsRequestWithin bytes.now fields.now head.now }
@@ -105,7 +111,7 @@ fn framed(bytes: &[u8], head: &RequestSpans, fields: &[HeaderSpan]) -> Next
     requires some { 0 < length bytes.now }
     requires size { head.now.len ≤ MAX_HEAD }
     requires room { length fields.now ≤ MAX_FIELDS }
-    ensures { IsNext bytes.now result }
+    ensures { IsNext bytes.now fields.now result }
 {
     let fields = &fields[..head.headers];
     let bare = is_head(head.method.of(bytes));
@@ -124,14 +130,11 @@ fn framed(bytes: &[u8], head: &RequestSpans, fields: &[HeaderSpan]) -> Next
     Next::Whole(Frame {
         method: head.method,
         target: head.path,
+        fields: head.headers,
         body: Span {
             start: head.len,
             end,
         },
-        range: range_of(bytes, fields),
-        conditional: is_conditional(bytes, fields),
-        if_match: only_field(bytes, fields, b"if-match"),
-        if_none_match: only_field(bytes, fields, b"if-none-match"),
         close: asks_to_close(bytes, head.version, fields),
     })
 }

@@ -1,20 +1,20 @@
 //! The requests in the bytes of an HTTP/1.1 connection, as they arrive, and why bytes are none (RFC 9110 and RFC 9112).
 #![tactic(auto)]
 
+mod conditions;
 mod fields;
 mod frames;
+mod headers;
 mod inputs;
 mod lines;
 mod positions;
 mod refusals;
 mod scans;
 mod searches;
-mod targets;
 
-pub use fields::split_member;
-pub use frames::{Frame, MAX_REQUEST, Missing, Next, is_head};
+pub use frames::{FieldSpans, Frame, MAX_REQUEST, Missing, NO_FIELDS, Next, is_head, path_of};
+pub use headers::Fields;
 pub use inputs::{Input, READ_SPACE, ReadFault};
 pub use refusals::{NO_HEAD, Refusal, Rejection};
 pub use scans::{Scan, Scanned};
 pub use searches::{START, Search, find_next};
-pub use targets::path_of;

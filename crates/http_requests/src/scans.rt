@@ -2,7 +2,7 @@
 ghost use Rattle.std.specs.Prelude.{[]};
 ghost use Rattle.http_requests.specs.Scans.{HasScanned, IsScanned};
 
-use crate::frames::Next;
+use crate::frames::{NO_FIELDS, Next};
 use crate::searches::{START, Search, find_next};
 
 /// What bytes begin with.
@@ -37,7 +37,8 @@ impl Scan {
         ensures next { IsScanned waiting.now result }
         ensures known { HasScanned self.new waiting.now }
     {
-        match find_next(waiting, &mut self.search) {
+        let mut fields = NO_FIELDS;
+        match find_next(waiting, &mut fields, &mut self.search) {
             Next::Whole(frame) => Scanned::Whole(frame.body.end),
             Next::Refused(_) => Scanned::Refused,
             Next::More(_) => Scanned::More,

@@ -5,7 +5,7 @@ ghost use Rattle.http_requests.specs.Frame.{IsNext, IsMissing};
 ghost use Rattle.http_requests.specs.Lines.{after_bytes};
 ghost use Rattle.http_requests.specs.Search.{IsKnown};
 
-use crate::frames::{MAX_HEAD, Missing, Next, find_request};
+use crate::frames::{FieldSpans, MAX_HEAD, Missing, Next, find_request};
 use crate::lines::Lines;
 use crate::positions::Position;
 use crate::refusals::NO_HEAD;
@@ -82,12 +82,12 @@ fn known_missing(bytes: &[u8], search: &mut Search) -> Option<Missing>
 }
 
 /// Parses what bytes begin with.
-fn parse_now(bytes: &[u8], search: &mut Search) -> Next
+fn parse_now(bytes: &[u8], fields: &mut FieldSpans, search: &mut Search) -> Next
     requires { IsKnown bytes.now search.old }
-    ensures next { IsNext bytes.now result }
+    ensures next { IsNext bytes.now fields.new result }
     ensures known { IsKnown bytes.now search.new }
 {
-    let next = find_request(bytes);
+    let next = find_request(bytes, fields);
     if let Next::More(missing) = next {
         if missing.until - bytes.len() > 1 {
             *search = Search::Until(missing);
@@ -98,12 +98,12 @@ fn parse_now(bytes: &[u8], search: &mut Search) -> Next
 
 /// Parses what bytes begin with, of which nothing is known: most heads arrive whole. What has to wait for more is scanned, so that the
 /// next piece continues there.
-fn parse_first(bytes: &[u8], search: &mut Search) -> Next
+fn parse_first(bytes: &[u8], fields: &mut FieldSpans, search: &mut Search) -> Next
     requires { IsKnown bytes.now search.old }
-    ensures next { IsNext bytes.now result }
+    ensures next { IsNext bytes.now fields.new result }
     ensures known { IsKnown bytes.now search.new }
 {
-    let next = parse_now(bytes, search);
+    let next = parse_now(bytes, fields, search);
     if let Next::More(_) = next {
         if is_fresh(search) {
             scan_head(bytes, 0, Lines::Blank, Position::Front, search);
@@ -117,18 +117,18 @@ fn is_fresh(search: &Search) -> bool {
     matches!(search, Search::Head { scanned: 0, .. })
 }
 
-/// What bytes begin with. Each byte of a head is visited a fixed number of times, whatever the pieces: `search` is what a call over
-/// the first of them left, or `START`.
-pub fn find_next(bytes: &[u8], search: &mut Search) -> Next
+/// What bytes begin with. If it is a request, its header fields are at the first `fields`. Each byte of a head is visited a fixed number of
+/// times, whatever the pieces: `search` is what a call over the first of them left, or `START`.
+pub fn find_next(bytes: &[u8], fields: &mut FieldSpans, search: &mut Search) -> Next
     requires { IsKnown bytes.now search.old }
-    ensures next { IsNext bytes.now result }
+    ensures next { IsNext bytes.now fields.new result }
     ensures known { IsKnown bytes.now search.new }
 {
     if is_fresh(search) {
-        return parse_first(bytes, search);
+        return parse_first(bytes, fields, search);
     }
     match known_missing(bytes, search) {
         Some(missing) => Next::More(missing),
-        None => parse_now(bytes, search),
+        None => parse_now(bytes, fields, search),
     }
 }

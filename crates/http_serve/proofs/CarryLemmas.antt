@@ -6,8 +6,8 @@ use Rattle.std.specs.Io.KnownBytes.{Appends}
 use Rattle.httparse.specs.Grammar.{RequestHead}
 use Rattle.http_requests.specs.declared.refusals.Refusal.{Refusal}
 use Rattle.http_requests.specs.Requests.{Request, IsHead, IsRequest, Begins, Ending, going, closed, asked, refused, EndsAs, IsRefused, asks_to_close}
-use Rattle.http_requests.specs.Requests.{RequestView, request_view, request_view_at, is_head}
-use Rattle.http_requests.specs.Targets.{path_of}
+use Rattle.http_requests.specs.Requests.{RequestView, request_view, request_view_at, path_of, is_head}
+use Rattle.httparse.specs.declared.spans.HeaderSpan.{HeaderSpan}
 use Rattle.http_requests.specs.declared.frames.Frame.{Frame}
 use Rattle.http_requests.specs.Frame.{IsFrameOf}
 use Rattle.http_serve.specs.Reply.{ReplyView, reply_bytes, reply_to, reply_at, refusal_bytes}
@@ -60,50 +60,48 @@ reply_count-append requests others ending =
 
 -- ---- a request in a frame
 
-framed_view : (input : List ℕ) (frame : Frame) (request : Request) → IsFrameOf input frame request → request_view_at input frame ≡ request_view request
-framed_view input frame request is = λ i. record {
+framed_view : (input : List ℕ) (spans : List HeaderSpan) (frame : Frame) (request : Request) → IsFrameOf input spans frame request
+    → request_view_at input spans frame ≡ request_view request
+framed_view input spans frame request is = λ i. record {
   method = is.method i;
   path = path_of (is.target i);
-  range = is.range i;
-  conditional = is.conditional i;
-  if_match = is.if_match i;
-  if_none_match = is.if_none_match i;
+  fields = is.fields i;
   body = is.body i;
   close = is.close i;
 }
 
-framed_reply : (input : List ℕ) (frame : Frame) (request : Request) (reply : ReplyView) → IsFrameOf input frame request
-    → reply_at input frame reply ≡ reply_to request reply
-framed_reply input frame request reply is = λ i. reply_bytes (is.close i) (is_head (is.method i)) reply
+framed_reply : (input : List ℕ) (spans : List HeaderSpan) (frame : Frame) (request : Request) (reply : ReplyView)
+    → IsFrameOf input spans frame request → reply_at input frame reply ≡ reply_to request reply
+framed_reply input spans frame request reply is = λ i. reply_bytes (is.close i) (is_head (is.method i)) reply
 
 -- the reply of a frame, whichever it is, is the next one
-pub Frame_next : {S : Type 0} (last : S → RequestView → ReplyView → S → Type 0) (old : S) (input : List ℕ) (frame : Frame) (request : Request)
-    (reply : ReplyView) (new : S) → IsFrameOf input frame request → last old (request_view_at input frame) reply new
+pub Frame_next : {S : Type 0} (last : S → RequestView → ReplyView → S → Type 0) (old : S) (input : List ℕ) (spans : List HeaderSpan) (frame : Frame)
+    (request : Request) (reply : ReplyView) (new : S) → IsFrameOf input spans frame request → last old (request_view_at input spans frame) reply new
     → AnswersNext last old input (reply_at input frame reply) new
-Frame_next last old input frame request reply new is given = record {
+Frame_next last old input spans frame request reply new is given = record {
   request = request;
   rest = drop frame.body.end input;
   reply = reply;
   is = is.is;
-  replied = subst (λ (q : RequestView). last old q reply new) (framed_view input frame request is) given;
-  out_is = framed_reply input frame request reply is;
+  replied = subst (λ (q : RequestView). last old q reply new) (framed_view input spans frame request is) given;
+  out_is = framed_reply input spans frame request reply is;
 }
 
 -- so is one that stops before the rest of its content
-pub Frame_stops : {S : Type 0} (replies sends : S → RequestView → ReplyView → S → Type 0) (old : S) (input : List ℕ) (frame : Frame) (request : Request)
-    (reply : ReplyView) (from size : ℕ) (new : S) (held holds : Option (List ℕ)) → IsFrameOf input frame request
-    → replies old (request_view_at input frame) reply new → sends old (request_view_at input frame) reply new
+pub Frame_stops : {S : Type 0} (replies sends : S → RequestView → ReplyView → S → Type 0) (old : S) (input : List ℕ) (spans : List HeaderSpan) (frame : Frame)
+    (request : Request) (reply : ReplyView) (from size : ℕ) (new : S) (held holds : Option (List ℕ)) → IsFrameOf input spans frame request
+    → replies old (request_view_at input spans frame) reply new → sends old (request_view_at input spans frame) reply new
     → IsStopped (reply_at input frame reply) reply.content from size held holds
     → StopsNext replies sends old input held frame.close from size new holds
-Frame_stops replies sends old input frame request reply from size new held holds is given sent stopped = record {
+Frame_stops replies sends old input spans frame request reply from size new held holds is given sent stopped = record {
   request = request;
   rest = drop frame.body.end input;
   reply = reply;
   is = is.is;
-  replied = subst (λ (q : RequestView). replies old q reply new) (framed_view input frame request is) given;
-  sent = subst (λ (q : RequestView). sends old q reply new) (framed_view input frame request is) sent;
+  replied = subst (λ (q : RequestView). replies old q reply new) (framed_view input spans frame request is) given;
+  sent = subst (λ (q : RequestView). sends old q reply new) (framed_view input spans frame request is) sent;
   close_is = is.close;
-  stopped = subst (λ (t : List ℕ). IsStopped t reply.content from size held holds) (framed_reply input frame request reply is) stopped;
+  stopped = subst (λ (t : List ℕ). IsStopped t reply.content from size held holds) (framed_reply input spans frame request reply is) stopped;
 }
 
 -- ---- replies
@@ -201,15 +199,15 @@ module _ {S : Type 0} (replies : S → RequestView → ReplyView → S → Type 
   -- ---- a request in a frame
 
   module _ (old : S) (bytes : List ℕ) (held : Option (List ℕ)) (before : ℕ) (middle : S) (input : List ℕ) (holds : Option (List ℕ)) (so_far : ℕ)
-      (frame : Frame) (request : Request) (reply : ReplyView) (new : S) (now : Option (List ℕ))
-      (so : Carries replies old bytes held before middle input holds so_far) (is : IsFrameOf input frame request)
-      (given : replies middle (request_view_at input frame) reply new) where
+      (spans : List HeaderSpan) (frame : Frame) (request : Request) (reply : ReplyView) (new : S) (now : Option (List ℕ))
+      (so : Carries replies old bytes held before middle input holds so_far) (is : IsFrameOf input spans frame request)
+      (given : replies middle (request_view_at input spans frame) reply new) where
     asked_so : replies middle (request_view request) reply new
-    asked_so = subst (λ (q : RequestView). replies middle q reply new) (framed_view input frame request is) given
+    asked_so = subst (λ (q : RequestView). replies middle q reply new) (framed_view input spans frame request is) given
 
     -- the reply of the frame is the reply to its request
     same_reply : reply_at input frame reply ≡ reply_to request reply
-    same_reply = framed_reply input frame request reply is
+    same_reply = framed_reply input spans frame request reply is
 
     pub Frame_push : (after : ℕ) → frame.close ≡ false → Appends holds now (reply_at input frame reply) → RisesBy so_far 1 after
         → Carries replies old bytes held before new (drop frame.body.end input) now after

@@ -19,6 +19,7 @@ use Rattle.http_requests.specs.declared.frames.Frame.{Frame}
 use Rattle.http_requests.specs.declared.frames.TheConstants.{MAX_REQUEST}
 use Rattle.http_requests.specs.Input.{buffer_size}
 use Rattle.http_serve.specs.Reads.{Gives, GivesTimes}
+use Rattle.httparse.specs.declared.spans.HeaderSpan.{HeaderSpan}
 use Rattle.http_requests.specs.Frame.{IsFrameOf}
 use Rattle.http_serve.specs.Parts.{GivesOrFails, IsStopped, IfRest, cut_after}
 use Rattle.http_requests.specs.Requests.{Request, Ending, going, closed, asked, refused, EndsAs, IsRefused, Requests}
@@ -81,37 +82,37 @@ pub record IsSoFar {S : Type 0} (replies : S → RequestView → ReplyView → S
 
 -- what a reply leaves that was cut
 pub cut_breaks : {S : Type 0} (replies fails : S → RequestView → ReplyView → S → Type 0) (old : S) (bytes : List ℕ) (held : Option (List ℕ)) (before : ℕ)
-    (middle : S) (input : List ℕ) (holds : Option (List ℕ)) (so_far : ℕ) (frame : Frame) (request : Request) (reply : ReplyView) (n : ℕ) (new : S)
+    (middle : S) (input : List ℕ) (holds : Option (List ℕ)) (so_far : ℕ) (spans : List HeaderSpan) (frame : Frame) (request : Request) (reply : ReplyView) (n : ℕ) (new : S)
     (now : Option (List ℕ)) (fault : SendFault)
-    → Carries replies old bytes held before middle input holds so_far → IsFrameOf input frame request
-    → GivesOrFails (Err fault) (replies middle (request_view_at input frame) reply new) (fails middle (request_view_at input frame) reply new)
+    → Carries replies old bytes held before middle input holds so_far → IsFrameOf input spans frame request
+    → GivesOrFails (Err fault) (replies middle (request_view_at input spans frame) reply new) (fails middle (request_view_at input spans frame) reply new)
     → n < length (reply_at input frame reply) → Appends holds now (take n (reply_at input frame reply))
     → IsBroken replies fails old bytes held before (cut_after so_far frame.close fault) new now
-cut_breaks replies fails old bytes held before middle input holds so_far frame request reply n new now cuts.Write so is given cut sent =
+cut_breaks replies fails old bytes held before middle input holds so_far spans frame request reply n new now cuts.Write so is given cut sent =
     Breaks_at replies (RepliesNext replies Anything) old bytes held before middle input holds so_far (reply_at input frame reply) n new now so
-    (inl (Frame_next replies middle input frame request reply new is given)) cut sent
-cut_breaks replies fails old bytes held before middle input holds so_far frame request reply n new now cuts.Content so is given cut sent =
+    (inl (Frame_next replies middle input spans frame request reply new is given)) cut sent
+cut_breaks replies fails old bytes held before middle input holds so_far spans frame request reply n new now cuts.Content so is given cut sent =
     Breaks_at replies (AnswersNext fails) old bytes held before middle input holds so_far (reply_at input frame reply) n new now so
-    (Frame_next fails middle input frame request reply new is given) cut sent
-cut_breaks replies fails old bytes held before middle input holds so_far frame request reply n new now (cuts.Rest from size) so is given cut sent =
+    (Frame_next fails middle input spans frame request reply new is given) cut sent
+cut_breaks replies fails old bytes held before middle input holds so_far spans frame request reply n new now (cuts.Rest from size) so is given cut sent =
     Breaks_at replies (AnswersNext replies) old bytes held before middle input holds so_far (reply_at input frame reply) n new now so
-    (Frame_next replies middle input frame request reply new is given) cut sent
+    (Frame_next replies middle input spans frame request reply new is given) cut sent
 
 -- and where the rest of its content was left
 pub cut_left : {S : Type 0} (replies sends : S → RequestView → ReplyView → S → Type 0) (old : S) (bytes : List ℕ) (held : Option (List ℕ)) (before : ℕ)
-    (middle : S) (input : List ℕ) (holds : Option (List ℕ)) (so_far : ℕ) (frame : Frame) (request : Request) (new : S) (now : Option (List ℕ))
-    (fault : SendFault) → Carries replies old bytes held before middle input holds so_far → IsFrameOf input frame request
-    → IfRest (Err fault) (λ from size. (reply : ReplyView) × replies middle (request_view_at input frame) reply new
-    × sends middle (request_view_at input frame) reply new × IsStopped (reply_at input frame reply) reply.content from size holds now)
+    (middle : S) (input : List ℕ) (holds : Option (List ℕ)) (so_far : ℕ) (spans : List HeaderSpan) (frame : Frame) (request : Request) (new : S) (now : Option (List ℕ))
+    (fault : SendFault) → Carries replies old bytes held before middle input holds so_far → IsFrameOf input spans frame request
+    → IfRest (Err fault) (λ from size. (reply : ReplyView) × replies middle (request_view_at input spans frame) reply new
+    × sends middle (request_view_at input spans frame) reply new × IsStopped (reply_at input frame reply) reply.content from size holds now)
     → IsLeftAt replies sends old bytes held before (cut_after so_far frame.close fault) new now
-cut_left replies sends old bytes held before middle input holds so_far frame request new now cuts.Write so is left = tt
-cut_left replies sends old bytes held before middle input holds so_far frame request new now cuts.Content so is left = tt
-cut_left replies sends old bytes held before middle input holds so_far frame request new now (cuts.Rest from size) so is left = record {
+cut_left replies sends old bytes held before middle input holds so_far spans frame request new now cuts.Write so is left = tt
+cut_left replies sends old bytes held before middle input holds so_far spans frame request new now cuts.Content so is left = tt
+cut_left replies sends old bytes held before middle input holds so_far spans frame request new now (cuts.Rest from size) so is left = record {
   middle = middle;
   rest = input;
   between = holds;
   carries = so;
-  next = Frame_stops replies sends middle input frame request left.0 from size new holds now is left.1 left.2 left.3;
+  next = Frame_stops replies sends middle input spans frame request left.0 from size new holds now is left.1 left.2 left.3;
 }
 
 pub not_rest : (fault : ServeFault) (fact : ℕ → Bool → ℕ → ℕ → Type 0) → IsNotRest fault → OnRest fault fact

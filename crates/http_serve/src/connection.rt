@@ -1,8 +1,7 @@
 //! A connection: each request gets a reply.
-ghost use Rattle.std.specs.Prelude.{◌≡◌, ◌⊎◌, ◌≤◌, ◌<◌, length, Option, IsTrue, Err, IfSome, IfOk, IfErr, OnOk, vec_capacity};
+ghost use Rattle.std.specs.Prelude.{◌≡◌, ◌⊎◌, ◌≤◌, ◌<◌, All, length, take, Option, IsTrue, Err, IfOk, IfErr, OnOk, vec_capacity};
 ghost use Rattle.httparse.specs.Grammar.{RequestHead};
-ghost use Rattle.httparse.specs.Spans.{IsWithin, span_bytes};
-ghost use Rattle.std.specs.Option.{option_map};
+ghost use Rattle.httparse.specs.Spans.{IsHeaderWithin, IsWithin};
 ghost use Rattle.http_requests.specs.Requests.{request_view_at, has_head_method};
 ghost use Rattle.http_serve.specs.Reply.{ReplyView, reply_at, refusal_bytes};
 ghost use Rattle.http_requests.specs.Search.{IsKnown};
@@ -21,8 +20,10 @@ use crate::replies::send_front;
 use crate::sessions::{Buffers, Session};
 use crate::writes::WriteFault;
 use crate::{Handler, Request};
-use http_requests::{Frame, NO_HEAD, Next, Rejection, START, find_next, is_head, path_of};
-use httparse::spans::Span;
+use http_requests::{
+    FieldSpans, Fields, Frame, NO_FIELDS, NO_HEAD, Next, Rejection, START, find_next, is_head,
+    path_of,
+};
 use std::fmt;
 use std::io::{Read, Write};
 use thiserror::Error;
@@ -98,43 +99,32 @@ enum Pause {
     More { requests: u64, rejection: Rejection },
 }
 
-/// The bytes of a part, if it is present.
-fn part_of(bytes: &[u8], part: Option<Span>) -> Option<&[u8]>
-    requires { IfSome part (IsWithin (length bytes.now)) }
-    ensures { option_map (λ text. text.now) result ≡ option_map (span_bytes bytes.now) part }
-{
-    match part {
-        Some(span) => Some(span.of(bytes)),
-        None => None,
-    }
-}
-
-/// Answers the request at `frame` in `bytes`.
+/// Answers the request at `frame` in `bytes`, whose header fields are at these spans.
 fn answer_one<H: Handler, W: Write>(
     handler: &mut H,
     writer: &mut W,
     out: &mut Vec<u8>,
     part: &mut Vec<u8>,
     bytes: &[u8],
+    fields: &FieldSpans,
     frame: &Frame,
     rests: Rests,
 ) -> Result<(), SendFault>
     requires method { IsWithin (length bytes.now) frame.now.method }
     requires target { IsWithin (length bytes.now) frame.now.target }
     requires body { IsWithin (length bytes.now) frame.now.body }
-    requires range { IfSome frame.now.range (IsWithin (length bytes.now)) }
-    requires if_match { IfSome frame.now.if_match (IsWithin (length bytes.now)) }
-    requires if_none_match { IfSome frame.now.if_none_match (IsWithin (length bytes.now)) }
+    requires fields { All (IsHeaderWithin (length bytes.now)) (take frame.now.fields fields.now) }
+    requires few { frame.now.fields ≤ length fields.now }
     requires room { REPLY_SPACE ≤ vec_capacity out.old }
     requires space { PART_SIZE ≤ vec_capacity part.old }
     ensures room { REPLY_SPACE ≤ vec_capacity out.new }
     ensures space { PART_SIZE ≤ vec_capacity part.new }
-    ensures reply { (reply : ReplyView) × GivesOrFails result (H.replies handler.old (request_view_at bytes.now frame.now) reply handler.new)
-        (H.fails handler.old (request_view_at bytes.now frame.now) reply handler.new)
+    ensures reply { (reply : ReplyView) × GivesOrFails result (H.replies handler.old (request_view_at bytes.now fields.now frame.now) reply handler.new)
+        (H.fails handler.old (request_view_at bytes.now fields.now frame.now) reply handler.new)
         × Sends result (W.contents writer.old) (W.contents writer.new) (reply_at bytes.now frame.now reply) }
     ensures cut { IfErr result (IsCutIn (H.size handler.new)) }
-    ensures stopped { IfRest result (λ from size. (reply : ReplyView) × H.replies handler.old (request_view_at bytes.now frame.now) reply handler.new
-        × H.sends handler.old (request_view_at bytes.now frame.now) reply handler.new
+    ensures stopped { IfRest result (λ from size. (reply : ReplyView) × H.replies handler.old (request_view_at bytes.now fields.now frame.now) reply handler.new
+        × H.sends handler.old (request_view_at bytes.now fields.now frame.now) reply handler.new
         × IsStopped (reply_at bytes.now frame.now reply) reply.content from size (W.contents writer.old) (W.contents writer.new)) }
     ensures whole { rests ≡ Sent → IfErr result IsNoRest }
     ensures unread { rests ≡ Left → IfErr result IsNoContentFault }
@@ -143,10 +133,7 @@ fn answer_one<H: Handler, W: Write>(
     let request = Request {
         method,
         path: path_of(frame.target.of(bytes)),
-        range: part_of(bytes, frame.range),
-        conditional: frame.conditional,
-        if_match: part_of(bytes, frame.if_match),
-        if_none_match: part_of(bytes, frame.if_none_match),
+        fields: Fields::new(bytes, &fields[..frame.fields]),
         body: frame.body.of(bytes),
         close: frame.close,
     };
@@ -199,8 +186,9 @@ fn answer_whole<H: Handler, W: Write>(
     ensures whole { rests ≡ Sent → IfErr result IsNotRest }
     ensures unread { rests ≡ Left → IfErr result IsNotContent }
 {
+    let mut fields = NO_FIELDS;
     'requests: loop {
-        let frame = match find_next(session.input.waiting(), &mut session.search) {
+        let frame = match find_next(session.input.waiting(), &mut fields, &mut session.search) {
             Next::Whole(frame) => frame,
             Next::More(missing) => {
                 return Ok(Pause::More {
@@ -225,6 +213,7 @@ fn answer_whole<H: Handler, W: Write>(
             &mut session.out,
             &mut session.part,
             waiting,
+            &fields,
             &frame,
             rests,
         ) {

@@ -1,6 +1,5 @@
 //! The handler of a connection's requests.
 ghost use Rattle.std.specs.Prelude.{◌≡◌, ◌≤◌, ◌+◌, ℕ, List, Option, length, OnOk, OnErr};
-ghost use Rattle.std.specs.Option.{option_map};
 ghost use Rattle.http_serve.specs.declared.handlers.TheConstants.{PART_SIZE};
 ghost use Rattle.http_serve.specs.declared.handlers.Ticket.{Ticket};
 ghost use Rattle.http_serve.specs.Parts.{read_outcome};
@@ -8,6 +7,8 @@ ghost use Rattle.http_requests.specs.Requests.{RequestView};
 ghost use Rattle.http_serve.specs.Reply.{ReplyView, IsReply, InParts, HasShortWords, head_view, with_part};
 
 use crate::Reply;
+use http_requests::Fields;
+use std::marker::Model;
 use thiserror::Error;
 
 /// Maximum number of content bytes read and written at once.
@@ -19,25 +20,32 @@ pub const PART_SIZE: usize = 65_536;
 pub struct ContentFault;
 
 /// A request, as a handler sees it.
-#[derive(Clone, Copy)]
+#[derive(Drop)]
 pub struct Request<'a> {
     /// The method, as received.
     pub method: &'a [u8],
     /// The path of the target, without its query.
     pub path: &'a [u8],
-    /// The value of the only range field, without surrounding white space. `None` if there is no such field, or several, or a field
-    /// if-range.
-    pub range: Option<&'a [u8]>,
-    /// Whether it comes under a condition on entity tags: it has a field if-match or if-none-match.
-    pub conditional: bool,
-    /// The value of the only field if-match, without surrounding white space. `None` if there is no such field, or several.
-    pub if_match: Option<&'a [u8]>,
-    /// The value of the only field if-none-match, without surrounding white space. `None` if there is no such field, or several.
-    pub if_none_match: Option<&'a [u8]>,
+    /// The header fields.
+    pub fields: Fields<'a>,
     /// The body, of at most 65,536 bytes.
     pub body: &'a [u8],
     /// Whether the connection ends after the reply.
     pub close: bool,
+}
+
+impl<'a> Model for Request<'a> {
+    ghost use Rattle.http_requests.specs.Requests.{RequestView};
+
+    ghost Value = { RequestView };
+
+    ghost view = { λ r. record {
+      method = r.method.now;
+      path = r.path.now;
+      fields = r.fields;
+      body = r.body.now;
+      close = r.close;
+    } };
 }
 
 /// Answers the requests of a connection.
@@ -58,25 +66,8 @@ pub trait Handler {
     /// The reply to a HEAD request is written without its content.
     /// If the first bytes of content in parts can't be read, reply otherwise: after the head it is too late.
     fn answer(&mut self, request: &Request<'_>) -> Reply
-        ensures replied { (reply : ReplyView) × IsReply result reply × replies self.old (record {
-          method = request.now.method.now;
-          path = request.now.path.now;
-          range = option_map (λ range. range.now) request.now.range;
-          conditional = request.now.conditional;
-          if_match = option_map (λ value. value.now) request.now.if_match;
-          if_none_match = option_map (λ value. value.now) request.now.if_none_match;
-          body = request.now.body.now;
-          close = request.now.close;
-        }) reply self.new × InParts result.content (sends self.old (record {
-          method = request.now.method.now;
-          path = request.now.path.now;
-          range = option_map (λ range. range.now) request.now.range;
-          conditional = request.now.conditional;
-          if_match = option_map (λ value. value.now) request.now.if_match;
-          if_none_match = option_map (λ value. value.now) request.now.if_none_match;
-          body = request.now.body.now;
-          close = request.now.close;
-        }) reply self.new × (size self.new ≡ length reply.content)) }
+        ensures replied { (reply : ReplyView) × IsReply result reply × replies self.old request.now reply self.new
+            × InParts result.content (sends self.old request.now reply self.new × (size self.new ≡ length reply.content)) }
         ensures writable { HasShortWords (head_view result) };
 
     /// Fills `part`, which has at most `PART_SIZE` bytes, from an offset of the content of the last reply, which is in parts.

@@ -12,8 +12,7 @@ mod writes;
 
 pub use connection::{End, MAX_READS, ServeFault, Served, serve_fronts, serve_with};
 pub use handlers::{ContentFault, Downloads, Handler, PART_SIZE, Request, Ticket};
-pub use http_requests::READ_SPACE;
+pub use http_requests::{Fields, READ_SPACE};
 pub use http_values::Status;
 pub use replies::{Content, ContentRange, EntityTag, MAX_WORD, Reply, Tag, WeakTag};
 pub use sessions::Buffers;
-pub use tags::names_tag;

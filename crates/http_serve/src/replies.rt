@@ -1,5 +1,5 @@
 //! Replies and their bytes.
-ghost use Rattle.std.specs.Prelude.{◌≡◌, ◌≤◌, ◌<◌, ◌+◌, ◌*◌, ◌++◌, length, vec_len, vec_capacity, IfOk, IfSome, None, not, ◌||◌};
+ghost use Rattle.std.specs.Prelude.{◌≡◌, ◌≤◌, ◌<◌, ◌+◌, ◌*◌, ◌++◌, length, vec_len, vec_capacity, IfOk, IfSome, Some, None, not, ◌||◌};
 ghost use Rattle.std.specs.Option.{option_map};
 ghost use Rattle.http_values.specs.Codes.{code_of};
 ghost use Rattle.http_values.specs.declared.digits.TheConstants.{MAX_DIGITS};
@@ -153,6 +153,33 @@ impl Reply {
             tag: None,
             allow: None,
             content,
+        }
+    }
+
+    /// The same reply with this entity tag, if there is one.
+    pub fn tagged(self, tag: Option<Tag>) -> Reply
+        ensures { result ≡ record self { tag = tag } }
+    {
+        Reply { tag, ..self }
+    }
+
+    /// The same reply, whose content is this part of a whole.
+    pub fn ranged(self, range: ContentRange) -> Reply
+        ensures { result ≡ record self { range = Some range } }
+    {
+        Reply {
+            range: Some(range),
+            ..self
+        }
+    }
+
+    /// The same reply, which tells the allowed methods.
+    pub fn allowing(self, allow: &'static str) -> Reply
+        ensures { result ≡ record self { allow = Some allow.entry } }
+    {
+        Reply {
+            allow: Some(allow),
+            ..self
         }
     }
 

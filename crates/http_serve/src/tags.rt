@@ -1,13 +1,10 @@
-//! Entity tags, and conditions on them (RFC 9110, 8.8.3 and 13.1).
+//! Entity tags (RFC 9110, 8.8.3).
 ghost use Rattle.std.specs.Prelude.{◌≡◌, ◌≤◌, ◌+◌, ◌*◌, ◌++◌, vec_len, vec_capacity};
-ghost use Rattle.std.specs.List.{list_any};
-ghost use Rattle.http_requests.specs.Fields.{members};
 ghost use Rattle.http_values.specs.declared.digits.TheConstants.{MAX_DIGITS};
-ghost use Rattle.http_serve.specs.Tags.{tag_text, weak_text, written_tag, opaque_tag, is_tag, names_tag};
+ghost use Rattle.http_serve.specs.Tags.{tag_text, weak_text, written_tag};
 ghost use Rattle.http_serve.specs.declared.tags.TheConstants.{MAX_TAG};
 
 use crate::replies::{EntityTag, Tag, WeakTag};
-use http_requests::split_member;
 use http_values::{MAX_DIGITS, push_number, push_text};
 
 /// The most bytes that an entity tag has.
@@ -60,53 +57,4 @@ pub(crate) fn put_tag(out: &mut Vec<u8>, tag: Tag)
             put_weak_text(out, tag);
         }
     }
-}
-
-/// What is quoted in an entity tag, with its quotation marks.
-fn opaque_tag(text: &[u8]) -> &[u8]
-    ensures { result.now ≡ opaque_tag text.now }
-{
-    match text.split_at_checked(2) {
-        Some((front, rest)) if front == b"W/".as_slice() => rest,
-        _ => text,
-    }
-}
-
-/// Whether a text is the strong `tag`, or, if `weak`, a tag with the same opaque tag.
-fn is_tag(weak: bool, tag: &[u8], text: &[u8]) -> bool
-    ensures { result ≡ is_tag weak tag.now text.now }
-{
-    if weak {
-        opaque_tag(text) == tag
-    } else {
-        text == tag
-    }
-}
-
-/// Whether the strong `tag` is one of a list.
-fn lists_tag(weak: bool, tag: &[u8], list: &[u8]) -> bool
-    ensures { result ≡ list_any (is_tag weak tag.now) (members list.now) }
-{
-    let mut rest = list;
-    loop {
-        let (text, more) = split_member(rest);
-        if is_tag(weak, tag, text) {
-            return true;
-        }
-        match more {
-            Some(list) => rest = list,
-            None => return false,
-        }
-    }
-}
-
-/// Whether the value of a field if-match or if-none-match names a resource with the strong `tag`, given as `EntityTag::text` writes it
-/// (or, where `weak` is true, a weak tag, given as `WeakTag::text` writes it):
-/// it is an asterisk, or a list of tags, of which one is this one. With `weak` the comparison is the weak one, which if-none-match asks for,
-/// and else the strong one, which if-match asks for (RFC 9110, 13.1.1 and 13.1.2).
-#[tactic(auto, unfolding(crate::specs::Tags::names_tag))]
-pub fn names_tag(weak: bool, tag: &[u8], value: &[u8]) -> bool
-    ensures { result ≡ names_tag weak tag.now value.now }
-{
-    value == b"*".as_slice() || lists_tag(weak, tag, value)
 }

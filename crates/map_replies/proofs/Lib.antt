@@ -1,6 +1,7 @@
 pub mod Along
 mod Answering
 mod CheckedEdits
+mod ConditionLemmas
 pub mod Connections
 mod TicketLemmas
 mod PartLemmas
@@ -9,6 +10,7 @@ mod ListedReplies
 mod ListLemmas
 mod NumberedEdits
 mod Pushed
+mod Routed
 mod SendingLemmas
 mod StandbyLaws
 mod Texts

@@ -1,5 +1,5 @@
 -- An archive that is sent in parts.
-use Rattle.std.proofs.Common.{◌≡◌, inl, inr, ℕ, ◌<◌, ◌+◌, ◌-◌, ◌≤◌, List, [], ◌∷◌, ◌++◌, length, take, drop, replicate, slice_range, Option, Some, None, min}
+use Rattle.std.proofs.Common.{◌≡◌, inl, inr, ℕ, ◌<◌, ◌+◌, ◌-◌, ◌≤◌, List, [], ◌∷◌, ◌++◌, length, take, drop, replicate, slice_range, Option, Some, None, min, Bool, true, false}
 use Rattle.std.proofs.Common.{refl, sym, ap, ◌∙◌, subst, arith, append_assoc, length-append, length-drop}
 use Rattle.std.proofs.lemmas.List.{drop-drop, drop-take, take_all, take-take, take_at, take-append-le, take-append-drop, length-replicate, length-take-le}
 use Rattle.std.proofs.lemmas.Option.{none-some}
@@ -7,8 +7,8 @@ use Rattle.std.proofs.Common.{Global}
 use Rattle.std.specs.Prelude.{Vec, Result, Ok, Err, IfOk, IfErr, OnOk, OnErr}
 use Rattle.http_serve.specs.declared.replies.Content.{Content}
 use Rattle.http_serve.specs.declared.replies.Content.TheVariants as contents
-use Rattle.http_serve.specs.declared.replies.EntityTag.{EntityTag}
 use Rattle.http_serve.specs.declared.replies.Reply.{Reply}
+use Rattle.http_serve.specs.declared.replies.Tag.{Tag}
 use Rattle.http_serve.specs.Tags.{tag_text}
 use Rattle.http_serve.specs.Reply.{ReplyView, IsWhole, HasShortWords, head_view, InParts, FitsParts, content_bytes, reply_view, with_part}
 use Rattle.http_serve.proofs.HandlerLemmas.{shown_reply, whole_reply, none_in_parts}
@@ -17,7 +17,7 @@ use Rattle.http_serve.specs.Parts.{read_outcome}
 use Rattle.sector_disk.specs.Asked.{OnlyReads}
 use Rattle.sector_disk.specs.Disk.{History, seen, HasFailed}
 use Rattle.sector_disk.proofs.AskedLaws as disks
-use Rattle.tile_service.specs.Machine.{read}
+use Rattle.tile_service.specs.Machine.{Happening, read}
 use Rattle.tile_service.specs.Runs.{Takes}
 use Rattle.tile_service.specs.Service.{ServiceView, IsUp, ShowsArchive, ReadsFrom, shown_archive, status_of}
 use Rattle.tile_service.specs.Stored.{Stored}
@@ -31,12 +31,12 @@ use Rattle.map_replies.specs.declared.fault.RequestFault.TheVariants.{Condition,
 use Rattle.map_replies.specs.declared.parts.ArchiveRange.{ArchiveRange}
 use Rattle.map_replies.specs.declared.parts.ArchiveRange.TheVariants.{Whole, Between, Beyond}
 use Rattle.map_replies.specs.declared.parts.Sending.{Sending}
-use Rattle.map_replies.specs.Meanings.{OrNoMemory, MeansPart, MeansRange, MeansJudged, MeansArchive, Answers, AnswersAllowed, AnswersMethod, DiskFailed}
-use Rattle.map_replies.specs.Conditions.{AskView, ask_for, judged}
+use Rattle.map_replies.specs.Meanings.{OrNoMemory, MeansPart, MeansRange, MeansJudged, MeansArchive, MeansAllowed, UnlessRefused, Answers, AnswersAllowed, AnswersMethod, DiskFailed}
+use Rattle.map_replies.specs.Conditions.{AskView, judged, needed, range_for, refuses}
 use Rattle.map_replies.specs.declared.conditions.Judged.{Judged}
 use Rattle.map_replies.specs.declared.conditions.Judged.TheVariants.{Holds, Fails, Unchanged}
-use Rattle.map_replies.specs.Parts.{IsPart, start_of, size_of, archive_tag, part_reply, unchanged_reply}
-use Rattle.map_replies.specs.Sending.{IsAnswered, IsAnswer, IsAnsweredInParts, IsInside, Begins, SendsPart, AnswersPart, IsSending, SendsMethod}
+use Rattle.map_replies.specs.Parts.{IsPart, start_of, size_of, archive_tag, shown_tag, part_reply, unchanged_reply}
+use Rattle.map_replies.specs.Sending.{IsAnswered, IsAnswer, IsAnsweredInParts, IsInside, Begins, SendsPart, AnswersPart, IsSending, SendsAsked, SendsMethod}
 use Rattle.map_replies.specs.Words.{refusal_of, service_refusal}
 use Rattle.map_replies.proofs.Answering.{no_memory_first}
 
@@ -129,16 +129,17 @@ inside_end Whole total inside = omega arith
 inside_end (Between first last) total inside = omega (arith, inside.0, inside.1)
 inside_end Beyond total inside = absurd inside
 
-pub content_of : (part : ArchiveRange) (tag : EntityTag) (a : List ℕ) → IsInside part tag.length → (part_reply part tag a).content ≡ a
-content_of Whole tag a inside = refl
-content_of (Between first last) tag a inside = refl
-content_of Beyond tag a inside = absurd inside
+pub content_of : (part : ArchiveRange) (total : ℕ) (tag : Option Tag) (a : List ℕ) → IsInside part total
+    → (part_reply part total tag a).content ≡ a
+content_of Whole total tag a inside = refl
+content_of (Between first last) total tag a inside = refl
+content_of Beyond total tag a inside = absurd inside
 
-with_content : (part : ArchiveRange) (tag : EntityTag) (a b : List ℕ) → IsInside part tag.length
-    → record (part_reply part tag a) { content = b } ≡ part_reply part tag b
-with_content Whole tag a b inside = refl
-with_content (Between first last) tag a b inside = refl
-with_content Beyond tag a b inside = absurd inside
+with_content : (part : ArchiveRange) (total : ℕ) (tag : Option Tag) (a b : List ℕ) → IsInside part total
+    → record (part_reply part total tag a) { content = b } ≡ part_reply part total tag b
+with_content Whole total tag a b inside = refl
+with_content (Between first last) total tag a b inside = refl
+with_content Beyond total tag a b inside = absurd inside
 
 module _ {D : Type 0} (sectors : D → ℕ) (honest : D → Type 0) (history : D → History) where
   -- ---- reads
@@ -235,76 +236,76 @@ module _ {D : Type 0} (sectors : D → ℕ) (honest : D → Type 0) (history : D
 module _ {D : Type 0} (sectors : D → ℕ) (honest : D → Type 0) (history : D → History) (faults : D → ℕ) where
   -- ---- a part that is sent
 
-  answers_read : (part : ArchiveRange) (old new : ServiceView D) (reply : ReplyView) (content : List ℕ) → IsInside part old.archive_len
-      → length content ≡ size_of part old.archive_len → reply ≡ part_reply part (archive_tag (status_of old)) content
+  answers_read : (tag : Option Tag) (part : ArchiveRange) (old new : ServiceView D) (reply : ReplyView) (content : List ℕ) → IsInside part old.archive_len
+      → length content ≡ size_of part old.archive_len → reply ≡ part_reply part old.archive_len tag content
       → Takes sectors honest history old (read (start_of part) (Some content)) new
-      → Answers sectors honest history (MeansPart (DiskFailed faults old new) (archive_tag (status_of old)) part) old new reply
-  answers_read Whole old new reply content inside long shows takes =
+      → Answers sectors honest history (MeansPart (DiskFailed faults old new) old.archive_len tag part) old new reply
+  answers_read tag Whole old new reply content inside long shows takes =
       (read 0 (Some content) ∷ [], (Some content, long, (λ none. absurd (none-some content (sym none))), shows, refl), (new, takes, refl))
-  answers_read (Between first last) old new reply content inside long shows takes =
+  answers_read tag (Between first last) old new reply content inside long shows takes =
       (read first (Some content) ∷ [], (Some content, long, (λ none. absurd (none-some content (sym none))), shows, refl), (new, takes, refl))
-  answers_read Beyond old new reply content inside long shows takes = absurd inside
+  answers_read tag Beyond old new reply content inside long shows takes = absurd inside
 
-  answers_part : (part : ArchiveRange) (old : ServiceView D) (sending : Sending) (new : ServiceView D) (reply : ReplyView)
-      → SendsPart sectors honest history faults part old sending new reply
-      → Answers sectors honest history (MeansPart (DiskFailed faults old new) (archive_tag (status_of old)) part) old new reply
-  answers_part part old sending new reply sends = answers_read part old new reply sends.content sends.sent.0 sends.long sends.shows sends.reads
+  answers_part : (tag : Option Tag) (part : ArchiveRange) (old : ServiceView D) (sending : Sending) (new : ServiceView D) (reply : ReplyView)
+      → SendsPart sectors honest history faults tag part old sending new reply
+      → Answers sectors honest history (MeansPart (DiskFailed faults old new) old.archive_len tag part) old new reply
+  answers_part tag part old sending new reply sends = answers_read tag part old new reply sends.content sends.sent.0 sends.long sends.shows sends.reads
 
   -- the reply with such a content
-  pub part_sent : (old new : ServiceView D) (part : ArchiveRange) (sending : Sending) (reply : Reply) (content : Content) → IsInside part old.archive_len
+  pub part_sent : (tag : Option Tag) (old new : ServiceView D) (part : ArchiveRange) (sending : Sending) (reply : Reply) (content : Content) → IsInside part old.archive_len
       → Begins sectors honest history old new (start_of part) (size_of part old.archive_len) content → faults new.disk ≡ faults old.disk
       → reply.content ≡ content
-      → ((bytes : List ℕ) → reply_view bytes reply ≡ part_reply part (archive_tag (status_of old)) (content_bytes bytes content))
+      → ((bytes : List ℕ) → reply_view bytes reply ≡ part_reply part old.archive_len tag (content_bytes bytes content))
       → sending ≡ record { first = start_of part; length = size_of part old.archive_len }
-      → AnswersPart sectors honest history faults part old sending new reply
-  part_sent old new part sending reply content inside begun unfailed is shows sent =
+      → AnswersPart sectors honest history faults tag part old sending new reply
+  part_sent tag old new part sending reply content inside begun unfailed is shows sent =
       let bytes : List ℕ = begun.0 in
-      let sends : SendsPart sectors honest history faults part old sending new (reply_view bytes reply) = record {
+      let sends : SendsPart sectors honest history faults tag part old sending new (reply_view bytes reply) = record {
         sent = (inside, sent);
         content = bytes;
         long = begun.3;
-        shows = shows bytes ∙ ap (part_reply part (archive_tag (status_of old))) begun.2;
+        shows = shows bytes ∙ ap (part_reply part old.archive_len tag) begun.2;
         reads = begun.4;
         unfailed = unfailed;
       } in (
         reply_view bytes reply,
         shown_reply reply bytes (subst (λ (c : Content). FitsParts bytes c) (sym is) begun.1),
-        answers_part part old sending new (reply_view bytes reply) sends,
+        answers_part tag part old sending new (reply_view bytes reply) sends,
         all_in_parts reply.content _ sends,
       )
 
   -- the reply if the disk failed
-  pub part_failed : (old new : ServiceView D) (part : ArchiveRange) (sending : Sending) (reply : Reply) → IsInside part old.archive_len → IsWhole reply
+  pub part_failed : (tag : Option Tag) (old new : ServiceView D) (part : ArchiveRange) (sending : Sending) (reply : Reply) → IsInside part old.archive_len → IsWhole reply
       → reply_view [] reply ≡ service_refusal Device → DiskFailed faults old new → Takes sectors honest history old (read (start_of part) None) new
-      → AnswersPart sectors honest history faults part old sending new reply
-  part_failed old new Whole sending reply inside whole is failed takes =
+      → AnswersPart sectors honest history faults tag part old sending new reply
+  part_failed tag old new Whole sending reply inside whole is failed takes =
       whole_is _ _ reply whole (read 0 None ∷ [], (None, tt, (λ none. failed), is, refl), (new, takes, refl))
-  part_failed old new (Between first last) sending reply inside whole is failed takes =
+  part_failed tag old new (Between first last) sending reply inside whole is failed takes =
       whole_is _ _ reply whole (read first None ∷ [], (None, tt, (λ none. failed), is, refl), (new, takes, refl))
-  part_failed old new Beyond sending reply inside whole is failed takes = absurd inside
+  part_failed tag old new Beyond sending reply inside whole is failed takes = absurd inside
 
   -- ---- the archive
 
-  module _ (range : Option (List ℕ)) (old : ServiceView D) (sending : Sending) (new : ServiceView D) where
+  module _ (tag : Option Tag) (range : Option (List ℕ)) (old : ServiceView D) (sending : Sending) (new : ServiceView D) where
     abbrev AnswersRange : ReplyView → Type 0
     AnswersRange reply =
-        Answers sectors honest history (OrNoMemory (MeansRange (DiskFailed faults old new) (archive_tag (status_of old)) range)) old new reply
+        Answers sectors honest history (OrNoMemory (MeansRange (DiskFailed faults old new) old.archive_len tag range)) old new reply
 
     -- a part of it
     asked_part : (part : ArchiveRange) (reply : ReplyView) → IsPart range old.archive_len part
-        → Answers sectors honest history (MeansPart (DiskFailed faults old new) (archive_tag (status_of old)) part) old new reply → AnswersRange reply
+        → Answers sectors honest history (MeansPart (DiskFailed faults old new) old.archive_len tag part) old new reply → AnswersRange reply
     asked_part part reply asked is = (is.0, inl (part, asked, is.1), is.2)
 
     pub archive_answered : (part : ArchiveRange) (r : Result Reply RequestFault) → 0 < old.archive_len → IsPart range old.archive_len part
-        → IfOk r (AnswersPart sectors honest history faults part old sending new) → IfErr r (λ fault. (new ≡ old) × (fault ≡ Memory))
-        → IsAnsweredInParts AnswersRange (IsSending sectors honest history faults range old sending new) r
+        → IfOk r (AnswersPart sectors honest history faults tag part old sending new) → IfErr r (λ fault. (new ≡ old) × (fault ≡ Memory))
+        → IsAnsweredInParts AnswersRange (IsSending sectors honest history faults tag range old sending new) r
     archive_answered part (Ok reply) some asked is refused = answer_on _ _ _ _ reply (λ view. asked_part part view asked)
         (λ view sends. record { some = some; part = part; asked = asked; sends = sends }) is
     archive_answered part (Err fault) some asked is refused = subst (λ (f : RequestFault). AnswersRange (refusal_of f)) (sym refused.1)
-        (no_memory_first sectors honest history (MeansRange (DiskFailed faults old new) (archive_tag (status_of old)) range) old new refused.0)
+        (no_memory_first sectors honest history (MeansRange (DiskFailed faults old new) old.archive_len tag range) old new refused.0)
 
-  module _ (range : Option (List ℕ)) (old : ServiceView D) (sending : Sending) (new : ServiceView D) (reply : ReplyView)
-      (is : IsSending sectors honest history faults range old sending new reply) where
+  module _ (tag : Option Tag) (range : Option (List ℕ)) (old : ServiceView D) (sending : Sending) (new : ServiceView D) (reply : ReplyView)
+      (is : IsSending sectors honest history faults tag range old sending new reply) where
     abbrev total : ℕ
     total = old.archive_len
 
@@ -315,31 +316,31 @@ module _ {D : Type 0} (sectors : D → ℕ) (honest : D → Type 0) (history : D
         let first : sending.first ≡ start_of is.part = ap (λ (s : Sending). s.first) is.sends.sent.1 in
         let size : sending.length ≡ size_of is.part total = ap (λ (s : Sending). s.length) is.sends.sent.1 in
         let long : length reply.content ≡ length is.sends.content =
-        ap length (ap (λ (r : ReplyView). r.content) is.sends.shows ∙ content_of is.part (archive_tag (status_of old)) is.sends.content is.sends.sent.0) in
+        ap length (ap (λ (r : ReplyView). r.content) is.sends.shows ∙ content_of is.part old.archive_len tag is.sends.content is.sends.sent.0) in
         omega (arith, same, first, size, long, is.sends.long, inside_end is.part total is.sends.sent.0)
 
-    pub sent_answers : AnswersRange range old sending new reply
+    pub sent_answers : AnswersRange tag range old sending new reply
     sent_answers =
-        asked_part range old sending new is.part reply is.asked (answers_part is.part old sending new reply is.sends)
+        asked_part tag range old sending new is.part reply is.asked (answers_part tag is.part old sending new reply is.sends)
 
     -- after another read, whatever its outcome, the reply is still correct
     pub still_answers : (next : ServiceView D) (at : ℕ) (outcome : Option (List ℕ)) → Takes sectors honest history new (read at outcome) next
-        → AnswersRange range old sending next reply
-    still_answers next at outcome takes = asked_part range old sending next is.part reply is.asked
-        (answers_read is.part old next reply is.sends.content is.sends.sent.0 is.sends.long is.sends.shows
+        → AnswersRange tag range old sending next reply
+    still_answers next at outcome takes = asked_part tag range old sending next is.part reply is.asked
+        (answers_read tag is.part old next reply is.sends.content is.sends.sent.0 is.sends.long is.sends.shows
         (reads_on sectors honest history old new next (start_of is.part) at (start_of is.part) (Some is.sends.content) outcome (Some is.sends.content)
         is.sends.reads takes (λ archive shows is_honest. is.sends.reads.archive archive shows (takes.asked.was_honest is_honest))))
 
     -- more of it is read
     pub sent_more : (next : ServiceView D) (offset : ℕ) (piece : List ℕ) → Takes sectors honest history new (read (sending.first + offset) (Some piece)) next
         → faults next.disk ≡ faults new.disk → offset + length piece ≤ min sending.length (new.archive_len - sending.first)
-        → IsSending sectors honest history faults range old sending next (with_part offset piece reply)
+        → IsSending sectors honest history faults tag range old sending next (with_part offset piece reply)
     sent_more next offset piece takes unfailed within =
         let content : List ℕ = is.sends.content in
         let start : ℕ = start_of is.part in
         let more : List ℕ = take offset content ++ piece ++ drop (offset + length piece) content in
         let content_is : reply.content ≡ content =
-        ap (λ (r : ReplyView). r.content) is.sends.shows ∙ content_of is.part (archive_tag (status_of old)) content is.sends.sent.0 in
+        ap (λ (r : ReplyView). r.content) is.sends.shows ∙ content_of is.part old.archive_len tag content is.sends.sent.0 in
         let first : sending.first ≡ start = ap (λ (s : Sending). s.first) is.sends.sent.1 in
         let size : sending.length ≡ size_of is.part total = ap (λ (s : Sending). s.length) is.sends.sent.1 in
         let fits : offset + length piece ≤ length content = omega (arith, within, size, is.sends.long) in
@@ -361,7 +362,7 @@ module _ {D : Type 0} (sectors : D → ℕ) (honest : D → Type 0) (history : D
             long = long ∙ is.sends.long;
             shows = (λ i. record (is.sends.shows i) {
               content = take offset (content_is i) ++ piece ++ drop (offset + length piece) (content_is i);
-            }) ∙ with_content is.part (archive_tag (status_of old)) content more is.sends.sent.0;
+            }) ∙ with_content is.part old.archive_len tag content more is.sends.sent.0;
             reads = reads_on sectors honest history old new next start (sending.first + offset) start (Some content) (Some piece) (Some more)
                 is.sends.reads takes
                 (λ archive shows is_honest.
@@ -376,65 +377,94 @@ module _ {D : Type 0} (sectors : D → ℕ) (honest : D → Type 0) (history : D
           };
         }
 
-  module _ (ask : AskView) (old : ServiceView D) (sending : Sending) (new : ServiceView D) where
+  module _ (method : Method) (ask : AskView) (old : ServiceView D) (sending : Sending) (new : ServiceView D) where
+    abbrev the_tag : Option Tag
+    the_tag = shown_tag ask.tags (archive_tag (status_of old))
+
+    abbrev the_range : Option (List ℕ)
+    the_range = range_for method ask
+
     abbrev AnswersAsked : ReplyView → Type 0
     AnswersAsked reply =
-        Answers sectors honest history (OrNoMemory (MeansArchive (DiskFailed faults old new) (archive_tag (status_of old)) ask)) old new reply
+        Answers sectors honest history (OrNoMemory (MeansArchive (DiskFailed faults old new) (archive_tag (status_of old)) method ask)) old new reply
+
+    abbrev Judges : Judged → ReplyView → List Happening → Type 0
+    Judges j = MeansJudged (DiskFailed faults old new) old.archive_len the_tag j the_range
 
     -- where the conditions hold it is what the range selects
     pub range_answers : (reply : ReplyView) → 0 < old.archive_len → judged (tag_text (archive_tag (status_of old))) ask ≡ Holds
-        → AnswersRange ask.range old sending new reply → AnswersAsked reply
-    range_answers reply some holds (happenings, inl means, takes) = (
-      happenings,
-      inl (inr (
-        some,
-        subst (λ (j : Judged). MeansJudged (DiskFailed faults old new) (archive_tag (status_of old)) j ask.range reply happenings) (sym holds) means,
-      )),
-      takes,
-    )
+        → AnswersRange the_tag the_range old sending new reply → AnswersAsked reply
+    range_answers reply some holds (happenings, inl means, takes) =
+        (happenings, inl (inr (some, subst (λ (j : Judged). Judges j reply happenings) (sym holds) means)), takes)
     range_answers reply some holds (happenings, inr means, takes) = (happenings, inr means, takes)
 
-  module _ (ask : AskView) (old : ServiceView D) (sending : Sending) (some : 0 < old.archive_len) where
+    -- so what is done for that range, with that tag, is what is asked
+    pub range_asked : (tag : Option Tag) (range : Option (List ℕ)) (r : Result Reply RequestFault) → tag ≡ the_tag → range ≡ the_range
+        → 0 < old.archive_len → judged (tag_text (archive_tag (status_of old))) ask ≡ Holds
+        → IsAnsweredInParts (AnswersRange tag range old sending new) (IsSending sectors honest history faults tag range old sending new) r
+        → IsAnsweredInParts AnswersAsked (SendsAsked sectors honest history faults method ask old sending new) r
+    range_asked tag range r tag_is range_is some holds is =
+        let asked = subst
+        (λ t. IsAnsweredInParts (AnswersRange t the_range old sending new) (IsSending sectors honest history faults t the_range old sending new) r) tag_is
+        (subst (λ a. IsAnsweredInParts (AnswersRange tag a old sending new) (IsSending sectors honest history faults tag a old sending new) r)
+        range_is is) in
+        answered_on _ _ _ _ r (λ view means. range_answers view some holds means) (λ view sends. (holds, sends)) asked
+
+  module _ (method : Method) (ask : AskView) (old : ServiceView D) (sending : Sending) (some : 0 < old.archive_len) where
     -- where they say so, nothing is done: the client wants another archive,
-    pub other_wanted : judged (tag_text (archive_tag (status_of old))) ask ≡ Fails → AnswersAsked ask old sending old (refusal_of Condition)
-    other_wanted fails = (
-      [],
-      inl (inr (
-        some,
-        subst (λ (j : Judged). MeansJudged (DiskFailed faults old old) (archive_tag (status_of old)) j ask.range
-            (refusal_of Condition) []) (sym fails) (refl, refl),
-      )),
-      refl,
-    )
+    pub other_wanted : judged (tag_text (archive_tag (status_of old))) ask ≡ Fails → AnswersAsked method ask old sending old (refusal_of Condition)
+    other_wanted fails =
+        ([], inl (inr (some, subst (λ (j : Judged). Judges method ask old sending old j (refusal_of Condition) []) (sym fails) (refl, refl))), refl)
 
     -- or it has this one
     pub is_there : (reply : ReplyView) → judged (tag_text (archive_tag (status_of old))) ask ≡ Unchanged
-        → reply ≡ unchanged_reply (archive_tag (status_of old)) → AnswersAsked ask old sending old reply
-    is_there reply known is = (
-      [],
-      inl (inr (
-        some,
-        subst (λ (j : Judged). MeansJudged (DiskFailed faults old old) (archive_tag (status_of old)) j ask.range
-            reply []) (sym known) (is, refl),
-      )),
-      refl,
-    )
+        → reply ≡ unchanged_reply (shown_tag ask.tags (archive_tag (status_of old))) → AnswersAsked method ask old sending old reply
+    is_there reply known is =
+        ([], inl (inr (some, subst (λ (j : Judged). Judges method ask old sending old j reply []) (sym known) (is, refl))), refl)
+
+  -- what isn't refused by the conditions is done
+  pub allowed_answers : (asked : Asked) (method : Method) (ask : AskView) (body : List ℕ) (old new : ServiceView D) (view : ReplyView)
+      → refuses (needed ask) method ≡ false → AnswersAllowed sectors honest history faults asked method ask body old new view
+      → AnswersMethod sectors honest history faults asked (Ok method) ask body old new view
+  allowed_answers asked method ask body old new view free (happenings, is, takes) = (
+    happenings,
+    subst (λ (b : Bool). UnlessRefused b (MeansAllowed (DiskFailed faults old new) (status_of old) (status_of new) asked method ask body) view
+        happenings) (sym free) is,
+    takes,
+  )
+
+  -- what is refused by them isn't
+  pub refused_answers : (asked : Asked) (method : Method) (ask : AskView) (body : List ℕ) (old : ServiceView D) → refuses (needed ask) method ≡ true
+      → AnswersMethod sectors honest history faults asked (Ok method) ask body old old (refusal_of Condition)
+  refused_answers asked method ask body old refused = (
+    [],
+    subst (λ (b : Bool). UnlessRefused b (MeansAllowed (DiskFailed faults old old) (status_of old) (status_of old) asked method ask body)
+        (refusal_of Condition) []) (sym refused) (refl, refl),
+    refl,
+  )
 
   module _ (asked : Asked) (result : Result Method RouteFault) (ask : AskView) (body : List ℕ) (old : ServiceView D) (sending : Sending)
       (new next : ServiceView D) (reply : ReplyView) (is : SendsMethod sectors honest history faults asked result ask old sending new reply) where
-    asked_answers : (view : ReplyView) → AnswersRange (ask_for is.0 ask).range old sending next view
+    abbrev sent_tag : Option Tag
+    sent_tag = shown_tag ask.tags (archive_tag (status_of old))
+
+    abbrev sent_range : Option (List ℕ)
+    sent_range = range_for is.0 ask
+
+    asked_answers : (view : ReplyView) → AnswersRange sent_tag sent_range old sending next view
         → AnswersMethod sectors honest history faults asked result ask body old next view
     asked_answers view answers =
         subst (λ (r : Result Method RouteFault). AnswersMethod sectors honest history faults asked r ask body old next view) (sym is.1)
-        (subst (λ (a : Asked). AnswersAllowed sectors honest history faults a is.0 ask body old next view) (sym is.2.0)
-        (range_answers (ask_for is.0 ask) old sending next view is.2.1.1.some is.2.1.0 answers))
+        (allowed_answers asked is.0 ask body old next view is.2
+        (subst (λ (a : Asked). AnswersAllowed sectors honest history faults a is.0 ask body old next view) (sym is.3.0)
+        (range_answers is.0 ask old sending next view is.3.1.1.some is.3.1.0 answers)))
 
     -- the disk fails
     pub sends_fails : (at : ℕ) (outcome : Option (List ℕ)) → Takes sectors honest history new (read at outcome) next → DiskFailed faults new next
         → AnswersMethod sectors honest history faults asked result ask body old next reply × DiskFailed faults old next
     sends_fails at outcome takes failed = (
-      asked_answers reply (still_answers (ask_for is.0 ask).range old sending new reply is.2.1.1 next at outcome takes),
-      subst (λ (n : ℕ). HasFailed n (faults next.disk)) is.2.1.1.sends.unfailed failed,
+      asked_answers reply (still_answers sent_tag sent_range old sending new reply is.3.1.1 next at outcome takes),
+      subst (λ (n : ℕ). HasFailed n (faults next.disk)) is.3.1.1.sends.unfailed failed,
     )
 
     pub sends_more : (now : Sending) (offset n : ℕ) (piece : List ℕ) → now ≡ sending → length piece ≡ n
@@ -443,17 +473,22 @@ module _ {D : Type 0} (sectors : D → ℕ) (honest : D → Type 0) (history : D
         → SendsMethod sectors honest history faults asked result ask old now next (with_part offset piece reply)
         × AnswersMethod sectors honest history faults asked result ask body old next (with_part offset piece reply)
     sends_more now offset n piece same long within unfailed takes =
-        let range = (ask_for is.0 ask).range in
-        let more = sent_more range old sending new reply is.2.1.1 next offset piece takes unfailed (omega (arith, long, within)) in (
+        let more = sent_more sent_tag sent_range old sending new reply is.3.1.1 next offset piece takes unfailed (omega (arith, long, within)) in (
           (
             is.0,
             is.1,
+            is.2,
             (
-              is.2.0,
-              (is.2.1.0, subst (λ (s : Sending). IsSending sectors honest history faults range old s next (with_part offset piece reply)) (sym same) more),
+              is.3.0,
+              (
+                is.3.1.0,
+                subst (λ (s : Sending). IsSending sectors honest history faults sent_tag sent_range old s next (with_part offset piece reply))
+                    (sym same) more,
+              ),
             ),
           ),
-          asked_answers (with_part offset piece reply) (sent_answers range old sending next (with_part offset piece reply) more),
+          asked_answers (with_part offset piece reply)
+              (sent_answers sent_tag sent_range old sending next (with_part offset piece reply) more),
         )
 
 -- what follows from a successful read

@@ -1,6 +1,7 @@
 -- Replies with equal tags for one tile.
-use Rattle.std.proofs.Common.{◌≡◌, ◌∙◌, ◌⊎◌, inl, inr, ℕ, Bool, List, [], ◌∷◌, Option, Some, None, Result, Ok, Err, refl, sym, ap, subst}
+use Rattle.std.proofs.Common.{◌≡◌, ◌∙◌, ◌⊎◌, inl, inr, ℕ, Bool, true, false, List, [], ◌∷◌, Option, Some, None, Result, Ok, Err, refl, sym, ap, subst}
 use Rattle.feature_store.specs.Layers.{layers}
+use Rattle.http_requests.specs.Fields.{NamedValue}
 use Rattle.http_requests.specs.Requests.{RequestView}
 use Rattle.http_serve.specs.Reply.{ReplyView}
 use Rattle.http_serve.specs.declared.replies.Tag.{Tag}
@@ -19,8 +20,8 @@ use Rattle.tile_service.specs.Runs.{TakesAll, TakesRun}
 use Rattle.tile_service.specs.Service.{ServiceView, status_of}
 use Rattle.tile_service.specs.Tags.{TellsNumber}
 use Rattle.tile_service.proofs.Tiles.Tags.{knows_all, knows_on, same_layers}
-use Rattle.map_replies.specs.Conditions.{AskView, ask_of}
-use Rattle.map_replies.specs.Meanings.{MeansMethod, MeansTagged, Replies, asked_for, DiskFailed}
+use Rattle.map_replies.specs.Conditions.{AskView, ask_of, needed, refuses}
+use Rattle.map_replies.specs.Meanings.{MeansMethod, MeansTagged, UnlessRefused, Replies, asked_for, DiskFailed}
 use Rattle.map_replies.specs.Words.{shown_reply, tagged_reply}
 
 none_is_some : {A : Type 0} {a : A} → ◌≡◌ {A = Option A} None (Some a) → ⊥
@@ -48,14 +49,14 @@ module _ {D : Type 0} (sectors : D → ℕ) (honest : D → Type 0) (history : D
   tag_shown format tag (got content) reply is shown has = same_some (sym has ∙ ap (λ (r : ReplyView). r.tag) shown)
   tag_shown format tag no_memory reply is shown has = absurd (none_is_some (sym (ap (λ (r : ReplyView). r.tag) shown) ∙ has))
 
-  told_tagged : (start : ℕ) (known : Option (List ℕ)) (z x y : ℕ) (format : TileFormat) (old new : ServiceView D) (reply : ReplyView) (tag : Tag)
-      (happenings : List Happening) → MeansTagged start known z x y format reply happenings → TakesAll sectors honest history old happenings new
+  told_tagged : (start : ℕ) (fields : List NamedValue) (z x y : ℕ) (format : TileFormat) (old new : ServiceView D) (reply : ReplyView) (tag : Tag)
+      (happenings : List Happening) → MeansTagged start fields z x y format reply happenings → TakesAll sectors honest history old happenings new
       → reply.tag ≡ Some tag → Told start z x y old tag
-  told_tagged start known z x y format old new reply tag happenings (inl refused) takes has =
+  told_tagged start fields z x y format old new reply tag happenings (inl refused) takes has =
       absurd (none_is_some (sym (ap (λ (r : ReplyView). r.tag) refused.0) ∙ has))
-  told_tagged start known z x y format old new reply tag happenings (inr (n, inl same)) takes has =
+  told_tagged start fields z x y format old new reply tag happenings (inr (n, inl same)) takes has =
       (n, same_some (sym has ∙ ap (λ (r : ReplyView). r.tag) same.1), told_first old new z x y n happenings [] same.2 takes)
-  told_tagged start known z x y format old new reply tag happenings (inr (n, inr shown)) takes has = (
+  told_tagged start fields z x y format old new reply tag happenings (inr (n, inr shown)) takes has = (
     n,
     tag_shown format (record { start = start; number = n }) shown.1 reply tag shown.2 has,
     told_first old new z x y n happenings (tile z x y shown.1 ∷ []) shown.3 takes,
@@ -67,20 +68,22 @@ module _ {D : Type 0} (sectors : D → ℕ) (honest : D → Type 0) (history : D
       request.body reply happenings
       → TakesAll sectors honest history old happenings new → reply.tag ≡ Some tag → Told start z x y old tag
   told_by start z x y format old new request reply tag happenings (Ok method) means takes has =
-      told_tagged start request.if_none_match z x y format old new reply tag happenings means takes has
+      by (refuses (needed (ask_of (Some start) request)) method) means
+    where
+      by : (refused : Bool) → UnlessRefused refused (MeansTagged start request.fields z x y format) reply happenings → Told start z x y old tag
+      by true refused = absurd (none_is_some (sym (ap (λ (r : ReplyView). r.tag) refused.0) ∙ has))
+      by false shown = told_tagged start request.fields z x y format old new reply tag happenings shown takes has
   told_by start z x y format old new request reply tag happenings (Err routes.NotFound) means takes has =
       absurd (none_is_some (sym (ap (λ (r : ReplyView). r.tag) means.0) ∙ has))
   told_by start z x y format old new request reply tag happenings (Err routes.NotAllowed) means takes has =
-      absurd (none_is_some (sym (ap (λ (r : ReplyView). r.tag) means.0) ∙ has))
-  told_by start z x y format old new request reply tag happenings (Err routes.Conditional) means takes has =
       absurd (none_is_some (sym (ap (λ (r : ReplyView). r.tag) means.0) ∙ has))
 
   told : (access : Access) (start z x y : ℕ) (format : TileFormat) (old new : ServiceView D) (request : RequestView) (reply : ReplyView) (tag : Tag)
       → Replies sectors honest history faults access (Some start) old request reply new → asked_for access request ≡ asked_tile z x y format
       → reply.tag ≡ Some tag → Told start z x y old tag
   told access start z x y format old new request reply tag (happenings, means, takes) asked has =
-      told_by start z x y format old new request reply tag happenings (method_on request.method request.conditional (asked_tile z x y format))
-      (subst (λ (a : Asked). MeansMethod (DiskFailed faults old new) (status_of old) (status_of new) a (method_on request.method request.conditional a)
+      told_by start z x y format old new request reply tag happenings (method_on request.method (asked_tile z x y format))
+      (subst (λ (a : Asked). MeansMethod (DiskFailed faults old new) (status_of old) (status_of new) a (method_on request.method a)
       (ask_of (Some start) request) request.body reply happenings) asked means)
       takes has
 

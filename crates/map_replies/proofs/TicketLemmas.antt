@@ -165,7 +165,7 @@ module _ {D : Type 0} (sectors : D → ℕ) (honest : D → Type 0) (history : D
       → offset + length bytes ≤ length reply.content → bytes ≡ take (length bytes) (drop offset reply.content)
   download_part old at before after request reply offset bytes archive sends least keeps reads is_honest shows within =
       let first = asked_service at in
-      let sent = sends.0.2.1.1 in
+      let sent = sends.0.3.1.1 in
       let begun = sent.sends in
       let start : ℕ = start_of sent.part in
       let place : ArchivePlace = archive_of first in
@@ -182,7 +182,7 @@ module _ {D : Type 0} (sectors : D → ℕ) (honest : D → Type 0) (history : D
       let read = reads.shown archive now is_honest in
       let from : at.calls.sending.first ≡ start = ap (λ s. s.first) begun.sent.1 in
       let content : reply.content ≡ begun.content =
-      ap (λ (r : ReplyView). r.content) begun.shows ∙ content_of sent.part (archive_tag (status_of (asked_service old))) begun.content begun.sent.0 in
+      ap (λ (r : ReplyView). r.content) begun.shows ∙ content_of sent.part (asked_service old).archive_len _ begun.content begun.sent.0 in
       let whole = begun.reads.archive archive shows honest_at in
       let fits : offset + length bytes ≤ length begun.content = omega (arith, within, ap length content) in
       slice_inner archive bytes start (length begun.content) offset fits

@@ -1,5 +1,6 @@
 -- Tiles with and without tags.
 use Rattle.std.proofs.Common.{◌≡◌, ◌∙◌, ◌⊎◌, inl, inr, ℕ, List, [], ◌∷◌, false, Option, Result, Ok, Err, refl, ap}
+use Rattle.http_requests.specs.Fields.{NamedValue}
 use Rattle.http_serve.specs.Reply.{ReplyView, reply_view}
 use Rattle.http_serve.specs.Tags.{weak_text}
 use Rattle.http_serve.specs.declared.replies.Reply.{Reply}
@@ -31,12 +32,12 @@ module _ {D : Type 0} (sectors : D → ℕ) (honest : D → Type 0) (history : D
   plain_tile (Err fault) (no_memory, takes, is) =
       called sectors honest history (tile z x y) (shown_reply (content_reply format)) old new no_memory (refusal_of fault) (ap refusal_of is) takes
 
-  module _ (tag : WeakTag) (if_none_match : Option (List ℕ)) (told : TellsNumber old z x y tag.number)
-      (other : is_known (weak_text tag) if_none_match ≡ false) where
+  module _ (tag : WeakTag) (fields : List NamedValue) (told : TellsNumber old z x y tag.number)
+      (other : is_known (weak_text tag) fields ≡ false) where
     -- it is shown with its tag
     tagged_shown : (outcome : OrMemory (Option (List ℕ))) (reply : ReplyView) → reply ≡ shown_reply (tagged_reply format tag) outcome
         → Takes sectors honest history old (tile z x y outcome) new
-        → Answers sectors honest history (MeansTagged tag.start if_none_match z x y format) old new reply
+        → Answers sectors honest history (MeansTagged tag.start fields z x y format) old new reply
     tagged_shown outcome reply is takes = (
       tile_number z x y tag.number ∷ tile z x y outcome ∷ [],
       inr (tag.number, inr (other, outcome, is, refl)),
@@ -46,7 +47,7 @@ module _ {D : Type 0} (sectors : D → ℕ) (honest : D → Type 0) (history : D
     pub tagged_made : (reply : Reply) (tagged : ReplyView) → tagged ≡ with_tag tag (reply_view [] reply)
         → (outcome : OrMemory (Option (List ℕ))) × Takes sectors honest history old (tile z x y outcome) new
         × IsShownAs (content_reply format) outcome (Ok reply)
-        → Answers sectors honest history (MeansTagged tag.start if_none_match z x y format) old new tagged
+        → Answers sectors honest history (MeansTagged tag.start fields z x y format) old new tagged
     tagged_made reply tagged is (got content, takes, shown) = tagged_shown (got content) tagged (is ∙ ap (with_tag tag) shown) takes
     tagged_made reply tagged is (no_memory, takes, shown) = absurd shown
 
@@ -54,6 +55,6 @@ module _ {D : Type 0} (sectors : D → ℕ) (honest : D → Type 0) (history : D
     pub tagged_refused : (fault : RequestFault)
         → (outcome : OrMemory (Option (List ℕ))) × Takes sectors honest history old (tile z x y outcome) new
         × IsShownAs (content_reply format) outcome (Err fault)
-        → Answers sectors honest history (MeansTagged tag.start if_none_match z x y format) old new (refusal_of fault)
+        → Answers sectors honest history (MeansTagged tag.start fields z x y format) old new (refusal_of fault)
     tagged_refused fault (got content, takes, shown) = absurd shown
     tagged_refused fault (no_memory, takes, shown) = tagged_shown no_memory (refusal_of fault) (ap refusal_of shown) takes

@@ -1,10 +1,12 @@
 -- Which happenings of the service a reply reports: one table, for a single reply and for a connection.
 use Rattle.std.specs.Prelude.{◌≡◌, ◌≢◌, ◌<◌, ◌≤◌, ◌+◌, ◌⊎◌, ℕ, List, [], ◌∷◌, ◌++◌, length, map, All, Bool, true, false, Option, Some, None, IfSome}
 use Rattle.std.specs.Prelude.{Result, Ok, Err, IfOk, IfErr}
+use Rattle.http_requests.specs.Fields.{NamedValue}
 use Rattle.http_requests.specs.Requests.{RequestView}
 use Rattle.http_serve.specs.Reply.{ReplyView}
 use Rattle.http_serve.specs.Tags.{tag_text, weak_text}
 use Rattle.http_serve.specs.declared.replies.EntityTag.{EntityTag}
+use Rattle.http_serve.specs.declared.replies.Tag.{Tag}
 use Rattle.http_serve.specs.declared.replies.WeakTag.{WeakTag}
 use Rattle.sector_disk.specs.Disk.{History, HasFailed}
 use Rattle.tile_routes.specs.declared.method.Method.{Method}
@@ -42,12 +44,14 @@ use Rattle.map_replies.specs.declared.fault.RequestFault.TheVariants.{NotFound, 
 use Rattle.map_replies.specs.declared.parts.ArchiveRange.{ArchiveRange}
 use Rattle.map_replies.specs.declared.parts.ArchiveRange.TheVariants.{Beyond}
 use Rattle.map_replies.specs.Bodies.{SaysFeature, SaysChanges, CheckedEdit, SaysChecked, HasBodyFault, HasBatchFault, HasCheckedFault}
-use Rattle.map_replies.specs.Conditions.{AskView, ask_of, ask_for, is_known, judged}
+use Rattle.map_replies.specs.Conditions.{AskView, ask_of, is_known, judged, meets, needed, range_for, refuses}
+use Rattle.map_replies.specs.declared.conditions.Needed.{Needed}
+use Rattle.map_replies.specs.declared.conditions.Needed.TheVariants.{Free}
 use Rattle.map_replies.specs.declared.conditions.Judged.{Judged}
 use Rattle.map_replies.specs.declared.conditions.Judged.TheVariants.{Holds, Fails, Unchanged}
 use Rattle.map_replies.specs.Feed.{changes_of, feed_body}
 use Rattle.map_replies.specs.declared.feed.TheConstants.{FEED_BYTES}
-use Rattle.map_replies.specs.Parts.{IsPart, start_of, size_of, archive_tag, part_reply, unchanged_reply, bytes_reply}
+use Rattle.map_replies.specs.Parts.{IsPart, start_of, size_of, archive_tag, shown_tag, part_reply, unchanged_reply, bytes_reply}
 use Rattle.map_replies.specs.Words.{refusal_of, not_allowed_reply, json_reply, outcome_reply, changed_reply, not_next_reply, left_reply, published_reply}
 use Rattle.map_replies.specs.Words.{cancel_reply, shown_reply, content_reply, tagged_reply, same_tile_reply, found_reply, numbered_reply}
 use Rattle.map_replies.specs.Words.{metadata_reply, status_reply}
@@ -87,18 +91,26 @@ MeansBody {A} Says Has Means reply happenings =
 abbrev pub MeansEdit : (failed : Type 0) → (call : Result ℕ ServiceFault → Happening) → ReplyView → List Happening → Type 0
 MeansEdit failed call = MeansChange failed call outcome_reply
 
+-- A change of the feature of an id. Under a condition there is a look at the feature first, and if it isn't as the condition wants it nothing
+-- else happens.
+abbrev pub MeansIf : Needed → ℕ → (ReplyView → List Happening → Type 0) → ReplyView → List Happening → Type 0
+MeansIf Free id IsMeant reply happenings = IsMeant reply happenings
+MeansIf needed id IsMeant reply happenings = (found : Option FeatureData)
+    × (((meets needed found ≡ true) × (after : List Happening) × (happenings ≡ look id (got found) ∷ after) × IsMeant reply after)
+    ⊎ ((meets needed found ≡ false) × (reply ≡ refusal_of Condition) × (happenings ≡ look id (got found) ∷ [])))
+
 -- the feature of the body is set
-abbrev pub MeansPut : (failed : Type 0) → (version : ℕ) → ℕ → List ℕ → ReplyView → List Happening → Type 0
-MeansPut failed version id body =
-    MeansBody (SaysFeature body) (HasBodyFault body) (λ (f : FeatureData). MeansEdit failed (edit single (recorded_change version (put id f))))
+abbrev pub MeansPut : (failed : Type 0) → (version : ℕ) → Needed → ℕ → List ℕ → ReplyView → List Happening → Type 0
+MeansPut failed version needed id body = MeansBody (SaysFeature body) (HasBodyFault body)
+    (λ (f : FeatureData). MeansIf needed id (MeansEdit failed (edit single (recorded_change version (put id f)))))
 
 -- the changes of the body are made as one edit, all of them or none
 abbrev pub MeansBatch : (failed : Type 0) → (version : ℕ) → List ℕ → ReplyView → List Happening → Type 0
 MeansBatch failed version body =
     MeansBody (SaysChanges body) (HasBatchFault body) (λ (cs : EditData). MeansEdit failed (edit batched (recorded_in version cs)))
 
-abbrev pub MeansDelete : (failed : Type 0) → (version : ℕ) → ℕ → ReplyView → List Happening → Type 0
-MeansDelete failed version id = OrNoMemory (MeansEdit failed (edit single (recorded_change version (delete id))))
+abbrev pub MeansDelete : (failed : Type 0) → (version : ℕ) → Needed → ℕ → ReplyView → List Happening → Type 0
+MeansDelete failed version needed id = OrNoMemory (MeansIf needed id (MeansEdit failed (edit single (recorded_change version (delete id)))))
 
 -- ---- edits that are made only if the map still has what their authors saw
 
@@ -164,26 +176,26 @@ MeansPublish failed old new reply happenings = (outcome : Result Published Servi
 
 -- A part is read in full, or the disk has failed. Bytes that are never sent count as read: for HEAD, and after a fault of the disk or of the
 -- connection. For a range that starts after the archive's last byte nothing is read.
-abbrev pub MeansPart : (failed : Type 0) → (tag : EntityTag) → ArchiveRange → ReplyView → List Happening → Type 0
-MeansPart failed tag Beyond reply happenings = (reply ≡ part_reply Beyond tag []) × (happenings ≡ [])
-MeansPart failed tag part reply happenings = (outcome : Option (List ℕ)) × IfSome outcome (λ content. length content ≡ size_of part tag.length)
-    × (outcome ≡ None → failed) × (reply ≡ bytes_reply part tag outcome) × (happenings ≡ read (start_of part) outcome ∷ [])
+abbrev pub MeansPart : (failed : Type 0) → (total : ℕ) → (tag : Option Tag) → ArchiveRange → ReplyView → List Happening → Type 0
+MeansPart failed total tag Beyond reply happenings = (reply ≡ part_reply Beyond total tag []) × (happenings ≡ [])
+MeansPart failed total tag part reply happenings = (outcome : Option (List ℕ)) × IfSome outcome (λ content. length content ≡ size_of part total)
+    × (outcome ≡ None → failed) × (reply ≡ bytes_reply part total tag outcome) × (happenings ≡ read (start_of part) outcome ∷ [])
 
--- the part that a range selects of the archive with this tag
-abbrev pub MeansRange : (failed : Type 0) → (tag : EntityTag) → Option (List ℕ) → ReplyView → List Happening → Type 0
-MeansRange failed tag range reply happenings =
-    (part : ArchiveRange) × IsPart range tag.length part × MeansPart failed tag part reply happenings
+-- the part that a range selects of the archive, which has so many bytes and this tag
+abbrev pub MeansRange : (failed : Type 0) → (total : ℕ) → (tag : Option Tag) → Option (List ℕ) → ReplyView → List Happening → Type 0
+MeansRange failed total tag range reply happenings =
+    (part : ArchiveRange) × IsPart range total part × MeansPart failed total tag part reply happenings
 
 -- the same, by what the conditions come to
-abbrev pub MeansJudged : (failed : Type 0) → (tag : EntityTag) → Judged → Option (List ℕ) → ReplyView → List Happening → Type 0
-MeansJudged failed tag Fails range reply happenings = MeansRefusal Condition reply happenings
-MeansJudged failed tag Unchanged range reply happenings = (reply ≡ unchanged_reply tag) × (happenings ≡ [])
-MeansJudged failed tag Holds range reply happenings = MeansRange failed tag range reply happenings
+abbrev pub MeansJudged : (failed : Type 0) → (total : ℕ) → (tag : Option Tag) → Judged → Option (List ℕ) → ReplyView → List Happening → Type 0
+MeansJudged failed total tag Fails range reply happenings = MeansRefusal Condition reply happenings
+MeansJudged failed total tag Unchanged range reply happenings = (reply ≡ unchanged_reply tag) × (happenings ≡ [])
+MeansJudged failed total tag Holds range reply happenings = MeansRange failed total tag range reply happenings
 
--- What is asked of the archive with this tag. There is no archive exactly if its length is 0.
-abbrev pub MeansArchive : (failed : Type 0) → (tag : EntityTag) → AskView → ReplyView → List Happening → Type 0
-MeansArchive failed tag ask reply happenings = ((tag.length ≡ 0) × MeansRefusal NotFound reply happenings)
-    ⊎ ((0 < tag.length) × MeansJudged failed tag (judged (tag_text tag) ask) ask.range reply happenings)
+-- What GET or HEAD asks of the archive with this tag. There is no archive exactly if its length is 0.
+abbrev pub MeansArchive : (failed : Type 0) → (tag : EntityTag) → Method → AskView → ReplyView → List Happening → Type 0
+MeansArchive failed tag method ask reply happenings = ((tag.length ≡ 0) × MeansRefusal NotFound reply happenings)
+    ⊎ ((0 < tag.length) × MeansJudged failed tag.length (shown_tag ask.tags tag) (judged (tag_text tag) ask) (range_for method ask) reply happenings)
 
 -- ---- features
 
@@ -196,17 +208,17 @@ MeansPage id reply happenings = MeansRefusal Memory reply happenings ⊎ ((es : 
 
 -- A tile that has a tag: of the run of the service that began with this number, and of the number of the tile. If if-none-match names the
 -- tag, the client has the tile, and none is made; else the tile is shown with its tag. Out of memory nothing happens.
-abbrev pub MeansTagged : (start : ℕ) → (if_none_match : Option (List ℕ)) → (z x y : ℕ) → TileFormat → ReplyView → List Happening → Type 0
-MeansTagged start if_none_match z x y format reply happenings = MeansRefusal Memory reply happenings ⊎ ((number : ℕ)
+abbrev pub MeansTagged : (start : ℕ) → List NamedValue → (z x y : ℕ) → TileFormat → ReplyView → List Happening → Type 0
+MeansTagged start fields z x y format reply happenings = MeansRefusal Memory reply happenings ⊎ ((number : ℕ)
     × (let tag : WeakTag = record { start = start; number = number } in
-    ((is_known (weak_text tag) if_none_match ≡ true) × (reply ≡ same_tile_reply tag) × (happenings ≡ tile_number z x y number ∷ []))
-    ⊎ ((is_known (weak_text tag) if_none_match ≡ false) × (outcome : OrMemory (Option (List ℕ)))
+    ((is_known (weak_text tag) fields ≡ true) × (reply ≡ same_tile_reply tag) × (happenings ≡ tile_number z x y number ∷ []))
+    ⊎ ((is_known (weak_text tag) fields ≡ false) × (outcome : OrMemory (Option (List ℕ)))
     × (reply ≡ shown_reply (tagged_reply format tag) outcome) × (happenings ≡ tile_number z x y number ∷ tile z x y outcome ∷ []))))
 
--- a tile: with a tag, if tiles have tags
-abbrev pub MeansTile : (tags : Option ℕ) → (if_none_match : Option (List ℕ)) → (z x y : ℕ) → TileFormat → ReplyView → List Happening → Type 0
-MeansTile None if_none_match z x y format = MeansCall (tile z x y) (shown_reply (content_reply format))
-MeansTile (Some start) if_none_match z x y format = MeansTagged start if_none_match z x y format
+-- a tile: with a tag, if replies have tags
+abbrev pub MeansTile : (tags : Option ℕ) → List NamedValue → (z x y : ℕ) → TileFormat → ReplyView → List Happening → Type 0
+MeansTile None fields z x y format = MeansCall (tile z x y) (shown_reply (content_reply format))
+MeansTile (Some start) fields z x y format = MeansTagged start fields z x y format
 
 -- ---- edits that are listed
 
@@ -234,10 +246,10 @@ MeansList failed old number reply happenings = ((number ≤ old.published) × Me
 
 -- ---- routed requests: old and new are what the service tells of itself before and after, failed says that its disk has failed meanwhile
 
-abbrev pub MeansOnFeature : (failed : Type 0) → (version : ℕ) → ℕ → Method → List ℕ → ReplyView → List Happening → Type 0
-MeansOnFeature failed version id Put body = MeansPut failed version id body
-MeansOnFeature failed version id Delete body = MeansDelete failed version id
-MeansOnFeature failed version id method body = MeansCall (look id) (shown_reply found_reply)
+abbrev pub MeansOnFeature : (failed : Type 0) → (version : ℕ) → Needed → ℕ → Method → List ℕ → ReplyView → List Happening → Type 0
+MeansOnFeature failed version needed id Put body = MeansPut failed version needed id body
+MeansOnFeature failed version needed id Delete body = MeansDelete failed version needed id
+MeansOnFeature failed version needed id method body = MeansCall (look id) (shown_reply found_reply)
 
 -- The disk is asked whether it still keeps what is written, and then the service's status is told. With the fault Device the disk has
 -- failed.
@@ -247,7 +259,7 @@ MeansStatus failed new = MeansChange failed check (λ outcome. status_reply new)
 -- what GET and HEAD show
 abbrev pub MeansView : (failed : Type 0) → (old new : Status) → View → Method → AskView → ReplyView → List Happening → Type 0
 MeansView failed old new views.Metadata method ask = MeansCall metadata (shown_reply metadata_reply)
-MeansView failed old new views.Archive method ask = OrNoMemory (MeansArchive failed (archive_tag old) (ask_for method ask))
+MeansView failed old new views.Archive method ask = OrNoMemory (MeansArchive failed (archive_tag old) method ask)
 MeansView failed old new views.Status method ask = OrNoMemory (MeansStatus failed new)
 
 -- what POST does
@@ -262,8 +274,8 @@ MeansAction failed old new actions.PublishCancel body = OrNoMemory (MeansCall ca
 -- a method that the path allows
 abbrev pub MeansAllowed : (failed : Type 0) → (old new : Status) → Asked → Method → AskView → List ℕ
     → ReplyView → List Happening → Type 0
-MeansAllowed failed old new (asked_tile z x y format) method ask body = MeansTile ask.tags ask.if_none_match z x y format
-MeansAllowed failed old new (asked_feature id) method ask body = MeansOnFeature failed old.version id method body
+MeansAllowed failed old new (asked_tile z x y format) method ask body = MeansTile ask.tags ask.fields z x y format
+MeansAllowed failed old new (asked_feature id) method ask body = MeansOnFeature failed old.version (needed ask) id method body
 MeansAllowed failed old new (asked_from id) method ask body = MeansCall (look_from id) (shown_reply numbered_reply)
 MeansAllowed failed old new (asked_page id) method ask body = MeansPage id
 MeansAllowed failed old new (asked_edits number) method ask body = MeansList failed old number
@@ -272,23 +284,27 @@ MeansAllowed failed old new (asked_view view) method ask body = MeansView failed
 MeansAllowed failed old new (asked_action action) method ask body = MeansAction failed old new action body
 MeansAllowed failed old new asked_nothing method ask body = MeansRefusal NotFound
 
+-- it is refused at once, or done
+abbrev pub UnlessRefused : (refused : Bool) → (ReplyView → List Happening → Type 0) → ReplyView → List Happening → Type 0
+UnlessRefused true IsMeant reply happenings = MeansRefusal Condition reply happenings
+UnlessRefused false IsMeant reply happenings = IsMeant reply happenings
+
 -- a method, or why the path refuses it
 abbrev pub MeansMethod : (failed : Type 0) → (old new : Status) → Asked → Result Method RouteFault → AskView → List ℕ
     → ReplyView → List Happening → Type 0
 MeansMethod failed old new asked (Ok method) ask body reply happenings =
-    MeansAllowed failed old new asked method ask body reply happenings
+    UnlessRefused (refuses (needed ask) method) (MeansAllowed failed old new asked method ask body) reply happenings
 MeansMethod failed old new asked (Err routes.NotFound) ask body reply happenings = MeansRefusal NotFound reply happenings
 MeansMethod failed old new asked (Err routes.NotAllowed) ask body reply happenings = (reply ≡ not_allowed_reply asked) × (happenings ≡ [])
-MeansMethod failed old new asked (Err routes.Conditional) ask body reply happenings = MeansRefusal Condition reply happenings
 
 -- what a request asks for by its path, where that is served
 abbrev pub asked_for : Access → RequestView → Asked
 asked_for access request = granted access (asked_by request.path)
 
--- the reply to a request, which is routed by its method, its condition and its path
+-- the reply to a request, which is routed by its path and its method
 abbrev pub Means : Access → (tags : Option ℕ) → (failed : Type 0) → (old new : Status) → RequestView → ReplyView → List Happening → Type 0
 Means access tags failed old new request =
-    MeansMethod failed old new (asked_for access request) (method_on request.method request.conditional (asked_for access request))
+    MeansMethod failed old new (asked_for access request) (method_on request.method (asked_for access request))
     (ask_of tags request) request.body
 
 -- ---- a single reply

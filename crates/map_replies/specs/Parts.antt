@@ -4,6 +4,7 @@ use Rattle.http_values.specs.Ranges.{IsRange}
 use Rattle.http_serve.specs.Reply.{ReplyView}
 use Rattle.http_serve.specs.declared.replies.EntityTag.{EntityTag}
 use Rattle.http_serve.specs.declared.replies.ContentRange.TheVariants as ranges
+use Rattle.http_serve.specs.declared.replies.Tag.{Tag}
 use Rattle.http_serve.specs.declared.replies.Tag.TheVariants.{Strong}
 use Rattle.tile_service.specs.declared.fault.ServiceFault.TheVariants.{Device}
 use Rattle.tile_service.specs.declared.status.Status.{Status}
@@ -46,21 +47,26 @@ range_word = codes "Range\n"
 abbrev pub archive_tag : Status → EntityTag
 archive_tag status = record { generation = status.generation; edit = status.published; length = status.archive_len }
 
--- The reply with a part of an archive with this tag: 200 OK, 206 Partial Content, or 416 Range Not Satisfiable. Where it has bytes of the
--- archive it has the tag.
-abbrev pub part_reply : ArchiveRange → (tag : EntityTag) → (content : List ℕ) → ReplyView
-part_reply Whole tag content =
-    record { status = 200; kind = Some octets_type; range = None; tag = Some (Strong tag); allow = None; content = content }
-part_reply (Between first last) tag content =
-    record { status = 206; kind = Some octets_type; range = Some (ranges.Part first last tag.length); tag = Some (Strong tag); allow = None; content = content }
-part_reply Beyond tag content =
-    record { status = 416; kind = Some text_type; range = Some (ranges.Unsatisfied tag.length); tag = None; allow = None; content = range_word }
+-- the same in a reply, where replies have entity tags
+abbrev pub shown_tag : (tags : Option ℕ) → EntityTag → Option Tag
+shown_tag None tag = None
+shown_tag (Some start) tag = Some (Strong tag)
+
+-- The reply with a part of an archive of total bytes: 200 OK, 206 Partial Content, or 416 Range Not Satisfiable. Where it has bytes of the
+-- archive it has the archive's tag, if there is one.
+abbrev pub part_reply : ArchiveRange → (total : ℕ) → (tag : Option Tag) → (content : List ℕ) → ReplyView
+part_reply Whole total tag content =
+    record { status = 200; kind = Some octets_type; range = None; tag = tag; allow = None; content = content }
+part_reply (Between first last) total tag content =
+    record { status = 206; kind = Some octets_type; range = Some (ranges.Part first last total); tag = tag; allow = None; content = content }
+part_reply Beyond total tag content =
+    record { status = 416; kind = Some text_type; range = Some (ranges.Unsatisfied total); tag = None; allow = None; content = range_word }
 
 -- 304 Not Modified, with the tag of the archive that the client has
-abbrev pub unchanged_reply : EntityTag → ReplyView
-unchanged_reply tag = record { status = 304; kind = None; range = None; tag = Some (Strong tag); allow = None; content = [] }
+abbrev pub unchanged_reply : (tag : Option Tag) → ReplyView
+unchanged_reply tag = record { status = 304; kind = None; range = None; tag = tag; allow = None; content = [] }
 
 -- the reply with a part if its bytes were read, or the refusal Device if the disk failed
-abbrev pub bytes_reply : ArchiveRange → (tag : EntityTag) → Option (List ℕ) → ReplyView
-bytes_reply part tag None = service_refusal Device
-bytes_reply part tag (Some content) = part_reply part tag content
+abbrev pub bytes_reply : ArchiveRange → (total : ℕ) → (tag : Option Tag) → Option (List ℕ) → ReplyView
+bytes_reply part total tag None = service_refusal Device
+bytes_reply part total tag (Some content) = part_reply part total tag content

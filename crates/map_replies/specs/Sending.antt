@@ -1,9 +1,10 @@
 -- Replies that send the archive in parts.
-use Rattle.std.specs.Prelude.{◌≡◌, ◌<◌, ◌≤◌, ℕ, List, [], length, Option, Some, None, Result, Ok, Err, ⊤}
+use Rattle.std.specs.Prelude.{◌≡◌, ◌<◌, ◌≤◌, ℕ, false, List, [], length, Option, Some, None, Result, Ok, Err, ⊤}
 use Rattle.http_serve.specs.Reply.{ReplyView, IsReply, InParts, FitsParts, content_bytes, reply_view}
 use Rattle.http_serve.specs.Tags.{tag_text}
 use Rattle.http_serve.specs.declared.replies.Content.{Content}
 use Rattle.http_serve.specs.declared.replies.Reply.{Reply}
+use Rattle.http_serve.specs.declared.replies.Tag.{Tag}
 use Rattle.sector_disk.specs.Disk.{History}
 use Rattle.tile_routes.specs.declared.method.Method.{Method}
 use Rattle.tile_routes.specs.declared.fault.RouteFault.{RouteFault}
@@ -18,9 +19,9 @@ use Rattle.map_replies.specs.declared.parts.ArchiveRange.{ArchiveRange}
 use Rattle.map_replies.specs.declared.parts.ArchiveRange.TheVariants.{Whole, Between, Beyond}
 use Rattle.map_replies.specs.declared.parts.Sending.{Sending}
 use Rattle.map_replies.specs.Meanings.{MeansPart, Answers, DiskFailed}
-use Rattle.map_replies.specs.Conditions.{AskView, ask_for, judged}
+use Rattle.map_replies.specs.Conditions.{AskView, judged, needed, range_for, refuses}
 use Rattle.map_replies.specs.declared.conditions.Judged.TheVariants.{Holds}
-use Rattle.map_replies.specs.Parts.{IsPart, start_of, size_of, archive_tag, part_reply}
+use Rattle.map_replies.specs.Parts.{IsPart, start_of, size_of, archive_tag, shown_tag, part_reply}
 use Rattle.map_replies.specs.Words.{refusal_of}
 
 -- a result is a reply that isn't sent in parts and satisfies P, or a fault whose refusal satisfies P
@@ -67,37 +68,38 @@ module _ {D : Type 0} (sectors : D → ℕ) (honest : D → Type 0) (history : D
   -- over a disk that counts its faults
   module _ (faults : D → ℕ) where
     -- a part is being sent: the reply contains what was read so far, and no read has failed
-    pub record SendsPart (part : ArchiveRange) (old : ServiceView D) (sending : Sending) (new : ServiceView D) (reply : ReplyView) : Type 0 where
+    pub record SendsPart (tag : Option Tag) (part : ArchiveRange) (old : ServiceView D) (sending : Sending) (new : ServiceView D) (reply : ReplyView) : Type 0 where
       pub sent : IsSent part old.archive_len sending
       pub content : List ℕ
       pub long : length content ≡ size_of part old.archive_len
-      pub shows : reply ≡ part_reply part (archive_tag (status_of old)) content
+      pub shows : reply ≡ part_reply part old.archive_len tag content
       pub reads : Takes sectors honest history old (read (start_of part) (Some content)) new
       pub unfailed : faults new.disk ≡ faults old.disk
 
     -- a part is read, and is being sent, or the disk failed
-    abbrev pub AnswersPart : ArchiveRange → (old : ServiceView D) → Sending → (new : ServiceView D) → Reply → Type 0
-    AnswersPart part old sending new =
-        IsAnswer (Answers sectors honest history (MeansPart (DiskFailed faults old new) (archive_tag (status_of old)) part) old new)
-        (SendsPart part old sending new)
+    abbrev pub AnswersPart : (tag : Option Tag) → ArchiveRange → (old : ServiceView D) → Sending → (new : ServiceView D) → Reply → Type 0
+    AnswersPart tag part old sending new =
+        IsAnswer (Answers sectors honest history (MeansPart (DiskFailed faults old new) old.archive_len tag part) old new)
+        (SendsPart tag part old sending new)
 
     -- the part that a range selects is being sent
-    pub record IsSending (range : Option (List ℕ)) (old : ServiceView D) (sending : Sending) (new : ServiceView D) (reply : ReplyView) : Type 0 where
+    pub record IsSending (tag : Option Tag) (range : Option (List ℕ)) (old : ServiceView D) (sending : Sending) (new : ServiceView D) (reply : ReplyView) : Type 0 where
       pub some : 0 < old.archive_len
       pub part : ArchiveRange
       pub asked : IsPart range old.archive_len part
-      pub sends : SendsPart part old sending new reply
+      pub sends : SendsPart tag part old sending new reply
 
-    -- the same for what a request asks: its conditions hold
-    abbrev pub SendsAsked : AskView → (old : ServiceView D) → Sending → (new : ServiceView D) → ReplyView → Type 0
-    SendsAsked ask old sending new reply = (judged (tag_text (archive_tag (status_of old))) ask ≡ Holds) × IsSending ask.range old sending new reply
+    -- the same for what GET or HEAD asks: its conditions hold
+    abbrev pub SendsAsked : Method → AskView → (old : ServiceView D) → Sending → (new : ServiceView D) → ReplyView → Type 0
+    SendsAsked method ask old sending new reply = (judged (tag_text (archive_tag (status_of old))) ask ≡ Holds)
+        × IsSending (shown_tag ask.tags (archive_tag (status_of old))) (range_for method ask) old sending new reply
 
     -- the same for a method that the path allows: the path is that of the archive
     abbrev pub SendsAllowed : Asked → Method → AskView → (old : ServiceView D) → Sending → (new : ServiceView D) → ReplyView → Type 0
-    SendsAllowed asked method ask old sending new reply = (asked ≡ asked_view Archive) × SendsAsked (ask_for method ask) old sending new reply
+    SendsAllowed asked method ask old sending new reply = (asked ≡ asked_view Archive) × SendsAsked method ask old sending new reply
 
-    -- the same for a method, or one that the path refuses: it allows this one
+    -- the same for a method, or one that the path refuses: it allows this one, and so do the conditions
     abbrev pub SendsMethod : Asked → Result Method RouteFault → AskView → (old : ServiceView D) → Sending → (new : ServiceView D) → ReplyView
         → Type 0
     SendsMethod asked result ask old sending new reply =
-        (method : Method) × (result ≡ Ok method) × SendsAllowed asked method ask old sending new reply
+        (method : Method) × (result ≡ Ok method) × (refuses (needed ask) method ≡ false) × SendsAllowed asked method ask old sending new reply

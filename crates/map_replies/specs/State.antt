@@ -9,6 +9,7 @@ use Rattle.tile_service.specs.Runs.{TakesAll}
 use Rattle.tile_service.specs.Service.{ServiceView, status_of}
 use Rattle.map_replies.specs.declared.calls.Calls.{Calls}
 use Rattle.map_replies.specs.declared.service.MapReplies.{MapReplies}
+use Rattle.map_replies.specs.declared.service.Settings.{Settings}
 use Rattle.map_replies.specs.Conditions.{ask_of}
 use Rattle.map_replies.specs.Meanings.{Means, asked_for, DiskFailed, Replies}
 use Rattle.map_replies.specs.Sending.{SendsMethod}
@@ -18,15 +19,15 @@ use Rattle.tile_routes.specs.declared.access.Access.{Access}
 
 -- which paths it serves
 abbrev pub access_of : {D : Type 0} → MapReplies D → Access
-access_of s = s.access
+access_of s = s.settings.access
 
--- the number that tags of tiles begin with, if tiles have tags
+-- the number that tags of tiles begin with, if replies have entity tags
 abbrev pub tags_of : {D : Type 0} → MapReplies D → Option ℕ
-tags_of s = s.tags
+tags_of s = s.settings.tags
 
--- which paths it serves, and how tiles are tagged
-abbrev pub settings_of : {D : Type 0} → MapReplies D → Access × Option ℕ
-settings_of s = (s.access, s.tags)
+-- how it serves the map
+abbrev pub settings_of : {D : Type 0} → MapReplies D → Settings
+settings_of s = s.settings
 
 -- the service that it calls
 abbrev pub asked_service : {D : Type 0} → MapReplies D → ServiceView D
@@ -55,7 +56,7 @@ module _ {D : Type 0} (sectors : D → ℕ) (honest : D → Type 0) (history : D
   abbrev pub ServiceSends : MapReplies D → RequestView → ReplyView → MapReplies D → Type 0
   ServiceSends old request reply new =
       SendsMethod sectors honest history faults (asked_for (access_of old) request)
-      (method_on request.method request.conditional (asked_for (access_of old) request)) (ask_of (tags_of old) request)
+      (method_on request.method (asked_for (access_of old) request)) (ask_of (tags_of old) request)
       (asked_service old) new.calls.sending (asked_service new) reply
       × (settings_of new ≡ settings_of old) × KeepsTickets honest history old.calls new.calls
 

@@ -9,17 +9,28 @@ ghost use Rattle.map_replies.specs.Conditions.{ask_view};
 ghost use Rattle.map_replies.specs.Meanings.{OrNoMemory, MeansArchive, MeansRange, Answers, DiskFailed};
 ghost use Rattle.http_serve.specs.Parts.{read_outcome};
 ghost use Rattle.map_replies.specs.Sending.{IsAnsweredInParts, BeginsOrFails, AnswersPart, IsSending, SendsAsked};
-ghost use Rattle.map_replies.specs.Parts.{archive_tag};
+ghost use Rattle.map_replies.specs.Parts.{archive_tag, shown_tag};
 ghost use Rattle.map_replies.specs.State.{sent_by};
 ghost use Rattle.map_replies.specs.Tickets.{KeepsTickets};
 
 use crate::calls::Calls;
-use crate::conditions::{ArchiveAsk, Judged, judge};
+use crate::conditions::{Ask, Judged, judge};
 use crate::fault::RequestFault;
-use crate::parts::{self, ArchiveRange, Sending, begin_size, part_of};
-use http_serve::{Content, ContentFault, EntityTag, Reply};
+use crate::parts::{self, ArchiveRange, Sending, begin_size, is_head, part_of};
+use http_serve::{Content, ContentFault, EntityTag, Reply, Tag};
 use sector_disk::Sectors;
 use std::alloc::AllocError;
+use tile_routes::Method;
+
+/// The tag of the archive in a reply, where replies have entity tags.
+fn shown_tag(tags: Option<u64>, tag: EntityTag) -> Option<Tag>
+    ensures { result ≡ shown_tag tags tag }
+{
+    match tags {
+        None => None,
+        Some(_) => Some(Tag::Strong(tag)),
+    }
+}
 
 impl<D: Sectors + Drop> Calls<D> {
     /// `count` bytes of the archive from offset `at` on, or `None` if a disk read fails.
@@ -82,79 +93,88 @@ impl<D: Sectors + Drop> Calls<D> {
         }
     }
 
-    /// The whole archive, which has this tag.
-    fn whole_archive(&mut self, tag: EntityTag, bare: bool) -> Result<Reply, RequestFault>
-        requires { tag ≡ archive_tag (status_of self.old.service) }
-        ensures answered { IfOk result (AnswersPart D.sectors D.honest D.history D.faults ArchiveRange.Whole
+    /// The whole archive, which has so many bytes and this tag.
+    fn whole_archive(
+        &mut self,
+        total: u64,
+        tag: Option<Tag>,
+        bare: bool,
+    ) -> Result<Reply, RequestFault>
+        requires { total ≡ self.old.service.archive_len }
+        ensures answered { IfOk result (AnswersPart D.sectors D.honest D.history D.faults tag ArchiveRange.Whole
             self.old.service self.new.sending self.new.service) }
         ensures words { IfOk result (λ reply. HasShortWords (head_view reply)) }
         ensures refused { IfErr result (λ fault. (self.new.service ≡ self.old.service) × (fault ≡ RequestFault.Memory)) }
         ensures held { KeepsTickets D.honest D.history self.old self.new }
     {
-        match self.send(0, tag.length, bare) {
+        match self.send(0, total, bare) {
             Ok(Some(content)) => Ok(parts::whole(tag, content)),
             Ok(None) => Ok(parts::unread()),
             Err(fault) => Err(fault),
         }
     }
 
-    /// The bytes from `first` to `last` inclusive of the archive, which has this tag.
+    /// The bytes from `first` to `last` inclusive of the archive, which has so many bytes and this tag.
     fn archive_part(
         &mut self,
         first: u64,
         last: u64,
-        tag: EntityTag,
+        total: u64,
+        tag: Option<Tag>,
         bare: bool,
     ) -> Result<Reply, RequestFault>
-        requires tag { tag ≡ archive_tag (status_of self.old.service) }
+        requires total { total ≡ self.old.service.archive_len }
         requires order { first ≤ last }
-        requires within { last < tag.length }
-        ensures answered { IfOk result (AnswersPart D.sectors D.honest D.history D.faults (ArchiveRange.Between first last)
+        requires within { last < total }
+        ensures answered { IfOk result (AnswersPart D.sectors D.honest D.history D.faults tag (ArchiveRange.Between first last)
             self.old.service self.new.sending self.new.service) }
         ensures words { IfOk result (λ reply. HasShortWords (head_view reply)) }
         ensures refused { IfErr result (λ fault. (self.new.service ≡ self.old.service) × (fault ≡ RequestFault.Memory)) }
         ensures held { KeepsTickets D.honest D.history self.old self.new }
     {
         match self.send(first, last + 1 - first, bare) {
-            Ok(Some(content)) => Ok(parts::between(first, last, tag, content)),
+            Ok(Some(content)) => Ok(parts::between(first, last, total, tag, content)),
             Ok(None) => Ok(parts::unread()),
             Err(fault) => Err(fault),
         }
     }
 
-    /// The part that a range selects of the archive, which has this tag. Nothing is read if only the head is sent.
+    /// The part that a range selects of the archive, which has so many bytes and this tag. Nothing is read if only the head is sent.
     fn archive_in(
         &mut self,
         range: Option<&[u8]>,
-        tag: EntityTag,
+        total: u64,
+        tag: Option<Tag>,
         bare: bool,
     ) -> Result<Reply, RequestFault>
-        requires tag { tag ≡ archive_tag (status_of self.old.service) }
-        requires some { 0 < tag.length }
+        requires total { total ≡ self.old.service.archive_len }
+        requires some { 0 < total }
         ensures answered { IsAnsweredInParts
             (Answers D.sectors D.honest D.history
-            (OrNoMemory (MeansRange (DiskFailed D.faults self.old.service self.new.service) (archive_tag (status_of self.old.service))
+            (OrNoMemory (MeansRange (DiskFailed D.faults self.old.service self.new.service) self.old.service.archive_len tag
             (option_map (λ value. value.now) range.entry)))
             self.old.service self.new.service)
-            (IsSending D.sectors D.honest D.history D.faults (option_map (λ value. value.now) range.entry)
+            (IsSending D.sectors D.honest D.history D.faults tag (option_map (λ value. value.now) range.entry)
             self.old.service self.new.sending self.new.service) result }
         ensures words { IfOk result (λ reply. HasShortWords (head_view reply)) }
         ensures held { KeepsTickets D.honest D.history self.old self.new }
     {
-        match part_of(range, tag.length) {
-            ArchiveRange::Whole => self.whole_archive(tag, bare),
-            ArchiveRange::Between { first, last } => self.archive_part(first, last, tag, bare),
-            ArchiveRange::Beyond => Ok(parts::beyond(tag)),
+        match part_of(range, total) {
+            ArchiveRange::Whole => self.whole_archive(total, tag, bare),
+            ArchiveRange::Between { first, last } => {
+                self.archive_part(first, last, total, tag, bare)
+            }
+            ArchiveRange::Beyond => Ok(parts::beyond(total)),
         }
     }
 
-    /// What is asked of the archive. Nothing is read if only the head is sent.
-    pub(crate) fn archive(&mut self, ask: ArchiveAsk<'_>, bare: bool) -> Result<Reply, RequestFault>
+    /// What GET or HEAD asks of the archive. Nothing is read if only the head is sent.
+    pub(crate) fn archive(&mut self, ask: Ask<'_>, method: Method) -> Result<Reply, RequestFault>
         ensures answered { IsAnsweredInParts
             (Answers D.sectors D.honest D.history
             (OrNoMemory (MeansArchive (DiskFailed D.faults self.old.service self.new.service) (archive_tag (status_of self.old.service))
-            (ask_view ask.entry))) self.old.service self.new.service)
-            (SendsAsked D.sectors D.honest D.history D.faults (ask_view ask.entry)
+            method (ask_view ask.entry))) self.old.service self.new.service)
+            (SendsAsked D.sectors D.honest D.history D.faults method (ask_view ask.entry)
             self.old.service self.new.sending self.new.service) result }
         ensures words { IfOk result (λ reply. HasShortWords (head_view reply)) }
         ensures held { KeepsTickets D.honest D.history self.old self.new }
@@ -163,10 +183,13 @@ impl<D: Sectors + Drop> Calls<D> {
         if tag.length == 0 {
             return Err(RequestFault::NotFound);
         }
+        let shown = shown_tag(ask.tags, tag);
         match judge(self.alloc, tag, ask) {
-            Ok(Judged::Holds) => self.archive_in(ask.range, tag, bare),
+            Ok(Judged::Holds) => {
+                self.archive_in(ask.range_for(method), tag.length, shown, is_head(method))
+            }
             Ok(Judged::Fails) => Err(RequestFault::Condition),
-            Ok(Judged::Unchanged) => Ok(parts::unchanged(tag)),
+            Ok(Judged::Unchanged) => Ok(parts::unchanged(shown)),
             Err(AllocError) => Err(RequestFault::Memory),
         }
     }

@@ -1,5 +1,5 @@
 //! What is asked of the service at each path.
-ghost use Rattle.std.specs.Prelude.{IfOk};
+ghost use Rattle.std.specs.Prelude.{Ok, IfOk};
 ghost use Rattle.http_serve.specs.Reply.{head_view, HasShortWords, IsWhole};
 ghost use Rattle.tile_routes.specs.Paths.{asked_view};
 ghost use Rattle.tile_routes.specs.Targets.{asked_of};
@@ -9,9 +9,9 @@ ghost use Rattle.map_replies.specs.Meanings.{MeansOnFeature, MeansView, MeansAct
 ghost use Rattle.map_replies.specs.Sending.{IsAnswered, IsAnsweredInParts, SendsAllowed, SendsMethod};
 ghost use Rattle.map_replies.specs.Tickets.{KeepsTickets};
 
-use crate::conditions::ArchiveAsk;
+use crate::conditions::{Ask, Needed};
 use crate::fault::RequestFault;
-use crate::parts::{Sending, is_head};
+use crate::parts::Sending;
 use crate::replies;
 use http_serve::Reply;
 use sector_disk::Sectors;
@@ -32,28 +32,29 @@ pub(crate) struct Calls<D: Sectors + Drop> {
 
 impl<D: Sectors + Drop> Calls<D> {
     /// Handles an allowed method on a feature. POST isn't allowed there, and a method that isn't allowed doesn't get here.
-    fn on_feature(&mut self, id: u64, method: Method, body: &[u8]) -> Result<Reply, RequestFault>
+    fn on_feature(
+        &mut self,
+        id: u64,
+        method: Method,
+        needed: Needed,
+        body: &[u8],
+    ) -> Result<Reply, RequestFault>
         ensures answered { IsAnswered (Answers D.sectors D.honest D.history
-            (MeansOnFeature (DiskFailed D.faults self.old.service self.new.service) self.old.service.version id method body.now)
+            (MeansOnFeature (DiskFailed D.faults self.old.service self.new.service) self.old.service.version needed id method body.now)
             self.old.service self.new.service) result }
         ensures writable { IfOk result IsWhole }
         ensures held { KeepsTickets D.honest D.history self.old self.new }
     {
         match method {
-            Method::Put => self.put(id, body),
-            Method::Delete => self.delete(id),
+            Method::Put => self.put(id, needed, body),
+            Method::Delete => self.delete(id, needed),
             Method::Get | Method::Head | Method::Post => self.feature(id),
         }
     }
 
     /// Handles GET or HEAD of a view.
     #[tactic(auto, using(crate::proofs::SendingLemmas::whole_answer, crate::proofs::SendingLemmas::whole_words))]
-    fn on_view(
-        &mut self,
-        view: View,
-        method: Method,
-        ask: ArchiveAsk<'_>,
-    ) -> Result<Reply, RequestFault>
+    fn on_view(&mut self, view: View, method: Method, ask: Ask<'_>) -> Result<Reply, RequestFault>
         ensures answered { IsAnsweredInParts
             (Answers D.sectors D.honest D.history (MeansView (DiskFailed D.faults self.old.service self.new.service)
             (status_of self.old.service) (status_of self.new.service) view method (ask_view ask.entry))
@@ -65,7 +66,7 @@ impl<D: Sectors + Drop> Calls<D> {
     {
         match view {
             View::Metadata => self.metadata(),
-            View::Archive => self.archive(ask.with(method), is_head(method)),
+            View::Archive => self.archive(ask, method),
             View::Status => self.status(),
         }
     }
@@ -95,7 +96,7 @@ impl<D: Sectors + Drop> Calls<D> {
         &mut self,
         target: Target,
         method: Method,
-        ask: ArchiveAsk<'_>,
+        ask: Ask<'_>,
         body: &[u8],
     ) -> Result<Reply, RequestFault>
         ensures answered { IsAnsweredInParts
@@ -108,7 +109,7 @@ impl<D: Sectors + Drop> Calls<D> {
     {
         match target {
             Target::Tile(at, format) => self.tile(at, format, ask),
-            Target::Feature(id) => self.on_feature(id, method, body),
+            Target::Feature(id) => self.on_feature(id, method, ask.needed(), body),
             Target::FeatureFrom(id) => self.feature_from(id),
             Target::FeaturePage(id) => self.feature_page(id),
             Target::EditsFrom(number) => self.edits_from(number),
@@ -119,12 +120,34 @@ impl<D: Sectors + Drop> Calls<D> {
         }
     }
 
+    /// Handles an allowed method on any target, unless its conditions can't be met.
+    fn unless_refused(
+        &mut self,
+        target: Target,
+        method: Method,
+        ask: Ask<'_>,
+        body: &[u8],
+    ) -> Result<Reply, RequestFault>
+        ensures answered { IsAnsweredInParts
+            (AnswersMethod D.sectors D.honest D.history D.faults (asked_of target) (Ok method)
+            (ask_view ask.entry) body.now self.old.service self.new.service)
+            (SendsMethod D.sectors D.honest D.history D.faults (asked_of target) (Ok method)
+            (ask_view ask.entry) self.old.service self.new.sending self.new.service) result }
+        ensures words { IfOk result (λ reply. HasShortWords (head_view reply)) }
+        ensures held { KeepsTickets D.honest D.history self.old self.new }
+    {
+        if ask.refuses(method) {
+            return Err(RequestFault::Condition);
+        }
+        self.allowed(target, method, ask, body)
+    }
+
     /// Handles a method on any target, or one that the target refuses.
     pub(crate) fn respond(
         &mut self,
         target: Target,
         method: Result<Method, RouteFault>,
-        ask: ArchiveAsk<'_>,
+        ask: Ask<'_>,
         body: &[u8],
     ) -> Result<Reply, RequestFault>
         ensures answered { IsAnsweredInParts
@@ -136,10 +159,9 @@ impl<D: Sectors + Drop> Calls<D> {
         ensures held { KeepsTickets D.honest D.history self.old self.new }
     {
         match method {
-            Ok(method) => self.allowed(target, method, ask, body),
+            Ok(method) => self.unless_refused(target, method, ask, body),
             Err(RouteFault::NotFound) => Err(RequestFault::NotFound),
             Err(RouteFault::NotAllowed) => Ok(replies::not_allowed(target)),
-            Err(RouteFault::Conditional) => Err(RequestFault::Condition),
         }
     }
 }

@@ -1,23 +1,48 @@
 //! Requests to edit features.
-ghost use Rattle.std.specs.Prelude.{IfOk};
-ghost use Rattle.http_serve.specs.Reply.{IsWhole};
-ghost use Rattle.map_replies.specs.Meanings.{MeansPut, MeansBatch, MeansDelete, Answers, DiskFailed};
+ghost use Rattle.std.specs.Prelude.{◌≡◌, ◌≢◌, ℕ, List, [], true, IfOk};
+ghost use Rattle.feature_store.specs.Store.{feature_at};
+ghost use Rattle.http_serve.specs.Reply.{ReplyView, IsWhole};
+ghost use Rattle.tile_routes.specs.declared.method.Method.{Method};
+ghost use Rattle.tile_service.specs.Machine.{Happening};
+ghost use Rattle.tile_service.specs.Runs.{acknowledged, TakesAll};
+ghost use Rattle.tile_service.specs.Service.{ServiceView};
+ghost use Rattle.map_replies.specs.declared.conditions.Needed.{Needed};
+ghost use Rattle.map_replies.specs.Conditions.{meets};
+ghost use Rattle.map_replies.specs.Meanings.{MeansPut, MeansBatch, MeansDelete, MeansOnFeature, Answers, DiskFailed};
 ghost use Rattle.map_replies.specs.Sending.{IsAnswered};
 ghost use Rattle.map_replies.specs.Tickets.{KeepsTickets};
 
 use crate::bodies::{changes_in, feature_in};
 use crate::calls::Calls;
+use crate::conditions::Needed;
 use crate::fault::RequestFault;
 use crate::replies;
 use http_serve::Reply;
 use sector_disk::Sectors;
 
 impl<D: Sectors + Drop> Calls<D> {
-    /// Sets the feature of an id to the one in the body.
+    /// Whether the feature of an id is as conditions want it.
+    fn meets(&self, id: u64, needed: Needed) -> bool
+        ensures { result ≡ meets needed (feature_at self.now.service.features id) }
+    {
+        match needed {
+            Needed::Free => true,
+            Needed::There => self.service.feature(id).is_some(),
+            Needed::Absent => self.service.feature(id).is_none(),
+            Needed::Unmet => false,
+        }
+    }
+
+    /// Sets the feature of an id to the one in the body, if the one that is there is as the conditions want it.
     #[tactic(auto, using(crate::proofs::Answering::body_refused))]
-    pub(crate) fn put(&mut self, id: u64, body: &[u8]) -> Result<Reply, RequestFault>
+    pub(crate) fn put(
+        &mut self,
+        id: u64,
+        needed: Needed,
+        body: &[u8],
+    ) -> Result<Reply, RequestFault>
         ensures answered { IsAnswered (Answers D.sectors D.honest D.history
-            (MeansPut (DiskFailed D.faults self.old.service self.new.service) self.old.service.version id body.now)
+            (MeansPut (DiskFailed D.faults self.old.service self.new.service) self.old.service.version needed id body.now)
             self.old.service self.new.service) result }
         ensures writable { IfOk result IsWhole }
         ensures held { KeepsTickets D.honest D.history self.old self.new }
@@ -29,6 +54,9 @@ impl<D: Sectors + Drop> Calls<D> {
         let Ok(text) = replies::outcome_space(self.alloc) else {
             return Err(RequestFault::Memory);
         };
+        if !self.meets(id, needed) {
+            return Err(RequestFault::Condition);
+        }
         let outcome = self.service.put(id, feature);
         Ok(replies::outcome(text, outcome))
     }
@@ -53,10 +81,10 @@ impl<D: Sectors + Drop> Calls<D> {
         Ok(replies::outcome(text, outcome))
     }
 
-    /// Deletes the feature of an id.
-    pub(crate) fn delete(&mut self, id: u64) -> Result<Reply, RequestFault>
+    /// Deletes the feature of an id, if the one that is there is as the conditions want it.
+    pub(crate) fn delete(&mut self, id: u64, needed: Needed) -> Result<Reply, RequestFault>
         ensures answered { IsAnswered (Answers D.sectors D.honest D.history
-            (MeansDelete (DiskFailed D.faults self.old.service self.new.service) self.old.service.version id)
+            (MeansDelete (DiskFailed D.faults self.old.service self.new.service) self.old.service.version needed id)
             self.old.service self.new.service) result }
         ensures writable { IfOk result IsWhole }
         ensures held { KeepsTickets D.honest D.history self.old self.new }
@@ -64,7 +92,19 @@ impl<D: Sectors + Drop> Calls<D> {
         let Ok(text) = replies::outcome_space(self.alloc) else {
             return Err(RequestFault::Memory);
         };
+        if !self.meets(id, needed) {
+            return Err(RequestFault::Condition);
+        }
         let outcome = self.service.delete(id);
         Ok(replies::outcome(text, outcome))
     }
 }
+
+/// An edit under a condition is made only of a feature that is as the condition wants it: if one is acknowledged, that of this id was there
+/// until then, or wasn't, as the request says.
+pub fn edits_meet_their_conditions<D: Sectors>()
+    ensures { (version id : ℕ) (needed : Needed) (method : Method) (body : List ℕ) (reply : ReplyView) (happenings : List Happening)
+        (old new : ServiceView D) → MeansOnFeature (DiskFailed D.faults old new) version needed id method body reply happenings
+        → TakesAll D.sectors D.honest D.history old happenings new → acknowledged happenings ≢ []
+        → meets needed (feature_at old.features id) ≡ true }
+{}

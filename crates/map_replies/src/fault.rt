@@ -10,7 +10,7 @@ pub(crate) enum RequestFault {
     Json,
     /// An invalid feature, or an invalid batch.
     Edit(EditFault),
-    /// The request would change something, and comes under a condition.
+    /// The conditions of the request don't hold, or it would change something and no condition of it can hold.
     Condition,
     /// Edits that were published are asked for: the journal doesn't have them any more.
     Gone,

@@ -24,6 +24,7 @@ mod telling;
 
 pub use checking::replaces_what_was_seen;
 pub use downloads::download_is_of_one_archive;
-pub use service::{MapReplies, serve_map, serve_map_turns};
+pub use editing::edits_meet_their_conditions;
+pub use service::{MapReplies, Settings, serve_map, serve_map_turns};
 pub use standing_by::{feed_tells_the_edits, standby_has_first_edits};
 pub use tags::equal_tags_are_equal_tiles;

@@ -1,12 +1,13 @@
 //! Parts of the published archive, and the replies with them.
-ghost use Rattle.std.specs.Prelude.{◌≡◌, ◌<◌, ◌≤◌, ℕ, List, [], option_map};
+ghost use Rattle.std.specs.Prelude.{◌≡◌, ◌<◌, ◌≤◌, ℕ, List, [], Option, option_map};
 ghost use Rattle.http_serve.specs.Reply.{content_bytes, reply_view, head_view, HasShortWords, IsWhole};
+ghost use Rattle.http_serve.specs.declared.replies.Tag.{Tag};
 ghost use Rattle.tile_service.specs.declared.fault.ServiceFault.TheVariants.{Device};
 ghost use Rattle.map_replies.specs.declared.parts.TheConstants.{FIRST_BYTES};
 ghost use Rattle.map_replies.specs.Parts.{IsPart, octets_type, range_word, part_reply, unchanged_reply};
 ghost use Rattle.map_replies.specs.Words.{text_type, service_refusal};
 
-use http_serve::{Content, ContentRange, EntityTag, Reply, Status, Tag};
+use http_serve::{Content, ContentRange, Reply, Status, Tag};
 use http_values::byte_range;
 use sector_disk::SECTOR_BYTES;
 use tile_routes::Method;
@@ -68,73 +69,58 @@ pub(crate) fn begin_size(first: u64, length: u64, bare: bool) -> u64
     (FIRST_BYTES - first % SECTOR_BYTES as u64).min(length)
 }
 
-/// The reply with the whole archive.
+/// The reply with the whole archive, which has this tag.
 #[tactic(auto, unfolding(crate::specs::Parts::octets_type))]
-pub(crate) fn whole(tag: EntityTag, content: Content) -> Reply
-    ensures reply { (bytes : List ℕ) → reply_view bytes result ≡ part_reply ArchiveRange.Whole tag (content_bytes bytes content) }
+pub(crate) fn whole(tag: Option<Tag>, content: Content) -> Reply
+    ensures reply { (total : ℕ) (bytes : List ℕ) → reply_view bytes result ≡ part_reply ArchiveRange.Whole total tag (content_bytes bytes content) }
     ensures content { result.content ≡ content }
     ensures words { HasShortWords (head_view result) }
 {
-    Reply {
-        status: Status::Ok,
-        kind: Some("application/octet-stream"),
-        range: None,
-        tag: Some(Tag::Strong(tag)),
-        allow: None,
-        content,
-    }
+    Reply::plain(Status::Ok, Some("application/octet-stream"), content).tagged(tag)
 }
 
-/// The reply with a part of the archive.
+/// The reply with a part of the archive, which has so many bytes and this tag.
 #[tactic(auto, unfolding(crate::specs::Parts::octets_type))]
-pub(crate) fn between(first: u64, last: u64, tag: EntityTag, content: Content) -> Reply
-    ensures reply { (bytes : List ℕ) → reply_view bytes result ≡ part_reply (ArchiveRange.Between first last) tag (content_bytes bytes content) }
+pub(crate) fn between(
+    first: u64,
+    last: u64,
+    total: u64,
+    tag: Option<Tag>,
+    content: Content,
+) -> Reply
+    ensures reply { (bytes : List ℕ) → reply_view bytes result ≡ part_reply (ArchiveRange.Between first last) total tag (content_bytes bytes content) }
     ensures content { result.content ≡ content }
     ensures words { HasShortWords (head_view result) }
 {
-    Reply {
-        status: Status::PartialContent,
-        kind: Some("application/octet-stream"),
-        range: Some(ContentRange::Part {
-            first,
-            last,
-            total: tag.length,
-        }),
-        tag: Some(Tag::Strong(tag)),
-        allow: None,
+    Reply::plain(
+        Status::PartialContent,
+        Some("application/octet-stream"),
         content,
-    }
+    )
+    .ranged(ContentRange::Part { first, last, total })
+    .tagged(tag)
 }
 
 /// The reply to a range after the last byte.
 #[tactic(auto, unfolding(crate::specs::Words::text_type, crate::specs::Parts::range_word))]
-pub(crate) fn beyond(tag: EntityTag) -> Reply
-    ensures reply { reply_view [] result ≡ part_reply ArchiveRange.Beyond tag [] }
+pub(crate) fn beyond(total: u64) -> Reply
+    ensures reply { (tag : Option Tag) → reply_view [] result ≡ part_reply ArchiveRange.Beyond total tag [] }
     ensures writable { IsWhole result }
 {
-    Reply {
-        status: Status::RangeNotSatisfiable,
-        kind: Some("text/plain"),
-        range: Some(ContentRange::Unsatisfied { total: tag.length }),
-        tag: None,
-        allow: None,
-        content: Content::Fixed(b"Range\n"),
-    }
+    Reply::plain(
+        Status::RangeNotSatisfiable,
+        Some("text/plain"),
+        Content::Fixed(b"Range\n"),
+    )
+    .ranged(ContentRange::Unsatisfied { total })
 }
 
 /// The reply to a client that has the archive with this tag.
-pub(crate) fn unchanged(tag: EntityTag) -> Reply
+pub(crate) fn unchanged(tag: Option<Tag>) -> Reply
     ensures reply { reply_view [] result ≡ unchanged_reply tag }
     ensures writable { IsWhole result }
 {
-    Reply {
-        status: Status::NotModified,
-        kind: None,
-        range: None,
-        tag: Some(Tag::Strong(tag)),
-        allow: None,
-        content: Content::Empty,
-    }
+    Reply::plain(Status::NotModified, None, Content::Empty).tagged(tag)
 }
 
 /// The reply that the archive couldn't be read.

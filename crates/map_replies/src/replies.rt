@@ -190,14 +190,12 @@ pub(crate) fn not_allowed(target: Target) -> Reply
     ensures reply { reply_view [] result ≡ not_allowed_reply (asked_of target) }
     ensures writable { IsWhole result }
 {
-    Reply {
-        status: Status::MethodNotAllowed,
-        kind: Some("text/plain"),
-        range: None,
-        tag: None,
-        allow: Some(target.allow()),
-        content: Content::Fixed(b"Method\n"),
-    }
+    Reply::plain(
+        Status::MethodNotAllowed,
+        Some("text/plain"),
+        Content::Fixed(b"Method\n"),
+    )
+    .allowing(target.allow())
 }
 
 /// The reply with a text in JSON.
@@ -448,22 +446,7 @@ pub(crate) fn with_tag(reply: Reply, tag: WeakTag) -> Reply
     ensures reply { reply_view [] result ≡ with_tag tag (reply_view [] reply) }
     ensures writable { IsWhole result }
 {
-    let Reply {
-        status,
-        kind,
-        range,
-        tag: _,
-        allow,
-        content,
-    } = reply;
-    Reply {
-        status,
-        kind,
-        range,
-        tag: Some(Tag::Weak(tag)),
-        allow,
-        content,
-    }
+    reply.tagged(Some(Tag::Weak(tag)))
 }
 
 /// The reply to a client that has the tile with this tag.

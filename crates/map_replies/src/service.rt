@@ -1,10 +1,10 @@
 //! The replies of a map.
-ghost use Rattle.std.specs.Prelude.{◌≡◌, Some, None};
+ghost use Rattle.std.specs.Prelude.{◌≡◌};
 ghost use Rattle.http_serve.specs.declared.connection.TheConstants.{MAX_READS};
 ghost use Rattle.map_replies.specs.Served.{ServesMap};
 
 use crate::calls::Calls;
-use crate::conditions::ArchiveAsk;
+use crate::conditions::Ask;
 use crate::parts::Sending;
 use crate::replies;
 use http_serve::{
@@ -17,30 +17,42 @@ use std::io::{Read, Write};
 use tile_routes::{Access, Routes};
 use tile_service::Service;
 
+/// How a map is served.
+#[derive(Clone, Copy)]
+pub struct Settings {
+    /// Which paths are served.
+    pub access: Access,
+    /// The number that tags of tiles begin with, if replies have entity tags and conditions on tags count. It is to differ from that of any
+    /// earlier handler whose tiles a client may still have: with equal tags of one handler tiles have the same layers, and nothing is known
+    /// of the tags of two.
+    pub tags: Option<u64>,
+}
+
 /// The request handler of a map.
 #[derive(Drop)]
 pub struct MapReplies<D: Sectors + Drop> {
     routes: Routes,
-    access: Access,
-    /// The number that tags of tiles begin with, if tiles have tags.
-    tags: Option<u64>,
+    settings: Settings,
     calls: Calls<D>,
 }
 
 impl<D: Sectors + Drop> MapReplies<D> {
-    ghost use Rattle.map_replies.specs.State.{access_of, asked_service, tags_of};
+    ghost use Rattle.map_replies.specs.State.{asked_service, settings_of};
 
-    /// The handler of requests for those of these routes that this access serves, over this service. Tiles have no tags.
-    pub fn new(alloc: Global, routes: Routes, access: Access, service: Service<D>) -> MapReplies<D>
+    /// The handler of requests for those of these routes that the settings name, over this service.
+    pub fn new(
+        alloc: Global,
+        routes: Routes,
+        settings: Settings,
+        service: Service<D>,
+    ) -> MapReplies<D>
         ensures service { asked_service result ≡ service }
-        ensures access { access_of result ≡ access }
-        ensures tags { tags_of result ≡ None }
+        ensures settings { settings_of result ≡ settings }
         ensures oldest { result.calls.oldest ≡ 0 }
     {
         MapReplies {
             routes,
-            access,
-            tags: None,
+            settings,
             calls: Calls {
                 alloc,
                 service,
@@ -50,28 +62,6 @@ impl<D: Sectors + Drop> MapReplies<D> {
                 },
                 oldest: 0,
             },
-        }
-    }
-
-    /// The same, but tiles have tags, which begin with this number. It is to differ from that of any earlier handler whose tiles a client may
-    /// still have: with equal tags of one handler tiles have the same layers, and nothing is known of the tags of two.
-    pub fn with_tags(self, start: u64) -> MapReplies<D>
-        ensures service { asked_service result ≡ asked_service self }
-        ensures access { access_of result ≡ access_of self }
-        ensures tags { tags_of result ≡ Some start }
-        ensures oldest { result.calls.oldest ≡ self.calls.oldest }
-    {
-        let MapReplies {
-            routes,
-            access,
-            tags: _,
-            calls,
-        } = self;
-        MapReplies {
-            routes,
-            access,
-            tags: Some(start),
-            calls,
         }
     }
 
@@ -95,13 +85,14 @@ impl<D: Sectors + Drop> Handler for MapReplies<D> {
     ghost size = { sending_size };
 
     fn answer(&mut self, request: &Request<'_>) -> Reply {
-        let target = self.routes.target(request.path).granted(self.access);
-        let method = target.method(request.method, request.conditional);
-        let ask = ArchiveAsk {
-            range: request.range,
-            if_match: request.if_match,
-            if_none_match: request.if_none_match,
-            tags: self.tags,
+        let target = self
+            .routes
+            .target(request.path)
+            .granted(self.settings.access);
+        let method = target.method(request.method);
+        let ask = Ask {
+            fields: &request.fields,
+            tags: self.settings.tags,
         };
         match self.calls.respond(target, method, ask, request.body) {
             Ok(reply) => reply,

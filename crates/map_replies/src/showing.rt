@@ -1,5 +1,5 @@
 //! Reads of the map.
-ghost use Rattle.std.specs.Prelude.{◌≡◌, [], Some, IfOk, IfErr, option_map};
+ghost use Rattle.std.specs.Prelude.{◌≡◌, [], Some, IfOk, IfErr};
 ghost use Rattle.edit_json.specs.Json.{json_of};
 ghost use Rattle.feature_model.specs.Limits.{FeatureFits};
 ghost use Rattle.edit_text.specs.Views.{feature_view};
@@ -8,20 +8,19 @@ ghost use Rattle.serde_json.specs.Written.{compact_text};
 ghost use Rattle.tile_service.specs.Machine.{OrMemory, tile, look, look_from, metadata};
 ghost use Rattle.tile_service.specs.Runs.{Takes};
 ghost use Rattle.tile_service.specs.Service.{status_of};
-ghost use Rattle.map_replies.specs.Conditions.{ask_view};
 ghost use Rattle.map_replies.specs.Meanings.{MeansCall, MeansTagged, MeansTile, MeansStatus, OrNoMemory, Answers, DiskFailed};
 ghost use Rattle.map_replies.specs.Sending.{IsAnswered, IsShownAs};
 ghost use Rattle.map_replies.specs.Words.{json_reply, shown_reply, content_reply, found_reply, numbered_body, numbered_reply, metadata_reply};
 ghost use Rattle.map_replies.specs.Tickets.{KeepsTickets};
 
 use crate::calls::Calls;
-use crate::conditions::{ArchiveAsk, names_tile};
+use crate::conditions::{Ask, names_tile};
 use crate::fault::RequestFault;
 use crate::{replies, telling};
 use edit_json::feature_to_json;
 use edit_text::FeatureText;
 use hilbert_id::TileAt;
-use http_serve::{Reply, WeakTag};
+use http_serve::{Fields, Reply, WeakTag};
 use http_values::{MAX_DIGITS, push_number, push_text};
 use sector_disk::Sectors;
 use std::alloc::{AllocError, Global};
@@ -102,10 +101,10 @@ impl<D: Sectors + Drop> Calls<D> {
         at: TileAt,
         format: TileFormat,
         start: u64,
-        if_none_match: Option<&[u8]>,
+        fields: &Fields<'_>,
     ) -> Result<Reply, RequestFault>
         ensures answered { IsAnswered (Answers D.sectors D.honest D.history
-            (MeansTagged start (option_map (λ value. value.now) if_none_match.entry) at.z at.x at.y format) self.old.service self.new.service) result }
+            (MeansTagged start fields.now at.z at.x at.y format) self.old.service self.new.service) result }
         ensures writable { IfOk result IsWhole }
         ensures held { KeepsTickets D.honest D.history self.old self.new }
     {
@@ -113,7 +112,7 @@ impl<D: Sectors + Drop> Calls<D> {
             start,
             number: self.service.tile_number(at),
         };
-        match names_tile(self.alloc, tag, if_none_match) {
+        match names_tile(self.alloc, tag, fields) {
             Ok(true) => Ok(replies::same_tile(tag)),
             Ok(false) => match self.cut_tile(at, format) {
                 Ok(reply) => Ok(replies::with_tag(reply, tag)),
@@ -128,16 +127,16 @@ impl<D: Sectors + Drop> Calls<D> {
         &mut self,
         at: TileAt,
         format: TileFormat,
-        ask: ArchiveAsk<'_>,
+        ask: Ask<'_>,
     ) -> Result<Reply, RequestFault>
         ensures answered { IsAnswered (Answers D.sectors D.honest D.history
-            (MeansTile ask.entry.tags (ask_view ask.entry).if_none_match at.z at.x at.y format) self.old.service self.new.service) result }
+            (MeansTile ask.entry.tags ask.entry.fields.now at.z at.x at.y format) self.old.service self.new.service) result }
         ensures writable { IfOk result IsWhole }
         ensures held { KeepsTickets D.honest D.history self.old self.new }
     {
         match ask.tags {
             None => self.cut_tile(at, format),
-            Some(start) => self.tagged_tile(at, format, start, ask.if_none_match),
+            Some(start) => self.tagged_tile(at, format, start, ask.fields),
         }
     }
 

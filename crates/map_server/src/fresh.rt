@@ -5,16 +5,15 @@ ghost use Rattle.generations.specs.Areas.{IsSize};
 ghost use Rattle.generations.specs.declared.fault.StoreFault.TheVariants.{TooSmall, Damaged, Device, Memory};
 ghost use Rattle.generations.specs.declared.fault.What.TheVariants.{Size};
 ghost use Rattle.generations.specs.declared.sizes.TheConstants.{MIN_SECTORS, MAX_SECTORS};
-ghost use Rattle.map_replies.specs.State.{access_of, asked_service};
+ghost use Rattle.map_replies.specs.State.{asked_service, settings_of};
 ghost use Rattle.tile_service.specs.Service.{IsUp};
 ghost use Rattle.tile_service.specs.Stored.{Keeps, first_state};
 
 use crate::opening::opened_service;
 use generations::StoreFault;
-use map_replies::MapReplies;
+use map_replies::{MapReplies, Settings};
 use sector_disk::MemoryDisk;
 use std::alloc::{AllocError, Global};
-use tile_routes::Access;
 use tile_service::Service;
 
 /// A disk in memory that holds the empty map.
@@ -35,23 +34,23 @@ fn fresh_disk(alloc: Global, sectors: u64) -> Result<MemoryDisk, StoreFault>
     }
 }
 
-/// A service over the empty map on a disk in memory, which serves these paths.
+/// A service over the empty map on a disk in memory, served with these settings.
 pub fn fresh_service(
     alloc: Global,
     sectors: u64,
-    access: Access,
+    settings: Settings,
 ) -> Result<MapReplies<MemoryDisk>, StoreFault>
     ensures small { sectors < MIN_SECTORS → result ≡ Err TooSmall }
     ensures large { MAX_SECTORS < sectors → result ≡ Err (Damaged Size) }
     ensures only { IsSize sectors → IfErr result (λ fault. (fault ≡ Device) ⊎ (fault ≡ Memory)) }
-    ensures access { IfOk result (λ replies. access_of replies ≡ access) }
+    ensures settings { IfOk result (λ replies. settings_of replies ≡ settings) }
     ensures ready { IfOk result (λ replies. IsUp sectors (memory_history (asked_service replies).disk) first_state (asked_service replies)) }
 {
     let disk = match fresh_disk(alloc, sectors) {
         Ok(disk) => disk,
         Err(fault) => return Err(fault),
     };
-    match opened_service(alloc, disk, access) {
+    match opened_service(alloc, disk, settings) {
         Ok(service) => Ok(service),
         Err((_, fault)) => Err(fault),
     }

@@ -5,26 +5,26 @@ ghost use Rattle.sector_disk.specs.Disk.{seen};
 ghost use Rattle.sector_disk.specs.Disk.History.{synced};
 ghost use Rattle.generations.specs.declared.fault.StoreFault.TheVariants.{Device, Memory};
 ghost use Rattle.generations.specs.Faults.{CountsDevice};
-ghost use Rattle.map_replies.specs.State.{access_of, asked_service};
+ghost use Rattle.map_replies.specs.State.{asked_service, settings_of};
 ghost use Rattle.tile_service.specs.Opening.{IsOpenFault};
 ghost use Rattle.tile_service.specs.Service.{IsUp};
 ghost use Rattle.tile_service.specs.Stored.{Stored, Holds};
 
 use generations::StoreFault;
-use map_replies::MapReplies;
+use map_replies::{MapReplies, Settings};
 use sector_disk::Sectors;
 use std::alloc::{AllocError, Global};
-use tile_routes::{Access, Routes};
+use tile_routes::Routes;
 use tile_service::Service;
 
-/// A service that continues from what a disk holds, and serves these paths; opening writes nothing. A disk that can't be opened is
+/// A service that continues from what a disk holds, served with these settings; opening writes nothing. A disk that can't be opened is
 /// returned.
 pub fn opened_service<D: Sectors + Drop>(
     alloc: Global,
     disk: D,
-    access: Access,
+    settings: Settings,
 ) -> Result<MapReplies<D>, (Option<D>, StoreFault)>
-    ensures access { IfOk result (λ replies. access_of replies ≡ access) }
+    ensures settings { IfOk result (λ replies. settings_of replies ≡ settings) }
     ensures disk { IfOk result (λ replies. MayWrite D.sectors D.honest disk (asked_service replies).disk) }
     ensures history { IfOk result (λ replies. D.honest (asked_service replies).disk → D.history (asked_service replies).disk ≡ synced (D.history disk)) }
     // A disk is lost only where memory is missing, and `Device` tells of a call of the disk that failed.
@@ -48,6 +48,6 @@ pub fn opened_service<D: Sectors + Drop>(
         Ok(routes) => routes,
         Err(AllocError) => return Err((None, StoreFault::Memory)),
     };
-    let replies = MapReplies::new(alloc, routes, access, service);
+    let replies = MapReplies::new(alloc, routes, settings, service);
     Ok(replies)
 }

@@ -11,6 +11,7 @@
 //! | `again from N`, `again lost N`, `again made N` | the same, and lets calls of the disk fail, counted behind the opening: |
 //! | | each from the N-th on, the N-th before it is made, the N-th after |
 //! | `admin`, `admin from N` and so on | as `again`, and serves the paths under `/admin/` too |
+//! | `tags N`, `tags` | what is opened from now on has entity tags, of which those of tiles begin with N; it has none |
 //! | `writer SIZE ROOM fails` | from now on the writer takes SIZE bytes a call at most and ROOM bytes of a connection, and then fails |
 //! | `writer SIZE ROOM full` | the same, but then it takes nothing |
 //! | `writer` | it takes all bytes again |
@@ -54,6 +55,7 @@ use texts::add_bytes;
 /// It ends by `end` alone.
 pub(crate) struct Trial {
     stand: Stand,
+    tags: Option<u64>,
     bounds: Bounds,
     gathered: Gathered,
 }
@@ -63,6 +65,7 @@ impl Trial {
     pub(crate) fn new(alloc: Global) -> Result<Trial, AllocError> {
         Ok(Trial {
             stand: Stand::Closed(MemoryDisk::new(alloc, 1)?),
+            tags: None,
             bounds: Bounds {
                 narrowness: WIDE,
                 turns: MAX_READS,
@@ -77,6 +80,7 @@ impl Trial {
     pub(crate) fn end(self) {
         let Trial {
             stand,
+            tags: _,
             bounds: _,
             gathered,
         } = self;
@@ -134,9 +138,17 @@ fn turn(bounds: &mut Bounds, turns: u64, answer: &mut Answer) {
     answer.say("turns");
 }
 
+/// Sets the number that tags of tiles begin with where a disk is opened.
+fn tag(trial: &mut Trial, tags: Option<u64>, answer: &mut Answer) {
+    trial.tags = tags;
+    answer.say("tags");
+}
+
 /// What a line asks for.
 #[derive(Clone, Copy)]
 enum Asks {
+    Tags,
+    NoTags,
     Stand(OfStand),
     Peer(OfPeer),
     Writer,
@@ -148,7 +160,9 @@ enum Asks {
 }
 
 /// The words of lines, with how many numbers stand behind them and what they ask for.
-static LINES: [(&str, usize, Asks); 21] = [
+static LINES: [(&str, usize, Asks); 23] = [
+    ("tags", 0, Asks::NoTags),
+    ("tags", 1, Asks::Tags),
     ("disk", 1, Asks::Stand(OfStand::Begin)),
     ("first", 1, Asks::Stand(OfStand::First)),
     ("zeros", 1, Asks::Stand(OfStand::Zeros)),
@@ -175,7 +189,11 @@ static LINES: [(&str, usize, Asks); 21] = [
 /// Does what a line asks for.
 fn run(alloc: Global, trial: &mut Trial, asks: Asks, line: Line<'_>, answer: &mut Answer) {
     match asks {
-        Asks::Stand(asks) => stands::run(alloc, &mut trial.stand, asks, line, answer),
+        Asks::Tags => tag(trial, Some(line.number), answer),
+        Asks::NoTags => tag(trial, None, answer),
+        Asks::Stand(asks) => {
+            stands::run(alloc, &mut trial.stand, trial.tags, asks, line, answer)
+        }
         Asks::Peer(asks) => gather(alloc, &mut trial.gathered, asks, line, answer),
         Asks::Writer => narrow(&mut trial.bounds, line.rest, answer),
         Asks::AllTurns => turn(&mut trial.bounds, MAX_READS, answer),

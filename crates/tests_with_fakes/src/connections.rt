@@ -9,8 +9,8 @@ mod fields;
 
 use crate::streams::{Gives, Takes, take_from};
 use http_serve::{
-    Buffers, Content, ContentFault, ContentRange, EntityTag, Handler, Reply, Request, ServeFault, Tag,
-    Served, Status, names_tag, serve_with,
+    Buffers, Content, ContentFault, ContentRange, EntityTag, Handler, Reply, Request, ServeFault,
+    Served, Status, Tag, serve_with,
 };
 use std::alloc::{AllocError, Global};
 use std::cell::Cell;
@@ -65,9 +65,10 @@ impl Handler for Echo {
 fn echo_reply(alloc: Global, request: &Request<'_>) -> Reply
     ensures { IsWhole result }
 {
-    if request.range == Some(b"bytes=42-".as_slice()) {
+    let range = request.fields.only(b"range");
+    if range == Some(b"bytes=42-".as_slice()) {
         part_of_all()
-    } else if request.range == Some(b"bytes=1234-".as_slice()) {
+    } else if range == Some(b"bytes=1234-".as_slice()) {
         outside_all()
     } else if request.path == b"/none".as_slice() {
         no_content()
@@ -106,11 +107,10 @@ const WHOLE: EntityTag = EntityTag {
 
 /// Whether the client has them already, by its field if-none-match.
 fn is_known(alloc: Global, request: &Request<'_>) -> bool {
-    let Some(value) = request.if_none_match else {
-        return false;
-    };
     match WHOLE.text(alloc) {
-        Ok(tag) => names_tag(true, tag.as_slice(), value),
+        Ok(tag) => request
+            .fields
+            .names_tag(b"if-none-match", true, tag.as_slice()),
         Err(_) => false,
     }
 }
@@ -119,46 +119,39 @@ fn is_known(alloc: Global, request: &Request<'_>) -> bool {
 fn unchanged() -> Reply
     ensures { IsWhole result }
 {
-    Reply {
-        status: Status::NotModified,
-        kind: Some("text/plain"),
-        range: Some(ContentRange::Unsatisfied { total: 1_234 }),
-        tag: Some(Tag::Strong(WHOLE)),
-        allow: None,
-        content: Content::Fixed(b"never sent"),
-    }
+    Reply::plain(
+        Status::NotModified,
+        Some("text/plain"),
+        Content::Fixed(b"never sent"),
+    )
+    .ranged(ContentRange::Unsatisfied { total: 1_234 })
+    .tagged(Some(Tag::Strong(WHOLE)))
 }
 
 /// A part of 1,234 bytes.
 fn part_of_all() -> Reply
     ensures { IsWhole result }
 {
-    Reply {
-        status: Status::PartialContent,
-        kind: None,
-        range: Some(ContentRange::Part {
+    Reply::plain(Status::PartialContent, None, Content::Fixed(b"42"))
+        .ranged(ContentRange::Part {
             first: 42,
             last: 43,
             total: 1_234,
-        }),
-        tag: Some(Tag::Strong(WHOLE)),
-        allow: None,
-        content: Content::Fixed(b"42"),
-    }
+        })
+        .tagged(Some(Tag::Strong(WHOLE)))
 }
 
 /// No part of them.
 fn outside_all() -> Reply
     ensures { IsWhole result }
 {
-    Reply {
-        status: Status::RangeNotSatisfiable,
-        kind: Some("text/plain"),
-        range: Some(ContentRange::Unsatisfied { total: 1_234 }),
-        tag: None,
-        allow: Some("GET, HEAD"),
-        content: Content::Empty,
-    }
+    Reply::plain(
+        Status::RangeNotSatisfiable,
+        Some("text/plain"),
+        Content::Empty,
+    )
+    .ranged(ContentRange::Unsatisfied { total: 1_234 })
+    .allowing("GET, HEAD")
 }
 
 /// Gives its bytes one by one, and fails behind them. Counts the calls that failed.

@@ -1,6 +1,6 @@
 //! The methods, by their names, and those that a path allows.
 ghost use Rattle.std.specs.Prelude.{◌≡◌};
-ghost use Rattle.tile_routes.specs.Methods.{methods_of, method_named, changes, if_unconditional, method_on, is_among, allow_of};
+ghost use Rattle.tile_routes.specs.Methods.{methods_of, method_named, method_on, is_among, allow_of};
 ghost use Rattle.tile_routes.specs.Targets.{asked_of};
 
 use crate::fault::RouteFault;
@@ -44,26 +44,6 @@ impl Method {
         }
         None
     }
-
-    /// Whether it changes something: it isn't safe (RFC 9110, 9.2.1).
-    fn changes(self) -> bool
-        ensures { result ≡ changes self }
-    {
-        match self {
-            Method::Get | Method::Head => false,
-            Method::Put | Method::Delete | Method::Post => true,
-        }
-    }
-
-    /// The method, unless it changes something and comes under a condition.
-    fn if_unconditional(self, conditional: bool) -> Result<Method, RouteFault>
-        ensures { result ≡ if_unconditional conditional self }
-    {
-        if conditional && self.changes() {
-            return Err(RouteFault::Conditional);
-        }
-        Ok(self)
-    }
 }
 
 impl Target {
@@ -76,10 +56,7 @@ impl Target {
             | Target::FeatureFrom(_)
             | Target::FeaturePage(_)
             | Target::EditsFrom(_)
-            | Target::View(_) => &[
-                Method::Get,
-                Method::Head,
-            ],
+            | Target::View(_) => &[Method::Get, Method::Head],
             Target::Feature(_) => &[Method::Get, Method::Head, Method::Put, Method::Delete],
             Target::EditsAt(_) | Target::Action(_) => &[Method::Post],
             Target::Nothing => &[],
@@ -93,15 +70,15 @@ impl Target {
         self.methods().contains(&method)
     }
 
-    /// The method with this name, if the path is served and allows it, and if it changes nothing under a condition.
-    pub fn method(self, name: &[u8], conditional: bool) -> Result<Method, RouteFault>
-        ensures { result ≡ method_on name.now conditional (asked_of self) }
+    /// The method with this name, if the path is served and allows it.
+    pub fn method(self, name: &[u8]) -> Result<Method, RouteFault>
+        ensures { result ≡ method_on name.now (asked_of self) }
     {
         if matches!(self, Target::Nothing) {
             return Err(RouteFault::NotFound);
         }
         match Method::of(name) {
-            Some(method) if self.allows(method) => method.if_unconditional(conditional),
+            Some(method) if self.allows(method) => Ok(method),
             _ => Err(RouteFault::NotAllowed),
         }
     }

@@ -7,7 +7,10 @@ ghost use Rattle.matchit.specs.Params.{AllText};
 ghost use Rattle.tile_routes.specs.Paths.{served_rows, with_routes, AllFit, asked_on, part_named, asked_at, asked_by};
 ghost use Rattle.tile_routes.specs.Targets.{asked_of, IsInRange, parts_of, row_path};
 
-use crate::target::{Action, Target, View, edits_target, feature_target, from_target, numbered_target, page_target, tile_target};
+use crate::target::{
+    Action, Target, View, edits_target, feature_target, from_target, numbered_target, page_target,
+    tile_target,
+};
 use matchit::{InsertError, Params, Router};
 use std::alloc::{AllocError, Global};
 use std::marker::Model;

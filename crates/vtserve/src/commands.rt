@@ -119,13 +119,13 @@ const ADMIN: Word = Word {
     help: "Serves the paths under /admin/ too: the status, the list of features, and checked edits",
 };
 
-/// Whether tiles have entity tags.
+/// Whether replies have entity tags, and conditions on tags count.
 const ETAGS: Word = Word {
     id: "ETAGS",
     name: "ETAGS",
     given: Given::Long("etags"),
     takes: Takes::Nothing,
-    help: "Gives tiles entity tags, and answers 304 to a client that has a tile which is unchanged",
+    help: "Gives tiles and the archive entity tags, and obeys conditions such as If-None-Match",
 };
 
 /// Whether the first failure of the disk ends the command.

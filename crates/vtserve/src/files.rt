@@ -7,10 +7,11 @@ use crate::noted::Noted;
 use crate::place::{OpenPath, identity_of};
 use crate::printing::print_number;
 use crate::regular::{ReadFile, open_regular};
-use crate::serving::{Peers, Settings, serve};
+use crate::serving::{Peers, serve};
 use crate::watching::{Watch, Watched};
 use file_disk::{FileDisk, NewFile, Start, SystemFile, Zeros};
 use generations::StoreFault;
+use map_replies::Settings;
 use map_server::{formatted_file, new_disk_file, opened_service};
 use sector_disk::Sectors;
 use std::alloc::AllocError;
@@ -143,7 +144,7 @@ pub(crate) fn shared_disk(rt: &HostRuntime, path: &str) -> Result<(ReadFile, u32
     }
 }
 
-/// Serves these paths of the map on a disk.
+/// Serves the map on a disk.
 fn serve_disk<D: Sectors + Drop>(
     rt: &HostRuntime,
     disk: D,
@@ -151,13 +152,13 @@ fn serve_disk<D: Sectors + Drop>(
     peers: Peers,
     looks: &Looks<'_>,
 ) -> Result<(), CommandFault> {
-    match opened_service(rt.alloc(), disk, settings.access) {
-        Ok(map) => serve(rt, settings.tagged(map), peers, looks),
+    match opened_service(rt.alloc(), disk, settings) {
+        Ok(map) => serve(rt, map, peers, looks),
         Err((_, fault)) => Err(CommandFault::Store(fault)),
     }
 }
 
-/// Serves these paths of the map on the disk in a file, whatever the file had. The first write or sync of the file that fails while
+/// Serves the map on the disk in a file, whatever the file had. The first write or sync of the file that fails while
 /// connections are served is reported at once.
 pub(crate) fn serve_file<S: Start>(
     rt: &HostRuntime,

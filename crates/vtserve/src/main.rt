@@ -29,8 +29,9 @@ use files::{format_file, serve_file};
 use generations::StoreFault;
 use listening::listening_of;
 use looks::Looks;
+use map_replies::Settings;
 use map_server::fresh_service;
-use serving::{Peers, Settings, run_number, serve};
+use serving::{Peers, run_number, serve};
 use std::fmt::Display;
 use std::io;
 use std::process::ExitCode;
@@ -79,8 +80,8 @@ fn ended(
 
 /// Serves one connection on standard input and output, over the empty map on a disk in memory.
 fn demo(rt: &HostRuntime, sectors: u64, settings: Settings) -> Result<(), CommandFault> {
-    match fresh_service(rt.alloc(), sectors, settings.access) {
-        Ok(map) => serve(rt, settings.tagged(map), Peers::Streams, &Looks::new(None)),
+    match fresh_service(rt.alloc(), sectors, settings) {
+        Ok(map) => serve(rt, map, Peers::Streams, &Looks::new(None)),
         Err(fault) => Err(CommandFault::of_new_disk(fault)),
     }
 }

@@ -6,7 +6,6 @@ use crate::looks::Looks;
 use map_replies::{MapReplies, serve_map};
 use sector_disk::Sectors;
 use std::time::{SystemTime, UNIX_EPOCH};
-use tile_routes::Access;
 
 /// Where connections come from.
 #[derive(Clone, Copy)]
@@ -15,25 +14,6 @@ pub(crate) enum Peers {
     Streams,
     /// Several, from a port.
     Port(Listening),
-}
-
-/// How a map is served.
-#[derive(Clone, Copy)]
-pub(crate) struct Settings {
-    /// Which paths are served.
-    pub(crate) access: Access,
-    /// The number that tags of tiles begin with, if tiles have tags.
-    pub(crate) tags: Option<u64>,
-}
-
-impl Settings {
-    /// The replies of a map with these settings.
-    pub(crate) fn tagged<D: Sectors + Drop>(self, map: MapReplies<D>) -> MapReplies<D> {
-        match self.tags {
-            Some(start) => map.with_tags(start),
-            None => map,
-        }
-    }
 }
 
 /// A number that no earlier run of the program had: the nanoseconds since 1970. `None` if the clock can't be read.

@@ -2,7 +2,7 @@
 use super::lines::{Failing, Line, NONE, failing_in};
 use crate::commands::pair_in;
 use generations::{FIRST_VERSION, StoreFault, format_version};
-use map_replies::MapReplies;
+use map_replies::{MapReplies, Settings};
 use map_server::{fresh_service, opened_service};
 use script_bytes::Answer;
 use sector_disk::{FailingCalls, FaultyDisk, MemoryDisk, SECTOR_BYTES, Sectors};
@@ -60,17 +60,21 @@ fn replace(stand: &mut Stand, next: Stand) {
     mem::replace(stand, next).end();
 }
 
-/// Opens this disk in the place of what was there, so that these calls behind its opening fail.
+/// Opens this disk in the place of what was there, served with these settings, so that these calls behind its opening fail.
 fn open(
     alloc: Global,
     stand: &mut Stand,
     disk: MemoryDisk,
-    access: Access,
+    settings: Settings,
     failing: Failing,
     answer: &mut Answer,
 ) {
     let (calls, disk) = counted(alloc, disk);
-    match opened_service(alloc, FaultyDisk::new(disk, failing.behind(calls)), access) {
+    match opened_service(
+        alloc,
+        FaultyDisk::new(disk, failing.behind(calls)),
+        settings,
+    ) {
         Ok(map) => {
             replace(stand, Stand::Open(map));
             answer.say("open");
@@ -86,11 +90,11 @@ fn open(
     }
 }
 
-/// Opens the disk, so that these paths are served, and these calls behind its opening fail.
+/// Opens the disk, served with these settings, so that these calls behind its opening fail.
 fn open_again(
     alloc: Global,
     stand: &mut Stand,
-    access: Access,
+    settings: Settings,
     failing: &str,
     answer: &mut Answer,
 ) {
@@ -98,7 +102,7 @@ fn open_again(
         return answer.reject();
     };
     if let Some(disk) = answer.granted(taken(alloc, stand)) {
-        open(alloc, stand, disk, access, failing, answer);
+        open(alloc, stand, disk, settings, failing, answer);
     }
 }
 
@@ -117,26 +121,36 @@ fn zeros(alloc: Global, stand: &mut Stand, sectors: u64, answer: &mut Answer) {
 
 /// A disk of so many sectors that holds the empty map.
 fn fresh_disk(alloc: Global, sectors: u64) -> Result<MemoryDisk, StoreFault> {
-    match fresh_service(alloc, sectors, Access::Map) {
+    let settings = Settings {
+        access: Access::Map,
+        tags: None,
+    };
+    match fresh_service(alloc, sectors, settings) {
         Ok(map) => Ok(map.into_service().into_disk()),
         Err(fault) => Err(fault),
     }
 }
 
 /// Makes a disk of so many sectors that holds the empty map, and opens it.
-fn begin(alloc: Global, stand: &mut Stand, sectors: u64, answer: &mut Answer) {
+fn begin(alloc: Global, stand: &mut Stand, sectors: u64, settings: Settings, answer: &mut Answer) {
     clear(alloc, stand, 1, answer);
     match fresh_disk(alloc, sectors) {
-        Ok(disk) => open(alloc, stand, disk, Access::Map, NONE, answer),
+        Ok(disk) => open(alloc, stand, disk, settings, NONE, answer),
         Err(fault) => answer.show(&fault),
     }
 }
 
 /// Makes a disk of so many sectors that holds the empty map in the first version of the format, and opens it.
-fn begin_first(alloc: Global, stand: &mut Stand, sectors: u64, answer: &mut Answer) {
+fn begin_first(
+    alloc: Global,
+    stand: &mut Stand,
+    sectors: u64,
+    settings: Settings,
+    answer: &mut Answer,
+) {
     if let Some(mut disk) = answer.granted(MemoryDisk::new(alloc, sectors)) {
         match format_version(&mut disk, FIRST_VERSION) {
-            Ok(()) => open(alloc, stand, disk, Access::Map, NONE, answer),
+            Ok(()) => open(alloc, stand, disk, settings, NONE, answer),
             Err(fault) => answer.show(&fault),
         }
     }
@@ -184,21 +198,26 @@ pub(crate) enum OfStand {
     Admin,
 }
 
-/// Does what a line about the disk asks for.
+/// Does what a line about the disk asks for. What is opened has entity tags, if there is a number that those of tiles begin with.
 pub(crate) fn run(
     alloc: Global,
     stand: &mut Stand,
+    tags: Option<u64>,
     asks: OfStand,
     line: Line<'_>,
     answer: &mut Answer,
 ) {
+    let access = match asks {
+        OfStand::Admin => Access::Admin,
+        _ => Access::Map,
+    };
+    let settings = Settings { access, tags };
     match asks {
-        OfStand::Begin => begin(alloc, stand, line.number, answer),
-        OfStand::First => begin_first(alloc, stand, line.number, answer),
+        OfStand::Begin => begin(alloc, stand, line.number, settings, answer),
+        OfStand::First => begin_first(alloc, stand, line.number, settings, answer),
         OfStand::Zeros => zeros(alloc, stand, line.number, answer),
         OfStand::Upgrade => upgrade(alloc, stand, answer),
         OfStand::Sector => overwrite(alloc, stand, line.rest, answer),
-        OfStand::Again => open_again(alloc, stand, Access::Map, line.rest, answer),
-        OfStand::Admin => open_again(alloc, stand, Access::Admin, line.rest, answer),
+        OfStand::Again | OfStand::Admin => open_again(alloc, stand, settings, line.rest, answer),
     }
 }

@@ -4,10 +4,10 @@ use crate::wanted::same;
 use http_serve::{End, MAX_READS, ServeFault, Served};
 use std::alloc::Global;
 
-const ASKED: &str = "GET HTTP://a:80/none?b HTTP/1.1\r\nhost: a\r\n\r\n\
+const ASKED: &str = "GET /none?b HTTP/1.1\r\nhost: a\r\n\r\n\
     GET /a HTTP/1.1\r\nhost: a\r\nRange: \tbytes=42- \r\n\r\n\
-    GET /a HTTP/1.1\r\nhost: a\r\nrange: bytes=42-\r\nIf-Range: \"3-42-1234\"\r\n\r\n\
-    GET /a HTTP/1.1\r\nhost: a\r\nIf-None-Match: \"1-2-3\" ,W/\"3-42-1234\"\r\n\r\n\
+    GET /a HTTP/1.1\r\nhost: a\r\nrange: bytes=42-\r\nRange: bytes=42-\r\n\r\n\
+    GET /a HTTP/1.1\r\nhost: a\r\nIf-None-Match: \"1-2-3\"\r\nif-none-match: x,W/\"3-42-1234\"\r\n\r\n\
     GET /a HTTP/1.1\r\nhost: a\r\nIf-Match: \"3-42-1234\"\r\nIf-None-Match: \"3-42-123\"\r\n\r\n\
     GET /a HTTP/1.1\r\nhost: a\r\nrange: bytes=1234-\r\nconnection: close\r\n\r\n";
 

@@ -27,9 +27,7 @@ returns c =
     let r = c.requires in
     let stated = sym c.framing.ensures ∙ c.in-Ok.is in
     spans_frame c.args.bytes.now c.args.fields.now c.args.head.now r.is.0 r.is.1 r.within r.size r.room c.in-Ok.size stated c.if-end-bytes.false
-    c.asks_to_close.result c.asks_to_close.ensures c.range_of.result c.range_of.ensures.within c.range_of.ensures.value
-    c.is_conditional.result c.is_conditional.ensures c.only_field.result c.only_field.ensures.within c.only_field.ensures.value
-    c.only_field-2.result c.only_field-2.ensures.within c.only_field-2.ensures.value
+    c.asks_to_close.result c.asks_to_close.ensures
 
 pub returns-in-Err : goal.returns-in-Err
 returns-in-Err c =

@@ -1,6 +1,5 @@
-use Rattle.std.proofs.Common.{◌≡◌, ◌∙◌, ap, option_map, subst}
-use Rattle.http_requests.specs.Requests.{RequestView, request_view_at, is_head}
-use Rattle.http_requests.specs.Targets.{path_of}
+use Rattle.std.proofs.Common.{◌≡◌, ◌∙◌, ap, subst}
+use Rattle.http_requests.specs.Requests.{RequestView, request_view_at, path_of, is_head}
 use Rattle.http_serve.specs.Parts.{GivesOrFails, IsStopped}
 use Rattle.http_serve.specs.Reply.{reply_bytes}
 use Rattle.http_serve.specs.Sent.{Sends}
@@ -13,20 +12,14 @@ returns-clause-reply g c =
     let request : RequestView = record {
       method = c.of-method.result.now;
       path = c.path_of.result.now;
-      range = option_map (λ range. range.now) c.part_of.result;
-      conditional = c.args.frame.now.conditional;
-      if_match = option_map (λ value. value.now) c.part_of-2.result;
-      if_none_match = option_map (λ value. value.now) c.part_of-3.result;
+      fields = c.new.result;
       body = c.of-2.result.now;
       close = c.args.frame.now.close;
     } in
-    let same : request ≡ request_view_at c.args.bytes.now c.args.frame.now = λ i. record {
+    let same : request ≡ request_view_at c.args.bytes.now c.args.fields.now c.args.frame.now = λ i. record {
       method = c.of-method.ensures i;
       path = (c.path_of.ensures ∙ ap path_of c.of.ensures) i;
-      range = c.part_of.ensures i;
-      conditional = c.args.frame.now.conditional;
-      if_match = c.part_of-2.ensures i;
-      if_none_match = c.part_of-3.ensures i;
+      fields = c.new.ensures i;
       body = c.of-2.ensures i;
       close = c.args.frame.now.close;
     } in
@@ -49,20 +42,14 @@ returns-clause-stopped g c =
     let request : RequestView = record {
       method = c.of-method.result.now;
       path = c.path_of.result.now;
-      range = option_map (λ range. range.now) c.part_of.result;
-      conditional = c.args.frame.now.conditional;
-      if_match = option_map (λ value. value.now) c.part_of-2.result;
-      if_none_match = option_map (λ value. value.now) c.part_of-3.result;
+      fields = c.new.result;
       body = c.of-2.result.now;
       close = c.args.frame.now.close;
     } in
-    let same : request ≡ request_view_at c.args.bytes.now c.args.frame.now = λ i. record {
+    let same : request ≡ request_view_at c.args.bytes.now c.args.fields.now c.args.frame.now = λ i. record {
       method = c.of-method.ensures i;
       path = (c.path_of.ensures ∙ ap path_of c.of.ensures) i;
-      range = c.part_of.ensures i;
-      conditional = c.args.frame.now.conditional;
-      if_match = c.part_of-2.ensures i;
-      if_none_match = c.part_of-3.ensures i;
+      fields = c.new.ensures i;
       body = c.of-2.ensures i;
       close = c.args.frame.now.close;
     } in
@@ -91,15 +78,6 @@ of-requires-clause-ordered g c = c.requires.target.0
 
 pub of-requires-clause-in_range : goal.of-requires-clause-in_range
 of-requires-clause-in_range g c = c.requires.target.1
-
-pub part_of-requires : goal.part_of-requires
-part_of-requires g c = c.requires.range
-
-pub part_of-requires-2 : goal.part_of-requires-2
-part_of-requires-2 g c = c.requires.if_match
-
-pub part_of-requires-3 : goal.part_of-requires-3
-part_of-requires-3 g c = c.requires.if_none_match
 
 pub of-requires-2-clause-ordered : goal.of-requires-2-clause-ordered
 of-requires-2-clause-ordered g c = c.requires.body.0

@@ -2,6 +2,7 @@ use Rattle.std.proofs.Common.{◌≡◌, ◌<◌, ℕ, List, Err, refl, sym, ap,
 use Rattle.std.specs.Io.KnownBytes.{Appends}
 use Rattle.http_requests.specs.declared.frames.Next.TheVariants.{Whole, Refused, More}
 use Rattle.http_serve.specs.declared.connection.ServeFault.{ServeFault}
+use Rattle.httparse.specs.declared.spans.HeaderSpan.{HeaderSpan}
 use Rattle.http_requests.specs.declared.frames.Frame.{Frame}
 use Rattle.http_requests.specs.Frame.{IsFrameOf, IsNext}
 use Rattle.http_serve.specs.Parts.{GivesOrFails, IsStopped, IfRest}
@@ -19,15 +20,15 @@ use Rattle.http_serve.proofs.ServeLemmas.{asked_other, refused_other, cut_breaks
 use Rattle.http_serve.proofs.connection.answer_whole.Goals as goal
 
 -- A frame that was found in bytes is one of the same bytes where they are looked at again.
-found_again : (seen here bytes : List ℕ) (frame : Frame) → seen ≡ bytes → here ≡ bytes → IsNext seen (Whole frame)
-    → (request : Request) × IsFrameOf here frame request
-found_again seen here bytes frame first second found = subst (λ (t : List ℕ). IsNext t (Whole frame)) (first ∙ sym second) found
+found_again : (seen here bytes : List ℕ) (spans : List HeaderSpan) (frame : Frame) → seen ≡ bytes → here ≡ bytes → IsNext seen spans (Whole frame)
+    → (request : Request) × IsFrameOf here spans frame request
+found_again seen here bytes spans frame first second found = subst (λ (t : List ℕ). IsNext t spans (Whole frame)) (first ∙ sym second) found
 
 pub returns-in-More-clause-ok : goal.returns-in-More-clause-ok
 returns-in-More-clause-ok g c =
     let input = c.requests.session.input.waiting in
     let missing = c.in-More.missing in
-    let found = subst (λ (t : List ℕ). IsNext t (More missing)) c.waiting.ensures c.in-More.ensures.next in
+    let found = subst (λ (t : List ℕ). IsNext t c.find_next.new.fields (More missing)) c.waiting.ensures c.in-More.ensures.next in
     let told = missing_now input missing.rejection missing.until found in
     (c.requests.invariant.carries, told.0, told.1, told.2, told.3)
 
@@ -36,7 +37,7 @@ returns-in-Ok-clause-ok g c =
     let input = c.requests.session.input.waiting in
     let rejection = c.in-Refused.rejection in
     let refusal = rejection.refusal in
-    let found = subst (λ (t : List ℕ). IsNext t (Refused rejection)) c.waiting.ensures c.in-Refused.ensures.next in (
+    let found = subst (λ (t : List ℕ). IsNext t c.find_next.new.fields (Refused rejection)) c.waiting.ensures c.in-Refused.ensures.next in (
       refused found.head refusal,
       Ends_push g.H.Handler.replies _ _ _ c.args.requests _ input _ c.requests.requests Anything
           (refused found.head refusal) (refusal_bytes found.head refusal) _ _
@@ -52,7 +53,7 @@ returns-in-Err-clause-err g c =
     let input = c.requests.session.input.waiting in
     let rejection = c.in-Refused.rejection in
     let refusal = rejection.refusal in
-    let found = subst (λ (t : List ℕ). IsNext t (Refused rejection)) c.waiting.ensures c.in-Refused.ensures.next in
+    let found = subst (λ (t : List ℕ). IsNext t c.find_next.new.fields (Refused rejection)) c.waiting.ensures c.in-Refused.ensures.next in
     let sent = c.in-Err.ensures.sent found.head found.bare in
     Breaks_refused g.H.Handler.replies _ _ _ c.args.requests _ input _ c.requests.requests Anything found.head refusal sent.0 _
     c.requests.invariant.carries found.some
@@ -62,16 +63,16 @@ pub returns-in-Err-answer_one-clause-err : goal.returns-in-Err-answer_one-clause
 returns-in-Err-answer_one-clause-err g c =
     let frame = c.in-Whole.frame in
     let input = c.requests.session.input.waiting in
-    let found = subst (λ (t : List ℕ). IsNext t (Whole frame)) c.waiting.ensures c.in-Whole.ensures.next in
+    let found = subst (λ (t : List ℕ). IsNext t c.find_next.new.fields (Whole frame)) c.waiting.ensures c.in-Whole.ensures.next in
     let told = subst (λ (t : List ℕ). (reply : ReplyView)
-    × GivesOrFails (Err c.in-Err-answer_one.fault) (g.H.Handler.replies c.requests.handler (request_view_at t frame) reply c.answer_one.new.handler)
-    (g.H.Handler.fails c.requests.handler (request_view_at t frame) reply c.answer_one.new.handler)
+    × GivesOrFails (Err c.in-Err-answer_one.fault) (g.H.Handler.replies c.requests.handler (request_view_at t c.find_next.new.fields frame) reply c.answer_one.new.handler)
+    (g.H.Handler.fails c.requests.handler (request_view_at t c.find_next.new.fields frame) reply c.answer_one.new.handler)
     × ((n : ℕ) × (n < length (reply_at t frame reply))
     × Appends (g.W.Write.contents c.requests.writer) (g.W.Write.contents c.answer_one.new.writer) (take n (reply_at t frame reply))))
     c.waiting-waiting.ensures c.in-Err-answer_one.ensures.reply in
     subst (λ (fault : ServeFault). IsBroken g.H.Handler.replies g.H.Handler.fails c.args.handler.now c.args.session.now.input.waiting
     (g.W.Write.contents c.args.writer.now) c.args.requests fault c.answer_one.new.handler (g.W.Write.contents c.answer_one.new.writer)) (sym c.after.ensures)
-    (cut_breaks g.H.Handler.replies g.H.Handler.fails _ _ _ c.args.requests _ input _ c.requests.requests frame found.0 told.0 told.2.0 _ _
+    (cut_breaks g.H.Handler.replies g.H.Handler.fails _ _ _ c.args.requests _ input _ c.requests.requests c.find_next.new.fields frame found.0 told.0 told.2.0 _ _
     c.in-Err-answer_one.fault c.requests.invariant.carries found.1 told.1 told.2.1 told.2.2)
 
 pub returns-in-Err-answer_one-clause-content : goal.returns-in-Err-answer_one-clause-content
@@ -98,28 +99,28 @@ pub returns-in-Err-answer_one-clause-left : goal.returns-in-Err-answer_one-claus
 returns-in-Err-answer_one-clause-left g c =
     let frame = c.in-Whole.frame in
     let input = c.requests.session.input.waiting in
-    let found = subst (λ (t : List ℕ). IsNext t (Whole frame)) c.waiting.ensures c.in-Whole.ensures.next in
+    let found = subst (λ (t : List ℕ). IsNext t c.find_next.new.fields (Whole frame)) c.waiting.ensures c.in-Whole.ensures.next in
     let left = subst (λ (t : List ℕ). IfRest (Err c.in-Err-answer_one.fault) (λ from size. (reply : ReplyView)
-    × g.H.Handler.replies c.requests.handler (request_view_at t frame) reply c.answer_one.new.handler
-    × g.H.Handler.sends c.requests.handler (request_view_at t frame) reply c.answer_one.new.handler
+    × g.H.Handler.replies c.requests.handler (request_view_at t c.find_next.new.fields frame) reply c.answer_one.new.handler
+    × g.H.Handler.sends c.requests.handler (request_view_at t c.find_next.new.fields frame) reply c.answer_one.new.handler
     × IsStopped (reply_at t frame reply) reply.content from size (g.W.Write.contents c.requests.writer) (g.W.Write.contents c.answer_one.new.writer)))
     c.waiting-waiting.ensures c.in-Err-answer_one.ensures.stopped in
     subst (λ (fault : ServeFault). IsLeftAt g.H.Handler.replies g.H.Handler.sends c.args.handler.now c.args.session.now.input.waiting
     (g.W.Write.contents c.args.writer.now) c.args.requests fault c.answer_one.new.handler (g.W.Write.contents c.answer_one.new.writer)) (sym c.after.ensures)
-    (cut_left g.H.Handler.replies g.H.Handler.sends _ _ _ c.args.requests _ input _ c.requests.requests frame found.0 _ _
+    (cut_left g.H.Handler.replies g.H.Handler.sends _ _ _ c.args.requests _ input _ c.requests.requests c.find_next.new.fields frame found.0 _ _
     c.in-Err-answer_one.fault c.requests.invariant.carries found.1 left)
 
 pub returns-then-frame-clause-ok : goal.returns-then-frame-clause-ok
 returns-then-frame-clause-ok g c =
     let frame = c.in-Whole.frame in
     let input = c.requests.session.input.waiting in
-    let found = subst (λ (t : List ℕ). IsNext t (Whole frame)) c.waiting.ensures c.in-Whole.ensures.next in
+    let found = subst (λ (t : List ℕ). IsNext t c.find_next.new.fields (Whole frame)) c.waiting.ensures c.in-Whole.ensures.next in
     let told = subst (λ (t : List ℕ). (reply : ReplyView)
-    × g.H.Handler.replies c.requests.handler (request_view_at t frame) reply c.answer_one.new.handler
+    × g.H.Handler.replies c.requests.handler (request_view_at t c.find_next.new.fields frame) reply c.answer_one.new.handler
     × Appends (g.W.Write.contents c.requests.writer) (g.W.Write.contents c.answer_one.new.writer) (reply_at t frame reply))
     c.waiting-waiting.ensures c.in-Ok-answer_one.ensures.reply in (
       asked found.0,
-      Frame_ends g.H.Handler.replies _ _ _ c.args.requests _ input _ c.requests.requests frame found.0 told.0 _ _
+      Frame_ends g.H.Handler.replies _ _ _ c.args.requests _ input _ c.requests.requests c.find_next.new.fields frame found.0 told.0 _ _
           c.requests.invariant.carries found.1 told.1 c.saturating_add-requests.result c.if-frame.true told.2 c.saturating_add-requests.ensures,
       refl,
       asked_other,
@@ -129,9 +130,9 @@ pub requests-preserved : goal.requests-preserved
 requests-preserved g c =
     let frame = c.in-Whole.frame in
     let input = c.requests.session.input.waiting in
-    let found = subst (λ (t : List ℕ). IsNext t (Whole frame)) c.waiting.ensures c.in-Whole.ensures.next in
+    let found = subst (λ (t : List ℕ). IsNext t c.find_next.new.fields (Whole frame)) c.waiting.ensures c.in-Whole.ensures.next in
     let told = subst (λ (t : List ℕ). (reply : ReplyView)
-    × g.H.Handler.replies c.requests.handler (request_view_at t frame) reply c.answer_one.new.handler
+    × g.H.Handler.replies c.requests.handler (request_view_at t c.find_next.new.fields frame) reply c.answer_one.new.handler
     × Appends (g.W.Write.contents c.requests.writer) (g.W.Write.contents c.answer_one.new.writer) (reply_at t frame reply))
     c.waiting-waiting.ensures c.in-Ok-answer_one.ensures.reply in
     record {
@@ -140,7 +141,7 @@ requests-preserved g c =
           subst (λ (t : List ℕ). Carries g.H.Handler.replies c.args.handler.now c.args.session.now.input.waiting (g.W.Write.contents c.args.writer.now)
           c.args.requests c.answer_one.new.handler t (g.W.Write.contents c.answer_one.new.writer) c.saturating_add-requests.result)
           (sym c.drop_front.ensures)
-          (Frame_push g.H.Handler.replies _ _ _ c.args.requests _ input _ c.requests.requests frame found.0 told.0 _ _
+          (Frame_push g.H.Handler.replies _ _ _ c.args.requests _ input _ c.requests.requests c.find_next.new.fields frame found.0 told.0 _ _
           c.requests.invariant.carries found.1 told.1 c.saturating_add-requests.result c.if-frame.false told.2 c.saturating_add-requests.ensures);
     }
 
@@ -173,27 +174,23 @@ returns-in-Ok-clause-known g c =
 
 pub answer_one-requires-clause-method : goal.answer_one-requires-clause-method
 answer_one-requires-clause-method g c =
-    (found_again _ _ _ c.in-Whole.frame c.waiting.ensures c.waiting-waiting.ensures c.in-Whole.ensures.next).1.method_within
+    (found_again _ _ _ _ c.in-Whole.frame c.waiting.ensures c.waiting-waiting.ensures c.in-Whole.ensures.next).1.method_within
 
 pub answer_one-requires-clause-target : goal.answer_one-requires-clause-target
 answer_one-requires-clause-target g c =
-    (found_again _ _ _ c.in-Whole.frame c.waiting.ensures c.waiting-waiting.ensures c.in-Whole.ensures.next).1.target_within
+    (found_again _ _ _ _ c.in-Whole.frame c.waiting.ensures c.waiting-waiting.ensures c.in-Whole.ensures.next).1.target_within
 
 pub answer_one-requires-clause-body : goal.answer_one-requires-clause-body
 answer_one-requires-clause-body g c =
-    (found_again _ _ _ c.in-Whole.frame c.waiting.ensures c.waiting-waiting.ensures c.in-Whole.ensures.next).1.body_within
+    (found_again _ _ _ _ c.in-Whole.frame c.waiting.ensures c.waiting-waiting.ensures c.in-Whole.ensures.next).1.body_within
 
-pub answer_one-requires-clause-range : goal.answer_one-requires-clause-range
-answer_one-requires-clause-range g c =
-    (found_again _ _ _ c.in-Whole.frame c.waiting.ensures c.waiting-waiting.ensures c.in-Whole.ensures.next).1.range_within
+pub answer_one-requires-clause-fields : goal.answer_one-requires-clause-fields
+answer_one-requires-clause-fields g c =
+    (found_again _ _ _ _ c.in-Whole.frame c.waiting.ensures c.waiting-waiting.ensures c.in-Whole.ensures.next).1.fields_within
 
-pub answer_one-requires-clause-if_match : goal.answer_one-requires-clause-if_match
-answer_one-requires-clause-if_match g c =
-    (found_again _ _ _ c.in-Whole.frame c.waiting.ensures c.waiting-waiting.ensures c.in-Whole.ensures.next).1.if_match_within
-
-pub answer_one-requires-clause-if_none_match : goal.answer_one-requires-clause-if_none_match
-answer_one-requires-clause-if_none_match g c =
-    (found_again _ _ _ c.in-Whole.frame c.waiting.ensures c.waiting-waiting.ensures c.in-Whole.ensures.next).1.if_none_match_within
+pub answer_one-requires-clause-few : goal.answer_one-requires-clause-few
+answer_one-requires-clause-few g c =
+    (found_again _ _ _ _ c.in-Whole.frame c.waiting.ensures c.waiting-waiting.ensures c.in-Whole.ensures.next).1.few
 
 pub answer_one-requires-clause-room : goal.answer_one-requires-clause-room
 answer_one-requires-clause-room g c = c.requests.session.room
@@ -212,7 +209,7 @@ pub drop_front-requires : goal.drop_front-requires
 drop_front-requires g c =
     let frame = c.in-Whole.frame in
     let input = c.requests.session.input.waiting in
-    let found = subst (λ (t : List ℕ). IsNext t (Whole frame)) c.waiting.ensures c.in-Whole.ensures.next in
+    let found = subst (λ (t : List ℕ). IsNext t c.find_next.new.fields (Whole frame)) c.waiting.ensures c.in-Whole.ensures.next in
     found.1.body_within.1
 
 pub invariant_of-session-in-requests : goal.invariant_of-session-in-requests
@@ -222,7 +219,7 @@ pub requests-smaller : goal.requests-smaller
 requests-smaller g c =
     let frame = c.in-Whole.frame in
     let input = c.requests.session.input.waiting in
-    let found = subst (λ (t : List ℕ). IsNext t (Whole frame)) c.waiting.ensures c.in-Whole.ensures.next in
+    let found = subst (λ (t : List ℕ). IsNext t c.find_next.new.fields (Whole frame)) c.waiting.ensures c.in-Whole.ensures.next in
     let within = found.1.body_within.1 in
     omega (arith, ap length c.drop_front.ensures, length-drop frame.body.end input, found.1.some, within)
 

@@ -12,7 +12,8 @@ returns-in-Tile-clause-held g c = c.tile.ensures.held
 
 pub returns-in-Feature-clause-answered : goal.returns-in-Feature-clause-answered
 returns-in-Feature-clause-answered g c =
-    rw c.in-Feature.is (whole_answer _ _ c.on_feature.result c.on_feature.ensures.answered c.on_feature.ensures.writable)
+    rw (c.in-Feature.is, ← c.needed.ensures)
+    (whole_answer _ _ c.on_feature.result c.on_feature.ensures.answered c.on_feature.ensures.writable)
 
 pub returns-in-Feature-clause-words : goal.returns-in-Feature-clause-words
 returns-in-Feature-clause-words g c = whole_words c.on_feature.result c.on_feature.ensures.writable

@@ -1,6 +1,5 @@
-use Rattle.std.proofs.Common.{◌∙◌, ap, arith}
+use Rattle.std.proofs.Common.{◌∙◌, ℕ, ap, arith}
 use Rattle.http_serve.specs.Reply.{content_bytes}
-use Rattle.http_serve.specs.declared.replies.EntityTag.{EntityTag}
 use Rattle.map_replies.specs.declared.parts.ArchiveRange.TheVariants.{Between}
 use Rattle.map_replies.specs.Parts.{part_reply}
 use Rattle.map_replies.proofs.SendingLemmas.{part_sent, part_failed}
@@ -13,15 +12,16 @@ returns-in-Ok-Some-clause-answered g c =
     let sending = rw c.in-Ok-Some.field-0-is at c.in-Ok-Some.ensures.sending in
     let part = Between c.args.first c.args.last in
     let unfailed = rw c.in-Ok-Some.field-0-is at c.in-Ok-Some.ensures.unfailed in
-    part_sent d.sectors d.honest d.history d.faults c.args.self.now.service c.send.new.self.service part _ c.between.result c.in-Ok-Some.content
-    (c.requires.order, omega (arith, c.requires.within, ap (λ (t : EntityTag). t.length) c.requires.tag)) begun unfailed c.between.ensures.content
-    (λ bytes. c.between.ensures.reply bytes ∙ ap (λ (t : EntityTag). part_reply part t (content_bytes bytes c.in-Ok-Some.content)) c.requires.tag)
+    part_sent d.sectors d.honest d.history d.faults c.args.tag c.args.self.now.service c.send.new.self.service part _ c.between.result
+    c.in-Ok-Some.content (c.requires.order, omega (arith, c.requires.within, c.requires.total)) begun unfailed c.between.ensures.content
+    (λ bytes. c.between.ensures.reply bytes
+    ∙ ap (λ (n : ℕ). part_reply part n c.args.tag (content_bytes bytes c.in-Ok-Some.content)) c.requires.total)
     sending
 
 pub returns-in-Ok-None-clause-answered : goal.returns-in-Ok-None-clause-answered
 returns-in-Ok-None-clause-answered g c =
     let d = g.D.Sectors in
-    part_failed d.sectors d.honest d.history d.faults c.args.self.now.service c.send.new.self.service (Between c.args.first c.args.last) _
-    c.unread.result (c.requires.order, omega (arith, c.requires.within, ap (λ (t : EntityTag). t.length) c.requires.tag))
+    part_failed d.sectors d.honest d.history d.faults c.args.tag c.args.self.now.service c.send.new.self.service
+    (Between c.args.first c.args.last) _ c.unread.result (c.requires.order, omega (arith, c.requires.within, c.requires.total))
     c.unread.ensures.writable c.unread.ensures.reply
     (c.in-Ok-None.ensures.failed c.in-Ok-None.field-0-is) (rw c.in-Ok-None.field-0-is at c.in-Ok-None.ensures.begun)

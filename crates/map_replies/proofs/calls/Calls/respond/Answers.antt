@@ -6,13 +6,11 @@ use Rattle.tile_routes.specs.Targets.{asked_of}
 use Rattle.map_replies.specs.Conditions.{ask_view}
 use Rattle.map_replies.specs.Meanings.{AnswersMethod}
 use Rattle.map_replies.specs.Sending.{IsAnsweredInParts, SendsMethod}
-use Rattle.map_replies.proofs.SendingLemmas.{answered_on, whole_is}
+use Rattle.map_replies.proofs.SendingLemmas.{whole_is}
 use Rattle.map_replies.proofs.calls.Calls.respond.Goals as goal
 
 pub returns-in-Ok-clause-answered : goal.returns-in-Ok-clause-answered
-returns-in-Ok-clause-answered g c =
-    rw c.in-Ok.is
-    (answered_on _ _ _ _ c.allowed.result (λ view is. is) (λ view is. (c.in-Ok.method, refl, is)) c.allowed.ensures.answered)
+returns-in-Ok-clause-answered g c = rw c.in-Ok.is c.unless_refused.ensures.answered
 
 -- what holds of a method that the path doesn't allow
 of_not_allowed : (P : Result Method RouteFault → Type 0) (method : Result Method RouteFault) (fault : RouteFault) → method ≡ Err fault

@@ -20,7 +20,7 @@ returns-in-Ok-clause-answered g c =
     let d = g.D.Sectors in
     let at = c.args.at in
     tagged_made d.sectors d.honest d.history at.z at.x at.y c.args.format c.args.self.now.service c.cut_tile.new.self.service
-    (record { start = c.args.start; number = c.tile_number.result }) _ c.tile_number.ensures.told
+    (record { start = c.args.start; number = c.tile_number.result }) c.args.fields.now c.tile_number.ensures.told
     (sym c.in-Ok-false.ensures ∙ c.in-Ok-false.field-0-test) c.in-Ok.reply _ c.with_tag.ensures.reply c.in-Ok.ensures.shown
 
 pub returns-in-Err-cut_tile-clause-answered : goal.returns-in-Err-cut_tile-clause-answered
@@ -28,5 +28,5 @@ returns-in-Err-cut_tile-clause-answered g c =
     let d = g.D.Sectors in
     let at = c.args.at in
     tagged_refused d.sectors d.honest d.history at.z at.x at.y c.args.format c.args.self.now.service c.cut_tile.new.self.service
-    (record { start = c.args.start; number = c.tile_number.result }) _ c.tile_number.ensures.told
+    (record { start = c.args.start; number = c.tile_number.result }) c.args.fields.now c.tile_number.ensures.told
     (sym c.in-Ok-false.ensures ∙ c.in-Ok-false.field-0-test) c.in-Err-cut_tile.fault c.in-Err-cut_tile.ensures.shown

@@ -1,8 +1,5 @@
 use Rattle.std.proofs.Common.{◌∙◌, ℕ, ap, subst}
-use Rattle.http_serve.specs.Reply.{content_bytes}
-use Rattle.http_serve.specs.declared.replies.EntityTag.{EntityTag}
 use Rattle.map_replies.specs.declared.parts.ArchiveRange.TheVariants.{Whole}
-use Rattle.map_replies.specs.Parts.{part_reply}
 use Rattle.map_replies.specs.Sending.{Begins}
 use Rattle.map_replies.proofs.SendingLemmas.{part_sent, part_failed}
 use Rattle.map_replies.proofs.calls.Calls.whole_archive.Goals as goal
@@ -13,17 +10,16 @@ returns-in-Ok-Some-clause-answered g c =
     let begun = rw c.in-Ok-Some.field-0-is at c.in-Ok-Some.ensures.begun in
     let sending = rw c.in-Ok-Some.field-0-is at c.in-Ok-Some.ensures.sending in
     let unfailed = rw c.in-Ok-Some.field-0-is at c.in-Ok-Some.ensures.unfailed in
-    part_sent d.sectors d.honest d.history d.faults c.args.self.now.service c.send.new.self.service Whole _
+    part_sent d.sectors d.honest d.history d.faults c.args.tag c.args.self.now.service c.send.new.self.service Whole _
     c.whole.result c.in-Ok-Some.content tt
     (subst (λ (n : ℕ). Begins d.sectors d.honest d.history c.args.self.now.service c.send.new.self.service 0 n
-    c.in-Ok-Some.content) (ap (λ (t : EntityTag). t.length) c.requires) begun)
-    unfailed c.whole.ensures.content
-    (λ bytes. c.whole.ensures.reply bytes ∙ ap (λ (t : EntityTag). part_reply Whole t (content_bytes bytes c.in-Ok-Some.content)) c.requires)
-    (sending ∙ ap (λ (t : EntityTag). record { first = 0; length = t.length }) c.requires)
+    c.in-Ok-Some.content) c.requires begun)
+    unfailed c.whole.ensures.content (λ bytes. c.whole.ensures.reply c.args.self.now.service.archive_len bytes)
+    (sending ∙ ap (λ (n : ℕ). record { first = 0; length = n }) c.requires)
 
 pub returns-in-Ok-None-clause-answered : goal.returns-in-Ok-None-clause-answered
 returns-in-Ok-None-clause-answered g c =
     let d = g.D.Sectors in
-    part_failed d.sectors d.honest d.history d.faults c.args.self.now.service c.send.new.self.service Whole _ c.unread.result tt
+    part_failed d.sectors d.honest d.history d.faults c.args.tag c.args.self.now.service c.send.new.self.service Whole _ c.unread.result tt
     c.unread.ensures.writable c.unread.ensures.reply
     (c.in-Ok-None.ensures.failed c.in-Ok-None.field-0-is) (rw c.in-Ok-None.field-0-is at c.in-Ok-None.ensures.begun)
