@@ -252,20 +252,6 @@ def whole_sectors(length):
     return (length + SECTOR - 1) // SECTOR
 
 
-def first_tiles(tiles, area, snapshot, said):
-    """The tiles up to the first, by ascending id, with which a snapshot and an archive of them no longer fit into an area: a header, the metadata and
-    each different content once already take more sectors than it has."""
-    contents, least, first = set(), 127 + len(said), []
-    for tile in tiles:
-        first.append(tile)
-        if tile[1] not in contents:
-            contents.add(tile[1])
-            least += len(tile[1])
-        if whole_sectors(len(snapshot)) + whole_sectors(least) > area:
-            break
-    return first
-
-
 def sector_of(held, number):
     return held[SECTOR * number : SECTOR * (number + 1)]
 

@@ -4,7 +4,7 @@ import json
 
 from calls import append, install, write_area
 from crashes import Failed, Seen
-from disk import FIRST_VERSION, LAST_NUMBER, LONGEST, MAX_CHANGES, SECTOR, Change, Record, Root, after, first_tiles, in_order, parts_of, read_disk
+from disk import FIRST_VERSION, LAST_NUMBER, LONGEST, MAX_CHANGES, SECTOR, Change, Record, Root, after, in_order, parts_of, read_disk
 from disk import record_text, snapshot_text, text_of, whole_sectors
 from limits import MAX_ZOOM, MAX_TILES
 from map_archive import archive_of, id_of, metadata, points_of, reach
@@ -109,8 +109,7 @@ class Publication:
     """A publication: the content of its area, and the end of the journal when it began."""
 
     def __init__(self, service):
-        snapshot, said = snapshot_text(service.map), metadata(service.map)
-        archive = archive_of(service.map, lambda tiles: first_tiles(tiles, service.layout.area, snapshot, said))
+        snapshot, archive = snapshot_text(service.map), archive_of(service.map)
         if archive is None:
             raise Refused("TooManyTiles")
         self.lengths = len(snapshot), len(archive)

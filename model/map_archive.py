@@ -146,9 +146,9 @@ def header(sections, counts, ends):
     return held + bytes([first]) + bytes(8)
 
 
-def archive_of(found, first=iter):
-    """The archive of a map: no bytes if it has no tile, None if it needs too many entries. `first` takes its tiles and gives those to write."""
-    runs = runs_of(first(tiles_of(found)))
+def archive_of(found):
+    """The archive of a map: no bytes if it has no tile, None if it needs too many entries."""
+    runs = runs_of(tiles_of(found))
     if runs is None:
         return None
     if not runs:

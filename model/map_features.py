@@ -178,6 +178,25 @@ def area_lines():
     yield from ["area 100", "area 3"]
     yield "# An archive of more sectors than the snapshot: an area that is too small by one sector, and one of a single sector."
     yield from ["map 0", put(7, drawn("lines", [[[0, 0], [LAST, LAST]]], 0, 2)), "area 3", "area 2", "area 1"]
-    yield "# Tiles of several sectors, for areas of each size: what is needed is that of the tiles up to the first that no longer fits."
+    yield "# Tiles of several sectors, for areas of each size: what is needed is that of all tiles, also where the first of them no longer fits."
     yield from ["map 0", *[put(k, drawn("lines", [[[0, k << 28], [LAST, LAST - (k << 24)]]], 0, 2)) for k in range(15)]]
     yield from [f"area {free}" for free in (0, 1, 2, 3, 5, 8, 9, 10, 11, 12, 13, 14, 15)]
+    yield "# Contents that are repeated, before the first tile that no longer fits and after it, in runs and in none."
+    for seed in range(1, 9):
+        yield from repeated(Chance(seed * 88172645463325252))
+
+
+def repeated(chance):
+    """A map of points in the middle of tiles of one zoom, whose contents are those of a few features, and areas of each size for it."""
+    zoom, count = chance.one_of([2, 3, 4]), chance.below(4) + 2
+    side = 1 << 32 - zoom
+    points = [[] for _ in range(count)]
+    for column in range(2**zoom):
+        for row in range(2**zoom):
+            for held in points[: chance.below(3)] if chance.below(4) == 0 else [chance.one_of(points)]:
+                held.append([column * side + side // 2, row * side + side // 2])
+    yield "map 0"
+    for number, held in enumerate(points):
+        if held:
+            yield put(number, drawn("points", held, zoom, zoom) | {"tags": {"t": "x" * (chance.below(1000) + 1)}})
+    yield from [f"area {free}" for free in range(0, 14, 1 + chance.below(2))]

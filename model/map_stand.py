@@ -11,7 +11,7 @@ import map_random
 import texts
 import tiles
 from chance import Chance
-from disk import Change, NoEdit, Record, edit_text, first_tiles, record_text, snapshot_of, snapshot_text, text_of, whole_sectors
+from disk import Change, NoEdit, Record, edit_text, record_text, snapshot_of, snapshot_text, text_of, whole_sectors
 from ids import is_tile
 from limits import MAX_ZOOM
 from rust_text import clipped, debug, option
@@ -305,8 +305,10 @@ class Map:
         free = int(rest)
         snapshot = snapshot_text(self.held)
         said = features.metadata(self.held).encode()
-        shown_tiles = first_tiles(tiles.all_tiles(self.held), free, snapshot, said)
+        shown_tiles = [*tiles.all_tiles(self.held)]
         archive = archives.built(shown_tiles, said) if shown_tiles else b""
+        if archive is None:
+            return "the tiles need more than 131,072 entries"
         need = whole_sectors(len(snapshot)) + whole_sectors(len(archive))
         if need > free:
             return f"an area has {free} sectors, and {need} are needed"

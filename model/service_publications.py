@@ -229,7 +229,7 @@ def read_failures():
 
 def too_many():
     yield from heading(
-        "Three lines across the world: 196,608 tiles of zoom 16, each unlike the next, are too many entries. A small area is full before.")
+        "Three lines across the world: 196,608 tiles of zoom 16, each unlike the next, are too many entries, for a small area too.")
     rows = [f"put {number} l 16 16 lines 0,{y} {WORLD_END - 1},{y}" for number, y in ((1, 32768), (2, 1073774592), (3, 2147516416))]
     for sectors in (24000, 64):
         yield from [*opened(sectors), *rows, "begin", "step", looks(2)]

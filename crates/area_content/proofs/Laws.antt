@@ -32,9 +32,9 @@ archive_sector c index =
     rw (behind, index_is) (begins (sector_piece c.archive index))
 
 -- If the tiles up to one need more entries than an archive has, all tiles of the map do.
-pub all_are_many : (m : FeatureMap) (metadata : List ℕ) (area : ℕ) → HasManyTiles m metadata area → (tiles : List Tile) (runs : List TileRun)
+pub all_are_many : (m : FeatureMap) → HasManyTiles m → (tiles : List Tile) (runs : List TileRun)
     → AreTiles m tiles → AreLongestRuns tiles runs → MAX_ENTRIES < length runs
-all_are_many m metadata area many tiles runs are longest =
+all_are_many m many tiles runs are longest =
     let ts = many.before ++ many.last ∷ [] in
     let behind = first_of_all m (many.last.0 + 1) ts tiles (one_more m many.from many.before many.last many.added.below many.next) are in
     too_many_behind ts behind.0 runs many.many (subst (λ (ts : List Tile). AreLongestRuns ts runs) behind.1 longest)

@@ -4,4 +4,5 @@ mod Exits
 pub mod Laws
 mod MapTiles
 mod Pieces
+mod Steps
 mod Written

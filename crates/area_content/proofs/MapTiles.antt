@@ -110,6 +110,17 @@ module _ (m : FeatureMap) where
   pub below_end : (from : ℕ) (t : Tile) → IsNextTile m from t → (from ≤ t.0) × (t.0 < TILE_IDS)
   below_end from t next = (next.here, id_below t next.tile)
 
+  -- tiles of one id have the same layers
+  the_place : (z x y w a b id : ℕ) → IsTileId z x y id → IsTileId w a b id → layers m w a b ≡ layers m z x y
+  the_place z x y w a b id is other =
+      let one = one_tile_of w a b z x y id other is in
+      ap (λ k. layers m k a b) one.0 ∙ ap (λ k. layers m z k b) one.1 ∙ ap (λ k. layers m z x k) one.2
+
+  -- a tile has one content
+  pub one_content : (id : ℕ) (a b : List ℕ) → IsTile m (id, a) → IsTile m (id, b) → a ≡ b
+  one_content id a b (z, x, y, place, some, is) (w, c, d, other, more, same) =
+      is ∙ ap written (the_place w c d z x y id other place) ∙ sym same
+
   -- no tile is added at first
   pub none_added : AreAdded m 0 []
   none_added = record { below = none_below m; short = All-nil IsShort; few = ([], no_runs, omega arith) }
@@ -124,12 +135,6 @@ module _ (m : FeatureMap) where
   }
 
   -- ---- the contents are the tiles of the map
-
-  -- tiles of one id have the same layers
-  the_place : (z x y w a b id : ℕ) → IsTileId z x y id → IsTileId w a b id → layers m w a b ≡ layers m z x y
-  the_place z x y w a b id is other =
-      let one = one_tile_of w a b z x y id other is in
-      ap (λ k. layers m k a b) one.0 ∙ ap (λ k. layers m z k b) one.1 ∙ ap (λ k. layers m z x k) one.2
 
   -- the content of a tile's id reads as its layers
   reads_there : IsMap m → (z x y id : ℕ) (bytes : List ℕ) → IsTileId z x y id → IsTile m (id, bytes)

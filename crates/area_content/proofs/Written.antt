@@ -1,16 +1,21 @@
--- The tiles that are written into an area, and their archive.
-use Rattle.std.proofs.Common.{◌≡◌, ◌≢◌, ℕ, ◌+◌, ◌<◌, ◌≤◌, inl, inr, List, [], ◌∷◌, ◌++◌, length, Result, Ok, Err, sym, ap, ◌∙◌, arith}
+-- The archive of all tiles of a map.
+use Rattle.std.proofs.Common.{◌≡◌, ℕ, ◌+◌, ◌≤◌, inr, List, [], ◌∷◌, ◌++◌, length, All, Result, Ok, Err, refl, ap, arith}
 use Rattle.std.specs.Prelude.{IfOk}
 use Rattle.std.specs.List.{concat}
 use Rattle.std.proofs.lemmas.List.{length-append}
-use Rattle.feature_store.specs.Store.{FeatureMap, IsMap}
+use Rattle.feature_store.specs.Store.{FeatureMap, IsMap, snapshot}
+use Rattle.feature_store.specs.Tiles.{AreTiles}
+use Rattle.generations.specs.Areas.{sectors_of}
 use Rattle.pm_build.specs.declared.built.BuiltArchive.{BuiltArchive}
+use Rattle.pm_build.specs.Bounded.{IsSize}
 use Rattle.pm_build.specs.Built.{archive_bytes, tile_content}
 use Rattle.pm_build.specs.Different.{contents_of}
 use Rattle.pm_build.specs.Laid.{AreLaidOut}
 use Rattle.pm_build.specs.Tiles.{Tile}
 use Rattle.pm_build.specs.Vector.{IsVectorArchive}
-use Rattle.area_content.specs.Faults.{AreAdded, AreWritten, CanFit, IsArchiveFor, IsBounded, IsBuiltFor, NoLongerFit, least_sectors}
+use Rattle.pm_build.proofs.Laws.{contents_grow}
+use Rattle.area_content.specs.Faults.{IsBuiltFor, IsFull, IsShort}
+use Rattle.area_content.specs.Room.{AreBeyond}
 use Rattle.area_content.specs.Tiles.{IsArchiveOfTiles}
 use Rattle.area_content.proofs.MapTiles.{all_are_archive}
 
@@ -21,45 +26,39 @@ pub archive_built : {E : Type 0} (r : Result BuiltArchive E) (ts : List Tile) (m
 archive_built (Err fault) ts metadata laid archive = tt
 archive_built (Ok a) ts metadata laid archive = inr (laid, archive)
 
-tiles_laid : (ts : List Tile) (metadata bytes : List ℕ) → ts ≢ [] → IsArchiveOfTiles ts metadata bytes
-    → AreLaidOut bytes ts metadata × IsVectorArchive bytes metadata (tile_content ts)
-tiles_laid ts metadata bytes some (inl (none, empty)) = absurd (some none)
-tiles_laid ts metadata bytes some (inr laid) = laid
-
-module _ (m : FeatureMap) (metadata : List ℕ) (area : ℕ) where
-  -- up to the first tile that no longer fits
-  pub cut_written : (from : ℕ) (ts new : List Tile) (t : Tile) → CanFit m metadata area ts → new ≡ ts ++ t ∷ [] → from ≡ t.0 + 1 → AreAdded m from new
-      → area < least_sectors m metadata new → AreWritten m metadata area new
-  cut_written from ts new t can grown at added above = inr record {
-    before = ts;
-    last = t;
-    tiles_are = grown;
-    added = rw (sym at) added;
-    can = can;
-    above = above;
+module _ (m : FeatureMap) (metadata : List ℕ) where
+  -- an archive of all tiles of a map
+  pub built_for : (ts : List Tile) (archive : List ℕ) → IsMap m → AreTiles m ts → All IsShort ts → IsArchiveOfTiles ts metadata archive
+      → IsSize ts metadata (length archive) → IsBuiltFor m metadata archive
+  built_for ts archive is_map all short of_tiles bounded = record {
+    of_map = all_are_archive m ts metadata archive is_map all of_tiles;
+    tiles = ts;
+    all = all;
+    short = short;
+    of_tiles = of_tiles;
+    bounded = bounded;
   }
 
-  cut_some : (ts : List Tile) → NoLongerFit m metadata area ts → ts ≢ []
-  cut_some ts cut none =
-      absurd (omega (arith, ap (λ (us : List Tile). length us) (sym none ∙ cut.tiles_are), length-append cut.before (cut.last ∷ [])))
+  pub all_built : {E : Type 0} (r : Result BuiltArchive E) (ts : List Tile) → IsMap m → AreTiles m ts → All IsShort ts
+      → IfOk r (λ a. IsArchiveOfTiles ts metadata (archive_bytes a)) → IfOk r (λ a. IsSize ts metadata (length (archive_bytes a)))
+      → IfOk r (λ a. IsBuiltFor m metadata (archive_bytes a))
+  all_built (Err fault) ts is_map all short of_tiles bounded = tt
+  all_built (Ok a) ts is_map all short of_tiles bounded = built_for ts (archive_bytes a) is_map all short of_tiles bounded
 
-  -- an archive of the tiles that are written
-  pub archive_written : {E : Type 0} (r : Result BuiltArchive E) (ts : List Tile) → IsMap m → AreWritten m metadata area ts
-      → IfOk r (λ a. IsArchiveOfTiles ts metadata (archive_bytes a))
-      → (ts ≢ [] → IfOk r (λ a. 127 + length metadata + length (concat (contents_of ts)) ≤ length (archive_bytes a)))
-      → IfOk r (λ a. IsBounded ts metadata (archive_bytes a)) → IfOk r (λ a. IsArchiveFor m metadata area (archive_bytes a))
-  archive_written (Err fault) ts is_map written of_tiles least bounded = tt
-  archive_written (Ok a) ts is_map (inl (all, short, can)) of_tiles least bounded =
-      let built : IsBuiltFor m metadata (archive_bytes a) = record {
-        of_map = all_are_archive m ts metadata (archive_bytes a) is_map all of_tiles;
-        tiles = ts;
-        all = all;
-        short = short;
-        of_tiles = of_tiles;
-        bounded = bounded;
-      } in
-      inl record { built = built; can = can }
-  archive_written (Ok a) ts is_map (inr cut) of_tiles least bounded =
-      let some = cut_some ts cut in
-      let laid = tiles_laid ts metadata (archive_bytes a) some of_tiles in
-      inr (record { tiles = ts; cut = cut; laid = laid.0; of_tiles = laid.1; bounded = bounded }, omega (arith, cut.above, least some))
+  -- what an area needs that counted tiles are beyond
+  pub full_of_counted : (area : ℕ) (ts : List Tile) (archive : List ℕ) (need : ℕ) → IsBuiltFor m metadata archive → AreBeyond m metadata area ts
+      → 127 + length metadata + length (concat (contents_of ts)) ≤ length archive
+      → need ≡ sectors_of (length (snapshot m)) + sectors_of (length archive) → IsFull m metadata area need area
+  full_of_counted area ts archive need built beyond least is = record {
+    free_is = refl;
+    above = omega (arith, beyond.above, least, is);
+    needed = inr (archive, built, is);
+  }
+
+-- tiles beyond an area are beyond it with one more
+pub beyond_more : (m : FeatureMap) (metadata : List ℕ) (area : ℕ) (ts : List Tile) (t : Tile) → AreBeyond m metadata area ts
+    → AreBeyond m metadata area (ts ++ t ∷ [])
+beyond_more m metadata area ts t beyond = record {
+  some = λ none. omega (arith, ap (λ (us : List Tile). length us) none, length-append ts (t ∷ []));
+  above = omega (arith, beyond.above, contents_grow ts t);
+}

@@ -4,19 +4,17 @@ use Rattle.feature_store.specs.Store.{IsMap, snapshot}
 use Rattle.pm_metadata.specs.Archive.{IsMetadata}
 use Rattle.area_content.specs.declared.draft.ContentDraft.TheInside.{Inside}
 use Rattle.area_content.specs.declared.draft.Stage.TheVariants.{Going, Made}
+use Rattle.area_content.specs.Collected.{AreGoing, AreMade}
 use Rattle.area_content.specs.Drafts.{DraftView}
-use Rattle.area_content.specs.Faults.{AreAdded, AreWritten, CanFit}
 
 abbrev pub draft_view : Inside → DraftView
 draft_view d = record { features = d.tiles.features; metadata = d.metadata.items; area = d.area; from = d.tiles.from; stage = d.stage }
 
--- The text is the snapshot of the moment. While tiles are left, those before the next id are added, and can fit; once they are made, those
--- that are written are.
+-- The text is the snapshot of the moment. While tiles are left, those before the next id are added; once they are made, all are.
 pub record IsDraft (d : Inside) : Type 0 where
   pub is_map : IsMap d.tiles.features
   pub text : d.text.items ≡ snapshot d.tiles.features
   pub metadata : IsMetadata d.metadata.items
   pub area : d.area < 2 ^ 23
-  pub added : d.stage ≡ Going → AreAdded d.tiles.features d.tiles.from d.builder
-  pub can : d.stage ≡ Going → CanFit d.tiles.features d.metadata.items d.area d.builder
-  pub written : d.stage ≡ Made → AreWritten d.tiles.features d.metadata.items d.area d.builder
+  pub going : d.stage ≡ Going → AreGoing d.tiles.features d.metadata.items d.area d.tiles.from d.collected
+  pub made : d.stage ≡ Made → AreMade d.tiles.features d.metadata.items d.area d.collected

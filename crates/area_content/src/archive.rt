@@ -1,60 +1,47 @@
 //! The archive of the tiles of a map.
-ghost use Rattle.pm_header.specs.declared.header.TheConstants.{HEADER_BYTES};
-ghost use Rattle.std.specs.Prelude.{◌≡◌, ◌≢◌, ◌<◌, ◌≤◌, ◌^◌, ◌+◌, ◌++◌, ◌∷◌, [], ℕ, List, Ok, true, false, length, OnOk, IfOk, IfErr};
-ghost use Rattle.std.specs.List.{concat};
+ghost use Rattle.std.specs.Prelude.{◌≡◌, ◌<◌, ◌≤◌, ◌^◌, ◌+◌, ◌++◌, ◌∷◌, [], ℕ, List, Ok, true, false, length, OnOk, IfOk, IfErr, IfSome, IfNone};
 ghost use Rattle.hilbert_id.specs.declared.number.TheConstants.{TILE_IDS};
 ghost use Rattle.feature_store.specs.Moments.{IsAsOf};
-ghost use Rattle.feature_store.specs.Store.{FeatureMap, snapshot};
-ghost use Rattle.feature_store.specs.Tiles.{AreTiles};
+ghost use Rattle.feature_store.specs.Store.{snapshot};
+ghost use Rattle.feature_store.specs.Tiles.{IsNextTile, ShowsNothingFrom};
 ghost use Rattle.pm_metadata.specs.Archive.{IsMetadata};
+ghost use Rattle.pm_build.specs.Bounded.{IsSize};
 ghost use Rattle.pm_build.specs.Built.{archive_bytes};
-ghost use Rattle.pm_build.specs.Different.{contents_of};
 ghost use Rattle.pm_build.specs.Tiles.{Tile};
-ghost use Rattle.area_content.specs.Faults.{AreAdded, CanFit, AreWritten, IsBounded, IsContentFault, least_sectors, told_as};
+ghost use Rattle.area_content.specs.Collected.{AreGoing, AreMade};
+ghost use Rattle.area_content.specs.Faults.{AreAdded, IsContentFault, IsShort};
 ghost use Rattle.area_content.specs.Tiles.{IsArchiveOfTiles};
 
+use crate::collected::Collected;
 use crate::content::sectors_for;
+use crate::counting::count_tile;
 use crate::fault::ContentFault;
-use feature_store::{Moment, Store, Tiles};
-use pm_build::{ArchiveBuilder, BuildFault, BuiltArchive};
-use pm_header::HEADER_BYTES;
+use feature_store::{Moment, Store, Tile, Tiles};
+use pm_build::{ArchiveBuilder, BuiltArchive};
 use std::alloc::{AllocError, Global};
 
-/// The fault reported if a tile can't be added to an archive.
-fn to_content_fault(fault: BuildFault) -> ContentFault
-    ensures { result ≡ told_as fault }
-{
-    match fault {
-        BuildFault::TooManyEntries => ContentFault::TooManyTiles,
-        BuildFault::Memory => ContentFault::Memory,
-    }
-}
-
-/// Adds the next tile of a moment to its archive. It is false if there is none. `store` is the map as it is now. A tile too large for an
-/// archive entry is larger than every area.
-fn add_next(
+/// The next tile of a moment, if there is one, for an area of `area` sectors. `store` is the map as it is now. A tile too large for an archive
+/// entry is larger than every area.
+fn next_short(
     tiles: &mut Tiles,
-    builder: &mut ArchiveBuilder,
     store: &Store,
     moment: &Moment,
     area: u64,
-) -> Result<bool, ContentFault>
+) -> Result<Option<Tile>, ContentFault>
     requires same { moment.now.features ≡ tiles.old.features }
     requires there { moment.now.lost ≡ false }
     requires as_of { IsAsOf moment.now store.now.features }
-    requires added { AreAdded tiles.old.features tiles.old.from builder.old }
     requires area { area < 2 ^ 23 }
     ensures map { tiles.new.features ≡ tiles.old.features }
-    ensures added { result ≡ Ok true → AreAdded tiles.new.features tiles.new.from builder.new }
-    ensures grown { result ≡ Ok true → (t : Tile) × (builder.new ≡ builder.old ++ t ∷ []) × (tiles.new.from ≡ t.0 + 1) }
-    ensures further { result ≡ Ok true → (tiles.old.from < tiles.new.from) × (tiles.new.from ≤ TILE_IDS) }
-    ensures last { result ≡ Ok false → AreTiles tiles.old.features builder.old × (builder.new ≡ builder.old) }
-    ensures fault { (metadata : List ℕ) → CanFit tiles.old.features metadata area builder.old
-        → IfErr result (IsContentFault tiles.old.features metadata area) }
+    ensures tile { IfOk result (λ o. IfSome o (λ t. IsNextTile tiles.old.features tiles.old.from (t.0, t.1.items) × IsShort (t.0, t.1.items)
+        × (tiles.new.from ≡ t.0 + 1))) }
+    ensures none { IfOk result (λ o. IfNone o (ShowsNothingFrom tiles.old.features tiles.old.from)) }
+    ensures fault { IfErr result (λ fault. (before : List Tile) (metadata : List ℕ) → AreAdded tiles.old.features tiles.old.from before
+        → IsContentFault tiles.old.features metadata area fault) }
 {
     let tile = match tiles.next(store, moment) {
         Ok(Some(tile)) => tile,
-        Ok(None) => return Ok(false),
+        Ok(None) => return Ok(None),
         Err(_) => return Err(ContentFault::Memory),
     };
     if tile.1.len() > u32::MAX as usize {
@@ -63,25 +50,14 @@ fn add_next(
             free: area,
         });
     }
-    match builder.add(tile.0, &tile.1) {
-        Ok(()) => Ok(true),
-        Err(fault) => Err(to_content_fault(fault)),
-    }
+    Ok(Some(tile))
 }
 
-/// How many sectors a snapshot with this text takes, and an archive of the tiles that were added at least.
-fn least_sectors(builder: &ArchiveBuilder, text: &[u8], metadata: &[u8]) -> u64
-    ensures { (m : FeatureMap) → text.now ≡ snapshot m → result ≡ least_sectors m metadata.now builder.now }
-{
-    let archive = HEADER_BYTES + metadata.len() + builder.content_len();
-    sectors_for(text.len()) + sectors_for(archive)
-}
-
-/// Adds the next tile of a moment to its archive. It is false once those that are written are added: all of them, or those up to the first
-/// with which the archive no longer fits in an area of `area` sectors. `store` is the map as it is now, `text` the snapshot of the moment.
+/// Adds the next tile of a moment to its archive. It is false if there is none. `store` is the map as it is now, `text` the snapshot of the
+/// moment.
 pub(crate) fn make_next(
     tiles: &mut Tiles,
-    builder: &mut ArchiveBuilder,
+    collected: &mut Collected,
     store: &Store,
     moment: &Moment,
     text: &[u8],
@@ -91,26 +67,30 @@ pub(crate) fn make_next(
     requires same { moment.now.features ≡ tiles.old.features }
     requires there { moment.now.lost ≡ false }
     requires as_of { IsAsOf moment.now store.now.features }
-    requires added { AreAdded tiles.old.features tiles.old.from builder.old }
-    requires can { CanFit tiles.old.features metadata.now area builder.old }
+    requires going { AreGoing tiles.old.features metadata.now area tiles.old.from collected.old }
     requires snapshot { text.now ≡ snapshot tiles.old.features }
     requires area { area < 2 ^ 23 }
     ensures map { tiles.new.features ≡ tiles.old.features }
-    ensures added { result ≡ Ok true → AreAdded tiles.old.features tiles.new.from builder.new }
-    ensures can { result ≡ Ok true → CanFit tiles.old.features metadata.now area builder.new }
+    ensures going { result ≡ Ok true → AreGoing tiles.old.features metadata.now area tiles.new.from collected.new }
     ensures further { result ≡ Ok true → (tiles.old.from < tiles.new.from) × (tiles.new.from ≤ TILE_IDS) }
-    ensures written { result ≡ Ok false → AreWritten tiles.old.features metadata.now area builder.new }
+    ensures made { result ≡ Ok false → AreMade tiles.old.features metadata.now area collected.new }
     ensures fault { IfErr result (IsContentFault tiles.old.features metadata.now area) }
 {
-    match add_next(tiles, builder, store, moment, area) {
-        Ok(true) => {}
-        Ok(false) => return Ok(false),
+    let (id, content) = match next_short(tiles, store, moment, area) {
+        Ok(Some(tile)) => tile,
+        Ok(None) => return Ok(false),
         Err(fault) => return Err(fault),
+    };
+    match &mut collected.counted {
+        Some(counter) => match count_tile(counter, id, content, tiles, store, moment) {
+            Ok(()) => Ok(true),
+            Err(fault) => Err(fault),
+        },
+        None => match collected.keep(id, &content, text, metadata, area) {
+            Ok(()) => Ok(true),
+            Err(fault) => Err(fault),
+        },
     }
-    if least_sectors(builder, text, metadata) > area {
-        return Ok(false);
-    }
-    Ok(true)
 }
 
 /// The archive of the tiles of a map, with this metadata. It is empty if there are no tiles.
@@ -121,8 +101,7 @@ pub(crate) fn archive_of(
 ) -> Result<BuiltArchive, AllocError>
     requires metadata { IsMetadata metadata.now }
     ensures of_tiles { IfOk result (λ a. IsArchiveOfTiles builder metadata.now (archive_bytes a)) }
-    ensures least { builder ≢ [] → IfOk result (λ a. HEADER_BYTES + length metadata.now + length (concat (contents_of builder)) ≤ length (archive_bytes a)) }
-    ensures bounded { IfOk result (λ a. IsBounded builder metadata.now (archive_bytes a)) }
+    ensures bounded { IfOk result (λ a. IsSize builder metadata.now (length (archive_bytes a))) }
 {
     if builder.is_empty() {
         return Ok(BuiltArchive {

@@ -3,7 +3,7 @@ ghost use Rattle.std.specs.Prelude.{◌≡◌, ◌<◌, ◌≤◌, ◌^◌, ◌+
 ghost use Rattle.feature_store.specs.Store.{FeatureMap, snapshot};
 ghost use Rattle.generations.specs.Areas.{sectors_of};
 ghost use Rattle.area_content.specs.Content.{sectors_taken, padded, sector_at};
-ghost use Rattle.area_content.specs.Faults.{IsArchiveFor, IsBuiltFor, IsContentFault};
+ghost use Rattle.area_content.specs.Faults.{IsBuiltFor, IsContentFault};
 ghost use Rattle.pm_build.specs.Built.{archive_bytes};
 ghost use Rattle.sector_bytes.specs.Bytes.{sector_piece};
 ghost use Rattle.sector_disk.specs.declared.disk.TheConstants.{SECTOR_BYTES};
@@ -134,9 +134,7 @@ impl AreaContent {
 /// The content, if it fits in an area of `area` sectors.
 pub(crate) fn within(content: AreaContent, area: u64) -> Result<AreaContent, ContentFault>
     ensures fits { IfOk result (λ c. (c ≡ content) × (sectors_taken c ≤ area)) }
-    ensures built { (m : FeatureMap) (metadata : List ℕ) → content.snapshot ≡ snapshot m → IsArchiveFor m metadata area content.archive
-        → IfOk result (λ c. IsBuiltFor m metadata c.archive) }
-    ensures full { (m : FeatureMap) (metadata : List ℕ) → content.snapshot ≡ snapshot m → IsArchiveFor m metadata area content.archive
+    ensures full { (m : FeatureMap) (metadata : List ℕ) → content.snapshot ≡ snapshot m → IsBuiltFor m metadata content.archive
         → IfErr result (IsContentFault m metadata area) }
 {
     let need = content.sectors();

@@ -1,17 +1,20 @@
 //! The content of an area in the making, by steps between which the map may be edited.
-ghost use Rattle.std.specs.Prelude.{◌≡◌, ◌<◌, ◌≤◌, ◌^◌, Ok, true, false, IfOk, IfErr};
+ghost use Rattle.std.specs.Prelude.{◌≡◌, ◌≢◌, ◌<◌, ◌≤◌, ◌^◌, [], All, Ok, true, false, IfOk, IfErr};
 ghost use Rattle.hilbert_id.specs.declared.number.TheConstants.{TILE_IDS};
 ghost use Rattle.feature_store.specs.Moments.{IsAsOf};
 ghost use Rattle.feature_store.specs.Store.{FeatureMap, IsMap, snapshot};
+ghost use Rattle.feature_store.specs.Tiles.{AreTiles};
 ghost use Rattle.pm_metadata.specs.Archive.{IsMetadata};
 ghost use Rattle.area_content.specs.Content.{sectors_taken};
-ghost use Rattle.area_content.specs.Faults.{AreWritten, IsBuiltFor, IsContentFault};
+ghost use Rattle.area_content.specs.Faults.{IsBuiltFor, IsContentFault, IsShort};
+ghost use Rattle.area_content.specs.Room.{AreBeyond};
 
 use crate::archive::{archive_of, make_next};
-use crate::content::{AreaContent, within};
+use crate::collected::Collected;
+use crate::content::{AreaContent, sectors_for, within};
 use crate::fault::ContentFault;
 use feature_store::{Moment, Store, Tiles};
-use pm_build::ArchiveBuilder;
+use pm_build::{ArchiveBuilder, ArchiveCounter};
 use std::alloc::{AllocError, Global};
 use std::marker::Model;
 
@@ -28,13 +31,14 @@ pub enum Stage {
 
 /// The content of an area for a map as of a moment, in the making. Each step makes one tile, and the map may be edited between two of them
 /// (`feature_store::Store::place_after`, `remove_after`). What it holds is the snapshot, the boxes of the features, the contents of the
-/// tiles so far, which fit into the area, and the tile in hand.
+/// tiles so far, which fit into the area, and the tile in hand. Once a tile doesn't fit, no content is kept: what it holds then is a record
+/// for each run and for each different content, and two tiles.
 #[derive(Drop)]
 pub struct ContentDraft {
     text: Vec<u8>,
     metadata: Vec<u8>,
     tiles: Tiles,
-    builder: ArchiveBuilder,
+    collected: Collected,
     area: u64,
     stage: Stage,
     alloc: Global,
@@ -52,7 +56,23 @@ impl Model for ContentDraft {
     ghost invariant = { IsDraft };
 }
 
-/// The content of the tiles that are written, with the snapshot `text`, if it fits in an area of `area` sectors.
+/// The fault of all tiles of a map, with the snapshot `text`, that don't fit in an area of `area` sectors.
+fn full_of(counter: &ArchiveCounter, text: &[u8], metadata: &[u8], area: u64) -> ContentFault
+    requires metadata { IsMetadata metadata.now }
+    requires some { counter.now ≢ [] }
+    ensures { (m : FeatureMap) → IsMap m → text.now ≡ snapshot m → AreTiles m counter.now → All IsShort counter.now
+        → AreBeyond m metadata.now area counter.now → IsContentFault m metadata.now area result }
+{
+    match counter.archive_len(metadata) {
+        Ok(archive) => ContentFault::AreaFull {
+            need: sectors_for(text.len()) + sectors_for(archive),
+            free: area,
+        },
+        Err(_) => ContentFault::Memory,
+    }
+}
+
+/// The content of all tiles of a map, with the snapshot `text`, if it fits in an area of `area` sectors.
 fn content_with(
     alloc: Global,
     builder: ArchiveBuilder,
@@ -62,10 +82,9 @@ fn content_with(
 ) -> Result<AreaContent, ContentFault>
     requires { IsMetadata metadata.now }
     ensures snapshot { IfOk result (λ c. c.snapshot ≡ text.items) }
-    ensures built { (m : FeatureMap) → IsMap m → text.items ≡ snapshot m → AreWritten m metadata.now area builder
-        → IfOk result (λ c. IsBuiltFor m metadata.now c.archive) }
+    ensures built { (m : FeatureMap) → IsMap m → AreTiles m builder → All IsShort builder → IfOk result (λ c. IsBuiltFor m metadata.now c.archive) }
     ensures fits { IfOk result (λ c. sectors_taken c ≤ area) }
-    ensures fault { (m : FeatureMap) → IsMap m → text.items ≡ snapshot m → AreWritten m metadata.now area builder
+    ensures fault { (m : FeatureMap) → IsMap m → text.items ≡ snapshot m → AreTiles m builder → All IsShort builder
         → IfErr result (IsContentFault m metadata.now area) }
 {
     let archive = match archive_of(alloc, builder, metadata) {
@@ -101,7 +120,7 @@ impl ContentDraft {
             text,
             metadata: kept,
             tiles,
-            builder: ArchiveBuilder::new(alloc),
+            collected: Collected::new(alloc),
             area,
             stage: Stage::Going,
             alloc,
@@ -129,7 +148,7 @@ impl ContentDraft {
         self.stage = Stage::Failed;
         let result = make_next(
             &mut self.tiles,
-            &mut self.builder,
+            &mut self.collected,
             store,
             moment,
             &self.text,
@@ -165,11 +184,19 @@ impl ContentDraft {
             text,
             metadata,
             tiles: _,
-            builder,
+            collected,
             area,
             stage: _,
             alloc,
         } = self;
-        content_with(alloc, builder, text, &metadata, area)
+        let Collected {
+            kept,
+            counted,
+            alloc: _,
+        } = collected;
+        match counted {
+            Some(counter) => Err(full_of(&counter, &text, &metadata, area)),
+            None => content_with(alloc, kept, text, &metadata, area),
+        }
     }
 }

@@ -3,7 +3,9 @@
 #![tactic(auto)]
 
 mod archive;
+mod collected;
 mod content;
+mod counting;
 mod draft;
 mod fault;
 mod making;

@@ -37,16 +37,17 @@ fn make_all(draft: &mut ContentDraft, store: &Store, moment: &Moment) -> Result<
 /// The snapshot and the archive of a map, for an area of `area` sectors. `metadata` is the JSON object in the
 /// archive.
 ///
-/// The tiles are made by ascending id, up to the first that gives a fault, or with which snapshot and archive no longer fit in the area: a
-/// header, the metadata and each different content once already take more sectors than are left beside the snapshot. So the tile in hand
-/// is all that is kept above the area. After a fault everything is freed.
+/// The tiles are made by ascending id. Their contents are kept as long as they can fit in the area: a header, the metadata and each different
+/// content once take no more sectors than are left beside the snapshot. From the first tile on that no longer fits, only their number and
+/// their lengths are. So what is kept above the area are a record for each run and for each different content, and two tiles. After a fault
+/// everything is freed.
 ///
 /// # Errors
 ///
 /// `AreaFull` if a tile has 2^32 bytes or more: `need` is its number of sectors. `TooManyTiles` if the tiles up to one need more entries
-/// than an archive takes; at one tile it comes before the next fault. `AreaFull` if a tile no longer fits, or if all can fit and snapshot
-/// and archive don't: `need` is the number of sectors of the snapshot and of the archive of the tiles up to that one, or of all tiles.
-/// `Memory` if an allocation fails.
+/// than an archive takes. At one tile the first of these comes first, and of two tiles that with the lower id. `AreaFull` if all tiles are
+/// fewer, and snapshot and archive don't fit: `need` is the number of sectors of the snapshot and of the archive of all tiles. `Memory` if an
+/// allocation fails.
 pub fn content_of(
     alloc: Global,
     store: &Store,

@@ -12,7 +12,9 @@ use Rattle.std.proofs.lemmas.List.Elements.{All-weaker, All-contains_itself, Con
 use Rattle.number_map.specs.Blocks.{Ascends, AreAbove}
 use Rattle.number_map.proofs.Numbers.{less}
 use Rattle.number_map.proofs.Entries.{ascends_head, ascends_tail}
+use Rattle.box_index.specs.Shown.{shows, ids_shown}
 use Rattle.box_index.specs.declared.entry.IndexEntry.{IndexEntry}
+use Rattle.feature_model.specs.declared.feature.WorldBox.{WorldBox}
 use Rattle.feature_model.specs.Data.{FeatureData}
 use Rattle.mvt_layer.specs.Tile.{FeatureView}
 use Rattle.tile_cutter.specs.Covered.{covered}
@@ -70,6 +72,17 @@ same_boxes zoom (e ∷ m) = by (has_zoom e.1 zoom) (same_boxes zoom m)
         ≡ map (box_of zoom) (cond b (e ∷ filter (λ d. has_zoom d.1 zoom) m) (filter (λ d. has_zoom d.1 zoom) m))
     by true rest = λ i. record { range = box_covered e.1.geometry zoom i; number = e.0 } ∷ rest i
     by false rest = rest
+
+-- the numbers of the first boxes that show, and of one more
+pub shown_more : (bounds : WorldBox) (zoom : ℕ) (es : List IndexEntry) (k : ℕ) (d : IndexEntry) (out next : List ℕ) → k < length es
+    → out ≡ ids_shown bounds zoom (take k es) → next ≡ out ++ ids_shown bounds zoom (get_or es k d ∷ []) → next ≡ ids_shown bounds zoom (take (k + 1) es)
+shown_more bounds zoom es k d out next lt before after =
+    let shows_in : IndexEntry → Bool = λ e. shows bounds zoom e.span in
+    let one = get_or es k d ∷ [] in
+    rw (take_more es k d lt)
+    (after ∙ ap (λ r. r ++ ids_shown bounds zoom one) before
+    ∙ sym (ap (map (λ (e : IndexEntry). e.id)) (filter-append shows_in (take k es) one)
+    ∙ map-append (λ (e : IndexEntry). e.id) (filter shows_in (take k es)) (filter shows_in one)))
 
 -- ---- what a tile shows by them
 

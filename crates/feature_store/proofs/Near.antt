@@ -105,7 +105,7 @@ module _ (bounds : WorldBox) (z x y : ℕ) where
             All-cons (Finds (e ∷ m)) e m (λ some. absurd (false≢true (sym (ap is_some nothing) ∙ some)))
             (All-weaker (Finds m) (Finds (e ∷ m)) (λ d finds some. subst (λ ns. Contains ns d.0) same (finds some)) m rest)
 
-    near_shows : (m : FeatureMap) (numbers : List ℕ) → IsMap m → numbers ≡ near m → ShowsAll m z x y numbers
+    pub near_shows : (m : FeatureMap) (numbers : List ℕ) → IsMap m → numbers ≡ near m → ShowsAll m z x y numbers
     near_shows m numbers is_map is =
         let lies = All-weaker (λ e. IsChange (put e.0 e.1)) (λ e. LiesInWorld e.1.geometry) (λ e edit. edit.1.geometry) m is_map.edits in
         subst (ShowsAll m z x y) (sym is) (record { ascending = near_ascend m is_map.ascending; every = every_near m lies })

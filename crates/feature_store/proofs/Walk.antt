@@ -1,9 +1,10 @@
 -- The tiles of a map, one after the other.
 use Rattle.std.proofs.Common.{◌≡◌, ℕ, ◌+◌, ◌<◌, ◌≤◌, List, [], ◌∷◌, length, map, refl, sym, ap, subst, ◌∙◌}
-use Rattle.std.proofs.Common.{arith, inl, inr, Option, Some, None, IfSome, Vec, Global, Result, Ok, Err}
+use Rattle.std.proofs.Common.{arith, inl, inr, Bool, true, false, Option, Some, None, IfSome, Vec, Global, Result, Ok, Err}
 use Rattle.std.specs.Prelude.{IfNone, OnErr}
 use Rattle.std.specs.Option.{option_map}
 use Rattle.std.proofs.lemmas.Bool.{cases_lt}
+use Rattle.std.proofs.lemmas.Bool.Decides.{nat_tests}
 use Rattle.feature_model.specs.declared.limits.TheConstants.{MAX_ZOOM}
 use Rattle.hilbert_id.specs.Curve.{IsTileId}
 use Rattle.hilbert_id.specs.declared.tile_at.TileAt.{TileAt}
@@ -11,10 +12,11 @@ use Rattle.hilbert_id.specs.declared.number.TheConstants.{TILE_IDS}
 use Rattle.hilbert_id.proofs.Ids.{no_tile_behind, one_tile_of}
 use Rattle.mvt_layer.specs.Tile.{LayerView}
 use Rattle.mvt_write.specs.Written.{written}
-use Rattle.feature_store.specs.Layers.{layers}
+use Rattle.feature_store.specs.Layers.{is_tile, layers}
 use Rattle.feature_store.specs.Store.{FeatureMap}
-use Rattle.feature_store.specs.Tiles.{ShowsNothing, ShowsNothingFrom, IsNextTile, TilesView, HasPlace, IsBytesAt, IsStep, tile_bytes}
+use Rattle.feature_store.specs.Tiles.{ShowsNothing, ShowsNothingFrom, IsNextTile, IsTile, TilesView, HasPlace, IsBytesAt, IsStep, tile_bytes}
 use Rattle.feature_store.proofs.Below.{the_place}
+use Rattle.feature_store.proofs.Laws.{layers_outside}
 
 -- ---- what a step does
 
@@ -147,3 +149,33 @@ on_err (Err e) p = p
 -- the tile that is found has the id
 pub tile_found : (found : Option TileAt) (at : TileAt) (id : ℕ) → found ≡ Some at → IfSome found (λ t. IsTileId t.z t.x t.y id) → IsTileId at.z at.x at.y id
 tile_found found at id is has = subst (λ o. IfSome o (λ t. IsTileId t.z t.x t.y id)) is has
+
+-- ---- a tile once more
+
+-- a tile that shows something is of a zoom that a map has
+shown_zoom : (m : FeatureMap) (z x y : ℕ) → 0 < length (layers m z x y) → z ≤ MAX_ZOOM
+shown_zoom m z x y some = by (is_tile z x y) refl
+  where
+    within : is_tile z x y ≡ true → z ≤ MAX_ZOOM
+    within is = grind (arith, nat_tests)
+
+    by : (b : Bool) → is_tile z x y ≡ b → z ≤ MAX_ZOOM
+    by true is = within is
+    by false is = absurd (omega (arith, some, ap (λ (ls : List LayerView). length ls) (layers_outside m z x y is)))
+
+module _ (m : FeatureMap) (id : ℕ) (shown : (bytes : List ℕ) × IsTile m (id, bytes)) where
+  pub has_place : HasPlace id
+  has_place = (shown.1.0, shown.1.1, shown.1.2, shown_zoom m shown.1.0 shown.1.1 shown.1.2 shown.1.4, shown.1.3)
+
+  -- it shows the same wherever its id is found
+  pub shows_there : (z x y : ℕ) → IsTileId z x y id → 0 < length (layers m z x y)
+  shows_there z x y is =
+      let same = the_place m z x y shown.1.0 shown.1.1 shown.1.2 id is shown.1.3 in
+      omega (arith, shown.1.4, ap (λ (ls : List LayerView). length ls) same)
+
+  pub not_nothing : (z x y : ℕ) (bytes : Option (List ℕ)) → IsTileId z x y id → bytes ≡ tile_bytes (layers m z x y) → bytes ≡ None → ⊥
+  not_nothing z x y bytes is same none =
+      omega (arith, shows_there z x y is, ap (λ (ls : List LayerView). length ls) (no_bytes m (layers m z x y) (sym none ∙ same)))
+
+  pub is_again : (z x y : ℕ) (bytes : List ℕ) → IsTileId z x y id → Some bytes ≡ tile_bytes (layers m z x y) → IsTile m (id, bytes)
+  is_again z x y bytes is same = let some = some_bytes m (layers m z x y) bytes same in (z, x, y, is, some.0, some.1)

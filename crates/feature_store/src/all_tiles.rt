@@ -1,5 +1,5 @@
 //! All tiles of a map, one after the other.
-ghost use Rattle.std.specs.Prelude.{◌≡◌, ◌≤◌, ◌+◌, ℕ, false, IfOk, OnErr, IfSome, IfNone, option_map};
+ghost use Rattle.std.specs.Prelude.{◌≡◌, ◌≤◌, ◌+◌, ℕ, List, false, IfOk, OnErr, IfSome, IfNone, option_map};
 ghost use Rattle.feature_model.specs.declared.limits.TheConstants.{MAX_ZOOM};
 ghost use Rattle.hilbert_id.specs.Curve.{IsTileId};
 ghost use Rattle.feature_store.specs.Indexed.{ShowsAll};
@@ -7,7 +7,7 @@ ghost use Rattle.feature_store.specs.Inside.{entries_data};
 ghost use Rattle.feature_store.specs.Layers.{layers};
 ghost use Rattle.feature_store.specs.Moments.{IsAsOf};
 ghost use Rattle.feature_store.specs.Store.{IsMap};
-ghost use Rattle.feature_store.specs.Tiles.{HasPlace, IsBytesAt, IsNextTile, IsStep, ShowsNothing, ShowsNothingFrom, tile_bytes};
+ghost use Rattle.feature_store.specs.Tiles.{HasPlace, IsBytesAt, IsNextTile, IsStep, IsTile, ShowsNothing, ShowsNothingFrom, tile_bytes};
 
 use crate::cutter::Cutter;
 use crate::feature_boxes::FeatureBoxes;
@@ -156,5 +156,31 @@ impl Tiles {
             }
         }
         Ok(None)
+    }
+
+    /// The bytes of a tile of the moment, which shows something, once more, by its id. `store` is the map as it is now. It looks at the box of
+    /// each feature. The only error is out of memory.
+    pub fn again(&mut self, store: &Store, moment: &Moment, id: u64) -> Result<Vec<u8>, AllocError>
+        requires same { moment.now.features ≡ self.old.features }
+        requires there { moment.now.lost ≡ false }
+        requires as_of { IsAsOf moment.now store.now.features }
+        requires shown { (bytes : List ℕ) × IsTile self.old.features (id, bytes) }
+        ensures tile { IfOk result (λ bytes. IsTile self.old.features (id, bytes.items)) }
+        ensures unchanged { self.new ≡ self.old }
+    {
+        let at = tile_of(id).unwrap();
+        let numbers = self.map.numbers_near(self.alloc, at)?;
+        let bytes = tile_of_numbers(
+            self.alloc,
+            &mut self.cutter,
+            store.features(),
+            moment,
+            &numbers,
+            at,
+        )?;
+        match bytes {
+            Some(bytes) => Ok(bytes),
+            None => unreachable!(),
+        }
     }
 }

@@ -1,22 +1,25 @@
 //! The boxes of the features of a map, read from their points once for all zooms.
 ghost use Rattle.std.specs.Prelude.{◌≡◌, ◌≤◌, ◌++◌, ◌∷◌, [], map, IfOk, OnOk};
+ghost use Rattle.box_index.specs.Shown.{ids_shown};
 ghost use Rattle.box_index.specs.declared.entry.IndexEntry.{IndexEntry};
 ghost use Rattle.feature_model.specs.declared.limits.TheConstants.{MAX_ZOOM};
 ghost use Rattle.number_map.specs.Blocks.{joined};
 ghost use Rattle.tile_walk.specs.Boxes.{AreTilesOf};
 ghost use Rattle.feature_store.specs.Boxes.{boxes_at, boxes_in};
-ghost use Rattle.feature_store.specs.Indexed.{index_entry};
+ghost use Rattle.feature_store.specs.Indexed.{ShowsAll, index_entry};
 ghost use Rattle.feature_store.specs.Inside.{entries_data};
+ghost use Rattle.feature_store.specs.Store.{IsMap};
 
 use crate::indexed::index_entry;
 use box_index::IndexEntry;
 use edit_text::StoredFeature;
-use feature_model::MAX_ZOOM;
+use feature_model::{MAX_ZOOM, WorldBox};
+use hilbert_id::TileAt;
 use number_map::{Block, Entry, NumberMap};
 use std::alloc::{AllocError, Global};
 use std::marker::Model;
 use std::snapshot::Snapshot;
-use tile_cutter::tiles_met;
+use tile_cutter::{tile_box, tiles_met};
 use tile_walk::{Numbered, Walk};
 
 /// The bounding box and the zooms of each feature of a map, by ascending number. They stay those of the map as it was.
@@ -95,6 +98,37 @@ fn tiles_of_boxes(
     Ok(tiles)
 }
 
+/// Appends the number of a box that shows in another one at a zoom.
+fn append_shown(
+    numbers: &mut Vec<u64>,
+    bounds: &WorldBox,
+    zoom: u8,
+    entry: &IndexEntry,
+) -> Result<(), AllocError>
+    ensures { OnOk result (numbers.new.items ≡ numbers.old.items ++ ids_shown bounds.now zoom (entry.now ∷ [])) }
+{
+    if entry.span.shows(bounds, zoom) {
+        numbers.push(entry.id)?;
+    }
+    Ok(())
+}
+
+/// The numbers of the boxes that show in another one at a zoom, in their order.
+fn numbers_shown(
+    alloc: Global,
+    bounds: &WorldBox,
+    zoom: u8,
+    boxes: &[IndexEntry],
+) -> Result<Vec<u64>, AllocError>
+    ensures { IfOk result (λ v. v.items ≡ ids_shown bounds.now zoom boxes.now) }
+{
+    let mut numbers = Vec::new(alloc);
+    for entry in boxes {
+        append_shown(&mut numbers, bounds, zoom, entry)?;
+    }
+    Ok(numbers)
+}
+
 impl FeatureBoxes {
     /// The boxes of the features of a map. The only error is out of memory.
     pub(crate) fn of(
@@ -118,5 +152,15 @@ impl FeatureBoxes {
     {
         let tiles = tiles_of_boxes(alloc, zoom, &self.boxes)?;
         Walk::new(alloc, zoom, tiles)
+    }
+
+    /// The numbers of the features whose bounding box meets the box of a tile, and that have its zoom: it shows nothing of others. It looks
+    /// at each box. The only error is out of memory.
+    pub(crate) fn numbers_near(&self, alloc: Global, at: TileAt) -> Result<Vec<u64>, AllocError>
+        requires zoom { at.z ≤ MAX_ZOOM }
+        requires is_map { IsMap self.now }
+        ensures { IfOk result (λ numbers. ShowsAll self.now at.z at.x at.y numbers.items) }
+    {
+        numbers_shown(alloc, &tile_box(at), at.z, &self.boxes)
     }
 }

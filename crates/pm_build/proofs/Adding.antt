@@ -1,19 +1,19 @@
 -- Tiles with one more after them, and their runs in a builder.
 use Rattle.std.proofs.Common.{◌≡◌, ◌↔◌, ℕ, zero, suc, ◌+◌, ◌<◌, ◌≤◌, List, [], ◌∷◌, ◌++◌, length, get_or, slice_set}
-use Rattle.std.proofs.Common.{true, All, refl, sym, ap, subst, ◌∙◌, arith}
+use Rattle.std.proofs.Common.{Bool, true, false, All, refl, sym, ap, subst, ◌∙◌, arith, if◌then◌else◌}
 use Rattle.std.specs.List.{AllByRecursion}
 use Rattle.std.proofs.lemmas.Bool.{false≢true}
-use Rattle.std.proofs.lemmas.List.{length_push, map_push}
+use Rattle.std.proofs.lemmas.List.{length_push, map_push, length-map, length-append}
 use Rattle.std.proofs.lemmas.List.Elements.{All-nil, All-cons, All-head, All-tail, All-weaker}
 use Rattle.hilbert_id.specs.declared.number.TheConstants.{TILE_IDS}
 use Rattle.pm_build.specs.Building.{CanAdd}
 use Rattle.pm_build.specs.Different.{content_at, with_content}
-use Rattle.pm_build.specs.Joined.{ArePlaces, run_view, run_views, last_end, goes_on, run_of, one_more, runs_of, runs_end, goes_on_last, last_grown, with_tile}
+use Rattle.pm_build.specs.Joined.{ArePlaces, IsLast, run_view, run_views, last_end, goes_on, run_of, one_more, runs_of, runs_end, goes_on_last, last_grown, with_tile}
 use Rattle.pm_build.specs.Runs.{TileRun, repeated, tiles_in, AreLongestRuns}
 use Rattle.pm_build.specs.Tiles.{Tile, IdsAscend, IsTile, AreTiles}
 use Rattle.pm_build.specs.declared.run.Run.{Run}
 use Rattle.pm_build.proofs.Different.{at_with, length_with, with_at}
-use Rattle.pm_build.proofs.Joining.{HasCount, follows, longest_from_runs_of, runs_of_from_longest, runs_push}
+use Rattle.pm_build.proofs.Joining.{HasCount, follows, length_grown, longest_from_runs_of, runs_of_from_longest, runs_push}
 use Rattle.pm_build.proofs.Pieces.{all_push}
 
 -- ---- tiles
@@ -214,3 +214,67 @@ pub joined_there : (cs : List (List ℕ)) (runs : List Run) (t : Tile) → ArePl
 joined_there cs [] t places on = absurd (false≢true on)
 joined_there cs (r ∷ []) t places on = with_at cs r.place t.1 places.0 (sym (follows (run_view cs r) t on).content_is)
 joined_there cs (r ∷ s ∷ runs) t places on = joined_there cs (s ∷ runs) t places.1 on
+
+-- ---- the content of the last run
+
+pub last_is_at : (cs : List (List ℕ)) (runs : List Run) (i : ℕ) (d : Run) (content : List ℕ) → length runs ≡ suc i → IsLast cs runs content
+    → content_at cs (get_or runs i d).place ≡ content
+last_is_at cs [] i d content e is = absurd (omega (arith, e))
+last_is_at cs (r ∷ []) zero d content e is = is
+last_is_at cs (r ∷ []) (suc i) d content e is = absurd (omega (arith, e))
+last_is_at cs (r ∷ s ∷ runs) zero d content e is = absurd (omega (arith, e))
+last_is_at cs (r ∷ s ∷ runs) (suc i) d content e is = last_is_at cs (s ∷ runs) i d content (omega (arith, e)) is
+
+pub last_from_at : (cs : List (List ℕ)) (runs : List Run) (i : ℕ) (d : Run) (content : List ℕ) → length runs ≡ suc i
+    → content_at cs (get_or runs i d).place ≡ content → IsLast cs runs content
+last_from_at cs [] i d content e is = tt
+last_from_at cs (r ∷ []) zero d content e is = is
+last_from_at cs (r ∷ []) (suc i) d content e is = absurd (omega (arith, e))
+last_from_at cs (r ∷ s ∷ runs) zero d content e is = absurd (omega (arith, e))
+last_from_at cs (r ∷ s ∷ runs) (suc i) d content e is = last_from_at cs (s ∷ runs) i d content (omega (arith, e)) is
+
+-- it is the same while the last run has the same place
+pub last_kept : (cs : List (List ℕ)) (runs : List Run) (i : ℕ) (d new : Run) (content : List ℕ) → length runs ≡ suc i
+    → new.place ≡ (get_or runs i d).place → IsLast cs runs content → IsLast cs (slice_set runs i new) content
+last_kept cs [] i d new content e same is = absurd (omega (arith, e))
+last_kept cs (r ∷ []) zero d new content e same is = ap (λ (n : ℕ). content_at cs n) same ∙ is
+last_kept cs (r ∷ []) (suc i) d new content e same is = absurd (omega (arith, e))
+last_kept cs (r ∷ s ∷ runs) zero d new content e same is = absurd (omega (arith, e))
+last_kept cs (r ∷ s ∷ []) (suc zero) d new content e same is = ap (λ (n : ℕ). content_at cs n) same ∙ is
+last_kept cs (r ∷ s ∷ []) (suc (suc i)) d new content e same is = absurd (omega (arith, e))
+last_kept cs (r ∷ s ∷ q ∷ runs) (suc zero) d new content e same is = absurd (omega (arith, e))
+last_kept cs (r ∷ s ∷ q ∷ runs) (suc (suc i)) d new content e same is = last_kept cs (s ∷ q ∷ runs) (suc i) d new content (omega (arith, e)) same is
+
+-- and that of a run that is begun
+pub last_pushed : (cs : List (List ℕ)) (runs : List Run) (r : Run) (content : List ℕ) → content_at cs r.place ≡ content → IsLast cs (runs ++ r ∷ []) content
+last_pushed cs [] r content is = is
+last_pushed cs (s ∷ []) r content is = is
+last_pushed cs (s ∷ q ∷ runs) r content is = last_pushed cs (q ∷ runs) r content is
+
+-- a tile continues the last run by its content
+pub goes_on_by : (cs : List (List ℕ)) (runs : List Run) (i : ℕ) (d : Run) (content : List ℕ) (t : Tile) → length runs ≡ suc i → IsLast cs runs content
+    → goes_on (record { first = (get_or runs i d).first; count = (get_or runs i d).count; content = content }) t ≡ goes_on_last (run_views cs runs) t
+goes_on_by cs runs i d content t e is =
+    let run = get_or runs i d in
+    ap (λ (c : List ℕ). let r : TileRun = record { first = run.first; count = run.count; content = c } in goes_on r t)
+    (sym (last_is_at cs runs i d content e is))
+    ∙ sym (last_goes_on cs runs i d t e)
+
+-- a tile that continues the last run, and one that doesn't
+pub with_on : (rs : List TileRun) (t : Tile) → goes_on_last rs t ≡ true → with_tile rs t ≡ last_grown rs
+with_on rs t on = ap (λ (b : Bool). if b then last_grown rs else rs ++ run_of t ∷ []) on
+
+pub with_off : (rs : List TileRun) (t : Tile) → goes_on_last rs t ≡ false → with_tile rs t ≡ rs ++ run_of t ∷ []
+with_off rs t off = ap (λ (b : Bool). if b then last_grown rs else rs ++ run_of t ∷ []) off
+
+pub few_on : (cs : List (List ℕ)) (runs : List Run) (t : Tile) (n : ℕ) → goes_on_last (run_views cs runs) t ≡ true → length runs ≤ n
+    → length (with_tile (run_views cs runs) t) ≤ n
+few_on cs runs t n on few =
+    let rs = run_views cs runs in
+    omega (arith, few, length-map runs (run_view cs), length_grown rs, ap (λ (x : List TileRun). length x) (with_on rs t on))
+
+pub count_off : (cs : List (List ℕ)) (runs : List Run) (t : Tile) → goes_on_last (run_views cs runs) t ≡ false
+    → length (with_tile (run_views cs runs) t) ≡ length runs + 1
+count_off cs runs t off =
+    let rs = run_views cs runs in
+    omega (arith, length-map runs (run_view cs), length-append rs (run_of t ∷ []), ap (λ (x : List TileRun). length x) (with_off rs t off))

@@ -76,7 +76,7 @@ unfolding with_content
 with_new cs d h = cond-false (is_some (offset_from 0 cs d)) _ _ (ap (λ (o : Option ℕ). is_some o) h)
 
 -- a content is there or not
-by_offset : (cs : List (List ℕ)) (d : List ℕ) → ((k : ℕ) × (offset_from 0 cs d ≡ Some k)) ⊎ (offset_from 0 cs d ≡ None)
+pub by_offset : (cs : List (List ℕ)) (d : List ℕ) → ((k : ℕ) × (offset_from 0 cs d ≡ Some k)) ⊎ (offset_from 0 cs d ≡ None)
 by_offset cs d = by (offset_from 0 cs d) refl
   where
     by : (o : Option ℕ) → offset_from 0 cs d ≡ o → ((k : ℕ) × (offset_from 0 cs d ≡ Some k)) ⊎ (offset_from 0 cs d ≡ None)

@@ -244,7 +244,7 @@ runs_push (u ∷ us) t = from_push (run_of u) us t
 
 -- ---- more tiles have no fewer runs
 
-length_grown : (rs : List TileRun) → length (last_grown rs) ≡ length rs
+pub length_grown : (rs : List TileRun) → length (last_grown rs) ≡ length rs
 length_grown [] = refl
 length_grown (r ∷ []) = refl
 length_grown (r ∷ s ∷ rs) = ap suc (length_grown (s ∷ rs))

@@ -1,99 +1,114 @@
--- The state of a builder when a tile is added.
-use Rattle.std.proofs.Common.{◌≡◌, ◌↔◌, ℕ, ◌+◌, ◌<◌, ◌≤◌, List, [], ◌∷◌, ◌++◌, length, refl, sym, ap, subst, ◌∙◌, arith}
+-- What is kept of tiles when one is added.
+use Rattle.std.proofs.Common.{◌≡◌, ◌↔◌, ℕ, ◌+◌, ◌*◌, ◌<◌, ◌≤◌, List, [], ◌∷◌, ◌++◌, length, map, refl, sym, ap, subst, ◌∙◌, arith}
+use Rattle.std.specs.List.{AllByRecursion, Contains, concat}
 use Rattle.std.proofs.lemmas.List.{length-map}
+use Rattle.std.proofs.lemmas.List.Elements.{Contains-push}
+use Rattle.pm_build.specs.Bounded.{IsSize}
 use Rattle.pm_build.specs.Building.{CanAdd, AreTooMany, AreFew}
-use Rattle.pm_build.specs.Different.{with_content, contents_of}
+use Rattle.pm_build.specs.Different.{with_content, with_contents, contents_of}
+use Rattle.pm_build.specs.Firsts.{AreFirsts}
+use Rattle.pm_build.specs.Indexed.{IndexView}
 use Rattle.pm_build.specs.Joined.{ArePlaces, run_view, run_views, with_tile}
-use Rattle.pm_build.specs.Kept.{tiles_kept, IsBuilder}
-use Rattle.pm_build.specs.Runs.{TileRun, tiles_in, AreLongestRuns}
-use Rattle.pm_build.specs.Tiles.{Tile, AreTiles}
-use Rattle.pm_build.specs.declared.builder.ArchiveBuilder.TheInside.{Inside}
+use Rattle.pm_build.specs.Kept.{AreKept, tiles_with}
+use Rattle.pm_build.specs.Placed.{AreDifferent}
+use Rattle.pm_build.specs.Runs.{TileRun, AreLongestRuns}
+use Rattle.pm_build.specs.Tiles.{Tile}
 use Rattle.pm_build.specs.declared.limit.TheConstants.{MAX_ENTRIES}
 use Rattle.pm_build.specs.declared.run.Run.{Run}
 use Rattle.pm_build.proofs.Adding.{grown, longest_with}
-use Rattle.pm_build.proofs.Different.{contents_push, with_none}
+use Rattle.pm_build.proofs.Different.{contents_push, contents_of_runs, different_all, used_all, with_none}
+use Rattle.pm_build.proofs.FirstTiles.{firsts_more}
 use Rattle.pm_build.proofs.Joining.{runs_of_from_longest}
 
+abbrev nothing : IndexView
+nothing = record { contents = []; firsts = [] }
+
+none : AreKept nothing [] 0
+none = record {
+  tiles = (tt, tt);
+  longest = record { together = refl; each = tt; longest = tt };
+  few = omega arith;
+  counted = refl;
+  places = tt;
+  contents_are = sym (with_none []);
+  firsts = tt;
+}
+
 -- no tiles
-pub none_kept : (b : Inside) → b.runs.items ≡ [] → b.contents ≡ [] → b.addressed ≡ 0 → IsBuilder b
-none_kept b runs contents counted =
-    let none : tiles_kept b ≡ [] = ap (λ (rs : List Run). tiles_in (run_views b.contents rs)) runs in
-    let longest : AreLongestRuns [] [] = record { together = refl; each = tt; longest = tt } in
-    let views : run_views b.contents b.runs.items ≡ [] = ap (λ (rs : List Run). run_views b.contents rs) runs in
-    record {
-      tiles = subst AreTiles (sym none) (tt, tt);
-      longest = subst (λ (rs : List TileRun). AreLongestRuns (tiles_in rs) rs) (sym views) longest;
-      few = omega (arith, ap (λ (rs : List Run). length rs) runs);
-      addressed = omega (arith, counted, ap (λ (ts : List Tile). length ts) none);
-      places = subst (λ (rs : List Run). ArePlaces b.contents rs) (sym runs) tt;
-      contents_are = contents ∙ sym (with_none []) ∙ ap contents_of (sym none);
-    }
+pub none_kept : (v : IndexView) (runs : List Run) (addressed : ℕ) → v ≡ nothing → runs ≡ [] → addressed ≡ 0 → AreKept v runs addressed
+none_kept v runs addressed nothing_is empty zero_is =
+    subst (λ (n : ℕ). AreKept v runs n) (sym zero_is)
+    (subst (λ (rs : List Run). AreKept v rs 0) (sym empty) (subst (λ (w : IndexView). AreKept w [] 0) (sym nothing_is) none))
 
 -- with a tile more
-pub record IsAdded (old : Inside) (t : Tile) (new : Inside) : Type 0 where
-  pub builder : IsBuilder new
-  pub tiles_are : tiles_kept new ≡ tiles_kept old ++ t ∷ []
-  pub few : AreFew (tiles_kept new)
+pub record IsAdded (v : IndexView) (runs : List Run) (t : Tile) (w : IndexView) (more : List Run) (addressed : ℕ) : Type 0 where
+  pub kept : AreKept w more addressed
+  pub tiles_are : tiles_with w more ≡ tiles_with v runs ++ t ∷ []
+  pub few : AreFew (tiles_with w more)
 
-pub added : (old new : Inside) (t : Tile) → IsBuilder old → CanAdd (tiles_kept old) t
-    → run_views new.contents new.runs.items ≡ with_tile (run_views old.contents old.runs.items) t → new.contents ≡ with_content old.contents t.1
-    → ArePlaces new.contents new.runs.items → length new.runs.items ≤ MAX_ENTRIES → new.addressed ≡ old.addressed + 1 → IsAdded old t new
-added old new t is can grows contents places few counted =
-    let g = grown (run_views old.contents old.runs.items) (run_views new.contents new.runs.items) t is.tiles is.longest can grows in
-    let size = length-map new.runs.items (run_view new.contents) in
+pub added : (v w : IndexView) (runs more : List Run) (addressed : ℕ) (t : Tile) → AreKept v runs addressed → CanAdd (tiles_with v runs) t
+    → run_views w.contents more ≡ with_tile (run_views v.contents runs) t → w.contents ≡ with_content v.contents t.1
+    → ((ts : List Tile) → AreFirsts ts v → Contains ts t → AreFirsts ts w) → ArePlaces w.contents more → length more ≤ MAX_ENTRIES
+    → IsAdded v runs t w more (addressed + 1)
+added v w runs more addressed t is can grows contents firsts places few =
+    let g = grown (run_views v.contents runs) (run_views w.contents more) t is.tiles is.longest can grows in
+    let size = length-map more (run_view w.contents) in
+    let ts = tiles_with v runs in
     record {
-      builder = record {
+      kept = record {
         tiles = g.tiles;
         longest = g.longest;
         few = few;
-        addressed = omega (arith, counted, is.addressed, g.count);
+        counted = omega (arith, is.counted, g.count);
         places = places;
-        contents_are = contents ∙ ap (λ (cs : List (List ℕ)). with_content cs t.1) is.contents_are ∙ sym (contents_push (tiles_kept old) t)
+        contents_are = contents ∙ ap (λ (cs : List (List ℕ)). with_content cs t.1) is.contents_are ∙ sym (contents_push ts t)
             ∙ ap contents_of (sym g.tiles_are);
+        firsts = subst (λ (us : List Tile). AreFirsts us w) (sym g.tiles_are)
+            (firsts (ts ++ t ∷ []) (firsts_more ts (t ∷ []) v is.firsts) (Contains-push ts t));
       };
       tiles_are = g.tiles_are;
-      few = (run_views new.contents new.runs.items, g.longest, omega (arith, few, size));
+      few = (run_views w.contents more, g.longest, omega (arith, few, size));
     }
 
 -- without
-pub record IsSame (old new : Inside) : Type 0 where
-  pub builder : IsBuilder new
-  pub tiles_are : tiles_kept new ≡ tiles_kept old
+pub record IsSame (v : IndexView) (runs : List Run) (w : IndexView) (more : List Run) (addressed : ℕ) : Type 0 where
+  pub kept : AreKept w more addressed
+  pub tiles_are : tiles_with w more ≡ tiles_with v runs
 
-pub same : (old new : Inside) → IsBuilder old → new.runs.items ≡ old.runs.items → new.contents ≡ old.contents → new.addressed ≡ old.addressed → IsSame old new
-same old new is stays contents counted =
-    let views : run_views new.contents new.runs.items ≡ run_views old.contents old.runs.items =
-    ap (λ (cs : List (List ℕ)). run_views cs new.runs.items) contents ∙ ap (λ (rs : List Run). run_views old.contents rs) stays in
-    let tiles_are : tiles_kept new ≡ tiles_kept old = ap (λ (rs : List TileRun). tiles_in rs) views in
-    record {
-      builder = record {
-        tiles = subst AreTiles (sym tiles_are) is.tiles;
-        longest = subst (λ (rs : List TileRun). AreLongestRuns (tiles_in rs) rs) (sym views) is.longest;
-        few = omega (arith, is.few, ap (λ (rs : List Run). length rs) stays);
-        addressed = omega (arith, counted, is.addressed, ap (λ (ts : List Tile). length ts) tiles_are);
-        places = subst (λ (cs : List (List ℕ)). ArePlaces cs new.runs.items) (sym contents)
-            (subst (λ (rs : List Run). ArePlaces old.contents rs) (sym stays) is.places);
-        contents_are = contents ∙ is.contents_are ∙ ap contents_of (sym tiles_are);
-      };
-      tiles_are = tiles_are;
-    }
+pub same : (v w : IndexView) (runs more : List Run) (addressed : ℕ) → AreKept v runs addressed → w ≡ v → more ≡ runs → IsSame v runs w more addressed
+same v w runs more addressed is stays runs_stay = record {
+  kept = subst (λ (u : IndexView). AreKept u more addressed) (sym stays) (subst (λ (rs : List Run). AreKept v rs addressed) (sym runs_stay) is);
+  tiles_are = ap (λ (u : IndexView). tiles_with u more) stays ∙ ap (λ (rs : List Run). tiles_with v rs) runs_stay;
+}
 
 -- whether the tiles are too many with one more
-pub too_many : (b : Inside) (t : Tile) → IsBuilder b
-    → (MAX_ENTRIES < length (with_tile (run_views b.contents b.runs.items) t)) ↔ AreTooMany (tiles_kept b ++ t ∷ [])
-too_many b t is = (to, from)
+pub too_many : (v : IndexView) (runs : List Run) (addressed : ℕ) (t : Tile) → AreKept v runs addressed
+    → (MAX_ENTRIES < length (with_tile (run_views v.contents runs) t)) ↔ AreTooMany (tiles_with v runs ++ t ∷ [])
+too_many v runs addressed t is = (to, from)
   where
     rs : List TileRun
-    rs = with_tile (run_views b.contents b.runs.items) t
+    rs = with_tile (run_views v.contents runs) t
 
-    longest : AreLongestRuns (tiles_kept b ++ t ∷ []) rs
-    longest = longest_with (run_views b.contents b.runs.items) t is.longest
+    longest : AreLongestRuns (tiles_with v runs ++ t ∷ []) rs
+    longest = longest_with (run_views v.contents runs) t is.longest
 
-    to : MAX_ENTRIES < length rs → AreTooMany (tiles_kept b ++ t ∷ [])
+    to : MAX_ENTRIES < length rs → AreTooMany (tiles_with v runs ++ t ∷ [])
     to more = (rs, longest, more)
 
-    from : AreTooMany (tiles_kept b ++ t ∷ []) → MAX_ENTRIES < length rs
+    from : AreTooMany (tiles_with v runs ++ t ∷ []) → MAX_ENTRIES < length rs
     from (found, are, more) =
-        let ts = tiles_kept b ++ t ∷ [] in
+        let ts = tiles_with v runs ++ t ∷ [] in
         let is_found : rs ≡ found = sym (runs_of_from_longest ts rs longest) ∙ runs_of_from_longest ts found are in
         omega (arith, more, ap (λ (x : List TileRun). length x) is_found)
+
+-- how long an archive of the tiles is at most
+pub size_kept : (v : IndexView) (runs : List Run) (addressed : ℕ) (metadata : List ℕ) (size : ℕ) → AreKept v runs addressed
+    → size ≤ 127 + length metadata + 64 * length runs + length (concat v.contents) → IsSize (tiles_with v runs) metadata size
+size_kept v runs addressed metadata size is low =
+    let rs = run_views v.contents runs in
+    let count = length-map runs (run_view v.contents) in
+    let ds = map (λ (r : TileRun). r.content) rs in
+    let contents : v.contents ≡ with_contents [] ds = is.contents_are ∙ contents_of_runs rs is.longest.each in
+    let different : AreDifferent v.contents = subst AreDifferent (sym contents) (different_all [] ds tt) in
+    let used = subst (λ (cs : List (List ℕ)). AllByRecursion (λ c. Contains ds c) cs) (sym contents) (used_all ds) in
+    (rs, v.contents, is.longest, omega (arith, count, is.few), different, used, omega (arith, count, low))

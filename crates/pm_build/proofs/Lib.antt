@@ -1,5 +1,6 @@
 mod Adding
 mod Archive
+mod CounterSteps
 mod Counting
 mod Different
 mod Ends
@@ -9,11 +10,13 @@ mod Words
 mod Headers
 pub mod Joining
 mod Keeping
+pub mod Laws
 mod Leaves
 mod LimitNumbers
 mod Listed
 mod Pieces
-mod Storing
+mod FirstTiles
+mod Indexing
 mod Tiles
 pub mod Vector
 mod Zooms

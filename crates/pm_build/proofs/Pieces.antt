@@ -1,7 +1,8 @@
 -- Parts of lists that are appended to one another.
-use Rattle.std.proofs.Common.{◌≡◌, ℕ, zero, suc, ◌+◌, ◌-◌, ◌≤◌, List, [], ◌∷◌, ◌++◌, length, take, drop, slice_range, refl, sym, ap, ◌∙◌, arith}
-use Rattle.std.specs.List.{AllByRecursion}
-use Rattle.std.proofs.lemmas.List.{take-append-le, take-take, take_at, drop-drop, drop-take}
+use Rattle.std.proofs.Common.{◌≡◌, ℕ, zero, suc, ◌+◌, ◌-◌, ◌<◌, ◌≤◌, List, [], ◌∷◌, ◌++◌, length, take, drop, get_or, slice_range, refl, sym, ap, ◌∙◌, append_assoc, arith}
+use Rattle.std.specs.List.{AllByRecursion, concat}
+use Rattle.std.proofs.lemmas.List.{append-nil, length-append, take-append-le, take-take, take_at, drop-drop, drop-take}
+use Rattle.std.proofs.lemmas.List.Folds.{concat-append}
 use Rattle.std.proofs.lemmas.Slice.{between_is, between_from_start}
 use Rattle.std.proofs.Math.Seq.{drop-append-add}
 
@@ -56,3 +57,40 @@ all_front P (x ∷ xs) ys h = (h.0, all_front P xs ys h.1)
 pub all_back : {X : Type 0} (P : X → Type 0) (xs ys : List X) → AllByRecursion P (xs ++ ys) → AllByRecursion P ys
 all_back P [] ys h = h
 all_back P (x ∷ xs) ys h = all_back P xs ys h.1
+
+-- one of some lists, in all of them one after the other
+pub part_at : (cs : List (List ℕ)) (i : ℕ) → i < length cs
+    → (rest : List ℕ) × (concat cs ≡ concat (take i cs) ++ (get_or cs i [] ++ rest))
+part_at [] i lt = absurd (omega (arith, lt))
+part_at (c ∷ cs) zero lt = (concat cs, refl)
+part_at (c ∷ cs) (suc i) lt =
+    let on = part_at cs i (omega (arith, lt)) in
+    (on.0, ap (λ (xs : List ℕ). c ++ xs) on.1 ∙ sym (append_assoc c (concat (take i cs)) (get_or cs i [] ++ on.0)))
+
+-- where each of some lists is in all of them
+pub record LiesAt (bytes piece : List ℕ) (offset len : ℕ) : Type 0 where
+  pub within : offset + len ≤ length bytes
+  pub there : slice_range bytes offset (offset + len) ≡ piece
+
+pub lies_at : (cs : List (List ℕ)) (bytes : List ℕ) (i offset len : ℕ) → bytes ≡ concat cs → i < length cs → offset ≡ length (concat (take i cs))
+    → len ≡ length (get_or cs i []) → LiesAt bytes (get_or cs i []) offset len
+lies_at cs bytes i offset len is lt at size =
+    let p = part_at cs i lt in
+    let whole : bytes ≡ concat (take i cs) ++ (get_or cs i [] ++ p.0) = is ∙ p.1 in
+    let end : offset + length (get_or cs i []) ≡ offset + len = ap (λ (n : ℕ). offset + n) (sym size) in
+    record {
+      within = omega (
+        arith,
+        at,
+        size,
+        ap (λ (xs : List ℕ). length xs) whole,
+        length-append (concat (take i cs)) (get_or cs i [] ++ p.0),
+        length-append (get_or cs i []) p.0,
+      );
+      there = ap (λ (xs : List ℕ). slice_range xs offset (offset + len)) whole
+          ∙ part_middle (concat (take i cs)) (get_or cs i []) p.0 offset (offset + len) (sym at) end;
+    }
+
+-- some lists and one more, one after the other
+pub concat_one_more : (cs : List (List ℕ)) (d : List ℕ) → concat (cs ++ d ∷ []) ≡ concat cs ++ d
+concat_one_more cs d = concat-append cs (d ∷ []) ∙ ap (λ (xs : List ℕ). concat cs ++ xs) (append-nil d)

@@ -1,5 +1,5 @@
 -- The longest runs as a function of the tiles.
-use Rattle.std.specs.Prelude.{ℕ, ◌+◌, ◌<◌, ◌&&◌, Bool, false, cond, if◌then◌else◌, List, [], ◌∷◌, ◌++◌, length, map, nat_eq, nat_lt}
+use Rattle.std.specs.Prelude.{◌≡◌, ℕ, ◌+◌, ◌<◌, ◌&&◌, Bool, false, cond, if◌then◌else◌, List, [], ◌∷◌, ◌++◌, length, map, nat_eq, nat_lt, ⊤}
 use Rattle.std.specs.List.{AllByRecursion}
 use Rattle.std.specs.Str.{bytes_eq}
 use Rattle.pm_build.specs.declared.run.Run.{Run}
@@ -23,6 +23,12 @@ abbrev pub last_end : List Run → ℕ
 last_end [] = 0
 last_end (r ∷ []) = r.first + r.count
 last_end (r ∷ s ∷ rs) = last_end (s ∷ rs)
+
+-- the last of the runs has this content
+abbrev pub IsLast : List (List ℕ) → List Run → List ℕ → Type 0
+IsLast contents [] content = ⊤
+IsLast contents (r ∷ []) content = content_at contents r.place ≡ content
+IsLast contents (r ∷ s ∷ rs) content = IsLast contents (s ∷ rs) content
 
 -- whether the tile continues the run
 abbrev pub goes_on : TileRun → Tile → Bool

@@ -1,12 +1,17 @@
+pub mod Bounded
 pub mod Building
 pub mod Built
 pub mod Clustered
+pub mod Counted
 pub mod Different
+pub mod Firsts
 pub mod Hashing
+pub mod Indexed
 pub mod Joined
 pub mod Kept
 pub mod Laid
 pub mod Leaves
+pub mod Listed
 pub mod Offsets
 pub mod Placed
 pub mod Runs

@@ -1,12 +1,11 @@
 //! Builds an archive from tiles.
 
 ghost use Rattle.pm_header.specs.declared.header.TheConstants.{HEADER_BYTES};
-ghost use Rattle.std.specs.Prelude.{ℕ, ◌≡◌, ◌≢◌, ◌+◌, ◌*◌, ◌<◌, ◌≤◌, ◌^◌, ◌↔◌, List, [], ◌∷◌, ◌++◌, length, Err, OnOk, OnErr, IfOk, IsTrue, map, Contains};
-ghost use Rattle.std.specs.List.{AllByRecursion, concat};
+ghost use Rattle.std.specs.Prelude.{◌≡◌, ◌≢◌, ◌+◌, ◌≤◌, ◌^◌, ◌↔◌, [], ◌∷◌, ◌++◌, length, Err, OnOk, OnErr, IfOk, IsTrue};
+ghost use Rattle.std.specs.List.{concat};
+ghost use Rattle.pm_build.specs.Bounded.{IsSize};
 ghost use Rattle.pm_build.specs.Building.{CanAdd, AreTooMany, AreFew, BeginsRun};
 ghost use Rattle.pm_build.specs.Different.{contents_of};
-ghost use Rattle.pm_build.specs.Runs.{TileRun, AreLongestRuns};
-ghost use Rattle.pm_build.specs.Placed.{AreDifferent};
 ghost use Rattle.pm_metadata.specs.Archive.{IsMetadata};
 ghost use Rattle.pm_build.specs.Built.{tile_content, archive_bytes};
 ghost use Rattle.pm_build.specs.Laid.{AreLaidOut};
@@ -16,10 +15,11 @@ use crate::building::front_of_runs;
 use crate::built::BuiltArchive;
 use crate::checks::is_tile;
 use crate::contents::Contents;
+use crate::counter::ArchiveCounter;
 use crate::fault::BuildFault;
 use crate::limit::MAX_ENTRIES;
 use crate::run::Run;
-use crate::runs::{add_tile, end_of};
+use crate::runs::{add_tile, end_of, last_content};
 use std::alloc::{AllocError, Global};
 use std::marker::Model;
 
@@ -81,7 +81,7 @@ impl ArchiveBuilder {
         ensures total { result ≡ length (concat (contents_of self.now)) }
         ensures bounded { result ≤ 2 ^ 49 }
     {
-        self.contents.total()
+        self.contents.index().total()
     }
 
     /// Adds a tile. The content is copied only if no tile before it has an equal one. It allocates memory only if the tile begins a run.
@@ -106,6 +106,20 @@ impl ArchiveBuilder {
         Ok(())
     }
 
+    /// A counter of the tiles that were added. Their contents are let go, but for that of the last tile. The only error is out of memory.
+    pub fn into_counter(self) -> Result<ArchiveCounter, AllocError>
+        ensures { IfOk result (λ counter. counter ≡ self) }
+    {
+        let last = Vec::from_slice(self.alloc, last_content(&self.runs, &self.contents))?;
+        Ok(ArchiveCounter {
+            runs: self.runs,
+            contents: self.contents.into_index(),
+            last,
+            addressed: self.addressed,
+            alloc: self.alloc,
+        })
+    }
+
     /// The archive of the tiles that were added, with this metadata, a JSON object: header, root directory, metadata, leaf directories
     /// and contents, without gaps. The contents are not copied.
     ///
@@ -121,9 +135,7 @@ impl ArchiveBuilder {
         requires metadata { IsMetadata metadata.now }
         ensures archive { IfOk result (λ a. IsVectorArchive (archive_bytes a) metadata.now (tile_content self)) }
         ensures header { IfOk result (λ a. AreLaidOut (archive_bytes a) self metadata.now) }
-        ensures size { IfOk result (λ a. (runs : List TileRun) × (contents : List (List ℕ)) × AreLongestRuns self runs × (length runs ≤ MAX_ENTRIES)
-            × AreDifferent contents × AllByRecursion (λ c. Contains (map (λ r. r.content) runs) c) contents
-            × (length (archive_bytes a) ≤ HEADER_BYTES + length metadata.now + 64 * length runs + length (concat contents))) }
+        ensures size { IfOk result (λ a. IsSize self metadata.now (length (archive_bytes a))) }
         ensures least { IfOk result (λ a. HEADER_BYTES + length metadata.now + length (concat (contents_of self)) ≤ length (archive_bytes a)) }
         ensures contents { IfOk result (λ a. a.contents.items ≡ concat (contents_of self)) }
     {
@@ -131,7 +143,7 @@ impl ArchiveBuilder {
             self.alloc,
             &self.runs,
             self.addressed,
-            &self.contents,
+            self.contents.index(),
             metadata,
         )?;
         Ok(BuiltArchive {

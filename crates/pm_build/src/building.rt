@@ -13,9 +13,9 @@ ghost use Rattle.pm_build.specs.Built.{tile_content};
 ghost use Rattle.pm_build.specs.Laid.{IsFront, AreLaidOut, AreZooms, header_for, lengths_of};
 ghost use Rattle.pm_build.specs.Vector.{IsVectorArchive};
 
-use crate::contents::Contents;
 use crate::directories::{Directories, write_directories};
 use crate::header::{Counts, Lengths, header_of, zoom_of};
+use crate::index::ContentIndex;
 use crate::limit::MAX_ENTRIES;
 use crate::placing::entries_of;
 use crate::run::Run;
@@ -44,11 +44,11 @@ fn joined(
 }
 
 /// The zooms of the first and of the last tile.
-fn zooms_of(runs: &[Run], contents: &Contents) -> (u8, u8)
+fn zooms_of(runs: &[Run], contents: &ContentIndex) -> (u8, u8)
     requires some { 0 < length runs.now }
-    requires tiles { AreTiles (tiles_in (run_views contents.now runs.now)) }
-    requires longest { AreLongestRuns (tiles_in (run_views contents.now runs.now)) (run_views contents.now runs.now) }
-    ensures { AreZooms (tiles_in (run_views contents.now runs.now)) result.0 result.1 }
+    requires tiles { AreTiles (tiles_in (run_views contents.now.contents runs.now)) }
+    requires longest { AreLongestRuns (tiles_in (run_views contents.now.contents runs.now)) (run_views contents.now.contents runs.now) }
+    ensures { AreZooms (tiles_in (run_views contents.now.contents runs.now)) result.0 result.1 }
 {
     let first = zoom_of(runs[0].first);
     let last = zoom_of(end_of(runs) - 1);
@@ -59,21 +59,21 @@ fn zooms_of(runs: &[Run], contents: &Contents) -> (u8, u8)
 fn header_for_runs(
     runs: &[Run],
     addressed: u64,
-    contents: &Contents,
+    contents: &ContentIndex,
     directories: &Directories,
     metadata: &[u8],
 ) -> Header
     requires some { 0 < length runs.now }
-    requires tiles { AreTiles (tiles_in (run_views contents.now runs.now)) }
-    requires longest { AreLongestRuns (tiles_in (run_views contents.now runs.now)) (run_views contents.now runs.now) }
-    requires addressed { addressed ≡ length (tiles_in (run_views contents.now runs.now)) }
+    requires tiles { AreTiles (tiles_in (run_views contents.now.contents runs.now)) }
+    requires longest { AreLongestRuns (tiles_in (run_views contents.now.contents runs.now)) (run_views contents.now.contents runs.now) }
+    requires addressed { addressed ≡ length (tiles_in (run_views contents.now.contents runs.now)) }
     requires fits { HEADER_BYTES + length directories.now.root.items + length metadata.now + length directories.now.leaves.items < 2 ^ 64 }
-    ensures { (min_zoom max_zoom : ℕ) × AreZooms (tiles_in (run_views contents.now runs.now)) min_zoom max_zoom
-        × (result ≡ header_for (lengths_of directories.now.root.items metadata.now directories.now.leaves.items (concat contents.now))
+    ensures { (min_zoom max_zoom : ℕ) × AreZooms (tiles_in (run_views contents.now.contents runs.now)) min_zoom max_zoom
+        × (result ≡ header_for (lengths_of directories.now.root.items metadata.now directories.now.leaves.items (concat contents.now.contents))
         record {
-          addressed = length (tiles_in (run_views contents.now runs.now));
+          addressed = length (tiles_in (run_views contents.now.contents runs.now));
           entries = length runs.now;
-          contents = length contents.now;
+          contents = length contents.now.contents;
         } min_zoom max_zoom) }
 {
     let lengths = Lengths {
@@ -96,21 +96,21 @@ fn front_of(
     alloc: Global,
     runs: &[Run],
     addressed: u64,
-    contents: &Contents,
+    contents: &ContentIndex,
     entries: &[DirectoryEntry],
     metadata: &[u8],
 ) -> Result<Vec<u8>, AllocError>
     requires some { 0 < length runs.now }
-    requires tiles { AreTiles (tiles_in (run_views contents.now runs.now)) }
-    requires longest { AreLongestRuns (tiles_in (run_views contents.now runs.now)) (run_views contents.now runs.now) }
-    requires addressed { addressed ≡ length (tiles_in (run_views contents.now runs.now)) }
-    requires placed { ArePlaced (tiles_in (run_views contents.now runs.now)) entries.now contents.now }
+    requires tiles { AreTiles (tiles_in (run_views contents.now.contents runs.now)) }
+    requires longest { AreLongestRuns (tiles_in (run_views contents.now.contents runs.now)) (run_views contents.now.contents runs.now) }
+    requires addressed { addressed ≡ length (tiles_in (run_views contents.now.contents runs.now)) }
+    requires placed { ArePlaced (tiles_in (run_views contents.now.contents runs.now)) entries.now contents.now.contents }
     requires few { length entries.now ≤ MAX_ENTRIES }
     requires count { length entries.now ≡ length runs.now }
     requires metadata { IsMetadata metadata.now }
-    ensures archive { IfOk result (λ front. IsVectorArchive (front.items ++ concat contents.now) metadata.now
-        (tile_content (tiles_in (run_views contents.now runs.now)))) }
-    ensures header { IfOk result (λ front. AreLaidOut (front.items ++ concat contents.now) (tiles_in (run_views contents.now runs.now)) metadata.now) }
+    ensures archive { IfOk result (λ front. IsVectorArchive (front.items ++ concat contents.now.contents) metadata.now
+        (tile_content (tiles_in (run_views contents.now.contents runs.now)))) }
+    ensures header { IfOk result (λ front. AreLaidOut (front.items ++ concat contents.now.contents) (tiles_in (run_views contents.now.contents runs.now)) metadata.now) }
     ensures size { IfOk result (λ front. length front.items ≤ HEADER_BYTES + length metadata.now + 64 * length entries.now) }
     ensures least { IfOk result (λ front. HEADER_BYTES + length metadata.now ≤ length front.items) }
 {
@@ -124,20 +124,20 @@ pub(crate) fn front_of_runs(
     alloc: Global,
     runs: &[Run],
     addressed: u64,
-    contents: &Contents,
+    contents: &ContentIndex,
     metadata: &[u8],
 ) -> Result<Vec<u8>, AllocError>
     requires some { 0 < length runs.now }
-    requires tiles { AreTiles (tiles_in (run_views contents.now runs.now)) }
-    requires longest { AreLongestRuns (tiles_in (run_views contents.now runs.now)) (run_views contents.now runs.now) }
-    requires addressed { addressed ≡ length (tiles_in (run_views contents.now runs.now)) }
+    requires tiles { AreTiles (tiles_in (run_views contents.now.contents runs.now)) }
+    requires longest { AreLongestRuns (tiles_in (run_views contents.now.contents runs.now)) (run_views contents.now.contents runs.now) }
+    requires addressed { addressed ≡ length (tiles_in (run_views contents.now.contents runs.now)) }
     requires few { length runs.now ≤ MAX_ENTRIES }
-    requires places { ArePlaces contents.now runs.now }
-    requires contents { contents.now ≡ contents_of (tiles_in (run_views contents.now runs.now)) }
+    requires places { ArePlaces contents.now.contents runs.now }
+    requires contents { contents.now.contents ≡ contents_of (tiles_in (run_views contents.now.contents runs.now)) }
     requires metadata { IsMetadata metadata.now }
-    ensures archive { IfOk result (λ front. IsVectorArchive (front.items ++ concat contents.now) metadata.now
-        (tile_content (tiles_in (run_views contents.now runs.now)))) }
-    ensures header { IfOk result (λ front. AreLaidOut (front.items ++ concat contents.now) (tiles_in (run_views contents.now runs.now)) metadata.now) }
+    ensures archive { IfOk result (λ front. IsVectorArchive (front.items ++ concat contents.now.contents) metadata.now
+        (tile_content (tiles_in (run_views contents.now.contents runs.now)))) }
+    ensures header { IfOk result (λ front. AreLaidOut (front.items ++ concat contents.now.contents) (tiles_in (run_views contents.now.contents runs.now)) metadata.now) }
     ensures size { IfOk result (λ front. length front.items ≤ HEADER_BYTES + length metadata.now + 64 * length runs.now) }
     ensures least { IfOk result (λ front. HEADER_BYTES + length metadata.now ≤ length front.items) }
 {

@@ -1,42 +1,30 @@
 //! The different contents of tiles.
 
-ghost use Rattle.std.specs.Prelude.{◌≡◌, ◌<◌, ◌^◌, ◌++◌, ◌∷◌, [], length, take, None, OnOk, OnErr, IfOk, IfSome};
+ghost use Rattle.std.specs.Prelude.{◌≡◌, ◌<◌, ◌^◌, ◌++◌, ◌∷◌, [], List, length, None, OnOk, OnErr, IfOk, IfSome, Contains};
 ghost use Rattle.std.specs.List.{concat};
 ghost use Rattle.pm_build.specs.Hashing.{content_hash};
 ghost use Rattle.pm_build.specs.Different.{content_at, offset_from, with_content};
+ghost use Rattle.pm_build.specs.Firsts.{AreFirsts};
+ghost use Rattle.pm_build.specs.Tiles.{Tile};
 
 use crate::hashing::hash_of;
+use crate::index::ContentIndex;
 use std::alloc::{AllocError, Global};
-use std::collections::BTreeMap;
 use std::marker::Model;
 
-/// Where a content is stored.
-#[derive(Clone, Copy)]
-pub(crate) struct Stored {
-    /// The offset of its first byte.
-    pub(crate) offset: usize,
-    /// Its length in bytes.
-    pub(crate) len: u32,
-    /// The place of the last content before it that has the same hash.
-    before: Option<usize>,
-}
-
-/// Different contents, each stored once, in the order in which they were added. A content's place is its index among them. An equal
-/// content is found by its hash, and compared byte for byte.
+/// Different contents, each stored once, in the order in which they were added. An equal content is found by its hash, and compared byte
+/// for byte.
 #[derive(Drop)]
 pub(crate) struct Contents {
+    index: ContentIndex,
     /// The contents, one after the other.
     bytes: Vec<u8>,
-    /// Where each of them is.
-    stored: Vec<Stored>,
-    /// For each hash the place of the last content that has it.
-    last: BTreeMap<u64, usize>,
 }
 
 impl Model for Contents {
-    ghost use Rattle.std.specs.Prelude.{ℕ, List};
+    ghost use Rattle.pm_build.specs.Indexed.{IndexView};
 
-    ghost Value = { List (List ℕ) };
+    ghost Value = { IndexView };
 
     ghost use Rattle.pm_build.specs.Storing.{contents_view, IsStore};
 
@@ -48,103 +36,94 @@ impl Model for Contents {
 impl Contents {
     /// No contents. It allocates nothing.
     pub(crate) fn new(alloc: Global) -> Contents
-        ensures { result ≡ [] }
+        ensures { result ≡ record { contents = []; firsts = [] } }
     {
         Contents {
+            index: ContentIndex::new(alloc),
             bytes: Vec::new(alloc),
-            stored: Vec::new(alloc),
-            last: BTreeMap::new(alloc),
         }
     }
 
-    /// The number of contents.
-    pub(crate) fn count(&self) -> usize
-        ensures { result ≡ length self.now }
+    /// What is known of them.
+    pub(crate) fn index(&self) -> &ContentIndex
+        ensures { result.now ≡ self.now }
     {
-        self.stored.len()
+        &self.index
     }
 
-    /// The number of their bytes.
-    pub(crate) fn total(&self) -> usize
-        ensures { result ≡ length (concat self.now) }
+    /// What is known of them, without their bytes.
+    pub(crate) fn into_index(self) -> ContentIndex
+        ensures { result ≡ self }
     {
-        self.bytes.len()
+        self.index
     }
 
     /// Their bytes, one content after the other.
     pub(crate) fn into_bytes(self) -> Vec<u8>
-        ensures { result.items ≡ concat self }
+        ensures { result.items ≡ concat self.contents }
     {
         self.bytes
     }
 
     /// The content at a place.
     pub(crate) fn at(&self, place: usize) -> &[u8]
-        requires { place < length self.now }
-        ensures { result.now ≡ content_at self.now place }
+        requires { place < length self.now.contents }
+        ensures { result.now ≡ content_at self.now.contents place }
     {
-        let stored = &self.stored[place];
+        let stored = self.index.stored_at(place);
         &self.bytes[stored.offset..stored.offset + stored.len as usize]
-    }
-
-    /// Where the content at a place is stored.
-    pub(crate) fn stored_at(&self, place: usize) -> Stored
-        requires { place < length self.now }
-        ensures offset { result.offset ≡ length (concat (take place self.now)) }
-        ensures len { result.len ≡ length (content_at self.now place) }
-    {
-        self.stored[place]
     }
 
     /// The place of this content, if it is stored. It is compared with each content of its hash.
     fn find(&self, content: &[u8], hash: u64) -> Option<usize>
         requires { hash ≡ content_hash content.now }
-        ensures found { IfSome result (λ place. (place < length self.now) × (content_at self.now place ≡ content.now)) }
-        ensures none { result ≡ None → offset_from 0 self.now content.now ≡ None }
+        ensures found { IfSome result (λ place. (place < length self.now.contents) × (content_at self.now.contents place ≡ content.now)) }
+        ensures none { result ≡ None → offset_from 0 self.now.contents content.now ≡ None }
     {
-        let mut next = self.last.get(&hash).copied();
+        let mut next = self.index.last_of(hash);
         while let Some(place) = next {
             if self.at(place) == content {
                 return Some(place);
             }
-            next = self.stored[place].before;
+            next = self.index.before(place);
         }
         None
     }
 
-    /// Adds a content that isn't stored, and returns its place.
-    fn push(&mut self, content: &[u8], hash: u64) -> Result<usize, AllocError>
+    /// Adds a content that isn't stored, and returns its place. `first` is the id of the first tile that has it.
+    fn push(&mut self, content: &[u8], hash: u64, first: u64) -> Result<usize, AllocError>
         requires hash { hash ≡ content_hash content.now }
         requires short { length content.now < 2 ^ 32 }
-        ensures place { IfOk result (λ place. place ≡ length self.old) }
-        ensures contents { OnOk result (self.new ≡ self.old ++ content.now ∷ []) }
+        ensures place { IfOk result (λ place. place ≡ length self.old.contents) }
+        ensures contents { OnOk result (self.new.contents ≡ self.old.contents ++ content.now ∷ []) }
+        ensures firsts { OnOk result (self.new.firsts ≡ self.old.firsts ++ first ∷ []) }
         ensures unchanged { OnErr result (self.new ≡ self.old) }
     {
-        let place = self.stored.len();
-        self.bytes.reserve(content.len())?;
-        self.stored.reserve(1)?;
-        let stored = Stored {
-            offset: self.bytes.len(),
-            len: content.len() as u32,
-            before: self.last.insert(hash, place)?,
-        };
-        self.stored.push(stored).unwrap();
-        self.bytes.extend_from_slice(content).unwrap();
-        Ok(place)
+        let from = self.bytes.len();
+        self.bytes.extend_from_slice(content)?;
+        match self.index.push(&self.bytes, from, hash, first) {
+            Ok(place) => Ok(place),
+            Err(fault) => {
+                self.bytes.truncate(from);
+                Err(fault)
+            }
+        }
     }
 
-    /// The place of this content, which is added after the others if it isn't stored yet. It allocates nothing if it is.
-    pub(crate) fn place(&mut self, content: &[u8]) -> Result<usize, AllocError>
+    /// The place of this content, which is added after the others if it isn't stored yet, as that of the tile `first`. It allocates nothing
+    /// if it is.
+    pub(crate) fn place(&mut self, content: &[u8], first: u64) -> Result<usize, AllocError>
         requires { length content.now < 2 ^ 32 }
-        ensures placed { IfOk result (λ place. (place < length self.new) × (content_at self.new place ≡ content.now)) }
-        ensures contents { OnOk result (self.new ≡ with_content self.old content.now) }
+        ensures placed { IfOk result (λ place. (place < length self.new.contents) × (content_at self.new.contents place ≡ content.now)) }
+        ensures contents { OnOk result (self.new.contents ≡ with_content self.old.contents content.now) }
+        ensures firsts { OnOk result ((ts : List Tile) → AreFirsts ts self.old → Contains ts (first, content.now) → AreFirsts ts self.new) }
         ensures unchanged { OnErr result (self.new ≡ self.old) }
-        ensures memory { OnErr result (offset_from 0 self.old content.now ≡ None) }
+        ensures memory { OnErr result (offset_from 0 self.old.contents content.now ≡ None) }
     {
         let hash = hash_of(content);
         match self.find(content, hash) {
             Some(place) => Ok(place),
-            None => self.push(content, hash),
+            None => self.push(content, hash, first),
         }
     }
 }

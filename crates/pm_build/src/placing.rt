@@ -5,7 +5,7 @@ ghost use Rattle.pm_build.specs.Different.{with_contents};
 ghost use Rattle.pm_build.specs.Joined.{ArePlaces, run_views};
 ghost use Rattle.pm_build.specs.Offsets.{ArePlacedRuns};
 
-use crate::contents::Contents;
+use crate::index::ContentIndex;
 use crate::run::Run;
 use pm_directory::DirectoryEntry;
 use std::alloc::{AllocError, Global};
@@ -14,11 +14,11 @@ use std::alloc::{AllocError, Global};
 pub(crate) fn entries_of(
     alloc: Global,
     runs: &[Run],
-    contents: &Contents,
+    contents: &ContentIndex,
 ) -> Result<Vec<DirectoryEntry>, AllocError>
-    requires places { ArePlaces contents.now runs.now }
-    requires contents { contents.now ≡ with_contents [] (map (λ r. r.content) (run_views contents.now runs.now)) }
-    ensures placed { IfOk result (λ entries. ArePlacedRuns (run_views contents.now runs.now) entries.items contents.now) }
+    requires places { ArePlaces contents.now.contents runs.now }
+    requires contents { contents.now.contents ≡ with_contents [] (map (λ r. r.content) (run_views contents.now.contents runs.now)) }
+    ensures placed { IfOk result (λ entries. ArePlacedRuns (run_views contents.now.contents runs.now) entries.items contents.now.contents) }
     ensures count { IfOk result (λ entries. length entries.items ≡ length runs.now) }
 {
     let mut entries = Vec::with_capacity(alloc, runs.len())?;

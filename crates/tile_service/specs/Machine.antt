@@ -225,21 +225,17 @@ pub record Begins (old : ServiceState) (told : ℕ) (new : ServiceState) : Type 
     });
   }
 
--- the snapshot of the map and the archive built from it need this many sectors, and the area has fewer
+-- the snapshot of the map and the archive of all its tiles need this many sectors, or a tile alone does, and the area has fewer
 abbrev pub IsAreaFull : ServiceState → (need free : ℕ) → Type 0
 IsAreaFull s need free = (d : Data) × IsMetadata s.features d × IsFull s.features (compact_text d) (area_sectors s.size) need free
 
--- the tiles of the map up to one are more than an archive takes, and those before it can fit in the area
-abbrev pub AreTooMany : ServiceState → Type 0
-AreTooMany s = (d : Data) × IsMetadata s.features d × HasManyTiles s.features (compact_text d) (area_sectors s.size)
-
--- The faults of a beginning. Memory aside, Busy and NumbersSpent come first; of TooManyTiles and AreaFull the one of the first tile, by id,
--- that has one.
+-- The faults of a beginning. Memory aside, Busy and NumbersSpent come first, then the first tile, by id, that is too long for an area or with
+-- which there are too many. AreaFull for all tiles comes last.
 abbrev pub BeginFault : ServiceState → ServiceFault → Type 0
 BeginFault s Busy = IsSome s.publication
 BeginFault s NumbersSpent = (s.publication ≡ None) × (s.generation ≡ 2 ^ 64 - 1)
 BeginFault s Memory = CanBegin s
-BeginFault s TooManyTiles = CanBegin s × AreTooMany s
+BeginFault s TooManyTiles = CanBegin s × HasManyTiles s.features
 BeginFault s (AreaFull need free) = CanBegin s × IsAreaFull s need free
 BeginFault s fault = ⊥
 

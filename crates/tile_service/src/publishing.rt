@@ -242,10 +242,9 @@ impl<D: Sectors + Drop> Service<D> {
     /// # Errors
     ///
     /// `Broken`, `Busy` if a publication is under way, `NumbersSpent` after the last generation, the first that applies in this order;
-    /// `Memory`; or else what the first tile, by its id, gives that the area has no room for: `AreaFull` if it has 2^32 bytes or more,
-    /// and then `need` is its number of sectors; `TooManyTiles` if the tiles up to it need more entries than an archive takes; `AreaFull`
-    /// if snapshot and archive of the tiles up to it, or of all tiles, take more sectors than the area has: `need` is how many. On error
-    /// nothing changes.
+    /// `Memory`; or else what the first tile, by its id, gives that has 2^32 bytes or more, `AreaFull` with its number of sectors as
+    /// `need`, or with which the tiles need more entries than an archive takes, `TooManyTiles`; or else `AreaFull` if snapshot and archive
+    /// of all tiles take more sectors than the area has: `need` is how many. On error nothing changes.
     pub fn publish_begin(&mut self) -> Result<u64, ServiceFault>
         ensures machine { (known : Known) → AnswersBegin (state_of known self.old) result
             (state_of (known_after known self.old (begin result)) self.new) }

@@ -1,7 +1,6 @@
-use Rattle.std.proofs.lemmas.Grind.{common_steps}
-use Rattle.std.proofs.Common.{◌≡◌, ℕ, List, [], ◌++◌, inl, sym, ap, ◌∙◌, arith, refl}
+use Rattle.std.proofs.Common.{◌≡◌, ℕ, List, [], ◌++◌, inl, sym, ap, ◌∙◌, refl}
 use Rattle.std.proofs.lemmas.Bool.{false≢true}
-use Rattle.area_content.proofs.Bounds.{some_bounded}
+use Rattle.area_content.proofs.Bounds.{none_bounded}
 use Rattle.area_content.proofs.Written.{archive_built}
 use Rattle.area_content.proofs.archive.archive_of.Goals as goal
 
@@ -11,14 +10,14 @@ returns-then-is_empty-clause-of_tiles c =
     let empty : c.new.result.items ++ contents ≡ [] = ap (λ (bs : List ℕ). bs ++ contents) c.new.ensures.items ∙ c.new-then-is_empty.ensures.items in
     inl (c.is_empty.ensures.0 c.if-is_empty.true, empty)
 
+pub returns-then-is_empty-clause-bounded : goal.returns-then-is_empty-clause-bounded
+returns-then-is_empty-clause-bounded c =
+    let contents = c.new-then-is_empty.result.items in
+    let empty : c.new.result.items ++ contents ≡ [] = ap (λ (bs : List ℕ). bs ++ contents) c.new.ensures.items ∙ c.new-then-is_empty.ensures.items in
+    none_bounded c.args.builder c.args.metadata.now _ (c.is_empty.ensures.0 c.if-is_empty.true) empty
+
 pub returns-clause-of_tiles : goal.returns-clause-of_tiles
 returns-clause-of_tiles c = archive_built c.finish.result c.args.builder c.args.metadata.now c.finish.ensures.header c.finish.ensures.archive
-
-pub returns-then-is_empty-clause-bounded : goal.returns-then-is_empty-clause-bounded
-returns-then-is_empty-clause-bounded c = grind (arith, common_steps)
-
-pub returns-then-is_empty-clause-least : goal.returns-then-is_empty-clause-least
-returns-then-is_empty-clause-least c some = absurd (some (c.is_empty.ensures.0 c.if-is_empty.true))
 
 pub same-builder : goal.same-builder
 same-builder c = refl
@@ -28,9 +27,3 @@ finish-requires-clause-some c none = false≢true (sym c.if-is_empty.false ∙ c
 
 pub finish-requires-clause-metadata : goal.finish-requires-clause-metadata
 finish-requires-clause-metadata c = c.requires.metadata
-
-pub returns-clause-least : goal.returns-clause-least
-returns-clause-least c some = c.finish.ensures.least
-
-pub returns-clause-bounded : goal.returns-clause-bounded
-returns-clause-bounded c = some_bounded c.args.builder c.args.metadata.now c.finish.result c.finish.ensures.size

@@ -12,14 +12,14 @@ pub write_directories-requires-clause-ends : goal.write_directories-requires-cla
 write_directories-requires-clause-ends c =
     let placed = c.requires.placed in
     let entries = c.args.entries.now in
-    let cs = c.args.contents.now in
+    let cs = c.args.contents.now.contents in
     let fit = contents_fit (tiles_in (run_views cs c.args.runs.now)) entries cs placed c.requires.few in
     have_ends (concat cs) placed.runs entries (omega arith) placed.named placed.each
 
 pub returns-clause-archive : goal.returns-clause-archive
 returns-clause-archive c =
     let d = c.in_ok-directories.directories in
-    let cs = c.args.contents.now in
+    let cs = c.args.contents.now.contents in
     let ts = tiles_in (run_views cs c.args.runs.now) in
     let (low, high, zooms, header) = c.header_for_runs-header.ensures in
     let lengths = lengths_of d.root.items c.args.metadata.now d.leaves.items (concat cs) in
@@ -38,7 +38,7 @@ returns-clause-size c =
 pub returns-clause-header : goal.returns-clause-header
 returns-clause-header c =
     let d = c.in_ok-directories.directories in
-    let cs = c.args.contents.now in
+    let cs = c.args.contents.now.contents in
     let ts = tiles_in (run_views cs c.args.runs.now) in
     let (low, high, zooms, header) = c.header_for_runs-header.ensures in
     let lengths = lengths_of d.root.items c.args.metadata.now d.leaves.items (concat cs) in

@@ -7,10 +7,10 @@ use Rattle.pm_build.proofs.building.front_of_runs.Goals as goal
 
 pub entries_of-requires-clause-contents : goal.entries_of-requires-clause-contents
 entries_of-requires-clause-contents c =
-    c.requires.contents ∙ contents_of_runs (run_views c.args.contents.now c.args.runs.now) c.requires.longest.each
+    c.requires.contents ∙ contents_of_runs (run_views c.args.contents.now.contents c.args.runs.now) c.requires.longest.each
 
 pub front_of-requires-clause-placed : goal.front_of-requires-clause-placed
 front_of-requires-clause-placed c =
-    let rs = run_views c.args.contents.now c.args.runs.now in
+    let rs = run_views c.args.contents.now.contents c.args.runs.now in
     rw c.deref.ensures.value
-    (are_placed (tiles_in rs) rs _ c.args.contents.now c.requires.tiles c.requires.longest c.in_ok-entries.ensures.placed)
+    (are_placed (tiles_in rs) rs _ c.args.contents.now.contents c.requires.tiles c.requires.longest c.in_ok-entries.ensures.placed)

@@ -17,7 +17,7 @@ none = record { first = 0; count = 0; place = 0 }
 
 pub loop-run-preserved : goal.loop-run-preserved
 loop-run-preserved c =
-    let cs = c.args.contents.now in
+    let cs = c.args.contents.now.contents in
     let i = c.loop-run.run-index in
     let run = get_or c.args.runs.now i none in
     let different : AreDifferent cs =
@@ -39,7 +39,7 @@ loop-run-preserved c =
 
 pub returns-clause-placed : goal.returns-clause-placed
 returns-clause-placed c =
-    let cs = c.args.contents.now in
+    let cs = c.args.contents.now.contents in
     let all : take c.loop-run.run-index c.args.runs.now ≡ c.args.runs.now = take_all c.loop-run.run-index c.args.runs.now (omega arith) in
     placed_all (run_views cs c.args.runs.now) c.loop-run.entries.items cs
     (subst (λ (runs : List Run). EachPlaced cs (run_views cs runs) c.loop-run.entries.items) all c.loop-run.invariant.placed) c.requires.contents

@@ -5,6 +5,6 @@ use Rattle.pm_build.proofs.placing.entries_of.Given as goal
 
 abbrev pub invariant-loop-run : goal.invariant-loop-run
 invariant-loop-run l = record {
-  placed : EachPlaced l.contents (run_views l.contents (take l.run-index l.runs)) l.entries.items;
+  placed : EachPlaced l.contents.contents (run_views l.contents.contents (take l.run-index l.runs)) l.entries.items;
   count : length l.entries.items ≡ l.run-index;
 }

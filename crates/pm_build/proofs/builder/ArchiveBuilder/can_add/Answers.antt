@@ -10,20 +10,20 @@ use Rattle.pm_build.proofs.builder.ArchiveBuilder.can_add.Goals as goal
 
 pub end_of-requires : goal.end_of-requires
 end_of-requires c =
-    let rs = run_views c.self.inside.contents c.self.inside.runs.items in
+    let rs = run_views c.self.inside.contents.contents c.self.inside.runs.items in
     omega (
       arith,
       end_low (tiles_in rs) rs c.self.invariant.tiles c.self.invariant.longest,
-      views_end c.self.inside.contents c.self.inside.runs.items,
+      views_end c.self.inside.contents.contents c.self.inside.runs.items,
       ap (λ (runs : List Run). last_end runs) c.deref.ensures.value,
     )
 
 pub returns : goal.returns
 returns c =
-    let rs = run_views c.self.inside.contents c.self.inside.runs.items in
+    let rs = run_views c.self.inside.contents.contents c.self.inside.runs.items in
     let t : Tile = (c.args.id, c.args.content.now) in
     let end : c.end_of.result ≡ runs_end rs =
-    c.end_of.ensures ∙ ap (λ (runs : List Run). last_end runs) c.deref.ensures.value ∙ sym (views_end c.self.inside.contents c.self.inside.runs.items) in
+    c.end_of.ensures ∙ ap (λ (runs : List Run). last_end runs) c.deref.ensures.value ∙ sym (views_end c.self.inside.contents.contents c.self.inside.runs.items) in
     let test = can_add rs t c.self.invariant.tiles c.self.invariant.longest in (
       λ yes.
           let h = c.is_tile.ensures.0 yes in

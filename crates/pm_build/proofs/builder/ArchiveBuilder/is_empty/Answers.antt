@@ -9,9 +9,9 @@ returns c =
       λ yes.
           let zero : vec_len runs ≡ 0 = grind (arith, nat_tests, c.is_empty.ensures, yes) in
           let none : length runs.items ≡ 0 = omega (arith, zero, runs.ok) in
-          sym c.self.view_is ∙ none_in c.self.inside.contents runs.items none,
+          sym c.self.view_is ∙ none_in c.self.inside.contents.contents runs.items none,
       λ empty.
-          let none = some_in c.self.inside.contents runs.items c.self.invariant.longest.each (c.self.view_is ∙ empty) in
+          let none = some_in c.self.inside.contents.contents runs.items c.self.invariant.longest.each (c.self.view_is ∙ empty) in
           let zero : vec_len runs ≡ 0 = omega (arith, none, runs.ok) in
           grind (arith, nat_tests, c.is_empty.ensures, zero),
     )

@@ -3,4 +3,4 @@ use Rattle.pm_build.proofs.Keeping.{none_kept}
 use Rattle.pm_build.proofs.builder.ArchiveBuilder.new.Goals as goal
 
 pub invariant_of-result : goal.invariant_of-result
-invariant_of-result c = none_kept _ c.new.ensures.items c.new-2.ensures refl
+invariant_of-result c = none_kept _ _ _ c.new-2.ensures c.new.ensures.items refl

@@ -1,0 +1,24 @@
+-- The tiles of an archive in the making.
+use Rattle.std.specs.Prelude.{ℕ, List, All}
+use Rattle.feature_store.specs.Store.{FeatureMap}
+use Rattle.feature_store.specs.Tiles.{AreTiles}
+use Rattle.pm_build.specs.Tiles.{Tile}
+use Rattle.area_content.specs.declared.collected.Collected.{Collected}
+use Rattle.area_content.specs.Faults.{IsShort, AreAdded}
+use Rattle.area_content.specs.Room.{AreBeyondIf, AreWithin, added_so_far}
+
+-- the tiles that were added so far
+abbrev pub tiles_of : Collected → List Tile
+tiles_of c = added_so_far c.kept c.counted
+
+-- the tiles of the map with ids below `from` are added, and contents are kept of no more than may fit in the area
+pub record AreGoing (m : FeatureMap) (metadata : List ℕ) (area from : ℕ) (c : Collected) : Type 0 where
+  pub added : AreAdded m from (tiles_of c)
+  pub within : AreWithin m metadata area c.kept
+  pub beyond : AreBeyondIf m metadata area c.counted
+
+-- all tiles of the map are added, and each is short
+pub record AreMade (m : FeatureMap) (metadata : List ℕ) (area : ℕ) (c : Collected) : Type 0 where
+  pub all : AreTiles m (tiles_of c)
+  pub short : All IsShort (tiles_of c)
+  pub beyond : AreBeyondIf m metadata area c.counted

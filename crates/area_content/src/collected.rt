@@ -1,0 +1,102 @@
+//! The tiles of an archive in the making.
+ghost use Rattle.std.specs.Prelude.{◌≡◌, ◌++◌, ◌∷◌, [], Some, None, OnOk, IfErr};
+ghost use Rattle.feature_store.specs.Store.{FeatureMap, snapshot};
+ghost use Rattle.pm_build.specs.Building.{AreFew, AreTooMany, CanAdd};
+ghost use Rattle.area_content.specs.Faults.{HasManyTiles, IsContentFault, told_as};
+ghost use Rattle.area_content.specs.Room.{AreBeyondIf, AreWithin, least_sectors};
+
+use crate::content::sectors_for;
+use crate::fault::ContentFault;
+use pm_build::{ArchiveBuilder, ArchiveCounter, BuildFault};
+use pm_header::HEADER_BYTES;
+use std::alloc::{AllocError, Global};
+use std::mem;
+
+/// The tiles that were added so far. Their contents are kept as long as they fit in the area. From the first tile on that doesn't, none is
+/// kept, and what an archive of all has is counted.
+#[derive(Drop)]
+pub(crate) struct Collected {
+    pub(crate) kept: ArchiveBuilder,
+    pub(crate) counted: Option<ArchiveCounter>,
+    pub(crate) alloc: Global,
+}
+
+/// The fault reported if a tile can't be added to an archive.
+pub(crate) fn to_content_fault(fault: BuildFault) -> ContentFault
+    ensures { result ≡ told_as fault }
+{
+    match fault {
+        BuildFault::TooManyEntries => ContentFault::TooManyTiles,
+        BuildFault::Memory => ContentFault::Memory,
+    }
+}
+
+/// How many sectors a snapshot with this text takes, and an archive of the tiles that were added at least.
+fn least_sectors(builder: &ArchiveBuilder, text: &[u8], metadata: &[u8]) -> u64
+    ensures { (m : FeatureMap) → text.now ≡ snapshot m → result ≡ least_sectors m metadata.now builder.now }
+{
+    let archive = HEADER_BYTES + metadata.len() + builder.content_len();
+    sectors_for(text.len()) + sectors_for(archive)
+}
+
+impl Collected {
+    ghost use Rattle.area_content.specs.Collected.{tiles_of};
+
+    /// No tiles. It allocates nothing.
+    pub(crate) fn new(alloc: Global) -> Collected
+        ensures kept { result.kept ≡ [] }
+        ensures counted { result.counted ≡ None }
+    {
+        Collected {
+            kept: ArchiveBuilder::new(alloc),
+            counted: None,
+            alloc,
+        }
+    }
+
+    /// Counts the tiles from now on. The only error is out of memory; the tiles are lost then.
+    fn count(&mut self) -> Result<(), AllocError>
+        ensures counted { OnOk result (self.new.counted ≡ Some self.old.kept) }
+        ensures kept { OnOk result (self.new.kept ≡ []) }
+    {
+        let kept = mem::replace(&mut self.kept, ArchiveBuilder::new(self.alloc));
+        let counter = kept.into_counter()?;
+        self.counted = Some(counter);
+        Ok(())
+    }
+
+    /// Adds a tile, whose content is kept unless with it the snapshot `text` and an archive no longer fit in an area of `area` sectors.
+    ///
+    /// # Errors
+    ///
+    /// `TooManyTiles` if the tiles need more entries than an archive takes. `Memory` if an allocation fails.
+    pub(crate) fn keep(
+        &mut self,
+        id: u64,
+        content: &[u8],
+        text: &[u8],
+        metadata: &[u8],
+        area: u64,
+    ) -> Result<(), ContentFault>
+        requires none { self.old.counted ≡ None }
+        requires can { CanAdd self.old.kept (id, content.now) }
+        ensures added { OnOk result (tiles_of self.new ≡ self.old.kept ++ (id, content.now) ∷ []) }
+        ensures few { OnOk result (AreFew (tiles_of self.new)) }
+        ensures within { OnOk result ((m : FeatureMap) → text.now ≡ snapshot m → AreWithin m metadata.now area self.new.kept) }
+        ensures beyond { OnOk result ((m : FeatureMap) → text.now ≡ snapshot m → AreBeyondIf m metadata.now area self.new.counted) }
+        ensures fault { IfErr result (λ fault. (m : FeatureMap) → (AreTooMany (self.old.kept ++ (id, content.now) ∷ []) → HasManyTiles m)
+            → IsContentFault m metadata.now area fault) }
+    {
+        match self.kept.add(id, content) {
+            Ok(()) => {}
+            Err(fault) => return Err(to_content_fault(fault)),
+        }
+        if least_sectors(&self.kept, text, metadata) <= area {
+            return Ok(());
+        }
+        match self.count() {
+            Ok(()) => Ok(()),
+            Err(_) => Err(ContentFault::Memory),
+        }
+    }
+}
