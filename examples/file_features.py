@@ -1,18 +1,22 @@
 """The features of a file that GDAL reads, for import_features.py: geometry in the units of the map, attributes as tags, ids of GeoJSON."""
+import codecs
 import json
 import math
+import os
+import re
 
 from osgeo import gdal, ogr, osr
 
+from file_texts import Texts
 from world_shapes import WORLD, Unfit
 
 HALF = 20037508.342789244
-# The texts of a file that names no encoding and isn't UTF-8 are read as this one.
-GUESS = "cp1252"
 MOST_TEXT_BYTES = 1024
 # Columns of x and y of a CSV file, as they are usually named; which of them are longitude and latitude.
 DEGREES = [("lon", "lat"), ("lng", "lat"), ("long", "lat"), ("longitude", "latitude")]
 COLUMNS = [*DEGREES, ("x", "y"), ("easting", "northing")]
+# A number in them, with a decimal point or comma.
+NUMBER = re.compile(r"[+-]?([0-9]+([.,][0-9]*)?|[.,][0-9]+)([eE][+-]?[0-9]+)?")
 KINDS = {
     ogr.wkbPoint: "points",
     ogr.wkbMultiPoint: "points",
@@ -31,17 +35,19 @@ DROPPED = {
 
 
 class Notes:
-    """What a user should know of many features: each note once, with how many features it is about."""
+    """What a user should know of many features: each note once, with how many features it is about and an example of the first."""
 
     def __init__(self):
-        self.counts = {}
+        self.counts, self.examples = {}, {}
 
-    def add(self, note):
+    def add(self, note, example=None):
         self.counts[note] = self.counts.get(note, 0) + 1
+        if example is not None:
+            self.examples.setdefault(note, f" (as in {example[:40]!r})")
 
     def show(self):
         for note, count in self.counts.items():
-            print(f"note: {note}: {count:,} feature{'s' if count > 1 else ''}", flush=True)
+            print(f"note: {note}{self.examples.get(note, '')}: {count:,} feature{'s' if count > 1 else ''}", flush=True)
 
 
 class Unreadable(Exception):
@@ -57,10 +63,15 @@ class Reader:
     `columns` the names of the columns of x and y of a table, `id_field` the field of the ids."""
 
     def __init__(self, path, source=None, crs=None, encoding=None, cuts=False, columns=None, id_field=None):
-        self.path, self.crs, self.encoding, self.cuts, self.id_field = path, crs, encoding, cuts, id_field
+        self.path, self.crs, self.cuts, self.id_field = path, crs, cuts, id_field
         self.notes = Notes()
-        self.file = opened(path, encoding, keeps_text=id_field == "id")
+        # A text file in UTF-16, as Excel writes it, is read from memory in UTF-8.
+        self.place = in_memory(path)
+        encoding = None if self.place != path else encoding
+        self.file = opened(self.place, encoding, keeps_text=id_field == "id")
         self.kind = self.file.GetDriver().ShortName
+        # The columns of x and y of a table.
+        self.columns = ()
         if self.kind == "CSV" and (columns or is_table(self.file.GetLayer(0))):
             self.read_columns(columns)
         elif columns:
@@ -76,9 +87,10 @@ class Reader:
             if self.layers[0] is None:
                 names = ", ".join(self.file.GetLayer(at).GetName() for at in range(self.file.GetLayerCount()))
                 raise Unreadable(f"{path} has no layer {source}: its layers are {names}")
+        self.texts = Texts(self.file, encoding, self.notes)
 
     def read_columns(self, columns):
-        """Opens a CSV file again, with points of two of its columns. Longitude and latitude need no --crs."""
+        """Finds the two columns of a CSV file that are the points. Longitude and latitude need no --crs."""
         layer = self.file.GetLayer(0).GetLayerDefn()
         names = {layer.GetFieldDefn(at).GetName().lower(): layer.GetFieldDefn(at).GetName() for at in range(layer.GetFieldCount())}
         x, y = columns or next((pair for pair in COLUMNS if set(pair) <= set(names)), (None, None))
@@ -87,7 +99,7 @@ class Reader:
         x, y = names[x.lower()], names[y.lower()]
         if self.crs is None and (x.lower(), y.lower()) in DEGREES:
             self.crs = "EPSG:4326"
-        self.file = gdal.OpenEx(self.path, gdal.OF_VECTOR, open_options=[f"X_POSSIBLE_NAMES={x}", f"Y_POSSIBLE_NAMES={y}", "KEEP_GEOM_COLUMNS=NO"])
+        self.columns = x, y
 
     def projection(self, layer):
         """From the layer's coordinate system to Web Mercator, x before y in both."""
@@ -106,8 +118,9 @@ class Reader:
             system.SetAxisMappingStrategy(osr.OAMS_TRADITIONAL_GIS_ORDER)
         return osr.CoordinateTransformation(source, target)
 
-    def shape(self, geometry, projection):
-        """The shape of a geometry."""
+    def shape(self, feature, projection):
+        """The shape of a feature."""
+        geometry = self.point(feature) if self.columns else feature.GetGeometryRef()
         if geometry is None or geometry.IsEmpty():
             raise Nowhere
         if geometry.Is3D():
@@ -126,6 +139,18 @@ class Reader:
             raise Nowhere
         return kind, lists
 
+    def point(self, feature):
+        """The point of a row of a table, None if it has none. Of what is no number GDAL would take a part, or nothing."""
+        cells = [feature.GetFieldAsString(name).strip() for name in self.columns]
+        if not any(cells):
+            return None
+        if not all(NUMBER.fullmatch(cell) for cell in cells):
+            told = " and ".join(f"its {name} is {cell!r}" for name, cell in zip(self.columns, cells))
+            raise Unfit(f"{told}: two numbers are needed, as 7.25 or 7,25, without separators of thousands")
+        made = ogr.Geometry(ogr.wkbPoint)
+        made.AddPoint_2D(*(float(cell.replace(",", ".")) for cell in cells))
+        return made
+
     def identity(self, feature):
         """The value of the field of the ids: of GeoJSON `id` is the feature's own, `FID` is GDAL's."""
         text = feature.GetNativeData() if self.id_field == "id" and self.kind.startswith("GeoJSON") else None
@@ -141,32 +166,13 @@ class Reader:
 
     def name(self, feature, at):
         """The name of a field."""
-        return self.decoded(feature.GetFieldDefnRef(at).GetName(), "the names of fields")
-
-    def decoded(self, text, what):
-        """A text of the file. GDAL returns bytes if they aren't UTF-8."""
-        if isinstance(text, str) and self.encoding is None and not any("\ud800" <= letter <= "\udfff" for letter in text):
-            return text
-        raw = text.encode("utf-8", "surrogateescape") if isinstance(text, str) else bytes(text)
-        if self.encoding is not None:
-            found = raw.decode(self.encoding, "replace")
-            if "\ufffd" in found:
-                self.notes.add(f"{what}: some bytes aren't of {self.encoding}, and are replaced by U+FFFD")
-            return found
-        try:
-            return raw.decode()
-        except UnicodeDecodeError as fault:
-            if fault.reason == "unexpected end of data":
-                self.notes.add(f"{what}: the file ends them within a letter, which is dropped")
-                return raw[:fault.start].decode("utf-8", "replace")
-        self.notes.add(f"{what} aren't UTF-8 and are read as {GUESS}; --encoding names another encoding")
-        return raw.decode(GUESS, "replace")
+        return self.texts.decoded(feature.GetFieldDefnRef(at).GetName(), "the names of fields")
 
     def tags(self, feature):
         """The fields of a feature that have a value."""
         found = {}
         for at in range(feature.GetFieldCount()):
-            if feature.IsFieldSetAndNotNull(at):
+            if feature.IsFieldSetAndNotNull(at) and feature.GetFieldDefnRef(at).GetName() not in self.columns:
                 name = self.name(feature, at)
                 value = self.value(feature, at, name)
                 if value is not None:
@@ -184,7 +190,7 @@ class Reader:
             return self.real(feature, at, name)
         if kind in (ogr.OFTDate, ogr.OFTDateTime, ogr.OFTTime):
             return moment(kind, feature.GetFieldAsDateTime(at))
-        text = None if kind in DROPPED else self.decoded(feature.GetFieldAsString(at), "texts")
+        text = None if kind in DROPPED else self.texts.decoded(feature.GetFieldAsString(at), "texts")
         # A field of JSON has texts too, if its values are of several kinds.
         if text is None or (field.GetSubType() == ogr.OFSTJSON and text[:1] in ("[", "{")):
             self.notes.add(f"the field {name} is dropped: {DROPPED.get(kind, 'a list or an object')} is no value of a tag")
@@ -208,6 +214,23 @@ class Reader:
             return text
         self.notes.add(f"texts of {name} are cut to 1,024 bytes")
         return raw[:MOST_TEXT_BYTES].decode("utf-8", "ignore")
+
+
+def in_memory(path):
+    """A path of GDAL's to the text of a file in UTF-16, written in UTF-8; any other file's own path."""
+    try:
+        with open(path, "rb") as file:
+            if file.read(2) not in (codecs.BOM_UTF16_LE, codecs.BOM_UTF16_BE):
+                return path
+            file.seek(0)
+            text = file.read().decode("utf-16")
+    except OSError:
+        return path
+    except UnicodeDecodeError as fault:
+        raise Unreadable(f"{path} begins like a text in UTF-16, and isn't one: {fault}") from fault
+    made = f"/vsimem/{os.path.splitext(os.path.basename(path))[0]}.csv"
+    gdal.FileFromMemBuffer(made, text.encode())
+    return made
 
 
 def opened(path, encoding, keeps_text):

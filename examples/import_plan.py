@@ -56,7 +56,7 @@ class Plan:
             layer = self.layer(tags, name)
             number = self.number(feature, layer) if number is None else number
             self.check(number)
-            made = self.features(number, self.reader.shape(feature.GetGeometryRef(), projection), tags, layer)
+            made = self.features(number, self.reader.shape(feature, projection), tags, layer)
         except Nowhere:
             self.nowhere += 1
             self.keep(number)

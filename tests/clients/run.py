@@ -28,6 +28,7 @@ from checkins import checkins
 from direct import direct
 from doors import doors
 from editors import editors
+from encodings_of_files import encodings
 from endings import endings
 from imports import disk_full, imports, kills, large
 from desktop import desktop
@@ -791,6 +792,7 @@ def main():
         "gdal": gdal,
         "large": large,
         "import": imports,
+        "encodings": encodings,
         "updates": updates,
         "operation": operation,
         "admin": admin,
