@@ -26,9 +26,10 @@ import sys
 from collections import Counter
 
 import geopackage
+from differences import told_change
 from edits import checked, delete, put
 from ending import regular, run
-from gis_file import ZOOMS, Checkout, Unusable, there, write
+from gis_file import Checkout, Unusable, there, write
 from map_client import Client, NoAnswer, Stopped
 from wholes import OUTLINE, PIECE, WHOLE, wholes_of
 
@@ -136,15 +137,6 @@ def is_large(feature):
     """Whether a shape may be larger than a tile of its last zoom."""
     xs, ys = zip(*points_of(feature["geometry"]))
     return max(max(xs) - min(xs), max(ys) - min(ys)) > SAFE_UNITS * 2 ** (20 - feature["maxzoom"])
-
-
-def told_change(before, after):
-    """What one version of a feature changed of another."""
-    if after is None or before is None:
-        return "deleted" if after is None else "put anew"
-    old, new = ({**feature["tags"], **{f"({name})": feature[name] for name in ("layer", *ZOOMS)}} for feature in (before, after))
-    parts = [f"{name}: {old.get(name)!r} -> {new.get(name)!r}" for name in sorted({*old, *new}) if old.get(name) != new.get(name)]
-    return ", ".join(parts + (["its shape"] if before["geometry"] != after["geometry"] else [])) or "nothing"
 
 
 def seen_of(base, now):

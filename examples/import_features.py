@@ -14,11 +14,16 @@ the id is an attribute's value plus --first, and stays the same if the file chan
 own. Texts get their ids in the file that --ids names, which is the map's own: keep it with the map.
 
 Nothing is overwritten. Ids that another layer has are refused before anything is sent (--overwrite replaces its features), and so are ids
-of this layer that have another feature. What the map has already is not sent again. With --update the map is made as the file is: new and
-changed features are sent, and nothing else; --delete-missing deletes those of the layers that the file doesn't have, --replace LAYER is
-both for one layer. A feature of the file that is refused keeps its id on the map; if that isn't known, nothing is deleted. All are checked
-edits: a feature that somebody else changes meanwhile is left as it is, and reported. Without --admin on the server what the map has isn't
-known: then --first has to be named, and ids are taken as they come.
+of this layer that have another feature. What the map has already is not sent again. A feature of the file that is refused keeps its id on the
+map; if that isn't known, nothing is deleted. All are checked edits: a feature that somebody else changes meanwhile is left as it is, and
+reported. Without --admin on the server what the map has isn't known: then --first has to be named, and ids are taken as they come.
+
+Again, from a newer file. With --update what has changed in the file since its last import is sent, and nothing else; --delete-missing also
+deletes what the file had then and has no more; --replace LAYER is both for one layer. What was changed on the map alone stays, and so does
+what was added there. What both have changed is a conflict: it is named, and not sent. --file-wins sends what the file has of conflicts,
+--map-wins leaves what the map has, also at the next import. --exactly makes the layers as the file is, whatever the map has. What the file said
+is kept as a hash of each feature in a file, which --base names: beside that of --ids (IDS.base), else beside the imported one (FILE.base).
+Of what isn't in it each difference is a conflict. --was-at URL says that the map had this address then.
 
 Large features. The server doesn't clip, and renderers misdraw what is larger than a tile (docs/HTTP.md, "Large features"). So lines and
 polygons that some renderer would draw wrong at a zoom of theirs are cut, along the middles of the tiles of zoom --maxzoom, into as few pieces
@@ -43,6 +48,7 @@ for a wrong command; with 3 if the server doesn't answer; and with 130 if it was
 import argparse
 import codecs
 import json
+import os
 import sys
 import time
 
@@ -50,6 +56,7 @@ from edits import MOST_CHANGES
 from ending import run
 from file_features import Reader, Unreadable
 from id_file import IdFile
+from import_base import Base
 from import_changes import Changes
 from import_plan import Plan
 from import_sizes import disk_for
@@ -72,9 +79,16 @@ def asked():
     parser.add_argument("--first", type=int, help="the id of the first feature (the next free one); with --id, what is added to the field (0)")
     parser.add_argument("--id", metavar="FIELD", help="the attribute that holds the id of each feature")
     parser.add_argument("--ids", metavar="FILE", help="the map's file of ids, if --id is an attribute with texts")
-    parser.add_argument("--update", action="store_true", help="change the features of these layers that differ from the file")
-    parser.add_argument("--delete-missing", action="store_true", help="--update: delete the features of these layers that the file doesn't have")
+    parser.add_argument("--update", action="store_true", help="send what has changed in the file since its last import")
+    parser.add_argument("--delete-missing", action="store_true", help="--update: delete what the file had at its last import, and has no more")
     parser.add_argument("--replace", metavar="LAYER", help="--update --delete-missing for this layer")
+    wins = parser.add_mutually_exclusive_group()
+    wins.add_argument("--file-wins", action="store_true", help="--update: send the file's version of what both the file and the map have changed")
+    wins.add_argument("--map-wins", action="store_true", help="--update: leave the map's version of it")
+    wins.add_argument("--exactly", action="store_true", help="--update --delete-missing, also of what was changed or added on the map alone")
+    parser.add_argument("--base", metavar="FILE", help="where to keep what the file said (the file of --ids, or else the imported one, and .base)")
+    parser.add_argument("--was-at", metavar="URL", help="the address that the map had at the last import")
+    parser.add_argument("--dry-run", action="store_true", help="say what would be sent, and send nothing")
     parser.add_argument("--overwrite", action="store_true", help="replace features of other layers that have the same ids")
     parser.add_argument("--url", default="http://127.0.0.1:8080", help="the server (http://127.0.0.1:8080)")
     parser.add_argument("--source", help="the one layer of the file to read (all)")
@@ -96,9 +110,14 @@ def asked():
     fault = fault_of(words)
     if fault:
         parser.error(fault)
-    if words.replace is not None or words.delete_missing:
+    if words.replace is not None or words.delete_missing or words.exactly:
         words.update = words.delete_missing = True
     return words
+
+
+def has_ids(words):
+    """Whether a feature of the file gets the same id at each import."""
+    return words.id is not None or words.first is not None
 
 
 def fault_of(words):
@@ -107,8 +126,12 @@ def fault_of(words):
         return "give one of --layer and --layer-field"
     if words.replace is not None and words.layer not in (None, words.replace):
         return "--replace and --layer name two layers"
-    if (words.update or words.delete_missing or words.replace is not None) and words.id is None and words.first is None:
+    if (words.update or words.delete_missing or words.exactly or words.replace is not None) and not has_ids(words):
         return "--update needs ids that stay: give --id FIELD, or the --first of the import before"
+    if words.base is not None and not has_ids(words):
+        return "--base needs ids that stay: give --id FIELD, or --first"
+    if (words.file_wins or words.map_wins) and not (words.update or words.delete_missing or words.replace is not None):
+        return "--file-wins and --map-wins are for --update"
     if words.ids is not None and words.id is None:
         return "--ids needs --id: the attribute with the texts"
     if (words.x is None) != (words.y is None):
@@ -142,6 +165,24 @@ def plan_of(words, client, status):
     plan.read()
     reader.notes.show()
     return plan
+
+
+def base_of(words, client, status):
+    """What the file said at its last import into this map. None if ids don't stay, or the server doesn't tell what the map has."""
+    if status is None or not has_ids(words):
+        return None
+    path, before = base_path(words), words.was_at and words.was_at.rstrip("/")
+    base = Base(path if os.path.exists(path) or not words.dry_run else None, client.address, before)
+    if status["edits"] < base.edits:
+        print(f"note: the map has {status['edits']:,} edits, and had {base.edits:,} at the last import: it was put back from a copy, or is another one. "
+              "What the file said then isn't looked at", flush=True)
+        base.forget()
+    return base
+
+
+def base_path(words):
+    """The file of what was imported before."""
+    return words.base or (words.ids or words.file.rstrip("/")) + ".base"
 
 
 def obstacles(words, client, status, changes):
@@ -236,9 +277,12 @@ def work(words, client):
     status = client.status()
     if status is not None and "last" not in status:
         raise Stopped(NO_CHECKS[404])
+    base = base_of(words, client, status)
     plan = plan_of(words, client, status)
-    changes = Changes(plan, words)
+    changes = Changes(plan, words, base)
     found = obstacles(words, client, status, changes)
+    for line in changes.conflicts_told():
+        print(line, flush=True)
     if found:
         print("\n".join([*found, "nothing was sent"]))
         return 1
@@ -249,10 +293,17 @@ def work(words, client):
     # Without --admin nothing that is sent is checked.
     if status is None and client.status() is not None:
         raise Stopped("the server tells what the map has, which it didn't when it was asked first: run the same command again")
+    if words.dry_run:
+        print("\n".join([*changes.would_send(), f"{changes.told()}: nothing was sent"]))
+        return 1 if changes.failed() else 0
     if plan.ids:
         plan.ids.save()
     try:
-        send(client, changes)
+        try:
+            send(client, changes)
+        finally:
+            if base:
+                base.end(client.edits)
         tell_disk(client)
         tell_place(client, plan)
     except NoAnswer as fault:
@@ -288,8 +339,6 @@ def main():
     except KeyboardInterrupt:
         print("interrupted: nothing was sent")
         return 130
-    except BlockingIOError:
-        fault = f"another import uses {words.ids}"
     except OSError as found:
         fault = found
     except (Unreadable, Stopped) as found:

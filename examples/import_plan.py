@@ -83,6 +83,10 @@ class Plan:
             self.kept.add(number)
             self.next = number + 1
 
+    def has(self, number):
+        """Whether an id is that of a feature of the file, put or kept."""
+        return number in self.ids_to_put or number in self.kept
+
     def layer(self, tags, name):
         """The layer of a feature in the map."""
         if self.words.layer_field is None:

@@ -110,6 +110,8 @@ class Client:
         # Whether a batch has been accepted; the first change of those that were sent last and aren't known to be made.
         self.has_batches = False
         self.last = None
+        # The number of the last edit that is known of.
+        self.edits = 0
 
     # ---- requests
 
@@ -157,7 +159,10 @@ class Client:
 
     def status(self):
         """What the server tells of itself, or None if it says itself that it has no such path: it runs without --admin."""
-        return self.found("/admin/status")
+        status = self.found("/admin/status")
+        if status is not None:
+            self.edits = status.get("edits", 0)
+        return status
 
     def value(self, content):
         """The JSON of a reply."""
@@ -318,6 +323,8 @@ class Client:
             print("        the journal is full: a publication", flush=True)
             self.publish()
             status, content = self.ask(method, path, body)
+        if status == 200:
+            self.edits = max(self.edits, self.value(content)["edit"])
         return status, content
 
     def stop_at(self, status, content):

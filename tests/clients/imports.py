@@ -311,7 +311,7 @@ def numbers(cases, folder, server):
     status, lines = imported(written(folder, "three.geojson", rows), server.url, "--layer", "n", "--id", "nr")
     cases.show("import: --id", (status, [(shown(server, at) or {"tags": {}})["tags"].get("name") for at in (11, 12, 13)]), (0, ["11", "12", "13"]))
     rows = [row("Point", [5, 5], nr=13, name="moved"), row("Point", [6, 6], nr=11, name="11")]
-    status, lines = imported(written(folder, "two.geojson", rows), server.url, "--layer", "n", "--id", "nr", "--replace", "n")
+    status, lines = imported(written(folder, "three.geojson", rows), server.url, "--layer", "n", "--id", "nr", "--replace", "n")
     found = [(shown(server, at) or {"tags": {}})["tags"].get("name") for at in (11, 12, 13)]
     wanted = (0, "0 new, 2 changed, 1 deleted, 0 unchanged", ["11", None, "moved"])
     cases.show("import: --replace deletes what the file no longer has", (status, lines[-1], found), wanted)
@@ -333,7 +333,7 @@ def square(longitude, latitude, degrees):
 def pieces(cases, folder, server):
     """A large square with a number of its own, cut; then a newer file in which it is small, and one in which it can't be put."""
     piece = 2 ** 40
-    words = ["--layer", "s", "--minzoom", "12", "--id", "nr", "--replace", "s"]
+    words = ["--layer", "s", "--minzoom", "12", "--id", "nr", "--base", os.path.join(folder, "square.base"), "--replace", "s"]
     path = written(folder, "square.geojson", [row("Polygon", [square(20, 50, 0.05)], nr=21), row("Point", [20, 50], nr=22)])
     status, lines = imported(path, server.url, *words)
     made = re.match(r"feature 21 is cut into (\d+) pieces and (\d+) of its outline$", lines[0])

@@ -38,6 +38,7 @@ from screens import screens
 from stand import BYTES, EXAMPLES, HALF, JSON, METADATA, MVT, PROGRAM, ROOT, SHOWN, SYSTEM_PYTHON, TEXT, TILE
 from stand import Cases, Nginx, Server, curl, feature, field, parsed, refusal, same, status_of, wanted
 from steps import steps
+from three_ways import three_ways
 from units import units
 from updates import updates
 
@@ -794,6 +795,7 @@ def main():
         "import": imports,
         "encodings": encodings,
         "updates": updates,
+        "three-ways": three_ways,
         "operation": operation,
         "admin": admin,
         "batches": batches,

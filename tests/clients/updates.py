@@ -73,7 +73,7 @@ def six_files(cases, folder):
 def differences(cases, folder):
     """A file that is imported each day: what differs is sent, and nothing else."""
     rows = points(200)
-    words = ["--layer", "p", "--id", "nr", "--update"]
+    words = ["--layer", "p", "--id", "nr", "--update", "--base", os.path.join(folder, "daily.base")]
     path = written(folder, "daily.geojson", rows)
     with Server(folder, "daily", 65536) as server:
         cases.show("updates: the first day", imported(path, server.url, *words)[1][-1], "200 new, 0 changed, 0 deleted, 0 unchanged")
@@ -114,7 +114,8 @@ def refused_ones(cases, folder):
 
     names = [f"point {at}" for at in range(1, 6)]
     note = "note: nothing is deleted, since the map may have refused features whose ids aren't known: 1 feature"
-    numbered, named = ["--id", "nr"], ["--id", "name", "--ids", os.path.join(folder, "refused.ids")]
+    numbered = ["--id", "nr", "--base", os.path.join(folder, "refused.base")]
+    named = ["--id", "name", "--ids", os.path.join(folder, "refused.ids")]
     with Server(folder, "refused", 65536) as server:
         asked("all.geojson", *numbered, of=rows())
         found = asked("no_layer.geojson", *numbered, of=rows((1, "kind", None))[:4])
@@ -167,7 +168,7 @@ def like_outlines(cases, folder):
         ends = [imported(*way)[1][-1] for way in ways]
         same = [f"0 new, 0 changed, 0 deleted, {count} unchanged" for count in (9, 1)]
         cases.show("updates: a layer of the name of outlines, beside one that has some", (ends, listed(server) == before), (same, True))
-        small = written(folder, "small.geojson", [row("Polygon", [square(20, 50, 0.004)], nr=21)])
+        small = written(folder, "large.geojson", [row("Polygon", [square(20, 50, 0.004)], nr=21)])
         said = imported(small, server.url, "--layer", "coast", *words)[1][-1]
         wanted = ("0 new, 1 changed, 0 deleted, 0 unchanged", {"coast": 1, "coast-outline": 9})
         cases.show("updates: its own outline goes with it, the others stay", (said, layers(server)), wanted)
@@ -213,7 +214,7 @@ def by_texts(cases, folder):
 
 def others_meanwhile(cases, folder):
     """Somebody else edits a feature after the import has looked; a reply is lost; an import is killed."""
-    words = ["--layer", "p", "--id", "nr", "--update"]
+    words = ["--layer", "p", "--id", "nr", "--update", "--base", os.path.join(folder, "meanwhile.base")]
     path = written(folder, "meanwhile.geojson", points(100))
     theirs = feature("p", 0, 14, tags={"name": "theirs"})
     with Server(folder, "meanwhile", 65536) as server:
@@ -225,6 +226,7 @@ def others_meanwhile(cases, folder):
 
         with Between(server, before=meddles) as between:
             code, lines = imported(path, between.url, *words)
+            before = between.url
         said = "feature 7 refused: somebody else has changed it meanwhile"
         wanted = (1, True, "99 new, 0 changed, 0 deleted, 0 unchanged, 1 changed by others meanwhile")
         cases.show("updates: what somebody else changes meanwhile is left and told", (code, said in lines, lines[-1]), wanted)
@@ -232,11 +234,11 @@ def others_meanwhile(cases, folder):
         edits = status(server)["edits"]
         changed = written(folder, "meanwhile2.geojson", points(100, more="x"))
         with Between(server, loses=once("POST", EDITS)) as between:
-            code, lines = imported(changed, between.url, *words)
+            code, lines = imported(changed, between.url, *words, "--was-at", before, "--file-wins")
         wanted = (0, "0 new, 100 changed, 0 deleted, 0 unchanged", edits + 2)
         cases.show("updates: a lost reply: sent again, made once", (code, lines[-1], status(server)["edits"]), wanted)
         many = written(folder, "killed.geojson", points(3000, more="y" * 500))
-        words += ["--maxzoom", "2", "--publish"]
+        words += ["--maxzoom", "2", "--publish", "--file-wins"]
         child = subprocess.Popen([*TOOL, many, "--url", server.url, *words], stdout=subprocess.DEVNULL)
         while shown(server, 500) is None and child.poll() is None:
             time.sleep(0.01)
