@@ -13,6 +13,8 @@ from wholes import whole_in
 
 # What becomes of a feature. OWN: it stays as the map has it, which somebody has changed there. CONFLICT: the file and the map were both changed.
 NEW, CHANGED, SAME, GONE, OWN, CONFLICT = "new", "changed", "unchanged", "deleted", "own", "conflict"
+# More deletions than this, and than half of what the map has of these layers, are taken for a mistake.
+MANY = 20
 # How many conflicts are named, where it isn't known what the file said before.
 MOST_NAMED = 20
 
@@ -150,6 +152,9 @@ class Changes:
 
     def obstacles(self):
         """Why nothing may be sent."""
+        gone, known = sum(kinds == {GONE} for kinds in self.states.values()), sum(self.there[min(now)].layer in self.layers for now in self.pieces.values())
+        if (gone > max(MANY, known // 2) or (gone and not self.plan.ids_to_put)) and not self.words.delete_many:
+            yield f"{gone:,} of {known:,} features of these layers would be deleted: is the file whole? --delete-many deletes them"
         if self.words.overwrite:
             return
         if self.taken:

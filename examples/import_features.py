@@ -20,7 +20,8 @@ reported. Without --admin on the server what the map has isn't known: then --fir
 
 Again, from a newer file. With --update what has changed in the file since its last import is sent, and nothing else; --delete-missing also
 deletes what the file had then and has no more; --replace LAYER is both for one layer. What was changed on the map alone stays, and so does
-what was added there. What both have changed is a conflict: it is named, and not sent. --file-wins sends what the file has of conflicts,
+what was added there. What both have changed is a conflict: it is named, and not sent. More than 20 deletions, if they are more than half of these layers, are taken for a
+mistake: nothing is sent, unless --delete-many says so. --file-wins sends what the file has of conflicts,
 --map-wins leaves what the map has, also at the next import. --exactly makes the layers as the file is, whatever the map has. What the file said
 is kept as a hash of each feature in a file, which --base names: beside that of --ids (IDS.base), else beside the imported one (FILE.base).
 Of what isn't in it each difference is a conflict. --was-at URL says that the map had this address then.
@@ -86,6 +87,7 @@ def asked():
     wins.add_argument("--file-wins", action="store_true", help="--update: send the file's version of what both the file and the map have changed")
     wins.add_argument("--map-wins", action="store_true", help="--update: leave the map's version of it")
     wins.add_argument("--exactly", action="store_true", help="--update --delete-missing, also of what was changed or added on the map alone")
+    parser.add_argument("--delete-many", action="store_true", help="--delete-missing: delete more than 20 features that are more than half of the layers")
     parser.add_argument("--base", metavar="FILE", help="where to keep what the file said (the file of --ids, or else the imported one, and .base)")
     parser.add_argument("--was-at", metavar="URL", help="the address that the map had at the last import")
     parser.add_argument("--dry-run", action="store_true", help="say what would be sent, and send nothing")
@@ -199,8 +201,6 @@ def obstacles(words, client, status, changes):
     known = client.found(f"/map/metadata?edit={status['edits']}")["vector_layers"]
     layers = {layer["id"] for layer in known} & changes.layers
     if not words.anyway:
-        if words.delete_missing and not changes.plan.ids_to_put:
-            found.append("the file has no features: all of the layer would be deleted (--anyway does it)")
         if words.ids and any(not changes.plan.ids.is_known(layer) for layer in layers):
             found.append(f"{words.ids} has no ids of the layer, which the map has already: is it the file that was used before? (--anyway goes on)")
     if layers and words.first is None and words.id is None:

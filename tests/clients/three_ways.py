@@ -190,12 +190,30 @@ def whole_ones(cases, folder):
         cases.show("three ways: one that is in another layer by now", (code, lines[-1]), (0, "0 new, 0 changed, 0 deleted, 0 unchanged, 2 left as the map has them"))
 
 
+def half_a_file(cases, folder):
+    """A file that ends in the middle, or is empty: what would empty a layer is taken for a mistake."""
+    with Server(folder, "half", 65536) as server:
+        office = Office(folder, "half", server)
+        office.imports(numbered(200))
+        said = "195 of 200 features of these layers would be deleted: is the file whole? --delete-many deletes them"
+        code, lines = office.imports(numbered(5, n1="changed"))
+        cases.show("three ways: half a file deletes nothing", (code, lines[-2:], office.names() == numbered(200)), (1, [said, "nothing was sent"], True))
+        cases.show("three ways: nor does it with --exactly", office.imports(numbered(5), "--exactly")[0], 1)
+        code, lines = office.imports(numbered(5, n1="changed"), "--delete-many")
+        cases.show("three ways: --delete-many", (code, lines[-1], len(office.names())), (0, "0 new, 1 changed, 195 deleted, 4 unchanged", 5))
+        code, lines = office.imports({})
+        cases.show("three ways: a file of nothing", (code, lines[-1], len(office.names())), (1, "nothing was sent", 5))
+        office.imports(numbered(40))
+        code, lines = office.imports(numbered(20))
+        cases.show("three ways: half of a layer is deleted without a word more", (code, lines[-1]), (0, "0 new, 0 changed, 20 deleted, 20 unchanged"))
+
+
 def three_ways(cases, folder):
     """Imports again, while people edit the map."""
     if not has_gdal(cases):
         return
     place = os.path.join(folder, "three_ways")
     os.mkdir(place)
-    for part in (theirs_stays, conflicts, unknown, whole_ones):
+    for part in (theirs_stays, conflicts, unknown, whole_ones, half_a_file):
         part(cases, place)
     shutil.rmtree(place)
