@@ -9,8 +9,8 @@ request, which take a sector of the journal; with --no-batches one. A feature th
 the same command again. The published archive shows the layers until the next publication.
 
 Nothing is published unless the journal has no room. It works while a publication is under way, and on a map that no longer fits on its disk
-(`AreaFull`), as long as the journal has a sector: then features are deleted without looking at them again, which takes the fewest sectors. If
-the journal is full too, nothing can be edited any more, and it says how much is left.
+(`AreaFull`), if the journal has room for all of it: then features are deleted without looking at them again, which takes the fewest sectors.
+If the journal hasn't, nothing is deleted, and it says so; --anyway deletes as many as there is room for, after which the map may fit again.
 
 It prints how many features of each layer are deleted. It ends with 1 if some are left, with 3 if the server doesn't answer, and with 130 if
 it was interrupted. Needs no package.
@@ -35,25 +35,41 @@ def found_in(client, layers, numbers):
     return {number: feature for number, feature in there if feature is not None and feature["layer"] in layers}
 
 
-def changes_for(client, found):
-    """The deletions: checked ones if the journal has, or gets by a publication, a sector for each request."""
+def free_in(status):
+    """The sectors of the journal that are free."""
+    return status["journal"]["places"] - status["journal"]["used"]
+
+
+def changes_for(client, found, anyway):
+    """The deletions: checked ones if the journal has, or gets by a publication, a sector for each request. Raises `Stopped` if neither they nor
+    those that take the fewest sectors have room, unless that is wanted `anyway`."""
     plain = [delete(number) for number in found]
     status = client.status()
     if status is None:
         return plain
     made = [checked(change, found[change.number]) for change in plain]
-    if len(list(batches(made, client.most))) > status["journal"]["places"] - status["journal"]["used"]:
-        try:
-            client.publish()
-        except Full as fault:
-            print(f"note: {fault}. Features are deleted without looking at them again", flush=True)
-            return plain
-    return made
+    if count(batches(made, client.most)) <= free_in(status):
+        return made
+    try:
+        client.publish()
+        return made
+    except Full as fault:
+        need, free = count(batches(plain, client.most)), free_in(status)
+        if need > free and not anyway:
+            raise Stopped(f"{fault}. The journal has {free:,} of the {need:,} sectors that the deletions take: move the map to a larger disk, or delete "
+                          f"as many as there is room for with --anyway ({free * client.most:,}), after which the map may fit again") from fault
+        print(f"note: {fault}. Features are deleted without looking at them again", flush=True)
+        return plain
 
 
-def delete_all(client, found, deleted):
+def count(groups):
+    """How many groups there are."""
+    return sum(1 for _ in groups)
+
+
+def delete_all(client, found, deleted, anyway):
     """Deletes the features. Counts those of each layer that are deleted. Returns whether all are."""
-    for change, refusal in client.make(changes_for(client, found)):
+    for change, refusal in client.make(changes_for(client, found, anyway)):
         if refusal:
             print(f"feature {change.number}: {refusal}", flush=True)
         else:
@@ -77,12 +93,13 @@ def main():
     parser.add_argument("--url", default="http://127.0.0.1:8080", help="the server (http://127.0.0.1:8080)")
     parser.add_argument("--numbers", type=ranges, help="the ids to ask for, as in 1-3000,5000, instead of the whole list")
     parser.add_argument("--no-batches", action="store_true", help="delete each feature in a request of its own")
+    parser.add_argument("--anyway", action="store_true", help="delete as many as there is room for on a disk that is full")
     words = parser.parse_args()
     client, found, deleted, end = None, {}, Counter(), 1
     try:
         client = Client(words.url, True, 1 if words.no_batches else DELETES_OF_A_SECTOR)
         found = found_in(client, words.layers, words.numbers)
-        end = 0 if delete_all(client, found, deleted) else 1
+        end = 0 if delete_all(client, found, deleted, words.anyway) else 1
     except Stopped as fault:
         print(f"stopped: {fault}")
         if found:

@@ -65,6 +65,10 @@ def rooms(cases, folder):
     with Server(folder, "rooms", 1024) as server:
         cases.show("operation: the map can't be published", crowded(server, 50).startswith(b"AreaFull "), True)
         code, lines = tool("delete_layer.py", "q", "--url", server.url)
+        said = "The journal has 1 of the 2 sectors that the deletions take: move the map to a larger disk, or delete as many as there is room for"
+        wanted = (1, True, "0 features of q deleted", 80 + 60)
+        cases.show("operation: where all can't be deleted nothing is", (code, said in lines[0], lines[-1], status(server)["features"]), wanted)
+        code, lines = tool("delete_layer.py", "q", "--anyway", "--url", server.url)
         told = any(blind in line for line in lines)
         wanted = (0, True, "80 features of q deleted")
         cases.show("operation: with one sector of the journal 55 features are deleted, then there is room", (code, told, lines[-1]), wanted)
@@ -76,7 +80,7 @@ def rooms(cases, folder):
         cases.show("operation: the other layer is there", status(server)["features"], 60)
     with Server(folder, "no_room", 1024) as server:
         crowded(server, 90)
-        code, lines = tool("delete_layer.py", "q", "--url", server.url)
+        code, lines = tool("delete_layer.py", "q", "--anyway", "--url", server.url)
         said = ["65 features are left; the journal has 0 of its sectors free", "55 features of q deleted"]
         cases.show("operation: where that isn't enough, what is left is told", (code, lines[-2:]), (1, said))
 
