@@ -5,10 +5,11 @@
     for change, refusal in client.make([checked(put(7, feature), was)]): ..
 
 A checked change (edits.py) replaces nothing that its author hasn't seen: if the map has another version, it is refused as a conflict, with
-that version. One whose reply was lost is sent again, and made once.
+that version. If no reply to an edit comes, the server is asked whether it was made, and it is sent again only if it wasn't.
 """
 import http.client
 import json
+import select
 import urllib.parse
 from dataclasses import dataclass
 
@@ -17,7 +18,10 @@ from edits import MOST_CHANGES, NOTHING, batches, body_of, delete, encoded, fits
 from wholes import PIECE
 
 NUMBER_END = 2 ** 63
-CHECKED, PLAIN = "/admin/edits", "/edits"
+CHECKED, PLAIN, FEED = "/admin/edits", "/edits", "/admin/edits/from"
+# Requests that change nothing, and may be sent again. How often an edit is sent that isn't made.
+READS = ("GET", "HEAD")
+TRIES = 3
 WHY = {
     "Json": "the body is no JSON text",
     "Body": "the body has over 65,536 bytes",
@@ -75,6 +79,10 @@ class NoAnswer(Exception):
     """Why a request has no reply."""
 
 
+class Lost(NoAnswer):
+    """Why a request that was sent has no reply: it may have been done."""
+
+
 class Stopped(Exception):
     """Why no further request makes sense."""
 
@@ -116,23 +124,35 @@ class Client:
     # ---- requests
 
     def ask(self, method, path, body=b"", fields=None):
-        """The status and the content of the reply to one request. If the server has closed the kept connection, it is sent again."""
+        """The status and the content of the reply to one request. On a kept connection that the server has closed it is sent again if it only
+        reads; what changes something may have been done (`Lost`)."""
         fields = {**self.person, **(fields or ({"Content-Type": "application/json"} if body else {}))}
-        for is_kept in (True, False) if self.connection else (False,):
-            try:
-                if not is_kept:
-                    self.connect()
-                self.connection.request(method, self.url.path.rstrip("/") + path, body, fields)
-                reply = self.connection.getresponse()
-                return reply.status, reply.read()
-            except (OSError, http.client.HTTPException) as fault:
-                self.close()
-                if not is_kept:
-                    raise NoAnswer(f"no reply of {self.address}: {fault}") from fault
-            except BaseException:
-                self.close()
+        if self.connection and is_ended(self.connection):
+            self.close()
+        was_kept = self.connection is not None
+        try:
+            return self.once(method, path, body, fields)
+        except Lost:
+            if not was_kept or method not in READS:
                 raise
-        return None
+        return self.once(method, path, body, fields)
+
+    def once(self, method, path, body, fields):
+        """The status and the content of the reply to a request that is sent once."""
+        is_sent = False
+        try:
+            if not self.connection:
+                self.connect()
+            is_sent = True
+            self.connection.request(method, self.url.path.rstrip("/") + path, body, fields)
+            reply = self.connection.getresponse()
+            return reply.status, reply.read()
+        except (OSError, http.client.HTTPException) as fault:
+            self.close()
+            raise (Lost if is_sent else NoAnswer)(f"no reply of {self.address}: {fault}") from fault
+        except BaseException:
+            self.close()
+            raise
 
     def connect(self):
         """Opens a connection. A publication may take minutes to begin, a connection not."""
@@ -201,8 +221,7 @@ class Client:
     # ---- publications
 
     def post(self, path):
-        """The reply to a step of a publication, on a connection of its own: it is sent once."""
-        self.close()
+        """The reply to a step of a publication, which is sent once."""
         return self.ask("POST", path)
 
     def publish(self):
@@ -242,7 +261,7 @@ class Client:
             if len(group) == 1 and not fits(group[0]):
                 yield group[0], self.make_large(group[0])
                 return
-            status, content = self.send("POST", CHECKED, body_of(group))
+            status, content = self.send("POST", CHECKED, body_of(group), group)
             if status == 200:
                 yield from ((change, None) for change in group)
                 return
@@ -289,7 +308,7 @@ class Client:
     def make_alone(self, change):
         """Makes one change alone. Returns its refusal."""
         method, body = ("DELETE", b"") if change.body is None else ("PUT", change.body)
-        status, content = self.send(method, f"/features/{change.number}", body)
+        status, content = self.send(method, f"/features/{change.number}", body, [change])
         if status == 200 or (method == "DELETE" and status == 404 and word(content) == "NotFound"):
             return None
         self.stop_at(status, content)
@@ -299,7 +318,7 @@ class Client:
         """Whether a batch is made. If it isn't, nothing is changed, and each of its changes is to be sent alone."""
         if self.most == 1:
             return False
-        status, content = self.send("POST", PLAIN, body_of(group))
+        status, content = self.send("POST", PLAIN, body_of(group), group)
         if status == 200:
             self.has_batches = True
         elif (status == 409 and content.startswith(b"NeedsUpgrade")) or (status == 404 and not self.knows_edits()):
@@ -316,16 +335,58 @@ class Client:
             self.has_batches = status == 400 and content.startswith(b"E10")
         return self.has_batches
 
-    def send(self, method, path, body):
-        """Status and content of the reply to an edit. If the journal is full, it is sent again after a publication."""
-        status, content = self.ask(method, path, body)
+    def send(self, method, path, body, group):
+        """Status and content of the reply to an edit of these changes. If the journal is full, it is sent again after a publication."""
+        status, content = self.deliver(method, path, body, group)
         if status == 507 and content.startswith(b"JournalFull") and self.publishes:
             print("        the journal is full: a publication", flush=True)
             self.publish()
-            status, content = self.ask(method, path, body)
+            status, content = self.deliver(method, path, body, group)
         if status == 200:
             self.edits = max(self.edits, self.value(content)["edit"])
         return status, content
+
+    def deliver(self, method, path, body, group):
+        """Status and content of the reply to an edit. If none comes, and the edit wasn't made, it is sent again."""
+        for _ in range(TRIES):
+            try:
+                return self.ask(method, path, body)
+            except Lost as fault:
+                number = self.made_as(group, fault)
+                if number is not None:
+                    return 200, b'{"edit":%d}' % number
+        raise NoAnswer(f"{self.address} has ended {TRIES} requests without a reply and without making the edit")
+
+    # ---- edits without a reply
+
+    def made_as(self, group, fault):
+        """The number of an edit whose reply didn't come, None if it wasn't made. Raises `Lost` if that isn't known."""
+        before, status = self.edits, self.status()
+        if status is not None and status["edits"] == before:
+            return None
+        listed = None if status is None else self.listed_from(before + 1)
+        if listed is not None:
+            wanted = {change.number: change.body for change in group}
+            return next((number for number, changes in listed if changes == wanted), None)
+        now = {change.number: self.feature(change.number) for change in group}
+        if all((now[change.number] and encoded(now[change.number])) == change.body for change in group):
+            return before if status is None else status["edits"]
+        # A creation that isn't there was never made, or made and deleted by somebody else; of an unchecked edit nobody can tell.
+        if any(change.was is None or (change.was == NOTHING and now[change.number] is None) for change in group):
+            raise Lost(f"{fault}, and whether the edit of feature {group[0].number} was made isn't known: look at it on the map") from fault
+        return None
+
+    def listed_from(self, first):
+        """The numbers and the changes of the edits from a number on, as far as the server lists edits; None if it doesn't."""
+        found = []
+        while True:
+            status, content = self.ask("GET", f"{FEED}/{first + len(found)}")
+            if status != 200:
+                return None
+            reply = self.value(content)
+            found += [(edit["edit"], changes_in(edit["changes"])) for edit in reply["edits"]]
+            if not reply["edits"] or found[-1][0] >= reply["last"]:
+                return found
 
     def stop_at(self, status, content):
         """Stops at a refusal that every further request would get."""
@@ -337,6 +398,16 @@ class Client:
             raise Stopped(f"401 ({WRONG_PASSWORD if self.person else NO_PASSWORD})")
         if status in STATUSES and first not in WHY:
             raise Stopped(f"{status} ({STATUSES[status]})")
+
+
+def is_ended(connection):
+    """Whether a server has closed a connection on which nothing is awaited."""
+    return connection.sock is None or bool(select.select([connection.sock], [], [], 0)[0])
+
+
+def changes_in(listed):
+    """The features that a listed edit puts, as JSON by their ids, and None for those that it deletes."""
+    return {change.get("put", change.get("delete")): encoded(change["feature"]) if "put" in change else None for change in listed}
 
 
 def conflict(change, now):

@@ -66,6 +66,8 @@ export class Server {
     /** The server at an address that ends in a slash. */
     constructor(base) {
         this.base = base;
+        // The number of the last edit that is known of.
+        this.known = 0;
     }
 
     async ask(path, words) {
@@ -107,12 +109,15 @@ export class Server {
         if (status !== 200) {
             throw new Error(`the server doesn't answer (${status})`);
         }
-        return parse(new TextDecoder().decode(content));
+        const told = parse(new TextDecoder().decode(content));
+        this.known = told.edits;
+        return told;
     }
 
     /** The number of the last edit. */
     async lastEdit() {
-        return (await this.value("admin/status")).edits;
+        this.known = (await this.value("admin/status")).edits;
+        return this.known;
     }
 
     /** The layers of the map with this edit. */
@@ -129,16 +134,23 @@ export class Server {
         return this.value(`admin/features/from/${id}`);
     }
 
-    /** Makes changes as one edit, and returns its number. What gets no reply is sent again: a checked edit is made once. */
+    /** Makes changes as one edit, and returns its number. What gets no reply is sent again only if it wasn't made. */
     async edit(changes) {
         const body = text({ changes });
         if (bytesOf(body) > MAX_BODY) {
             throw refusal(413, "");
         }
         const send = () => this.ask("admin/edits", { method: "POST", body, headers: { "Content-Type": "application/json" } });
-        const { status, content } = await send().catch(send).catch(() => {
+        const sendAgain = async () => {
+            const edit = await this.madeAs(changes);
+            return edit === null ? send() : { edit };
+        };
+        const { edit, status, content } = await send().catch(sendAgain).catch(() => {
             throw new Error("the server doesn't answer: the edit may be made or not. Save again: it isn't made twice");
         });
+        if (edit !== undefined) {
+            return edit;
+        }
         const word = new TextDecoder().decode(content).trim();
         if (status === 409 && word.startsWith("Changed")) {
             // It may be this very edit that changed the feature, by a request whose reply was lost.
@@ -150,7 +162,35 @@ export class Server {
         if (status !== 200) {
             throw refusal(status, word);
         }
-        return parse(word).edit;
+        this.known = parse(word).edit;
+        return this.known;
+    }
+
+    /**
+     * The number of an edit whose reply didn't come, or null if it wasn't made. A creation that somebody deleted since isn't made again: the list of
+     * edits tells it. If the server doesn't list them, nobody can tell, and this fails.
+     */
+    async madeAs(changes) {
+        const before = this.known, last = await this.lastEdit();
+        const key = list => list.map(({ put, feature = null, ...rest }) => `${put ?? rest.delete} ${canonical(feature)}`).sort().join();
+        for (let at = before + 1; at <= last;) {
+            const reply = await this.value(`admin/edits/from/${at}`).catch(() => null);
+            if (!reply?.edits.length) {
+                if (await this.isMade(changes)) {
+                    return last;
+                }
+                if (changes.some(change => change.was === null)) {
+                    throw new Error("it isn't known whether the edit was made");
+                }
+                return null;
+            }
+            const made = reply.edits.find(one => key(one.changes) === key(changes));
+            if (made) {
+                return made.edit;
+            }
+            at = reply.edits.at(-1).edit + 1;
+        }
+        return null;
     }
 
     /** Whether each feature is what these changes make of it. */

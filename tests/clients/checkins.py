@@ -76,9 +76,22 @@ class Desk:
         code, lines = gis("checkin", self.file, "--url", url or self.server.url)
         return code, lines[-1], lines
 
-    def lost(self, instead=lambda *_: None):
-        """A check-in whose replies to edits are lost. Returns its status."""
-        with Between(self.server, loses=lambda method, path: path == EDITS, instead=instead) as between:
+    def lost(self, is_made=True):
+        """A check-in whose first edit gets no reply, and is made or not; the server doesn't answer from then on. Returns its status."""
+        gone = []
+
+        def instead(_, path):
+            if gone or (path == EDITS and not is_made):
+                gone.append(path)
+                return 0, b""
+            return None
+
+        def loses(_, path):
+            if path == EDITS:
+                gone.append(path)
+            return bool(gone)
+
+        with Between(self.server, loses=loses, instead=instead) as between:
             return self.checkin(between.url)[0]
 
     def names(self):
@@ -152,7 +165,7 @@ def lost_reply(cases, folder):
         desk.add("second")
         desk.lost()
         desk.rename("second", "second again")
-        desk.lost(lambda method, path: (0, b"") if path == EDITS else None)
+        desk.lost(is_made=False)
         desk.rename("second again", "at last")
         code, _, _ = desk.checkin()
         cases.show("checkins: lost twice, made and not made", (code, desk.names()), (0, {4: "mine again", 5: "at last"}))

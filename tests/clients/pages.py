@@ -33,11 +33,14 @@ RED = """(() => {
     const canvas = document.getElementById("map"), {data} = canvas.getContext("2d").getImageData(%d, %d, 8, 8);
     return [...data.keys()].filter(at => at %% 4 === 0 && data[at] === 0xb0 && data[at + 1] === 0x3a && data[at + 2] === 0x2e).length;
 })()"""
-# Of the POSTs of a page some pass, then so many are made and their replies are lost; or nginx answers so many, since the server doesn't run.
-LOSE = """(() => { const asked = window.fetch; let passed = %d, left = %d; window.fetch = async (url, words) => {
+# Of the POSTs of a page one is made, and neither it nor anything else gets a reply for a while; or some pass, and then nginx answers so many, since
+# the server doesn't run.
+WHILE = 0.5
+LOSE = """(() => { const asked = window.fetch; let lost = null; window.fetch = async (url, words) => {
     const reply = await asked(url, words);
-    if (words?.method === "POST" && passed-- <= 0 && left-- > 0) { throw new TypeError("lost"); }
-    return reply; }; })()"""
+    if (words?.method === "POST") { lost ??= performance.now(); }
+    if (lost !== null && performance.now() - lost < %d) { throw new TypeError("lost"); }
+    return reply; }; })()""" % (1000 * WHILE)
 REFUSE = """(() => { const asked = window.fetch; let passed = %d, left = %d; window.fetch = async (url, words) =>
     words?.method === "POST" && passed-- <= 0 && left-- > 0 ? new Response("", {status: 502}) : asked(url, words); })()"""
 LAYER = "document.querySelector('#panel form input[aria-label=layer]').value"
@@ -184,6 +187,7 @@ class People:
         self.refused_conflict()
         self.refused_return()
         self.made_once()
+        self.deleted_before_the_reply()
         self.taken_id()
         self.large_feature()
         self.many_pieces()
@@ -309,8 +313,26 @@ class People:
         self.one.press("Save")
         told = self.saved(self.one)
         after = json.loads(curl(f"{self.server.url}/admin/status")[2])["edits"]
-        self.show("an edit whose reply was lost is sent again", told, f"feature 453 saved, edit {before + 1}")
+        self.show("an edit whose reply was lost is found on the map", told, f"feature 453 saved, edit {before + 1}")
         self.show("and made once", (after - before, self.get(453)["tags"]), (1, {"name": "Old School"}))
+
+    def deleted_before_the_reply(self):
+        """A new feature whose reply is lost, and which somebody else deletes before the page has asked: it isn't made again."""
+        edits, features = self.edits_and_features()
+        free = json.loads(curl(f"{self.server.url}/admin/status")[2])["last"] + 1
+        self.drawn_point("Gone")
+        self.one.value("""(() => { const asked = window.fetch; let first = true; window.fetch = async (url, words) => {
+            const reply = await asked(url, words);
+            if (first && words?.method === "POST") {
+                first = false;
+                await asked(new URL("../features/%d", location.href), {method: "DELETE"});
+                throw new TypeError("lost");
+            }
+            return reply; }; })()""" % free)
+        self.one.press("Save")
+        told = self.saved(self.one)
+        self.show("a new feature that somebody deletes before its reply isn't made again", (told, self.edits_and_features(), self.get(free)),
+                  (f"feature {free} saved, edit {edits + 1}", (edits + 2, features), None))
 
     def late_look(self):
         """The page looks for edits of others while its own has no reply yet, and learns what the feature is now after that."""
@@ -381,13 +403,14 @@ class People:
         self.write(self.one, "name", name)
 
     def made_once(self):
-        """New features of which both replies are lost: one is saved again as it is, one after another change."""
+        """New features whose edit gets no reply: one is saved again as it is, one after another change."""
         for names in (["Well", "Well"], ["Pump", "Old Pump"]):
             edits, features = self.edits_and_features()
             free = json.loads(curl(f"{self.server.url}/admin/status")[2])["last"] + 1
             self.drawn_point(names[0])
-            self.one.value(LOSE % (0, 2))
+            self.one.value(LOSE)
             told = self.refused(self.one, "Save")
+            time.sleep(WHILE)
             self.write(self.one, "name", names[1])
             self.one.press("Save")
             edits += len(set(names))
@@ -439,10 +462,11 @@ class People:
         made.wait("document.querySelector('#panel form')")
         named = "#panel form tbody tr:first-child input[aria-label=value]"
         told = []
-        for name, words in [("One", REFUSE % (1, 1)), ("One", LOSE % (0, 2))]:
+        for name, words in [("One", REFUSE % (1, 1)), ("One", LOSE)]:
             made.type(named, name)
             made.value(words)
             told.append(self.refused(made, "Save"))
+        time.sleep(WHILE)
         self.show("many pieces, of which a part is saved", (told, sorted(set(self.names(600, range(140))))), ([AWAY, UNKNOWN], ["Cut", "One"]))
         made.type(named, "Two")
         made.press("Save")

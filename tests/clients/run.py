@@ -32,6 +32,7 @@ from encodings_of_files import encodings
 from endings import endings
 from imports import disk_full, imports, kills, large
 from desktop import desktop
+from lost_replies import lost_replies
 from operation import operation
 from pages import page
 from screens import screens
@@ -790,6 +791,7 @@ def main():
         "page": page,
         "desktop": desktop,
         "checkins": checkins,
+        "lost-replies": lost_replies,
         "gdal": gdal,
         "large": large,
         "import": imports,
