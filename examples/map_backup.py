@@ -22,7 +22,9 @@ Of a server without it the ids have to be known:
 outline, and rings have the directions that GeoJSON asks for. Such a file is no backup: `load` refuses it, and `import_features.py` puts it
 into a map. Without --wholes each ring is saved in the direction that it has in the map, so that `load` puts back the same.
 
-`load` replaces nothing of a map that has other features of these ids, unless --overwrite says so. With --publish it frees the journal by a
+`load` replaces nothing of a map that has other features of these ids, unless --overwrite says so. --exactly makes the map that of the file: it
+also deletes what the map has and the file doesn't, after it has said how much of which layers that is; more than 20 deletions, if they are
+more than half of the map, are taken for a mistake, and then nothing is changed without --delete-many. With --publish it frees the journal by a
 publication whenever it is full; it puts up to 64 features in a request, and with --no-batches one. It ends with 1 if a request is refused.
 Both end with 3 if the server doesn't answer, and with 130 if they are interrupted. `save` leaves FILE as it was then, and what it got in
 FILE.part. Needs no package.
@@ -31,17 +33,20 @@ import argparse
 import json
 import os
 import sys
+from collections import Counter
 from itertools import chain
 
 from archive_ids import ids_in
 from disk_file import Damaged, moment_of
-from edits import MOST_CHANGES, NOTHING, encoded, put
+from edits import MOST_CHANGES, NOTHING, delete, encoded, put
 from ending import regular, run
 from geojson import feature_of, geojson_of
 from map_client import Client, NoAnswer, Stopped, ranges, word
 from wholes import right_handed, wholes_of
 
 START, END = '{"type":"FeatureCollection","features":[', "\n]}\n"
+# More deletions than this, and than half of the map, are taken for a mistake.
+MANY = 20
 START_OF_WHOLES = '{"type":"FeatureCollection","wholes":true,"features":['
 
 
@@ -149,21 +154,39 @@ def changes_for(rows, there, overwrites):
     return made
 
 
+def deletions_for(rows, there, many):
+    """The checked edits that delete what the map has and the file doesn't. Says what that is. Very many are taken for a mistake."""
+    known = {number for number, _ in rows}
+    gone = {number: was for number, was in there.items() if number not in known}
+    if gone:
+        layers = Counter(json.loads(was)["layer"] for was in gone.values())
+        print(f"to be deleted: {', '.join(f'{count:,} of {layer}' for layer, count in layers.most_common())}, which the file doesn't have", flush=True)
+    if len(gone) > max(MANY, len(there) // 2) and not many:
+        raise Refused(f"{len(gone):,} of the {len(there):,} features of the map would be deleted: nothing was changed (--delete-many deletes them)")
+    return [delete(number)._replace(was=was) for number, was in gone.items()]
+
+
 def load(words):
     """Puts the features of the file back."""
     # Of an id that the file has twice, the last feature counts.
     rows = list(dict(saved_in(words.file)).items())
     client = Client(words.url, words.publish, 1 if words.no_batches else MOST_CHANGES)
+    deletions = []
     if client.status() is None:
+        if words.exactly:
+            raise Refused("the server doesn't list its features, so --exactly can't compare them: start it with --admin")
         print("note: the server tells nothing of itself (start it with --admin): what it has of these features is replaced", flush=True)
         changes = [put(number, feature) for number, feature in rows]
     else:
-        changes = changes_for(rows, {number: encoded(feature) for number, feature in client.features()}, words.overwrite)
-    for change, refusal in client.make(changes):
+        there = {number: encoded(feature) for number, feature in client.features()}
+        deletions = deletions_for(rows, there, words.delete_many) if words.exactly else []
+        changes = changes_for(rows, there, words.overwrite or words.exactly)
+    for change, refusal in client.make([*changes, *deletions]):
         if refusal:
             raise Refused(f"feature {change.number}: {refusal}")
     same = len(rows) - len(changes)
-    print(f"{len(changes)} features put" + (f", {same} were there already" if same else ""))
+    deleted = f", {len(deletions)} deleted" if words.exactly else ""
+    print(f"{len(changes)} features put{deleted}" + (f", {same} were there already" if same else ""))
 
 
 def main():
@@ -177,6 +200,8 @@ def main():
     source.add_argument("--archive", action="store_true", help="save: publish, and take the ids from the archive")
     parser.add_argument("--wholes", action="store_true", help="save: features that the import cut as one, for other programs")
     parser.add_argument("--overwrite", action="store_true", help="load: replace features of the map that have other content")
+    parser.add_argument("--exactly", action="store_true", help="load: make the map that of the file: --overwrite, and delete what the file doesn't have")
+    parser.add_argument("--delete-many", action="store_true", help="load --exactly: delete even more than half of the features of the map")
     parser.add_argument("--publish", action="store_true", help="load: publish by steps when the journal is full")
     parser.add_argument("--no-batches", action="store_true", help="load: put each feature in a request of its own")
     words = parser.parse_args()

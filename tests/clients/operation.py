@@ -259,6 +259,33 @@ def served_disk(cases, folder):
     cases.show("operation: --disk, a damaged file", (code, lines, digest(files[0]) == digest(files[1])), (1, ["a root sector"], True))
 
 
+def exactly(cases, folder):
+    """The map is made that of a file: what was imported wrongly since is deleted, which is told before; very much isn't."""
+    monday, empty, saved = (os.path.join(folder, name) for name in ("monday.jsonl", "empty.jsonl", "saved.jsonl"))
+    with Server(folder, "exactly", 4096) as server:
+        fill(server, range(1, 31))
+        tool("map_backup.py", "save", monday, "--url", server.url)
+        fill(server, range(101, 141), "wrong", 10)
+        curl(server.url + "/features/3", "-X", "DELETE")
+        curl(server.url + "/features/4", "-X", "PUT", body=feature("p", 0, 0))
+        code, lines = tool("map_backup.py", "load", monday, "--exactly", "--url", server.url)
+        told = ["to be deleted: 40 of wrong, which the file doesn't have",
+                "40 of the 69 features of the map would be deleted: nothing was changed (--delete-many deletes them)"]
+        cases.show("operation: load --exactly, very many deletions", (code, lines, status(server)["features"]), (1, told, 69))
+        code, lines = tool("map_backup.py", "load", monday, "--exactly", "--delete-many", "--url", server.url)
+        cases.show("operation: load --exactly --delete-many", (code, lines), (0, [told[0], "2 features put, 40 deleted, 28 were there already"]))
+        tool("map_backup.py", "save", saved, "--url", server.url)
+        cases.show("operation: the map is that of the file", digest(saved), digest(monday))
+        code, lines = tool("map_backup.py", "load", monday, "--exactly", "--url", server.url)
+        cases.show("operation: load --exactly of what the map has", (code, lines), (0, ["0 features put, 0 deleted, 30 were there already"]))
+        open(empty, "w", encoding="utf-8").close()
+        code, _ = tool("map_backup.py", "load", empty, "--exactly", "--url", server.url)
+        cases.show("operation: load --exactly of an empty file", (code, status(server)["features"]), (1, 30))
+    with Server(folder, "exactly_unseen", 4096, more=()) as server:
+        code, lines = tool("map_backup.py", "load", monday, "--exactly", "--url", server.url)
+        cases.show("operation: load --exactly without --admin", (code, status_of(curl(server.url + "/features/1"))), (1, 404))
+
+
 def passed_by(cases, folder):
     """Publications pass while the disk file is read: it begins again. Edits go on meanwhile."""
     with Server(folder, "passed.disk", 2048) as server:
@@ -442,6 +469,6 @@ def operation(cases, folder):
     """Each task of an operator."""
     place = os.path.join(folder, "operation")
     os.mkdir(place)
-    for part in (rooms, touched, watching, served_disk, passed_by, written_disks, wholes, stores):
+    for part in (rooms, touched, watching, served_disk, passed_by, exactly, written_disks, wholes, stores):
         part(cases, place)
     shutil.rmtree(place)
