@@ -3,14 +3,14 @@
 
     python3 examples/town.py > town.geojson
 
-The property `layer` of each feature names its layer in the map (`import_features.py --layer-field layer`). The same town is written
+The property `layer` of each feature names its layer in the map (`vtmap import --layer-field layer`). The same town is written
 each time. Needs no package.
 """
 import json
 import math
+import os
 import random
-
-from ending import run
+import sys
 
 LONGITUDE, LATITUDE = 7.5, 54.5
 METRES = 111320.0
@@ -134,8 +134,15 @@ def town():
 
 def main():
     lines = [json.dumps(row) for row in town()]
-    print('{"type":"FeatureCollection","features":[\n' + ",\n".join(lines) + "\n]}")
+    try:
+        print('{"type":"FeatureCollection","features":[\n' + ",\n".join(lines) + "\n]}", flush=True)
+    except OSError as fault:
+        sys.stderr.write(f"standard output: {fault}\n")
+        # What wasn't written would be tried again at the end.
+        os.dup2(os.open(os.devnull, os.O_WRONLY), sys.stdout.fileno())
+        return 1
+    return 0
 
 
 if __name__ == "__main__":
-    run(main)
+    sys.exit(main())

@@ -2,9 +2,8 @@
 import json
 import os
 import subprocess
-import sys
 
-from stand import JSON, PROGRAM, SHOWN, TOP, Cases, Server, curl, feature, refusal, same, status_of, wanted
+from stand import JSON, PROGRAM, SHOWN, VTMAP, Cases, Server, curl, feature, refusal, same, status_of, wanted
 
 STATUS = "/admin/status"
 FROM = "/admin/features/from/"
@@ -19,8 +18,8 @@ def status(**changes):
 
 
 def script(name, *words):
-    """What a script of examples/ ends with, and prints."""
-    child = subprocess.run([sys.executable, os.path.join(TOP, "examples", name), *words], capture_output=True, text=True, check=False)
+    """What a command of vtmap ends with, and prints."""
+    child = subprocess.run([*VTMAP, name, *words], capture_output=True, text=True, check=False)
     return child.returncode, (child.stdout + child.stderr).splitlines()
 
 
@@ -39,10 +38,10 @@ def without(cases, folder):
         for path in (STATUS, FROM + "0"):
             for method in ("GET", "POST", "DELETE"):
                 same(cases, f"without --admin: {method} {path}", curl(server.url + path, "-X", method), refusal(404, "NotFound"))
-        lines = script("map_backup.py", "save", os.path.join(folder, "none.geojson"), "--url", server.url)
+        lines = script("save", os.path.join(folder, "none.geojson"), "--url", server.url)
         cases.show("without --admin: a back-up says what is missing", lines,
                    (1, ["the server doesn't list its features: start it with --admin, or give --disk, --numbers or --archive"]))
-        cases.show("without --admin: watch.py", script("watch.py", server.url), (3, [f"{server.url}{STATUS}: 404: is the server started with --admin?"]))
+        cases.show("without --admin: vtmap watch", script("watch", "--url", server.url), (3, [f"{server.url}: 404: is the server started with --admin?"]))
 
 
 def statuses(cases, server):
@@ -81,10 +80,10 @@ def listing(cases, server):
 
 
 def watched(cases, server):
-    cases.show("watch.py: nothing to do", script("watch.py", server.url), (0, [f"{MANY} features, edit 6, generation 1: nothing to do"]))
-    code, lines = script("watch.py", server.url, "--at", "1")
+    cases.show("vtmap watch: nothing to do", script("watch", "--url", server.url), (0, [f"{MANY} features, edit 6, generation 1: nothing to do"]))
+    code, lines = script("watch", "--url", server.url, "--at", "1")
     # A batch of 64 points has 1,600 bytes, which take four sectors; the last batch and the deletion take one each.
-    cases.show("watch.py: the journal", (code, lines), (1, ["14 of the 1,024 sectors of the journal are used: publish (examples/publish.sh)"]))
+    cases.show("vtmap watch: the journal", (code, lines), (1, ["14 of the 1,024 sectors of the journal are used: publish (`vtmap publish`)"]))
 
 
 def saved(cases, folder, server):
@@ -92,11 +91,11 @@ def saved(cases, folder, server):
     files = [os.path.join(folder, "saved" + ending) for ending in (".geojson", ".jsonl")]
     for file in files:
         name = os.path.basename(file)
-        cases.show(f"back-up: {name}", script("map_backup.py", "save", file, "--url", server.url), (0, [f"{MANY} features saved"]))
+        cases.show(f"back-up: {name}", script("save", file, "--url", server.url), (0, [f"{MANY} features saved"]))
         with Server(folder, name + ".disk", more=["--admin"]) as other:
-            cases.show(f"back-up: {name} put back", script("map_backup.py", "load", file, "--url", other.url), (0, [f"{MANY} features put"]))
+            cases.show(f"back-up: {name} put back", script("load", file, "--url", other.url), (0, [f"{MANY} features put"]))
             again = file + ".again" + os.path.splitext(file)[1]
-            script("map_backup.py", "save", again, "--url", other.url)
+            script("save", again, "--url", other.url)
             cases.show(f"back-up: {name} is the same again", open(again, "rb").read() == open(file, "rb").read(), True)
     with open(files[1], encoding="utf-8") as lines:
         cases.show("back-up: a line is the server's own reply", lines.readline(), f'{{"feature":{SHOWN},"id":2}}\n')

@@ -1,4 +1,4 @@
-"""The part `batches` of tests/clients/run.py: `POST /edits` by curl and through nginx, and the scripts of examples/ that send batches.
+"""The part `batches` of tests/clients/run.py: `POST /edits` by curl and through nginx, and the commands of vtmap that send batches.
 
 How many edits a script made is what a publication says: its `edits` is the number of the last one.
 """
@@ -8,13 +8,12 @@ import os
 import shutil
 import signal
 import subprocess
-import sys
 import threading
 
-from imports import BACKUP, has_gdal, imported, row, shown, written
-from stand import EXAMPLES, JSON, PROGRAM, TEXT, Nginx, Server, curl, feature, refusal, same, status_of, wanted
+from imports import has_gdal, imported, row, shown, written
+from stand import JSON, PROGRAM, TEXT, VTMAP, Nginx, Server, curl, feature, refusal, same, status_of, wanted
 
-DELETE_LAYER = [sys.executable, os.path.join(EXAMPLES, "delete_layer.py")]
+DELETE_LAYER = [*VTMAP, "delete-layer"]
 # Tile 0/0/0 with the points 7 and 8 of layer `p`, by the standard of vector tiles.
 TWO = "1a1e0a0170120908071801220309000012090808180122030900002880207802"
 OF_JSON = ("-H", "Content-Type: application/json")
@@ -136,20 +135,20 @@ def imports_in_batches(cases, folder):
         cases.show("batches: an import with a text that is too long", (status, said), (1, ["feature 1071 refused: E7 Value", "129 taken, 1 refused"]))
         cases.show("batches: of it, 64 points are one edit, 63 one each, two one", edit_count(server), 153 + 1 + 63 + 1)
         saved = os.path.join(folder, "batched_backup.geojson")
-        subprocess.run([*BACKUP, "save", saved, "--numbers", "1-150", "--url", server.url], check=True, capture_output=True)
+        subprocess.run([*VTMAP, "save", saved, "--numbers", "1-150", "--url", server.url], check=True, capture_output=True)
     with Server(folder, "loaded", 4096) as server:
-        cases.show("batches: load", tool([*BACKUP, "load", saved], server.url), (0, ["150 features put"]))
+        cases.show("batches: load", tool([*VTMAP, "load", saved], server.url), (0, ["150 features put"]))
         cases.show("batches: load, its edits", edit_count(server), 3)
         with open(saved, encoding="utf-8") as file:
             rows = json.load(file)["features"][:2]
         twice = written(folder, "twice.geojson", [rows[0], rows[1], {**rows[0], "layer": "later"}])
         refused = (1, ["1 of these features are others in the map: nothing was put (--overwrite replaces them)"])
-        cases.show("batches: load replaces nothing", tool([*BACKUP, "load", twice], server.url), refused)
-        cases.show("batches: load --overwrite", tool([*BACKUP, "load", twice, "--overwrite"], server.url), (0, ["1 features put, 1 were there already"]))
+        cases.show("batches: load replaces nothing", tool([*VTMAP, "load", twice], server.url), refused)
+        cases.show("batches: load --overwrite", tool([*VTMAP, "load", twice, "--overwrite"], server.url), (0, ["1 features put, 1 were there already"]))
         found = ((shown(server, 1) or {}).get("layer"), edit_count(server))
         cases.show("batches: load of an id that is there twice: the later one", found, ("later", 3 + 1))
     with Server(folder, "loaded_twice", 4096) as server:
-        tool([*BACKUP, "load", twice], server.url)
+        tool([*VTMAP, "load", twice], server.url)
         found = ((shown(server, 1) or {}).get("layer"), edit_count(server))
         cases.show("batches: load into an empty map of an id that is there twice", found, ("later", 1))
 
@@ -282,13 +281,13 @@ def deleted(cases, folder):
         for layer, first in (("a", 0), ("b", 64), ("a", 128)):
             sent(server, batch(*[put(number, layer=layer) for number in range(first, first + 64)]))
         said = (0, ["128 features of a deleted", "0 features of c deleted"])
-        cases.show("batches: delete_layer.py", tool([*DELETE_LAYER, "a", "c"], server.url), said)
+        cases.show("batches: vtmap delete-layer", tool([*DELETE_LAYER, "a", "c"], server.url), said)
         left = [number for number in range(192) if shown(server, number)]
         cases.show("batches: the other layer is left", (left, edit_count(server)), ([*range(64, 128)], 6))
         there = tool([*DELETE_LAYER, "b", "--numbers", "60-69,127,5000"], server.url)
-        cases.show("batches: delete_layer.py --numbers", there, (0, ["7 features of b deleted"]))
+        cases.show("batches: vtmap delete-layer --numbers", there, (0, ["7 features of b deleted"]))
         gone = tool([*DELETE_LAYER, "b", "--no-batches"], server.url)
-        cases.show("batches: delete_layer.py --no-batches", (gone, edit_count(server)), ((0, ["57 features of b deleted"]), 6 + 1 + 57))
+        cases.show("batches: vtmap delete-layer --no-batches", (gone, edit_count(server)), ((0, ["57 features of b deleted"]), 6 + 1 + 57))
 
 
 def behind_nginx(cases, folder):

@@ -1,4 +1,4 @@
-"""The part `checkins` of run.py: new features of examples/gis.py whose edit was refused, or whose reply was lost, and what their author and others
+"""The part `checkins` of run.py: new features of `vtmap checkin` whose edit was refused, or whose reply was lost, and what their author and others
 do before the next check-in. Each is made once, under an id of its own, and replaces nothing of others. A row is added by SQL, as QGIS adds it.
 """
 import json
@@ -10,23 +10,23 @@ import sys
 
 from between import Between
 from imports import has_gdal
-from stand import EXAMPLES, SYSTEM_PYTHON, Server, curl, feature
+from stand import TOP, VTMAP, Server, curl, feature
 from updates import listed
 
-sys.path.append(EXAMPLES)
-import geopackage  # noqa: E402
-from gis_file import normal  # noqa: E402
-from wholes import wholes_of  # noqa: E402
+sys.path.append(TOP)
+from vtmap.files import geopackage  # noqa: E402
+from vtmap.files.checkout_file import normal  # noqa: E402
+from vtmap.geometry.wholes import wholes_of  # noqa: E402
 
 EDITS = "/admin/edits"
-FROM = "/admin/features/from/"
+PAGE = "/admin/features/page/"
 LONG = "x" * 1100
 QUIET = "0 new, 0 changed, 0 deleted, 0 conflicts, 0 refused"
 
 
 def gis(*words):
-    """The status and the lines of examples/gis.py."""
-    told = subprocess.run([SYSTEM_PYTHON, os.path.join(EXAMPLES, "gis.py"), *words], capture_output=True, text=True, timeout=300)
+    """The status and the lines of a command."""
+    told = subprocess.run([*VTMAP, *words], capture_output=True, text=True, timeout=300)
     return told.returncode, (told.stdout + told.stderr).splitlines()
 
 
@@ -144,7 +144,7 @@ def taken_meanwhile(cases, folder):
         desk.add("mine")
 
         def meddles(method, path):
-            if path == FROM + "0":
+            if path == PAGE + "0":
                 curl(server.url + "/features/4", "-X", "PUT", body=point("theirs"))
 
         with Between(server, before=meddles) as between:

@@ -1,4 +1,4 @@
-"""The part `desktop` of run.py: QGIS, by its Python module and without a window, edits what examples/gis.py checked out, and the difference is
+"""The part `desktop` of run.py: QGIS, by its Python module and without a window, edits what `vtmap checkout` wrote, and the difference is
 sent back. Somebody else edits the map meanwhile."""
 import json
 import os
@@ -6,7 +6,7 @@ import sqlite3
 import subprocess
 
 from pages import town
-from stand import EXAMPLES, SYSTEM_PYTHON, Server, curl, status_of
+from stand import SYSTEM_PYTHON, VTMAP, Server, curl, status_of
 
 QGIS = """
 import os, sys
@@ -93,8 +93,8 @@ def run(folder, script, *words):
 
 
 def gis(*words):
-    """The status and the lines of examples/gis.py."""
-    told = subprocess.run([SYSTEM_PYTHON, os.path.join(EXAMPLES, "gis.py"), *words], capture_output=True, text=True, timeout=300)
+    """The status and the lines of a command."""
+    told = subprocess.run([*VTMAP, *words], capture_output=True, text=True, timeout=300)
     return told.returncode, (told.stdout + told.stderr).splitlines()
 
 
@@ -147,7 +147,7 @@ class Desk:
         self.show("what nobody edited sends nothing", gis("checkin", self.file), (0, ["0 new, 0 changed, 0 deleted, 0 conflicts, 0 refused"]))
         self.show("and makes no edit", self.edits(), edit)
         told = f"{self.file} exists: check it in, and give --force to write it anew"
-        self.show("a file isn't written over", gis("checkout", self.file, "--url", self.url), (2, [told]))
+        self.show("a file isn't written over", gis("checkout", self.file, "--url", self.url), (1, [told]))
         part = os.path.join(self.folder, "part.gpkg")
         status, lines = gis("checkout", part, "--url", self.url, "--layer", "place", "--bbox", "7.49,54.49,7.505,54.51")
         self.show("a part of it", (status, lines[0].split(": ")[1].split(",")[0]), (0, "4 features in 1 tables"))
@@ -203,7 +203,7 @@ class Desk:
                              [(f"made {number}",) for number in range(600)])
         kills = 0
         for seconds in (0.3, 0.5, 0.7, 0.9, 1.1, 1.3):
-            child = subprocess.Popen([SYSTEM_PYTHON, os.path.join(EXAMPLES, "gis.py"), "checkin", many], stdout=subprocess.DEVNULL)
+            child = subprocess.Popen([*VTMAP, "checkin", many], stdout=subprocess.DEVNULL)
             try:
                 child.wait(seconds)
             except subprocess.TimeoutExpired:

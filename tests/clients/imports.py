@@ -1,4 +1,4 @@
-"""The parts of tests/clients/run.py about examples/import_features.py: large features, file formats, full disks, killed servers.
+"""The parts of tests/clients/run.py about `vtmap import`: large features, file formats, full disks, killed servers.
 
 Files are written here as GeoJSON and made into other formats by ogr2ogr. Wanted coordinates are computed from the formula of Web Mercator.
 """
@@ -14,10 +14,8 @@ import subprocess
 import threading
 import time
 
-from stand import EXAMPLES, HERE, PROGRAM, SYSTEM_PYTHON, Nginx, Server, curl, feature, field, status_of
+from stand import HERE, PROGRAM, SYSTEM_PYTHON, VTMAP, Nginx, Server, curl, feature, field, status_of
 
-TOOL = [SYSTEM_PYTHON, os.path.join(EXAMPLES, "import_features.py")]
-BACKUP = [SYSTEM_PYTHON, os.path.join(EXAMPLES, "map_backup.py")]
 WORLD = 2 ** 32
 
 
@@ -45,9 +43,15 @@ def written(folder, name, rows):
     return path
 
 
+def import_of(path, url, *words):
+    """The command that imports a file. `--update` stands for the command of that name, and so does `--replace`."""
+    name = "update" if {"--update", "--replace"} & set(words) else "import"
+    return [*VTMAP, name, path, "--url", url, *(word for word in words if word != "--update")]
+
+
 def imported(path, url, *words):
     """The status and the lines of an import, without those that say where the data is and what of the disk is used."""
-    child = subprocess.run([*TOOL, path, "--url", url, *words], capture_output=True, text=True)
+    child = subprocess.run(import_of(path, url, *words), capture_output=True, text=True)
     lines = (child.stdout + child.stderr).splitlines()
     return child.returncode, [line for line in lines if not line.startswith(("used: ", "look at it: "))]
 
@@ -84,9 +88,9 @@ def area_of(rings):
 
 
 def features_between(server, folder, first, last):
-    """The features of these numbers, as map_backup.py saves them: as the body of a PUT each."""
+    """The features of these numbers, as vtmap saves them: as the body of a PUT each."""
     path = os.path.join(folder, "saved.geojson")
-    subprocess.run([*BACKUP, "save", path, "--numbers", f"{first}-{last}", "--url", server.url], check=True, capture_output=True)
+    subprocess.run([*VTMAP, "save", path, "--numbers", f"{first}-{last}", "--url", server.url], check=True, capture_output=True)
     with open(path, encoding="utf-8") as file:
         return {row["id"]: row for row in json.load(file)["features"]}
 
@@ -457,7 +461,7 @@ def interrupted(cases, folder):
     with Server(folder, "whole_import", 16384) as whole, Server(folder, "cut_import", 16384) as server:
         status, lines = imported(path, whole.url, *words)
         total = int(lines[-1].split()[0])
-        child = subprocess.Popen([*TOOL, path, "--url", server.url, *words, "--no-batches"], stdout=subprocess.PIPE, text=True)
+        child = subprocess.Popen(import_of(path, server.url, *words, "--no-batches"), stdout=subprocess.PIPE, text=True)
         while shown(server, 1) is None and child.poll() is None:
             time.sleep(0.01)
         child.send_signal(signal.SIGINT)

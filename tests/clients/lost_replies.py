@@ -7,12 +7,12 @@ import sys
 from batches import edit_count
 from between import Between, once
 from imports import has_gdal, imported, row, written
-from stand import EXAMPLES, Server, curl
+from stand import TOP, Server, curl
 from updates import listed, status
 
-sys.path.append(EXAMPLES)
-import map_client  # noqa: E402
-from edits import checked, delete, put  # noqa: E402
+sys.path.append(TOP)
+from vtmap.client.client import Client  # noqa: E402
+from vtmap.client.edits import checked, delete, put  # noqa: E402
 
 EDITS, PLAIN, FEED = "/admin/edits", "/edits", "/admin/edits/from/"
 
@@ -85,7 +85,7 @@ def by_the_client(cases, folder):
                 return method in first and is_made and first[method] == 1
 
             with Between(server, loses=loses, instead=instead) as between:
-                client = map_client.Client(between.url)
+                client = Client(between.url)
                 client.status()
                 refusals = [str(refusal) for _, refusal in client.make(changes) if refusal]
                 client.close()
@@ -103,7 +103,7 @@ def by_the_client(cases, folder):
             made(f"an unchecked deletion alone{more}", [delete(1)], {}, 1, has_feed=has_feed)
         made("checked ones that weren't made", [checked(put(1, one), None), checked(put(2, one), None)], {1: "one", 2: "one"}, 1, is_made=False)
         made("unchecked ones that weren't made", [put(1, two), delete(2)], {1: "two"}, 1, is_made=False)
-        client = map_client.Client(server.url)
+        client = Client(server.url)
         client.status()
         client.connection.sock.shutdown(2)
         refusals = [str(refusal) for _, refusal in client.make([checked(put(9, one), None)]) if refusal]

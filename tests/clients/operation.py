@@ -13,19 +13,19 @@ import sys
 import threading
 import time
 
-from imports import BACKUP, area_of, has_gdal, imported, lists_of, round_ring, row, world, written
-from stand import EXAMPLES, HERE, Nginx, Server, curl, feature, free_port, status_of
+from imports import area_of, has_gdal, imported, lists_of, round_ring, row, world, written
+from stand import HERE, TOP, VTMAP, Nginx, Server, curl, feature, free_port, status_of
 
-sys.path += [os.path.join(HERE, "..", "..", "model"), EXAMPLES]
+sys.path += [os.path.join(HERE, "..", "..", "model"), TOP]
 import disk as model  # noqa: E402
-import disk_file  # noqa: E402
+from vtmap.files import disk_file  # noqa: E402
 
-PUBLISH = ["bash", os.path.join(EXAMPLES, "publish.sh")]
+PUBLISH = [*VTMAP, "publish", "--url"]
 
 
 def tool(name, *words):
-    """The status and the lines of a script of examples/."""
-    child = subprocess.run([sys.executable, os.path.join(EXAMPLES, name), *words], capture_output=True, text=True)
+    """The status and the lines of a command of vtmap."""
+    child = subprocess.run([*VTMAP, name, *words], capture_output=True, text=True)
     return child.returncode, (child.stdout + child.stderr).splitlines()
 
 
@@ -64,23 +64,23 @@ def rooms(cases, folder):
     blind = "Features are deleted without looking at them again"
     with Server(folder, "rooms", 1024) as server:
         cases.show("operation: the map can't be published", crowded(server, 50).startswith(b"AreaFull "), True)
-        code, lines = tool("delete_layer.py", "q", "--url", server.url)
+        code, lines = tool("delete-layer", "q", "--url", server.url)
         said = "The journal has 1 of the 2 sectors that the deletions take: move the map to a larger disk, or delete as many as there is room for"
         wanted = (1, True, "0 features of q deleted", 80 + 60)
         cases.show("operation: where all can't be deleted nothing is", (code, said in lines[0], lines[-1], status(server)["features"]), wanted)
-        code, lines = tool("delete_layer.py", "q", "--anyway", "--url", server.url)
+        code, lines = tool("delete-layer", "q", "--anyway", "--url", server.url)
         told = any(blind in line for line in lines)
         wanted = (0, True, "80 features of q deleted")
         cases.show("operation: with one sector of the journal 55 features are deleted, then there is room", (code, told, lines[-1]), wanted)
         fill(server, range(1001, 1011), "r")
         curl(server.url + "/publish/begin", "-X", "POST")
-        code, lines = tool("delete_layer.py", "r", "--url", server.url)
+        code, lines = tool("delete-layer", "r", "--url", server.url)
         under_way = status(server)["left"] is not None
         cases.show("operation: deleted while a publication is under way", (code, lines, under_way), (0, ["10 features of r deleted"], True))
         cases.show("operation: the other layer is there", status(server)["features"], 60)
     with Server(folder, "no_room", 1024) as server:
         crowded(server, 90)
-        code, lines = tool("delete_layer.py", "q", "--anyway", "--url", server.url)
+        code, lines = tool("delete-layer", "q", "--anyway", "--url", server.url)
         said = ["65 features are left; the journal has 0 of its sectors free", "55 features of q deleted"]
         cases.show("operation: where that isn't enough, what is left is told", (code, lines[-2:]), (1, said))
 
@@ -88,7 +88,7 @@ def rooms(cases, folder):
 # ---- watching
 
 def touched(cases, folder):
-    """What `watch.py` says of an area that is nearly full, once edits have touched little or much of the map since the last publication."""
+    """What `vtmap watch` says of an area that is nearly full, once edits have touched little or much of the map since the last publication."""
     with Server(folder, "touched", 1024) as server:
         fill(server, range(1, 91))
         curl(server.url + "/publish", "-X", "POST")
@@ -97,17 +97,17 @@ def touched(cases, folder):
 
         def lines():
             percent = 100 * area["used"] // area["sectors"]
-            return [line.partition(": ") for line in tool("watch.py", server.url, "--at", str(percent))[1]]
+            return [line.partition(": ") for line in tool("watch", "--url", server.url, "--at", str(percent))[1]]
 
         curl(server.url + "/features/1", "-X", "PUT", body=feature("p", 0, 0))
-        cases.show("operation: watch.py, an area that is nearly full", [line[0] for line in lines()], [used])
+        cases.show("operation: vtmap watch, an area that is nearly full", [line[0] for line in lines()], [used])
         world_wide = {"lines": [[[0, 0], [2 ** 32 - 1, 2 ** 32 - 1]]]}
         curl(server.url + "/features/2", "-X", "PUT", body=feature("p", 0, 0, world_wide))
         found = lines()
-        cases.show("operation: watch.py, and edits everywhere", [line[0] for line in found], [used, "the next publication may not fit"])
-        cases.show("operation: watch.py, how much they touched", "edits since have touched 1,024 of 1,024 cells" in found[-1][2], True)
+        cases.show("operation: vtmap watch, and edits everywhere", [line[0] for line in found], [used, "the next publication may not fit"])
+        cases.show("operation: vtmap watch, how much they touched", "edits since have touched 1,024 of 1,024 cells" in found[-1][2], True)
         curl(server.url + "/publish", "-X", "POST")
-        cases.show("operation: watch.py, once they are published", "the next publication may not fit" in [line[0] for line in lines()], False)
+        cases.show("operation: vtmap watch, once they are published", "the next publication may not fit" in [line[0] for line in lines()], False)
 
 
 def watching(cases, folder):
@@ -116,35 +116,35 @@ def watching(cases, folder):
     words = ["--wait", "0.5", "--state", state, "--record", record, "--metrics", metrics]
 
     def watched(url, *more):
-        code, lines = tool("watch.py", url, *words, *more)
+        code, lines = tool("watch", "--url", url, *words, *more)
         return code, [re.sub(r"\d+\.\d+", "N", line.split(":")[0]) for line in lines]
 
     with Server(folder, "watched", 1024) as server:
         subprocess.run([*PUBLISH, server.url, "--record", record], check=True, capture_output=True)
-        cases.show("operation: watch.py, nothing to do", watched(server.url), (0, ["0 features, edit 0, generation 1"]))
+        cases.show("operation: vtmap watch, nothing to do", watched(server.url), (0, ["0 features, edit 0, generation 1"]))
         curl(server.url + "/features/1", "-X", "PUT", body=feature())
         curl(server.url + "/publish/begin", "-X", "POST")
-        cases.show("operation: watch.py, a publication that was left", watched(server.url), (1, ["a publication was left with 3 sectors to go"]))
+        cases.show("operation: vtmap watch, a publication that was left", watched(server.url), (1, ["a publication was left with 3 sectors to go"]))
         subprocess.run([*PUBLISH, server.url, "--record", record], check=True, capture_output=True)
         watched(server.url)
         fill(server, range(1, 61))
         said = "the journal is full in N hours, if edits go on like this, and publications come every N hours"
-        cases.show("operation: watch.py, a journal that fills too fast", watched(server.url, "--every", "24"), (1, [said]))
+        cases.show("operation: vtmap watch, a journal that fills too fast", watched(server.url, "--every", "24"), (1, [said]))
         fill(server, range(101, 131))
         lines = watched(server.url, "--every", "0.000001")[1]
-        cases.show("operation: watch.py, an old publication", lines[:1], ["the last publication was N hours ago, and they are to come every N hours"])
+        cases.show("operation: vtmap watch, an old publication", lines[:1], ["the last publication was N hours ago, and they are to come every N hours"])
         subprocess.run([*PUBLISH, server.url, "--record", record], check=True, capture_output=True)
         fill(server, range(201, 291))
         lines = watched(server.url)[1]
-        cases.show("operation: watch.py, an area that the next publication doesn't fit", "the next publication may not fit" in lines, True)
+        cases.show("operation: vtmap watch, an area that the next publication doesn't fit", "the next publication may not fit" in lines, True)
         refused = subprocess.run([*PUBLISH, server.url, "--record", record], capture_output=True, text=True)
-        cases.show("operation: publish.sh is refused", (refused.returncode, refused.stderr.startswith("/publish/begin: AreaFull need ")), (1, True))
+        cases.show("operation: vtmap publish is refused", (refused.returncode, refused.stderr.startswith("/publish/begin: AreaFull need ")), (1, True))
         code, lines = watched(server.url)
-        cases.show("operation: watch.py, a publication that was refused", (code, lines[0]), (2, "the publication N hours ago wasn't made"))
+        cases.show("operation: vtmap watch, a publication that was refused", (code, lines[0]), (2, "the publication N hours ago wasn't made"))
         while status(server)["journal"]["used"] < 256:
             curl(server.url + "/features/1", "-X", "PUT", body=feature("p", 0, 0))
         code, lines = watched(server.url)
-        cases.show("operation: watch.py, a full journal", (code, lines[1]), (2, "the journal is full"))
+        cases.show("operation: vtmap watch, a full journal", (code, lines[1]), (2, "the journal is full"))
         with open(metrics, encoding="utf-8") as file:
             told = dict(line.split() for line in file if not line.startswith("#"))
         # All points are in the first row of cells: those of `fill`, and the one of feature 1.
@@ -157,14 +157,14 @@ def watching(cases, folder):
             os.remove(record)
             words[4:6] = []
             with Nginx(nginx, folder, server) as front:
-                cases.show("operation: watch.py through nginx", watched(front.url)[0], 2)
+                cases.show("operation: vtmap watch through nginx", watched(front.url)[0], 2)
                 server.end(signal.SIGKILL)
-                code, lines = tool("watch.py", front.url, *words)
-                said = f"{front.url}/admin/status: 502: the proxy in front of the server answers, but the server doesn't: systemctl status vtserve"
-                cases.show("operation: watch.py, a server that is down behind nginx", (code, lines), (2, [said]))
+                code, lines = tool("watch", "--url", front.url, *words)
+                said = f"{front.url}: 502: the proxy in front of the server answers, but the server doesn't: systemctl status vtserve"
+                cases.show("operation: vtmap watch, a server that is down behind nginx", (code, lines), (2, [said]))
             shutil.rmtree(front.folder)
         server.end(signal.SIGKILL) if server.child.poll() is None else None
-        cases.show("operation: watch.py, no server", watched(server.url)[0], 2)
+        cases.show("operation: vtmap watch, no server", watched(server.url)[0], 2)
         with open(metrics, encoding="utf-8") as file:
             cases.show("operation: its metric", "vtserve_up 0\n" in file.read(), True)
 
@@ -233,7 +233,7 @@ def served_disk(cases, folder):
         end = time.monotonic() + 20
         while time.monotonic() < end and busy.is_alive():
             before = busy.done
-            code, lines = tool("map_backup.py", "save", saved, "--disk", server.disk)
+            code, lines = tool("save", saved, "--disk", server.disk)
             told = re.fullmatch(r"(\d+) features saved, of the map after edit ([\d,]+)", lines[0] if lines else "")
             edit = int(told[2].replace(",", "")) if told else -1
             edits.append(edit)
@@ -249,13 +249,13 @@ def served_disk(cases, folder):
         cases.show("operation: and it went on", (len(edits) > 10, edits == sorted(edits), busy.publications > 10), (True, True, True))
         cases.say(f"{len(edits)} times, edits {edits[0]} to {edits[-1]}, {busy.publications} publications")
         files = [os.path.join(folder, name) for name in ("list.jsonl", "disk.jsonl")]
-        tool("map_backup.py", "save", files[0], "--url", server.url)
-        tool("map_backup.py", "save", files[1], "--disk", server.disk)
+        tool("save", files[0], "--url", server.url)
+        tool("save", files[1], "--disk", server.disk)
         cases.show("operation: --disk and the server's list are the same file", digest(files[0]), digest(files[1]))
     with open(server.disk, "r+b") as file:
         file.seek(512)
         file.write(b"x")
-    code, lines = tool("map_backup.py", "save", files[1], "--disk", server.disk)
+    code, lines = tool("save", files[1], "--disk", server.disk)
     cases.show("operation: --disk, a damaged file", (code, lines, digest(files[0]) == digest(files[1])), (1, ["a root sector"], True))
 
 
@@ -264,25 +264,25 @@ def exactly(cases, folder):
     monday, empty, saved = (os.path.join(folder, name) for name in ("monday.jsonl", "empty.jsonl", "saved.jsonl"))
     with Server(folder, "exactly", 4096) as server:
         fill(server, range(1, 31))
-        tool("map_backup.py", "save", monday, "--url", server.url)
+        tool("save", monday, "--url", server.url)
         fill(server, range(101, 141), "wrong", 10)
         curl(server.url + "/features/3", "-X", "DELETE")
         curl(server.url + "/features/4", "-X", "PUT", body=feature("p", 0, 0))
-        code, lines = tool("map_backup.py", "load", monday, "--exactly", "--url", server.url)
+        code, lines = tool("load", monday, "--exactly", "--url", server.url)
         told = ["to be deleted: 40 of wrong, which the file doesn't have",
                 "40 of the 69 features of the map would be deleted: nothing was changed (--delete-many deletes them)"]
         cases.show("operation: load --exactly, very many deletions", (code, lines, status(server)["features"]), (1, told, 69))
-        code, lines = tool("map_backup.py", "load", monday, "--exactly", "--delete-many", "--url", server.url)
+        code, lines = tool("load", monday, "--exactly", "--delete-many", "--url", server.url)
         cases.show("operation: load --exactly --delete-many", (code, lines), (0, [told[0], "2 features put, 40 deleted, 28 were there already"]))
-        tool("map_backup.py", "save", saved, "--url", server.url)
+        tool("save", saved, "--url", server.url)
         cases.show("operation: the map is that of the file", digest(saved), digest(monday))
-        code, lines = tool("map_backup.py", "load", monday, "--exactly", "--url", server.url)
+        code, lines = tool("load", monday, "--exactly", "--url", server.url)
         cases.show("operation: load --exactly of what the map has", (code, lines), (0, ["0 features put, 0 deleted, 30 were there already"]))
         open(empty, "w", encoding="utf-8").close()
-        code, _ = tool("map_backup.py", "load", empty, "--exactly", "--url", server.url)
+        code, _ = tool("load", empty, "--exactly", "--url", server.url)
         cases.show("operation: load --exactly of an empty file", (code, status(server)["features"]), (1, 30))
     with Server(folder, "exactly_unseen", 4096, more=()) as server:
-        code, lines = tool("map_backup.py", "load", monday, "--exactly", "--url", server.url)
+        code, lines = tool("load", monday, "--exactly", "--url", server.url)
         cases.show("operation: load --exactly without --admin", (code, status_of(curl(server.url + "/features/1"))), (1, 404))
 
 
@@ -334,7 +334,7 @@ def written_disks(cases, folder):
         held = model.write_disk(4099, at % 3, first, records, b"archive", chance.randrange(1024), before=at * 2 ** 40, version=version)
         with open(path, "wb") as file:
             file.write(held)
-        code, lines = tool("map_backup.py", "save", saved, "--disk", path)
+        code, lines = tool("save", saved, "--disk", path)
         with open(saved, encoding="utf-8") as file:
             found = [(read["id"], json.dumps(read["feature"], sort_keys=True)) for read in map(json.loads, file)]
         wanted = [(number, json.dumps(one, sort_keys=True)) for number, one in sorted(model.map_of(model.read_disk(held)).items())]
@@ -359,12 +359,12 @@ def turn_of(ring):
 def rings_as_they_are(cases, folder, server):
     """A backup that isn't of wholes has the rings of the map: put back, each feature is the same."""
     path = os.path.join(folder, "rings.geojson")
-    subprocess.run([*BACKUP, "save", path, "--url", server.url], check=True, capture_output=True)
+    subprocess.run([*VTMAP, "save", path, "--url", server.url], check=True, capture_output=True)
     with Server(folder, "rings", 65536) as other:
-        subprocess.run([*BACKUP, "load", path, "--url", other.url, "--publish"], check=True, capture_output=True)
+        subprocess.run([*VTMAP, "load", path, "--url", other.url, "--publish"], check=True, capture_output=True)
         files = [os.path.join(folder, f"rings{at}.jsonl") for at in range(2)]
         for file, one in zip(files, (server, other)):
-            subprocess.run([*BACKUP, "save", file, "--url", one.url], check=True, capture_output=True)
+            subprocess.run([*VTMAP, "save", file, "--url", one.url], check=True, capture_output=True)
         cases.show("operation: a backup puts back each ring in its direction", digest(files[0]), digest(files[1]))
 
 
@@ -379,7 +379,7 @@ def wholes(cases, folder):
     path, saved, kept = written(folder, "county.geojson", rows), os.path.join(folder, "wholes.geojson"), []
     with Server(folder, "wholes", 65536) as server, Server(folder, "wholes_again", 65536) as other:
         imported(path, server.url, "--layer", "area", "--minzoom", "6")
-        code, lines = tool("map_backup.py", "save", saved, "--wholes", "--url", server.url)
+        code, lines = tool("save", saved, "--wholes", "--url", server.url)
         cases.show("operation: --wholes", (code, lines), (0, ["5 features saved"]))
         with open(saved, encoding="utf-8") as file:
             found = json.load(file)["features"]
@@ -394,13 +394,13 @@ def wholes(cases, folder):
         cases.show("operation: the line is one", (line["geometry"]["type"], len(line["geometry"]["coordinates"])), ("LineString", 2))
         point = [one["properties"] for one in found if one["properties"]["name"] == "point"]
         cases.show("operation: what only has a tag `whole` is as it was", point, [{"name": "point", "whole": 7}])
-        code, lines = tool("map_backup.py", "load", saved, "--url", other.url)
+        code, lines = tool("load", saved, "--url", other.url)
         cases.show("operation: it is no backup", (code, status(other)["features"]), (1, 0))
         imported(saved, other.url, "--layer", "area", "--minzoom", "6")
         rings_as_they_are(cases, folder, server)
         for one in (server, other):
             file = os.path.join(folder, f"wholes{len(kept)}.jsonl")
-            subprocess.run([*BACKUP, "save", file, "--url", one.url], check=True, capture_output=True)
+            subprocess.run([*VTMAP, "save", file, "--url", one.url], check=True, capture_output=True)
             with open(file, encoding="utf-8") as lines:
                 pieces = [json.loads(line)["feature"] for line in lines]
             kept.append(sum(area_of(rings) for piece in pieces if piece["layer"] == "area" for rings in piece["geometry"].get("polygons", [])))
@@ -410,7 +410,7 @@ def wholes(cases, folder):
 # ---- an object store
 
 def stores(cases, folder):
-    """publish.sh --to, into a server of S3 on this machine; and a reader of PMTiles by ranges."""
+    """vtmap publish --to, into a server of S3 on this machine; and a reader of PMTiles by ranges."""
     if not (shutil.which("moto_server") and shutil.which("aws")):
         cases.say("no moto_server, or no aws: no object store is tried (pip install 'moto[server]' awscli)")
         return
@@ -443,7 +443,7 @@ def stored(cases, folder, url, words):
     with Server(folder, "stored", 4096) as server:
         fill(server, range(1, 31), size=50)
         told = published()
-        cases.show("operation: publish.sh --to s3://", (told.returncode, told.stderr), (0, ""))
+        cases.show("operation: vtmap publish --to s3://", (told.returncode, told.stderr), (0, ""))
         first = newest()
         reply = curl(f"{url}/{first}")
         cases.show("operation: the archive in the store", reply[2] == curl(server.url + "/map.pmtiles")[2] and len(reply[2]) > 1000, True)

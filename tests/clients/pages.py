@@ -1,4 +1,4 @@
-"""The part `page` of run.py: a real Chromium with the page of examples/page, by mouse and keyboard, through nginx with docs/nginx.conf.
+"""The part `page` of run.py: a real Chromium with the page of web/, by mouse and keyboard, through nginx with docs/nginx.conf.
 
 Two people edit one feature, a new feature's id is taken by somebody else, saves are refused and replies are lost, the server is away when
 somebody saves or opens the page, a large feature is one, a telephone shows the page, a machine that may not edit sees the map, and people log
@@ -17,10 +17,10 @@ import time
 from browser import Browser
 from imports import world
 from screens import PLOTLY, Share, water_differs
-from stand import EXAMPLES, HERE, SYSTEM_PYTHON, Nginx, Server, curl, feature, field, status_of
+from stand import EXAMPLES, HERE, SYSTEM_PYTHON, TOP, VTMAP, Nginx, Server, curl, feature, field, status_of
 
 WIDE, HIGH = 1000, 640
-PAGE = os.path.join(EXAMPLES, "page")
+PAGE = os.path.join(TOP, "web")
 WORLD = 2 ** 32
 # Where a point of the world is on the screen of a page.
 PLACE = """(() => {
@@ -44,7 +44,7 @@ LOSE = """(() => { const asked = window.fetch; let lost = null; window.fetch = a
 REFUSE = """(() => { const asked = window.fetch; let passed = %d, left = %d; window.fetch = async (url, words) =>
     words?.method === "POST" && passed-- <= 0 && left-- > 0 ? new Response("", {status: 502}) : asked(url, words); })()"""
 LAYER = "document.querySelector('#panel form input[aria-label=layer]').value"
-AWAY = "the server doesn't run, or starts just now: try again (502)"
+AWAY = "the server doesn't run, or starts just now: try again, and if that doesn't help tell the administrator (502)"
 UNKNOWN = "the server doesn't answer: the edit may be made or not. Save again: it isn't made twice"
 # Ids of pieces after the first one, and a place without other features.
 PIECE, SEA = 2 ** 40, (54.6, 7.6)
@@ -90,7 +90,7 @@ def town(folder, url):
     with open(path, "wb") as file:
         subprocess.run([sys.executable, os.path.join(EXAMPLES, "town.py")], stdout=file, check=True)
     words = ["--layer-field", "layer", "--minzoom", "10", "--maxzoom", "16", "--first", "101", "--url", url]
-    return subprocess.run([SYSTEM_PYTHON, os.path.join(EXAMPLES, "import_features.py"), path, *words], capture_output=True, text=True).stdout
+    return subprocess.run([*VTMAP, "import", path, *words], capture_output=True, text=True).stdout
 
 
 def unexpected(front):
@@ -725,7 +725,7 @@ def maplibre(cases, folder, front):
     for name, text in [("maplibre-gl-csp.js", STAND_IN), ("maplibre-gl.css", "")]:
         with open(os.path.join(pages, name), "w", encoding="utf-8") as file:
             file.write(text)
-    subprocess.run(["bash", os.path.join(EXAMPLES, "publish.sh"), front.url], check=True, capture_output=True)
+    subprocess.run([*VTMAP, "publish", "--url", front.url], check=True, capture_output=True)
     drawing = ["--use-gl=angle", "--use-angle=swiftshader", "--enable-unsafe-swiftshader"]
     with Browser(os.path.join(folder, "maplibre"), WIDE, HIGH, drawing) as browser:
         made = browser.open(f"{front.url}/pages/map.html")
@@ -751,4 +751,4 @@ def maplibre(cases, folder, front):
 def draw_truth(url, path):
     """The picture of a reader of tiles that shares no code with the page."""
     words = ["--url", url, "--zoom", "15", "--centre", "7.5,54.5", "--size", f"{WIDE}x{HIGH}"]
-    subprocess.run([SYSTEM_PYTHON, os.path.join(EXAMPLES, "draw_map.py"), path, *words], check=True, capture_output=True)
+    subprocess.run([*VTMAP, "draw", path, *words], check=True, capture_output=True)

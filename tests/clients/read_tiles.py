@@ -11,8 +11,8 @@ import sys
 
 from osgeo import gdal
 
-sys.path.append(os.path.join(os.path.dirname(os.path.abspath(__file__)), "..", "..", "examples"))
-from archive_ids import contents  # noqa: E402
+sys.path.append(os.path.join(os.path.dirname(os.path.abspath(__file__)), "..", ".."))
+from vtmap.files.archive_ids import contents  # noqa: E402
 
 
 def extent(content):

@@ -35,6 +35,7 @@ from desktop import desktop
 from lost_replies import lost_replies
 from operation import operation
 from pages import page
+from round_trips import round_trips
 from screens import screens
 from stand import BYTES, EXAMPLES, HALF, JSON, METADATA, MVT, PROGRAM, ROOT, SHOWN, SYSTEM_PYTHON, TEXT, TILE
 from stand import Cases, Nginx, Server, curl, feature, field, parsed, refusal, same, status_of, wanted
@@ -469,7 +470,7 @@ def gdal(cases, folder):
         cases.say("no GDAL in the system's Python: no file is put into the map")
         return
     with Server(folder, "survey") as server:
-        tool = [SYSTEM_PYTHON, os.path.join(EXAMPLES, "import_features.py")]
+        tool = [SYSTEM_PYTHON, os.path.join(EXAMPLES, "import")]
         words = ["--layer", "survey", "--minzoom", "10", "--maxzoom", "16", "--first", "101", "--url", server.url]
         survey = os.path.join(EXAMPLES, "survey.geojson")
         told = subprocess.run([*tool, survey, *words], capture_output=True, text=True)
@@ -796,6 +797,7 @@ def main():
         "large": large,
         "import": imports,
         "encodings": encodings,
+        "round-trips": round_trips,
         "updates": updates,
         "three-ways": three_ways,
         "operation": operation,

@@ -1,7 +1,7 @@
 """The part `screens` of run.py: a browser and QGIS, straight to the server's port, and what they draw of a town.
 
 Chromium fetches forty tiles at once, and draws the map with Mapbox GL JS 1.10.1, which Debian has within plotly.js (`python3-plotly`). QGIS draws
-the project of examples/qgis_project.py. Each picture is compared with the one of examples/draw_map.py, a reader of its own, by the share of
+the project of `vtmap qgis`. Each picture is compared with the one of `vtmap draw`, a reader of its own, by the share of
 pixels of which one is water and the other isn't: the rest has styles of its own. They are kept in the folder that PICTURES names, if it does.
 """
 import base64
@@ -15,7 +15,7 @@ import subprocess
 import sys
 import time
 
-from stand import EXAMPLES, HALF, SYSTEM_PYTHON, Server, curl, feature
+from stand import EXAMPLES, HALF, SYSTEM_PYTHON, VTMAP, Server, curl, feature
 
 PLOTLY = "/usr/share/python3-plotly/plotly.js"
 WIDE, HIGH = 768, 512
@@ -147,11 +147,11 @@ def drawn_town(cases, folder, kept):
         subprocess.run([sys.executable, os.path.join(EXAMPLES, "town.py")], stdout=file, check=True)
     with Server(folder, "town") as server:
         words = ["--layer-field", "layer", "--minzoom", "10", "--maxzoom", "16", "--first", "101", "--url", server.url]
-        told = subprocess.run([SYSTEM_PYTHON, os.path.join(EXAMPLES, "import_features.py"), town, *words], capture_output=True, text=True)
+        told = subprocess.run([*VTMAP, "import", town, *words], capture_output=True, text=True)
         cases.show("screens: the town is imported", told.stdout.splitlines()[-1:], ["355 taken, 0 refused"])
         truth, browser, qgis = (os.path.join(folder, name) for name in ("drawn.png", "mapbox.png", "qgis.png"))
         size = ["--url", server.url, "--zoom", "15", "--centre", "7.5,54.5", "--size", f"{WIDE}x{HIGH}"]
-        subprocess.run([SYSTEM_PYTHON, os.path.join(EXAMPLES, "draw_map.py"), truth, *size], check=True, capture_output=True)
+        subprocess.run([*VTMAP, "draw", truth, *size], check=True, capture_output=True)
         layers = [layer["id"] for layer in json.loads(curl(server.url + "/map/metadata")[2])["vector_layers"]]
         image = told_by(folder, lambda where: DRAWN % (PLOTLY, WIDE, HIGH, json.dumps(styled(server.url, layers)), where))
         with open(browser, "wb") as file:
@@ -162,7 +162,7 @@ def drawn_town(cases, folder, kept):
         half = HALF / 2**15 / 256
         extent = [str(at) for at in (east - half * WIDE, north - half * HIGH, east + half * WIDE, north + half * HIGH)]
         opened = ["--url", server.url, "--maxzoom", "16", "--centre", "7.5,54.5"]
-        subprocess.run([SYSTEM_PYTHON, os.path.join(EXAMPLES, "qgis_project.py"), project, *opened], check=True, capture_output=True)
+        subprocess.run([*VTMAP, "qgis", project, *opened], check=True, capture_output=True)
         with open(script, "w", encoding="utf-8") as file:
             file.write(QGIS)
         began = time.monotonic()

@@ -1,8 +1,6 @@
 """What the parts of tests/clients/run.py share: a server, nginx in front of it, curl, and the cases that were seen."""
 import json
 import os
-import re
-import shutil
 import signal
 import socket
 import subprocess
@@ -13,6 +11,7 @@ HERE = os.path.dirname(os.path.abspath(__file__))
 TOP = os.path.join(HERE, "..", "..")
 PROGRAM = os.path.abspath(sys.argv[1] if len(sys.argv) > 1 else os.path.join(TOP, "crates", "vtserve", "out", "vtserve"))
 EXAMPLES = os.path.join(TOP, "examples")
+VTMAP = [sys.executable, os.path.join(TOP, "bin", "vtmap")]
 SYSTEM_PYTHON = "/usr/bin/python3"
 TILE = "1a130a017012090807180122030900002880207802"
 SHOWN = '{"geometry":{"points":[[0,0]]},"layer":"p","maxzoom":2,"minzoom":0,"tags":{}}'

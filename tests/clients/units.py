@@ -6,10 +6,9 @@ import os
 import re
 import shutil
 import subprocess
-import sys
 import time
 
-from stand import EXAMPLES, PROGRAM, SYSTEM_PYTHON, TOP, Server, curl, feature, free_port, status_of
+from stand import PROGRAM, TOP, VTMAP, Server, curl, feature, free_port, status_of
 
 # The greatest exposure of each unit, by systemd-analyze.
 EXPOSURE = {
@@ -19,12 +18,12 @@ EXPOSURE = {
     "vtserve-watch.service": 1.5,
     "vtserve-backup.service": 1.0,
 }
-# What the units with timers run, of examples/.
+# What the units with timers run.
 TASKS = {
-    "vtserve-publish.service": ["bash", "publish.sh", "URL", "--record", "record"],
-    "vtserve-backup.service": [SYSTEM_PYTHON, "map_backup.py", "save", "map-2026-11-29.jsonl", "--disk", "DISK"],
+    "vtserve-publish.service": ["publish", "--url", "URL", "--record", "record"],
+    "vtserve-backup.service": ["save", "map-2026-11-29.jsonl", "--disk", "DISK"],
     "vtserve-watch.service": [
-        SYSTEM_PYTHON, "watch.py", "URL", "--backups", ".", "--backup-hours", "26", "--state", "state", "--record", "record", "--metrics", "metrics",
+        "watch", "--url", "URL", "--backups", ".", "--backup-hours", "26", "--state", "state", "--record", "record", "--metrics", "metrics",
     ],
 }
 
@@ -92,10 +91,10 @@ def session(folder):
 def tasks(cases, folder):
     """Runs what the units with timers run, and shows the system calls that they don't allow."""
     with Server(folder, "timed", 4096) as server:
-        for name, (program, script, *words) in TASKS.items():
+        for name, words in TASKS.items():
             trace = os.path.join(folder, name)
             words = [{"URL": server.url, "DISK": server.disk}.get(word, word) for word in words]
-            ran = subprocess.run(["strace", "-f", "-o", trace, program, os.path.join(EXAMPLES, script), *words], cwd=folder, capture_output=True)
+            ran = subprocess.run(["strace", "-f", "-o", trace, *VTMAP, *words], cwd=folder, capture_output=True)
             with open(trace, encoding="utf-8", errors="replace") as file:
                 calls = {found[1] for line in file if (found := re.match(r"\d+ +(\w+)\(", line))}
             cases.show(f"units: what {name} runs, and system calls that it doesn't allow", (ran.returncode, sorted(calls - filtered(name))), (0, []))
@@ -120,13 +119,13 @@ def causes(cases, folder):
 
 
 def backups(cases, folder):
-    """What watch.py says of the folder of the backups."""
+    """What vtmap watch says of the folder of the backups."""
     kept = os.path.join(folder, "backups")
     os.mkdir(kept)
     with Server(folder, "backed_up") as server:
 
         def watched(*more):
-            words = [sys.executable, os.path.join(EXAMPLES, "watch.py"), server.url, "--backups", kept, *more]
+            words = [*VTMAP, "watch", "--url", server.url, "--backups", kept, *more]
             told = subprocess.run(words, capture_output=True, text=True)
             return told.returncode, [line.partition(":")[0] for line in told.stdout.splitlines()]
 
@@ -137,16 +136,16 @@ def backups(cases, folder):
 
         for name, hours in [("map-2026-11-28.jsonl.part", 1), ("other.jsonl", 1)]:
             made(name, hours)
-        cases.show("units: watch.py, a folder without a backup", watched(), (1, [f"{kept} has no backup"]))
+        cases.show("units: vtmap watch, a folder without a backup", watched(), (1, [f"{kept} has no backup"]))
         made("map-2026-11-25.jsonl", 99)
         made("map-2026-11-27.jsonl", 27)
         old = f"the newest backup in {kept} is 27.0 hours old, and it may be "
-        cases.show("units: watch.py, an old backup", watched(), (1, [old + "26"]))
-        cases.show("units: watch.py, by --backup-hours", (watched("--backup-hours", "2.5"), watched("--backup-hours", "28")[0]), ((1, [old + "2.5"]), 0))
+        cases.show("units: vtmap watch, an old backup", watched(), (1, [old + "26"]))
+        cases.show("units: vtmap watch, by --backup-hours", (watched("--backup-hours", "2.5"), watched("--backup-hours", "28")[0]), ((1, [old + "2.5"]), 0))
         made("map-2026-11-28.jsonl", 25)
-        cases.show("units: watch.py, a new backup", watched()[0], 0)
+        cases.show("units: vtmap watch, a new backup", watched()[0], 0)
     kept += ".gone"
-    cases.show("units: watch.py, no folder of backups and no server", watched()[0], 2)
+    cases.show("units: vtmap watch, no folder of backups and no server", watched()[0], 2)
 
 
 def units(cases, folder):

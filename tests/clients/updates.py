@@ -11,7 +11,7 @@ import time
 from collections import Counter
 
 from between import Between, once
-from imports import TOOL, has_gdal, imported, is_near, row, shown, square, world, written
+from imports import has_gdal, import_of, imported, is_near, row, shown, square, world, written
 from stand import Server, curl, feature, status_of
 
 EDITS = "/admin/edits"
@@ -60,7 +60,7 @@ def six_files(cases, folder):
         code, lines = imported(files["wells"], server.url, "--layer", "wells", "--first", "1", "--overwrite")
         cases.show("updates: --overwrite", (code, layers(server)["roads"], layers(server)["wells"]), (0, 140, 20))
         code, lines = imported(files["roads"], server.url, "--layer", "roads")
-        note = "note: the map has roads already: these are further features of it (--update changes them instead)"
+        note = "note: the map has roads already: these are further features of it (`vtmap update` changes them instead)"
         cases.show("updates: a file of a layer that is there", (code, note in lines, layers(server)["roads"]), (0, True, 290))
     with Server(folder, "unseen_ids", more=()) as server:
         code, lines = imported(files["wells"], server.url, "--layer", "wells")
@@ -239,7 +239,7 @@ def others_meanwhile(cases, folder):
         cases.show("updates: a lost reply: sent again, made once", (code, lines[-1], status(server)["edits"]), wanted)
         many = written(folder, "killed.geojson", points(3000, more="y" * 500))
         words += ["--maxzoom", "2", "--publish", "--file-wins"]
-        child = subprocess.Popen([*TOOL, many, "--url", server.url, *words], stdout=subprocess.DEVNULL)
+        child = subprocess.Popen(import_of(many, server.url, *words), stdout=subprocess.DEVNULL)
         while shown(server, 500) is None and child.poll() is None:
             time.sleep(0.01)
         child.send_signal(signal.SIGKILL)

@@ -8,7 +8,7 @@ Disk files are in FOLDER, or in a scratch folder of this clone: on a file system
 connection, by turns with bare writes into files that were formatted as the disk was, at the same sectors. The server has one processor, the
 client another one. Rounds are repeated: a figure is the median of the rounds' medians, with the least and the greatest, and a ratio the
 median of the rounds' ratios, the other time divided by vtserve's. Of the time of a request some 20 us are the client's and the connection's. The imports, by
-examples/import_features.py, need GDAL for /usr/bin/python3, and are left out without it.
+`vtmap import`, need GDAL for /usr/bin/python3, and are left out without it.
 
 It ends with 1 if a ratio isn't as wanted. Run it while the machine has no other work.
 """
@@ -25,10 +25,9 @@ import time
 
 HERE = os.path.dirname(os.path.abspath(__file__))
 TOP = os.path.dirname(os.path.dirname(os.path.dirname(HERE)))
-EXAMPLES = os.path.join(TOP, "examples")
-sys.path.insert(0, EXAMPLES)
+sys.path.insert(0, TOP)
 
-import edits  # noqa: E402
+from vtmap.client import edits  # noqa: E402
 
 PROGRAM = os.path.abspath(sys.argv[1] if len(sys.argv) > 1 else os.path.join(TOP, "crates", "vtserve", "out", "vtserve"))
 SYSTEM_PYTHON = "/usr/bin/python3"
@@ -213,7 +212,7 @@ def imports(folder):
     for _ in range(IMPORTS):
         for name, words in (("in batches", []), ("one by one", ["--no-batches"])):
             with Server(folder, "imported.disk") as server:
-                tool = [SYSTEM_PYTHON, os.path.join(EXAMPLES, "import_features.py"), path, "--layer", "houses", "--first", "1", "--url", server.url, *words]
+                tool = [sys.executable, os.path.join(TOP, "bin", "vtmap"), "import", path, "--layer", "houses", "--first", "1", "--url", server.url, *words]
                 began = time.perf_counter()
                 child = subprocess.run(tool, capture_output=True, text=True)
                 times[name].append(time.perf_counter() - began)

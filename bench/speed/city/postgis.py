@@ -22,11 +22,11 @@ import tempfile
 import urllib.request
 
 HERE = os.path.dirname(os.path.abspath(__file__))
-sys.path[:0] = [os.path.join(HERE, ".."), os.path.join(HERE, "..", "batches"), os.path.join(HERE, "..", "..", "..", "examples")]
+sys.path[:0] = [os.path.join(HERE, ".."), os.path.join(HERE, "..", "batches"), os.path.join(HERE, "..", "..", "..")]
 
 import city_features  # noqa: E402
-import edits  # noqa: E402
 import run as batches  # noqa: E402
+from vtmap.client import edits  # noqa: E402
 
 ROUNDS, MANY, FEATURES, ZOOM, BATCH = 5, 400, 6479, 12, 64
 COLUMN, ROW = 2000, 1300

@@ -24,11 +24,11 @@ import tempfile
 import time
 
 HERE = os.path.dirname(os.path.abspath(__file__))
-sys.path[:0] = [os.path.join(HERE, ".."), os.path.join(HERE, "..", "..", "..", "examples")]
+sys.path[:0] = [os.path.join(HERE, ".."), os.path.join(HERE, "..", "..", "..")]
 
 import city_features  # noqa: E402
-import edits  # noqa: E402
 from browser_head import browser_fields  # noqa: E402
+from vtmap.client import edits  # noqa: E402
 
 PROGRAM = os.path.abspath(sys.argv[1] if len(sys.argv) > 1 else os.path.join(HERE, "..", "..", "..", "crates", "vtserve", "out", "vtserve"))
 ROUNDS = 9

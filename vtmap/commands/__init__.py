@@ -1,0 +1,1 @@
+"""The commands of vtmap, each a module with `options` and `work`."""

@@ -1,0 +1,217 @@
+"""`vtmap save` and `vtmap load`: the features of a map in a file, and back. Needs no package."""
+import json
+import os
+from collections import Counter
+from itertools import chain
+
+from ..client.client import Client, word
+from ..client.edits import NOTHING, delete, encoded, put
+from ..ending import regular
+from ..faults import Refused, Stopped
+from ..files.archive_ids import ids_in
+from ..files.disk_file import moment_of
+from ..geometry.geojson import feature_of, geojson_of
+from ..geometry.wholes import right_handed, wholes_of
+from ..limits import MOST_CHANGES
+from ..progress import with_progress
+from .deletions import are_many
+from .ids import ranges
+
+ABOUT = {
+    "save": """Saves the features of the map in a file, which `vtmap load` puts back into a map.
+
+    vtmap save map.geojson
+    vtmap save map.geojson --disk /var/lib/vtserve/map.disk
+
+The file is GeoJSON (longitude and latitude, a feature a line), which other programs read too: the member `id` is the feature's id,
+`properties` are its tags, and `layer`, `minzoom` and `maxzoom` are members beside them. `vtmap load` puts back exactly the features that were
+saved: coordinates are the centres of the squares of 9 mm (at the equator) that the map distinguishes. A file whose name ends in `.jsonl` has a
+line for each feature in place of that, as the server itself writes it: `{"feature":{..},"id":7}`.
+
+--disk FILE reads the disk file, which a server may serve meanwhile, and saves the map of one moment; it says after which edit. It needs the
+right to read the file, and no --admin. Otherwise the server is asked for its features, which a server with `--admin` lists: features that are
+edited meanwhile are saved as they are when it reads them. Of a server without it the ids have to be known:
+    --numbers 1-3000,5000-5999    asks for each of these ids; complete if the ids are
+    --archive                     publishes the map, downloads the archive, and asks for each id in its tiles. Features that no
+                                  tile shows (for instance polygons too small to have an area at their greatest zoom) are missed
+
+--wholes is for other programs: a feature that the import cut is one again, the union of its pieces, without the lines of its outline, and
+rings have the directions that GeoJSON asks for. Such a file is no backup: `vtmap load` refuses it, and `vtmap import` puts it into a map.
+Without --wholes each ring is saved in the direction that it has in the map, so that `vtmap load` puts back the same.
+
+FILE is as it was until all features are there; what was got by then is in FILE.part.""",
+    "load": """Puts the features of a file that `vtmap save` wrote back into a map.
+
+    vtmap load map.geojson --publish
+
+It replaces nothing of a map that has other features of these ids, unless --overwrite says so. --exactly makes the map that of the file: it
+also deletes what the map has and the file doesn't, after it has said how much of which layers that is; more than 20 deletions, if they are
+more than half of the map, are taken for a mistake, and then nothing is changed without --delete-many. With --publish it frees the journal by a
+publication whenever it is full; it puts up to 64 features in a request, and with --no-batches one.""",
+}
+START, END = '{"type":"FeatureCollection","features":[', "\n]}\n"
+START_OF_WHOLES = '{"type":"FeatureCollection","wholes":true,"features":['
+
+
+def listed(client):
+    """Each feature of the map with its id, in ascending order."""
+    if client.status() is None:
+        raise Refused("the server doesn't list its features: start it with --admin, or give --disk, --numbers or --archive")
+    return client.features()
+
+
+def ids_of_archive(client):
+    """The ids in the tiles of the map, which is published for it."""
+    client.publish()
+    status, archive = client.ask("GET", "/map.pmtiles")
+    # A map without tiles has no archive.
+    if status == 404 and word(archive) == "NotFound":
+        return []
+    if status != 200:
+        client.stop_at(status, archive)
+        raise Stopped(f"GET /map.pmtiles: {status} {word(archive)}")
+    return ids_in(archive)
+
+
+def wanted(words, client):
+    """Each id that is asked for, with its feature or None."""
+    if words.numbers is None and not words.archive:
+        return listed(client)
+    numbers = ids_of_archive(client) if words.archive else chain.from_iterable(words.numbers)
+    return ((number, client.feature(number)) for number in numbers)
+
+
+def is_lines(name):
+    return name.endswith(".jsonl")
+
+
+def row_of(number, feature, lines):
+    """A feature as a line of the file."""
+    if lines:
+        return json.dumps({"feature": feature, "id": number}, ensure_ascii=False, separators=(",", ":"), sort_keys=True)
+    return json.dumps(geojson_of(number, feature), ensure_ascii=False)
+
+
+def written(path, features, start):
+    """Writes the file, which has what it had until all features are there. Returns how many they are."""
+    saved, lines = 0, is_lines(path)
+    with open(regular(path) + ".part", "w", encoding="utf-8") as file:
+        file.write("" if lines else start)
+        for number, feature in features:
+            file.write(("" if lines else ",\n" if saved else "\n") + row_of(number, feature, lines) + ("\n" if lines else ""))
+            saved += 1
+        file.write("" if lines else END)
+        file.flush()
+        os.fsync(file.fileno())
+    os.replace(path + ".part", path)
+    return saved
+
+
+def save(words):
+    """Saves features in the file."""
+    moment = moment_of(words.disk) if words.disk else None
+    found = moment.features.items() if moment else wanted(words, Client(words.url))
+    missing = []
+
+    def there():
+        for number, feature in found:
+            if feature is None:
+                missing.append(number)
+            else:
+                yield number, feature
+
+    features = ((whole.number, right_handed(whole.feature)) for whole in wholes_of(there())) if words.wholes else there()
+    saved = written(words.file, features, START_OF_WHOLES if words.wholes else START)
+    of_moment = f", of the map after edit {moment.edit:,}" if moment else ""
+    of_ids = f", {len(missing)} ids without one" if words.numbers or words.archive else ""
+    print(f"{saved} features saved{of_moment}{of_ids}")
+    if moment and moment.passed:
+        print(f"note: reading began again {moment.passed} times, since a publication passed")
+    return 0
+
+
+def saved_in(path):
+    """The ids and features of a file."""
+    try:
+        with open(path, encoding="utf-8") as file:
+            if is_lines(path):
+                return [(row["id"], row["feature"]) for row in map(json.loads, file)]
+            whole = json.load(file)
+        if not whole.get("wholes"):
+            return [(row["id"], feature_of(row)) for row in whole["features"]]
+    except (ValueError, TypeError, LookupError, AttributeError) as fault:
+        raise Refused(f"{path} is no file that save has written: {type(fault).__name__}: {fault}") from fault
+    raise Refused(f"{path} was saved with --wholes: put it into a map by `vtmap import`, which cuts large features again")
+
+
+def changes_for(rows, there, overwrites):
+    """The checked edits that put the features of a file into a map that has others, which they don't replace unless that is wanted."""
+    made = [put(number, feature)._replace(was=there.get(number, NOTHING)) for number, feature in rows]
+    made = [change for change in made if change.was != change.body]
+    differing = sum(change.was != NOTHING for change in made)
+    if differing and not overwrites:
+        raise Refused(f"{differing:,} of these features are others in the map: nothing was put (--overwrite replaces them)")
+    return made
+
+
+def deletions_for(rows, there, many):
+    """The checked edits that delete what the map has and the file doesn't. Says what that is. Very many are taken for a mistake."""
+    known = {number for number, _ in rows}
+    gone = {number: was for number, was in there.items() if number not in known}
+    if gone:
+        layers = Counter(json.loads(was)["layer"] for was in gone.values())
+        print(f"to be deleted: {', '.join(f'{count:,} of {layer}' for layer, count in layers.most_common())}, which the file doesn't have", flush=True)
+    if are_many(len(gone), len(there)) and not many:
+        raise Refused(f"{len(gone):,} of the {len(there):,} features of the map would be deleted: nothing was changed (--delete-many deletes them)")
+    return [delete(number)._replace(was=was) for number, was in gone.items()]
+
+
+def load(words):
+    """Puts the features of the file back."""
+    # Of an id that the file has twice, the last feature counts.
+    rows = list(dict(saved_in(words.file)).items())
+    client = Client(words.url, words.publish, 1 if words.no_batches else MOST_CHANGES)
+    deletions = []
+    if client.status() is None:
+        if words.exactly:
+            raise Refused("the server doesn't list its features, so --exactly can't compare them: start it with --admin")
+        print("note: the server tells nothing of itself (start it with --admin): what it has of these features is replaced", flush=True)
+        changes = [put(number, feature) for number, feature in rows]
+    else:
+        there = {number: encoded(feature) for number, feature in client.features()}
+        deletions = deletions_for(rows, there, words.delete_many) if words.exactly else []
+        changes = changes_for(rows, there, words.overwrite or words.exactly)
+    for change, refusal in with_progress(client.make([*changes, *deletions])):
+        if refusal:
+            raise Refused(f"feature {change.number}: {refusal}")
+    same = len(rows) - len(changes)
+    deleted = f", {len(deletions)} deleted" if words.exactly else ""
+    print(f"{len(changes)} features put{deleted}" + (f", {same} were there already" if same else ""))
+    return 0
+
+
+def options(parser, name):
+    """The words of a command."""
+    parser.add_argument("file", help="the GeoJSON file, or a file of lines of JSON if its name ends in .jsonl")
+    if name == "save":
+        source = parser.add_mutually_exclusive_group()
+        source.add_argument("--disk", metavar="FILE", help="read this disk file, which may be served meanwhile")
+        source.add_argument("--numbers", type=ranges, help="the ids to ask for, as in 1-3000,5000")
+        source.add_argument("--archive", action="store_true", help="publish, and take the ids from the archive")
+        parser.add_argument("--wholes", action="store_true", help="features that the import cut as one, for other programs")
+        return
+    parser.add_argument("--overwrite", action="store_true", help="replace features of the map that have other content")
+    parser.add_argument("--exactly", action="store_true", help="make the map that of the file: --overwrite, and delete what the file doesn't have")
+    parser.add_argument("--delete-many", action="store_true", help="--exactly: delete even more than half of the features of the map")
+    parser.add_argument("--publish", action="store_true", help="publish by steps when the journal is full")
+    parser.add_argument("--no-batches", action="store_true", help="put each feature in a request of its own")
+
+
+def work(words):
+    """Runs a command."""
+    return save(words) if words.command == "save" else load(words)
+
+
+def interrupted(words):
+    """What to do after an interruption."""
+    return f"{words.file} is as it was" if words.command == "save" else "run the same command again"

@@ -1,0 +1,275 @@
+"""What an import changes: the features of a plan beside those that the map has, and beside what the file said at its last import. """
+import json
+from collections import Counter, defaultdict, namedtuple
+from itertools import groupby
+
+from ..client.edits import Change, batches, delete, encoded, sectors
+from ..files.base_file import hash_of
+from ..geometry.wholes import whole_in
+from ..limits import MOST_CHANGES, NUMBER_END
+from .deletions import are_many
+from .differences import named, told_difference
+from .sizes import Sizes
+
+# What becomes of a feature. OWN: it stays as the map has it, which somebody has changed there. CONFLICT: the file and the map were both changed.
+NEW, CHANGED, SAME, GONE, OWN, CONFLICT = "new", "changed", "unchanged", "deleted", "own", "conflict"
+# How many conflicts are named, where it isn't known what the file said before.
+MOST_NAMED = 20
+
+# What the map has of an id: the layer, or that of the feature that it is a piece of, the id of that feature, and the feature as JSON.
+Found = namedtuple("Found", "layer whole body")
+
+
+def counted_layers(counts):
+    """Counts of layers, as a text."""
+    return ", ".join(f"{count:,} of {layer}" for layer, count in counts.most_common())
+
+
+class Changes:
+    """The changes of an import, and what became of them. `base`: what the file said before, or None."""
+
+    def __init__(self, plan, words, base):
+        self.plan, self.words, self.base = plan, words, base
+        self.layers = plan.layers | ({words.layer} if words.layer else set())
+        # What the map has of the ids and the layers of the plan, None if that isn't known, and the ids of each of its features.
+        self.there, self.pieces = None, defaultdict(dict)
+        # What is to be done with each id, the feature that it is a piece of, and what is to be done with each feature and its pieces.
+        self.kinds, self.wholes, self.states = {}, {}, defaultdict(set)
+        # Ids that other layers have, and those whose feature is another one, both by the layers in the map.
+        self.taken, self.differing = Counter(), Counter()
+        self.refused, self.conflicts, self.made = Counter(), Counter(), Counter()
+        # The layer and the hash of each feature that is put, as the base keeps them, and how many changes of it are left.
+        self.hashes, self.left = {}, Counter()
+        # The texts that the file has as ids, by the ids.
+        self.texts = plan.ids.names() if plan.ids else {}
+        # The texts of conflicts, and how many of them are of features of which it isn't known what the file said before.
+        self.told_conflicts, self.unknown = [], 0
+
+    def look(self, client, status):
+        """Asks for what the map has, and compares it with the plan."""
+        ids, first, end = self.plan.ids_to_put, 0, NUMBER_END
+        self.there = {}
+        if status["last"] is None:
+            return self.compare()
+        if not self.words.update:
+            first, end = min(ids, default=0), max(ids, default=-1) + 1
+        first_pieces = {}
+        for number, feature in client.features(first, min(end, status["last"] + 1)):
+            whole, layer = whole_in(feature["tags"], self.words.whole), feature["layer"]
+            if whole == number:
+                first_pieces[number] = layer
+            # What has such a tag without being a piece is a feature of its own.
+            whole = whole if whole in first_pieces else number
+            layer = first_pieces.get(whole, layer)
+            if number in ids or (self.words.update and layer in self.layers):
+                self.there[number] = Found(layer, whole, encoded(feature))
+                self.pieces[whole][number] = self.there[number].body
+        return self.compare()
+
+    # ---- comparing
+
+    def compare(self):
+        """Finds out what is to be done with each id."""
+        for whole, group in groupby(self.plan.planned(), lambda planned: planned.whole):
+            self.compare_whole(whole, {planned.number: planned.body for planned in group})
+        if self.words.delete_missing and not self.plan.unknown:
+            self.compare_missing()
+
+    def compare_whole(self, whole, wanted):
+        """Finds out what is to be done with a feature of the file, whose pieces are to be these."""
+        there = self.there or {}
+        now = {number: body for number, body in self.pieces.get(whole, {}).items() if number in wanted or not self.plan.has(number)}
+        now.update({number: there[number].body for number in wanted if number in there})
+        self.hashes[whole] = json.loads(wanted[min(wanted)])["layer"], hash_of(wanted)
+        kinds = {number: NEW if number not in now else SAME if now[number] == body else self.differs(there[number]) for number, body in wanted.items()}
+        kinds.update({number: GONE for number in now if number not in wanted})
+        if self.words.update and now != wanted:
+            left = self.decided(whole, now, wanted)
+            kinds = dict.fromkeys(kinds, left) if left else kinds
+        for number, kind in kinds.items():
+            self.kinds[number], self.wholes[number] = kind, whole
+            self.states[whole].add(kind)
+
+    def differs(self, found):
+        """Counts an id of which the map has another feature."""
+        if found.layer not in self.layers and not (self.base and self.base.is_known(found.whole)):
+            self.taken[found.layer] += 1
+        elif not self.words.update:
+            self.differing[found.layer] += 1
+        return CHANGED
+
+    def decided(self, whole, now, wanted):
+        """What becomes of a feature that isn't on the map as the file has it, if the file's version isn't sent. An id of another layer is no
+        conflict: nothing is sent then."""
+        layer, found = self.hashes.get(whole) or (self.there[min(now)].layer, None)
+        before, is_known = self.base.hash(whole), self.base.is_known(whole)
+        is_foreign = not is_known and any(self.there[number].layer not in self.layers for number in now)
+        if self.words.exactly or is_foreign or (not now and not is_known) or (is_known and now and hash_of(now) == before):
+            return None
+        if is_known and found == before:
+            return OWN
+        if self.words.file_wins:
+            return None
+        if self.words.map_wins:
+            self.base.keep(layer, whole, found)
+            return OWN
+        self.tell_conflict(whole, now, wanted, is_known)
+        return CONFLICT
+
+    def tell_conflict(self, whole, now, wanted, is_known):
+        """Keeps the text of a conflict."""
+        self.unknown += not is_known
+        if is_known or self.unknown <= MOST_NAMED:
+            one, other = (json.loads(pieces[min(pieces)]) if pieces else None for pieces in (now, wanted))
+            self.told_conflicts.append(f"{named(whole, other or one, self.texts.get(whole))}: {told_difference(one, other)}")
+
+    def compare_missing(self):
+        """Finds out what is to be done with the features of the map that the file doesn't have."""
+        planned, kept = set(self.states), self.plan.kept
+        for whole, pieces in self.pieces.items():
+            now = {number: body for number, body in pieces.items() if number not in self.kinds and number not in kept}
+            if not now or whole in planned or whole in kept or self.there[min(now)].layer not in self.missing_from():
+                continue
+            kind = self.missing(whole, now, self.there[min(now)].layer)
+            for number in now:
+                self.kinds[number], self.wholes[number] = kind, whole
+                self.states[whole].add(kind)
+        for whole in self.base.gone(self.missing_from()):
+            if whole not in self.pieces and whole not in planned and whole not in kept:
+                self.base.keep(self.base.features[whole][0], whole, None)
+
+    def missing(self, whole, now, layer):
+        """What becomes of a feature that the file doesn't have. One that it never had is the map's own."""
+        if not self.words.exactly and not self.base.is_known(whole) and layer in self.base.layers:
+            return OWN
+        return self.decided(whole, now, {}) or GONE
+
+    def missing_from(self):
+        """The layers whose features are deleted if the file doesn't have them."""
+        return {self.words.replace} if self.words.replace else self.layers
+
+    def obstacles(self):
+        """Why nothing may be sent."""
+        gone, known = sum(kinds == {GONE} for kinds in self.states.values()), sum(self.there[min(now)].layer in self.layers for now in self.pieces.values())
+        if (are_many(gone, known) or (gone and not self.plan.ids_to_put)) and not self.words.delete_many:
+            yield f"{gone:,} of {known:,} features of these layers would be deleted: is the file whole? --delete-many deletes them"
+        if self.words.overwrite:
+            return
+        if self.taken:
+            taken = f"{self.taken.total():,} of the ids are taken by other layers: {counted_layers(self.taken)}"
+            yield f"{taken}. Give another --first, or --overwrite to replace these features"
+        if self.differing:
+            differing = f"{self.differing.total():,} of the ids have other features: {counted_layers(self.differing)}"
+            yield f"{differing}. `vtmap update` changes them; or give another --first"
+
+    def conflicts_told(self):
+        """The lines about what both the file and the map have changed."""
+        yield from (f"conflict: {text}" for text in self.told_conflicts)
+        if self.unknown > MOST_NAMED:
+            yield f"and {self.unknown - MOST_NAMED:,} more conflicts"
+        if self.unknown:
+            yield (f"note: what the file said of {self.unknown:,} of these at its last import isn't known: {self.base.path} hasn't got it of "
+                   f"{self.base.address}. --base names the file that was used then, --was-at the address of the map then")
+        if self.told_conflicts:
+            yield "note: of conflicts nothing is sent: --file-wins takes what the file has, --map-wins leaves what the map has, from now on too"
+
+    def would_send(self):
+        """The lines about what would be sent, by the names of features."""
+        first = {planned.whole: planned.body for planned in reversed(list(self.plan.planned()))} if self.states else {}
+        for whole, kinds in self.states.items():
+            kind = next(iter(kinds)) if len(kinds) == 1 else CHANGED
+            if kind in (NEW, CHANGED, GONE):
+                now = self.pieces.get(whole)
+                one, other = now and json.loads(now[min(now)]), first.get(whole) and json.loads(first[whole])
+                more = f": {told_difference(one, other)}" if kind == CHANGED and one and other else ""
+                yield f"would be {'sent' if kind != GONE else kind}: {named(whole, other or one, self.texts.get(whole))}{more}"
+
+    # ---- sending
+
+    def to_send(self):
+        """The changes, in the order of the file; deletions are last."""
+        for planned in self.plan.planned():
+            kind = self.kinds[planned.number]
+            if kind in (NEW, CHANGED):
+                change = Change(planned.number, planned.body, planned.text)
+                yield change if self.there is None else change._replace(was=self.there[planned.number].body if kind == CHANGED else encoded(None))
+        for number, kind in self.kinds.items():
+            if kind == GONE:
+                yield delete(number)._replace(was=self.there[number].body)
+
+    def sizes(self, most):
+        """The sums of what is sent, and the sectors of the journal that it takes."""
+        sums = Sizes()
+        for planned in self.plan.planned():
+            if self.kinds[planned.number] in (NEW, CHANGED):
+                feature = json.loads(planned.body)
+                (shape,) = feature["geometry"].items()
+                sums.add(planned.text, feature, shape, self.plan.zooms, planned.number == planned.whole)
+        return sums, sum(map(sectors, batches(self.to_send(), most)))
+
+    def send(self, client):
+        """Sends the changes. Yields each refusal with its id, and an empty text for each change that is made."""
+        self.left = Counter(self.wholes[number] for number, kind in self.kinds.items() if kind in (NEW, CHANGED, GONE))
+        for whole, states in self.states.items():
+            if states == {SAME}:
+                self.keep(whole)
+        for change, refusal in client.make(self.to_send()):
+            whole = self.wholes[change.number]
+            if refusal is None:
+                self.made[self.kinds[change.number]] += 1
+                self.left[whole] -= 1
+                if self.left[whole] == 0:
+                    self.keep(whole)
+                    self.save(client.edits)
+                yield change.number, ""
+            else:
+                (self.conflicts if refusal.is_conflict else self.refused)[whole] += 1
+                yield change.number, str(refusal)
+
+    def keep(self, whole):
+        """Keeps what the file says of a feature that is on the map like that."""
+        if self.base and whole in self.hashes:
+            layer, found = self.hashes[whole]
+            self.base.keep(layer, whole, found)
+        elif self.base and self.base.is_known(whole):
+            self.base.keep(self.base.features[whole][0], whole, None)
+
+    def save(self, edits):
+        """Adds what is kept to the file of the base, a part at a time."""
+        if self.base and len(self.base.new) >= MOST_CHANGES:
+            self.base.save(edits)
+
+    # ---- telling
+
+    def counts(self):
+        """How many features of the file, or of the map, are new, changed, deleted and unchanged: a cut one is one."""
+        found = Counter()
+        for whole, kinds in self.states.items():
+            if whole not in self.refused and whole not in self.conflicts:
+                found[next(iter(kinds)) if len(kinds) == 1 else CHANGED] += 1
+        return found
+
+    def refused_count(self):
+        """How many features are refused."""
+        return self.plan.refused + self.refused.total()
+
+    def failed(self):
+        """Whether something isn't as it was to be."""
+        return self.refused_count() > 0 or self.conflicts.total() > 0 or len(self.told_conflicts) > 0
+
+    def so_far(self):
+        """What was sent, as a text."""
+        same = sum(kind == SAME for kind in self.kinds.values())
+        line = f"{self.made.total()} taken, {self.refused_count()} refused" + (f", {same} unchanged" if same else "")
+        return line + (f", {self.conflicts.total():,} changed by others meanwhile" if self.conflicts else "")
+
+    def told(self):
+        """What the command did, as a text: an update in features, of which a cut one is one."""
+        if not self.words.update:
+            return self.so_far()
+        counts, refused = self.counts(), self.refused_count()
+        line = ", ".join(f"{counts[kind]:,} {kind}" for kind in (NEW, CHANGED, GONE, SAME))
+        line += f", {counts[OWN]:,} left as the map has them" if counts[OWN] else ""
+        line += f", {refused:,} refused" if refused else ""
+        line += f", {counts[CONFLICT]:,} in conflict" if counts[CONFLICT] else ""
+        return line + (f", {self.conflicts.total():,} changed by others meanwhile" if self.conflicts else "")

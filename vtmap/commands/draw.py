@@ -1,0 +1,79 @@
+"""`vtmap draw`: a client that reads tiles by HTTP, decodes them by itself and draws them. Needs Pillow."""
+import struct
+
+from ..client.client import Client, word
+from ..faults import Stopped
+from ..geometry.world import shares
+from ..interpreters import need
+
+ABOUT = {"draw": """Draws a part of the map into a PNG file: a client that reads tiles by HTTP and decodes them by itself.
+
+    vtmap draw map.png --zoom 15 --centre 7.5,54.5 --size 768x512
+
+Each tile is 256 pixels wide. Layers are drawn in the order of those of examples/town.py, then all others. It needs Pillow (Debian:
+`python3-pil`)."""}
+
+
+def options(parser, _):
+    """The words of the command."""
+    parser.add_argument("file", help="the PNG file that is written")
+    parser.add_argument("--zoom", type=int, choices=range(20), default=15, metavar="Z", help="the zoom of the tiles, 0 to 19 (15)")
+    parser.add_argument("--centre", type=centre, default="7.5,54.5", help="longitude and latitude of the centre (7.5,54.5)")
+    parser.add_argument("--size", type=size, default="768x512", help="pixels (768x512)")
+
+
+def centre(text):
+    """Longitude and latitude."""
+    longitude, latitude = map(float, text.split(","))
+    if not (-180 <= longitude <= 180 and -85.06 <= latitude <= 85.06):
+        raise ValueError
+    return longitude, latitude
+
+
+def size(text):
+    """Width and height in pixels."""
+    width, height = map(int, text.split("x"))
+    if not (0 < width <= 8192 and 0 < height <= 8192):
+        raise ValueError
+    return width, height
+
+
+def tiles_within(first, count, zoom):
+    """The columns or rows of tiles of the world that have some of these pixels."""
+    return range(max(first // 256, 0), min((first + count - 1) // 256 + 1, 2 ** zoom))
+
+
+def tiles_of(client, zoom, columns, rows):
+    """The tiles that aren't empty, by column and row."""
+    tiles = {}
+    for column, row in ((column, row) for column in columns for row in rows):
+        status, content = client.ask("GET", f"/map/{zoom}/{column}/{row}.mvt")
+        if status not in (200, 204):
+            client.stop_at(status, content)
+            raise Stopped(f"tile {zoom}/{column}/{row}: {status} {word(content)}")
+        if content:
+            tiles[column, row] = content
+    return tiles
+
+
+def work(words):
+    """Draws, in an interpreter that has Pillow."""
+    need("PIL", words.line)
+    from .draw_picture import STYLES, Picture, decoded, style_of
+    (longitude, latitude), (width, height) = words.centre, words.size
+    pixels, (east, south) = 256 * 2 ** words.zoom, shares(longitude, latitude)
+    left, top = round(east * pixels) - width // 2, round(south * pixels) - height // 2
+    columns, rows = tiles_within(left, width, words.zoom), tiles_within(top, height, words.zoom)
+    client = Client(words.url)
+    try:
+        tiles = {place: decoded(content) for place, content in tiles_of(client, words.zoom, columns, rows).items()}
+    except (LookupError, ValueError, struct.error) as fault:
+        raise Stopped(f"what answers at {client.address} sends no tiles: is --url right?") from fault
+    names = [*STYLES, *sorted({name for layers in tiles.values() for name in layers} - set(STYLES))]
+    picture = Picture(words.zoom, left, top, words.size)
+    for name in names:
+        for (column, row), layers in tiles.items():
+            picture.draw(style_of(name), column, row, layers.get(name, []))
+    picture.finished().save(words.file, "PNG", optimize=True)
+    print(f"{len(tiles)} tiles, {sum(len(features) for layers in tiles.values() for features in layers.values())} features drawn")
+    return 0

@@ -1,0 +1,210 @@
+"""`vtmap import` and `vtmap update`: the features of a file are planned, compared with the map, and sent. Needs GDAL's Python module."""
+import json
+import os
+import sys
+
+from ..client.client import NO_CHECKS, Client
+from ..faults import Fault, NoAnswer, Stopped
+from ..files.base_file import Base
+from ..files.gdal_file import Reader
+from ..files.id_file import IdFile
+from ..limits import MOST_CHANGES
+from ..progress import with_progress
+from .changes import Changes
+from .import_options import MAXZOOM, has_ids
+from .plan import Plan
+from .sizes import disk_for
+
+UNKNOWN = "the server tells nothing of itself (start it with --admin): which ids are free isn't known"
+
+
+def plan_of(words, client, status):
+    """The features to put, read from the file. Prints what a user should know of them."""
+    ids = IdFile(words.ids) if words.ids else None
+    first = words.first
+    if first is None:
+        if status is None:
+            raise Stopped(f"{UNKNOWN}. Name the first one by --first")
+        first = client.next_id(status) if words.id is None or ids else 0
+    if ids:
+        ids.begin_at(first)
+    columns = (words.x, words.y) if words.x is not None else None
+    reader = Reader(words.file, words.source, words.crs, words.encoding, words.cut_texts, columns, words.id)
+    plan = Plan(words, reader, first, ids)
+    plan.read()
+    reader.notes.show()
+    return plan
+
+
+def base_of(words, client, status):
+    """What the file said at its last import into this map. None if ids don't stay, or the server doesn't tell what the map has."""
+    if status is None or not has_ids(words):
+        return None
+    path, before = base_path(words), words.was_at and words.was_at.rstrip("/")
+    base = Base(path if os.path.exists(path) or not words.dry_run else None, client.address, before)
+    if status["edits"] < base.edits:
+        print(f"note: the map has {status['edits']:,} edits, and had {base.edits:,} at the last import: it was put back from a copy, or is another one. "
+              "What the file said then isn't looked at", flush=True)
+        base.forget()
+    return base
+
+
+def base_path(words):
+    """The file of what was imported before."""
+    return words.base or (words.ids or words.file.rstrip("/")) + ".base"
+
+
+def obstacles(words, client, status, changes):
+    """Looks at what the map has. Returns why nothing may be sent."""
+    if status is None:
+        print(f"note: {UNKNOWN}", flush=True)
+        if words.update:
+            return ["update needs to know what the map has"]
+        changes.compare()
+        return []
+    changes.look(client, status)
+    found = list(changes.obstacles())
+    # A proxy's copy of the layers may be older than the last edit: this asks for one that isn't (docs/nginx.conf).
+    known = client.found(f"/map/metadata?edit={status['edits']}")["vector_layers"]
+    layers = {layer["id"] for layer in known} & changes.layers
+    if not words.anyway:
+        if words.ids and any(not changes.plan.ids.is_known(layer) for layer in layers):
+            found.append(f"{words.ids} has no ids of the layer, which the map has already: is it the file that was used before? (--anyway goes on)")
+    if layers and words.first is None and words.id is None:
+        print(f"note: the map has {' and '.join(sorted(layers))} already: these are further features of it (`vtmap update` changes them instead)", flush=True)
+    return found
+
+
+def tell_zooms(words, client):
+    """Says that features end at a zoom beyond which other clients show the map: they ask for tiles up to the greatest zoom of nginx's TileJSON."""
+    if words.says_maxzoom:
+        return
+    status, content = client.ask("GET", "/map.json")
+    try:
+        last = json.loads(content)["maxzoom"] if status == 200 else MAXZOOM
+    except (ValueError, LookupError, TypeError):
+        return
+    if isinstance(last, int) and last > MAXZOOM:
+        print(f"note: they are shown up to zoom {MAXZOOM}: give --maxzoom {last} to show them as far in as /map.json says", flush=True)
+
+
+def has_room(words, client, status, changes):
+    """Whether the server's disk has room for the changes, as far as a client knows. Prints what is needed."""
+    sums, journal = changes.sizes(client.most)
+    for line in sums.lines(journal):
+        print(line, flush=True)
+    if status is None:
+        return True
+    area, used, free = status["area"]["sectors"], status["area"]["used"], status["journal"]["places"] - status["journal"]["used"]
+    print(f"what was published last takes {used:,} sectors of an area, which has {area:,}", flush=True)
+    need = sums.area() + used
+    if need > area:
+        print(f"about {need:,} would be needed: move the map to a disk of {disk_for(need):,} sectors (docs/DEPLOYING.md)")
+        return words.anyway
+    if journal > free and not words.publish:
+        print(f"the journal has {free:,} of its {status['journal']['places']:,} sectors free: give --publish")
+        return words.anyway
+    return True
+
+
+def send(client, changes):
+    """Sends the changes, and prints refusals and how far it is."""
+    for number, refusal in with_progress(changes.send(client)):
+        if refusal:
+            print(f"feature {number} refused: {refusal}", flush=True)
+
+
+def tell_disk(client):
+    """Prints what of the disk is used after the import, if the server tells it."""
+    try:
+        status = client.status()
+    except Stopped:
+        return
+    if status is not None:
+        journal, area = status["journal"], status["area"]
+        print(f"used: {journal['used']:,} of {journal['places']:,} sectors of the journal until the next publication, "
+              f"{area['used']:,} of {area['sectors']:,} of an area by what was published last")
+
+
+def tell_place(client, plan):
+    """Prints where the data is."""
+    if plan.box is None:
+        return
+    status, _ = client.ask("GET", "/pages/")
+    place = f"/pages/#{plan.place()}"
+    print("look at it: " + (client.address + place if status == 200 else f"{place} at the address of the nginx in front of the server"))
+
+
+def work(words, client):
+    """The import. Returns its exit status."""
+    status = client.status()
+    if status is not None and "last" not in status:
+        raise Stopped(NO_CHECKS[404])
+    base = base_of(words, client, status)
+    plan = plan_of(words, client, status)
+    changes = Changes(plan, words, base)
+    found = obstacles(words, client, status, changes)
+    for line in changes.conflicts_told():
+        print(line, flush=True)
+    if found:
+        print("\n".join([*found, "nothing was sent"]))
+        return 1
+    tell_zooms(words, client)
+    if not has_room(words, client, status, changes):
+        print("nothing was sent")
+        return 1
+    # Without --admin nothing that is sent is checked.
+    if status is None and client.status() is not None:
+        raise Stopped("the server tells what the map has, which it didn't when it was asked first: run the same command again")
+    if words.dry_run:
+        print("\n".join([*changes.would_send(), f"{changes.told()}: nothing was sent"]))
+        return 1 if changes.failed() else 0
+    if plan.ids:
+        plan.ids.save()
+    if base:
+        base.keep_types(plan.types)
+    try:
+        try:
+            send(client, changes)
+        finally:
+            if base:
+                base.end(client.edits)
+        tell_disk(client)
+        tell_place(client, plan)
+    except NoAnswer as fault:
+        print(f"feature {client.last}: {fault}")
+        print(f"{changes.so_far()}, then the server didn't answer: {again(words, plan)}")
+        return 3
+    except Stopped as fault:
+        print(f"stopped at feature {client.last}: {fault}")
+        print(f"{changes.so_far()}: {again(words, plan)}")
+        return 1
+    except KeyboardInterrupt:
+        print(f"{changes.so_far()}, then it was interrupted: {again(words, plan)}")
+        return 130
+    except OSError as fault:
+        print(f"standard output: {fault}: {changes.so_far()}: {again(words, plan)}", file=sys.stderr)
+        return 1
+    print(changes.told())
+    return 1 if changes.failed() else 0
+
+
+def again(words, plan):
+    """How to go on."""
+    return "run the same command again" + (f" with --first {plan.first}" if words.first is None and words.id is None else "")
+
+
+def imported(words):
+    """Runs the command, and says of each fault that nothing was sent."""
+    try:
+        return work(words, Client(words.url, words.publish, 1 if words.no_batches else MOST_CHANGES))
+    except Fault as found:
+        fault, status = found, found.status
+    except KeyboardInterrupt:
+        fault, status = "interrupted", 130
+    except OSError as found:
+        fault, status = found, 1
+    except RuntimeError as found:
+        fault, status = f"GDAL can't read {words.file}: {found}", 1
+    print(f"{fault}: nothing was sent")
+    return status

@@ -1,0 +1,173 @@
+"""What an import would put into the map: the features of a file with their ids, large ones cut; kept in a file, for maps are large."""
+import math
+import tempfile
+from collections import namedtuple
+
+from ..client.edits import encoded, text_bytes
+from ..files.gdal_file import Nowhere, Unreadable
+from ..geometry.feature_cutter import FeatureCutter
+from ..geometry.shapes import Unfit, bounds, count, is_shown, size, wrong_zooms
+from ..geometry.wholes import PIECE
+from ..geometry.world import WORLD, degrees
+from ..limits import NUMBER_END
+from .sizes import is_heavy
+
+# Cut features that are named each; the rest is counted.
+MOST_NAMED = 20
+
+# A feature to put: its id, the id of the feature that it is a piece of (its own if it isn't cut), the bytes of its text, and its JSON.
+Planned = namedtuple("Planned", "number whole text body")
+
+
+class Plan:
+    """The features of all layers of a reader. `first`: the first id, or what is added to the ids of the file. `ids`: an `IdFile`, or None."""
+
+    def __init__(self, words, reader, first, ids):
+        self.words, self.reader, self.first, self.ids = words, reader, first, ids
+        self.zooms = range(words.minzoom, words.maxzoom + 1)
+        self.cutter = FeatureCutter(self.zooms, words.split_zoom, not words.no_split, not words.no_outlines, words.whole)
+        self.spool = tempfile.TemporaryFile()
+        # The layers of the features; the ids to put; the ids of features that aren't put, whose pieces stay as they are.
+        self.layers, self.ids_to_put, self.kept = set(), set(), set()
+        # How many features are refused, and of how many of them the id isn't known.
+        self.refused, self.unknown = 0, 0
+        self.next, self.cut, self.nowhere, self.box = first, 0, 0, None
+        # The types of the fields of each layer of the map that aren't those of tags.
+        self.types = {}
+
+    def read(self):
+        """Plans the features of all layers."""
+        for layer in self.reader.layers:
+            projection, types = self.reader.projection(layer), self.reader.types(layer)
+            for feature in layer:
+                made = self.add(feature, layer.GetName(), projection)
+                if made is not None and types:
+                    self.types.setdefault(made, {}).update(types)
+        if self.cut > MOST_NAMED:
+            print(f"and {self.cut - MOST_NAMED:,} more features are cut", flush=True)
+        if self.unknown and self.words.delete_missing:
+            what = f"{self.unknown:,} feature{'s' if self.unknown > 1 else ''}"
+            print(f"note: nothing is deleted, since the map may have refused features whose ids aren't known: {what}", flush=True)
+        if self.nowhere:
+            print(f"note: they have no geometry, and aren't put: {self.nowhere:,} feature{'s' if self.nowhere > 1 else ''}", flush=True)
+
+    def add(self, feature, name, projection):
+        """Plans a feature of the file's layer of this name. Returns its layer in the map, if it is to be put."""
+        number = None
+        try:
+            # The id is read first, so that a feature that is refused keeps it on the map. By --ids it depends on the layer.
+            number = self.number(feature) if self.ids is None else None
+            tags = self.reader.tags(feature)
+            layer = self.layer(tags, name)
+            number = self.number(feature, layer) if number is None else number
+            self.check(number)
+            made = self.features(number, self.reader.shape(feature, projection), tags, layer)
+        except Nowhere:
+            self.nowhere += 1
+            self.keep(number)
+            return None
+        except (Unfit, RuntimeError) as fault:
+            self.refused += 1
+            self.keep(number)
+            named = f"feature of the file {feature.GetFID()}" if number is None else f"feature {number}"
+            print(f"{named} refused: not sent: {fault}", flush=True)
+            return None
+        self.layers.add(layer)
+        for own, planned in made:
+            self.ids_to_put.add(own)
+            self.spool.write(b"%d %d %d %s\n" % (own, number, text_bytes(planned), encoded(planned)))
+        self.next = made[-1][0] + 1
+        return layer
+
+    def keep(self, number):
+        """Leaves the id to a feature that isn't put. If it isn't known, nothing is deleted: it may be that of any feature of the map."""
+        if number is None and self.words.id is None:
+            number = self.next
+        if number is None:
+            self.unknown += 1
+        elif number not in self.ids_to_put:
+            self.kept.add(number)
+            self.next = number + 1
+
+    def has(self, number):
+        """Whether an id is that of a feature of the file, put or kept."""
+        return number in self.ids_to_put or number in self.kept
+
+    def layer(self, tags, name):
+        """The layer of a feature in the map."""
+        if self.words.layer_field is None:
+            return self.words.layer or name
+        layer = tags.pop(self.words.layer_field, None)
+        if layer is None:
+            raise Unfit(f"it has no attribute {self.words.layer_field}")
+        return str(layer)
+
+    def number(self, feature, layer=None):
+        """The id of a feature: the next one, or by the field that --id names, and with --ids by the layer."""
+        if self.words.id is None:
+            return self.next
+        value = self.reader.identity(feature)
+        if self.ids is not None:
+            return self.ids.number(layer, str(value))
+        if str(value).isdecimal():
+            return self.first + int(value)
+        if not (self.ids_to_put or self.refused) and any(letter.isalpha() for letter in str(value)):
+            raise Unreadable(f"{self.words.id} has texts ({value!r}): --ids FILE keeps ids for them")
+        raise Unfit(f"its {self.words.id} is {value!r}, no number: --ids FILE keeps ids for texts")
+
+    def check(self, number):
+        """Refuses an id that can't be used."""
+        if self.words.id is not None and not number < PIECE:
+            raise Unfit(f"its {self.words.id} makes the id {number:,}: ids are below {PIECE:,}")
+        if number in self.ids_to_put or number in self.kept:
+            raise Unfit(f"its {self.words.id} makes the id {number}, and an earlier feature has the same")
+
+    def features(self, number, shape, tags, layer):
+        """The features to put for one of the file, each with its id."""
+        made, crosses = self.cutter.features(number, shape, tags, layer)
+        step = 1 if self.words.id is None else PIECE
+        if number + step * (len(made) - 1) >= NUMBER_END:
+            raise Unfit("its pieces have no ids below 2^63")
+        if crosses:
+            self.reader.notes.add("cut at the 180th meridian, which they cross")
+        shapes = [next(iter(piece["geometry"].items())) for piece in made]
+        if not any(is_shown(piece, self.words.maxzoom) for piece in shapes):
+            self.reader.notes.add(f"no zoom shows them: they are smaller than a unit of a tile of zoom {self.words.maxzoom}")
+        if len(made) > 1:
+            self.tell_cut(number, len(made), sum(piece["layer"] != layer for piece in made))
+        for at, piece in enumerate(shapes):
+            self.tell_wrong(number + step * at, piece)
+            box = bounds(piece)
+            self.box = box if self.box is None else (*map(min, self.box[:2], box[:2]), *map(max, self.box[2:], box[2:]))
+        return [(number + step * at, piece) for at, piece in enumerate(made)]
+
+    def tell_cut(self, number, pieces, outlines):
+        """Says that a feature is cut."""
+        self.cut += 1
+        if self.cut <= MOST_NAMED:
+            print(f"feature {number} is cut into {pieces - outlines:,} pieces{f' and {outlines:,} of its outline' if outlines else ''}", flush=True)
+
+    def tell_wrong(self, number, shape):
+        """Says what renderers will draw wrong of a feature, and what makes publications slow."""
+        wrong = wrong_zooms(shape, self.zooms)
+        if wrong:
+            wide, high = size(shape)
+            zooms = f"zoom {wrong[0]}" if len(wrong) == 1 else f"zooms {wrong[0]} to {wrong[-1]}"
+            print(f"warning: feature {number} is {wide / 1000:,.1f} km wide and {high / 1000:,.1f} km high: wrong in some renderers at {zooms}", flush=True)
+        if is_heavy(shape, self.zooms):
+            print(f"warning: feature {number} has {count(shape):,} points in very many tiles: publications will take long", flush=True)
+
+    def planned(self):
+        """Each feature to put."""
+        self.spool.seek(0)
+        for row in self.spool:
+            number, whole, text, body = row.rstrip(b"\n").split(b" ", 3)
+            yield Planned(int(number), int(whole), int(text), body)
+
+    def place(self):
+        """Zoom, latitude and longitude of a view of all features, as in the address of a map."""
+        west, north, east, south = self.box
+        share = max(east - west, south - north, 1)
+        zoom = min(max(math.floor(math.log2(WORLD / share)), self.words.minzoom), self.words.maxzoom)
+        longitude, latitude = degrees([(west + east) / 2, (north + south) / 2])
+        return f"{zoom}/{latitude:.5f}/{longitude:.5f}"

@@ -1,0 +1,200 @@
+"""`vtmap publish`: publishes the map by steps, and may put the archive into an object store. Needs no package."""
+import hashlib
+import json
+import os
+import signal
+import subprocess
+import sys
+import tempfile
+import time
+
+from ..client.client import Client, word
+from ..client.refusals import STATUSES, WORDS, told
+from ..ending import regular, replaced
+from ..faults import Fault, NoAnswer
+
+ABOUT = {"publish": """Publishes the map of a running `vtserve serve` by steps, so that tiles and edits go on between them.
+
+    vtmap publish --changed --record /var/lib/vtserve-watch/published
+
+It prints how many sectors are left after each step. A publication that somebody left under way is finished first; with --cancel it is dropped.
+Interrupted, it cancels the publication once the server has answered; interrupted twice, it doesn't wait for that. If the server refuses a step, it says why and cancels the publication; it ends with 1 then, and if
+somebody else has cancelled the publication, or the server was restarted. --record keeps the outcome in a file, for `vtmap watch`.
+
+--changed publishes only if the archive lacks an edit, which a server with --admin tells: nobody waits then, and readers keep the archive that
+they know. With --to also if the last archive isn't known to be in its place, by what --record kept.
+
+--to PLACE puts the archive into an object store, under a name of its own, and then the file newest.json, which names it: readers of an older
+one aren't disturbed. PLACE is s3://BUCKET/FOLDER (by `aws s3 cp`) or REMOTE:BUCKET/FOLDER (by `rclone`)."""}
+PUBLISHED, STEP = "published", "/publish/step"
+
+
+def options(parser, _):
+    """The words of the command."""
+    parser.add_argument("--changed", action="store_true", help="publish only if the archive lacks an edit")
+    parser.add_argument("--cancel", action="store_true", help="drop a publication that was left under way")
+    parser.add_argument("--record", metavar="FILE", help="keep the outcome in this file, for `vtmap watch`")
+    parser.add_argument("--to", metavar="PLACE", help="put the archive into an object store")
+
+
+class Ended(Exception):
+    """With which status it ends, what is recorded, and what is said."""
+
+
+class Publication:
+    """A publication by steps. `is_interrupted` is set by a signal: a request that was sent is awaited, since its reply tells what became of it."""
+
+    def __init__(self, words, client):
+        self.words, self.client, self.is_interrupted = words, client, False
+
+    def post(self, path):
+        """Status and word, or content, of a request for a publication."""
+        status, content = self.client.step() if path == STEP else self.client.post(path)
+        return status, content if status == 200 else word(content)
+
+    def cancel(self):
+        """Cancels the publication that is under way."""
+        status, said = self.post("/publish/cancel")
+        print("the publication is cancelled" if status == 204 else f"/publish/cancel: {status} {said}", file=sys.stderr)
+
+    def refused(self, path, status, said):
+        """Ends at a refusal."""
+        reason = WORDS.get(said.split(" ")[0]) or STATUSES.get(status)
+        raise Ended(1, f"refused: {said} {status}", f"{path}: {said} {status}" + (f" ({told(reason)})" if reason else ""))
+
+    def finish(self, left):
+        """Does the steps that are left. Returns whether it did the last one itself: somebody else may, and then the server is idle."""
+        while left > 0:
+            if self.is_interrupted:
+                self.cancel()
+                raise Ended(130, "interrupted", None)
+            status, found = self.post(STEP)
+            if status == 409 and found == "Idle":
+                return False
+            if status != 200:
+                self.cancel()
+                self.refused(STEP, status, found)
+            left = self.client.value(found)["left"]
+            print(f"{left} left", flush=True)
+        return True
+
+    def begin(self):
+        """Begins a publication; one that is under way is cancelled or finished before. Returns the sectors that are left."""
+        status, found = self.post("/publish/begin")
+        if status == 409 and found == "Busy":
+            if self.words.cancel:
+                self.cancel()
+            else:
+                print("a publication is under way: it is finished first", flush=True)
+                self.finish(1)
+            status, found = self.post("/publish/begin")
+        if status != 200:
+            self.refused("/publish/begin", status, found)
+        return self.client.value(found)["left"]
+
+    def run(self):
+        """Publishes."""
+        left = self.begin()
+        print(f"begun: {left} left", flush=True)
+        before = self.mark()
+        if not self.finish(left) and self.mark() == before:
+            raise Ended(1, "dropped by somebody else or a restart",
+                        "the publication is gone, and nothing is published: somebody cancelled it, or the server was restarted")
+        print("published", flush=True)
+
+    def mark(self):
+        """What each publication changes: its number, or else the archive's entity tag."""
+        status = self.client.status()
+        return status["generation"] if status else self.client.tag("/map.pmtiles")
+
+
+def has_each_edit(client):
+    """Whether the published archive has each edit, and no publication is under way. A server without --admin doesn't tell."""
+    status = client.status()
+    return status is not None and status["generation"] > 0 and status["left"] is None and status["edits"] == status["published"]
+
+
+def is_in_place(words):
+    """Whether the last archive is where it is to be, as far as is known."""
+    if not words.to:
+        return True
+    try:
+        with open(words.record or os.devnull, encoding="utf-8") as file:
+            return json.load(file)["result"] == PUBLISHED
+    except (OSError, ValueError, LookupError, TypeError):
+        return False
+
+
+def put(place, path, name, kind, caching):
+    """Puts a file into the object store, under a name, with its type and how long it may be cached. Returns whether it is there."""
+    target = f"{place.rstrip('/')}/{name}"
+    if place.startswith("s3://"):
+        line = ["aws", "s3", "cp", "--only-show-errors", "--content-type", kind, "--cache-control", caching, path, target]
+    else:
+        line = ["rclone", "copyto", "--header-upload", f"Content-Type: {kind}", "--header-upload", f"Cache-Control: {caching}", path, target]
+    try:
+        return subprocess.run(line, check=False).returncode == 0
+    except FileNotFoundError:
+        print(f"{line[0]} isn't installed", file=sys.stderr)
+        return False
+
+
+def store(client, place):
+    """Puts the archive into the object store. Nothing is deleted there: old archives have readers. Returns whether it is there."""
+    status, archive = client.ask("GET", "/map.pmtiles")
+    if status != 200:
+        print(f"/map.pmtiles: {status} {word(archive)}", file=sys.stderr)
+        return False
+    name = f"map-{time.strftime('%Y%m%dT%H%M%SZ', time.gmtime())}-{hashlib.sha256(archive).hexdigest()[:8]}.pmtiles"
+    with tempfile.TemporaryDirectory() as folder:
+        files = [(os.path.join(folder, "archive"), archive), (os.path.join(folder, "newest.json"), json.dumps({"archive": name}, separators=(",", ":")).encode())]
+        for path, content in files:
+            with open(path, "wb") as file:
+                file.write(content)
+        is_there = (put(place, files[0][0], name, "application/vnd.pmtiles", "public, max-age=31536000, immutable")
+                    and put(place, files[1][0], "newest.json", "application/json", "no-cache"))
+    if is_there:
+        print(f"{name} is the newest archive in {place}")
+    return is_there
+
+
+def published(words):
+    """Publishes if it is wanted. Raises `Ended`."""
+    client = Client(words.url)
+    if words.changed and is_in_place(words) and has_each_edit(client):
+        print("the archive has each edit already")
+        return
+    publication = Publication(words, client)
+
+    def interrupt(*_):
+        # Whoever asks twice doesn't wait for a reply.
+        if publication.is_interrupted:
+            raise KeyboardInterrupt
+        publication.is_interrupted = True
+
+    for number in (signal.SIGINT, signal.SIGTERM, signal.SIGHUP):
+        signal.signal(number, interrupt)
+    publication.run()
+    if words.to and not store(client, words.to):
+        raise Ended(1, f"not stored: {words.to}", f"the map is published, but its archive isn't in {words.to}")
+
+
+def work(words):
+    """Publishes, and records the outcome."""
+    if words.record:
+        regular(words.record)
+    try:
+        published(words)
+        end = Ended(0, PUBLISHED, None)
+    except Ended as found:
+        end = found
+    except NoAnswer as fault:
+        end = Ended(3, "no reply", str(fault))
+    except Fault as fault:
+        end = Ended(fault.status, f"refused: {fault}", str(fault))
+    status, result, said = end.args
+    if said:
+        print(said, file=sys.stderr)
+    if words.record:
+        replaced(words.record, json.dumps({"time": int(time.time()), "result": result}, separators=(",", ":")) + "\n", ".new")
+    return status

@@ -1,0 +1,270 @@
+"""`vtmap watch`: looks at a running `vtserve serve --admin`, and says what an operator should do before it is too late. Needs no package."""
+import fnmatch
+import json
+import os
+import time
+
+from ..client.client import Client, word
+from ..client.refusals import STATUSES, WORDS, told
+from ..ending import regular, replaced
+from ..faults import Fault, NoAnswer
+from ..limits import SECTOR
+
+DAY = 24 * 3600
+SOON, NOW, UNKNOWN = 1, 2, 3
+# What it ends with if a file, or standard output, can't be written.
+FAILED = UNKNOWN
+ABOUT = {"watch": """Says what an operator should do about a running `vtserve serve --admin`, before it is too late.
+
+    vtmap watch --state /var/lib/vtserve-watch/state --record /var/lib/vtserve-watch/published
+
+It prints a line for each thing to do, and with nothing to do one line. It ends with 0 if nothing is to be done, 1 if something is to be done
+soon, 2 if something doesn't work any more (no server, a failed disk, a full journal, a refused publication), and 3 if that isn't known: as
+monitors such as Nagios expect, and cron mails what is printed.
+
+It always sees a full journal, an area that is nearly full or that the next publication may not fit, a publication that was left under way, a
+failed disk, and a server that doesn't answer. --state FILE keeps what was seen, for the next look: whether the journal fills before the next
+publication. --record FILE is what `vtmap publish --record` keeps: whether the last publication was refused, and when it was. --backups FOLDER
+is where vtserve-backup.service saves the map (map-2026-11-29.jsonl): whether the newest backup is older than --backup-hours. --metrics FILE is
+written for Prometheus, by the textfile collector of node_exporter."""}
+# How docs/vtserve-backup.service names its files. A backup that isn't finished has another name.
+BACKUP = "map-*.jsonl"
+# Edits of less than this share of the journal say nothing of how fast it fills.
+MANY = 20
+# What a first publication takes for each sector of the journal, if nothing is known: a town takes five times, large areas more.
+FIRST = 10
+# If edits have touched this share of the cells, in percent, the next archive may be another than the last one.
+MUCH = 50
+LARGER = "move the map to a larger disk (docs/DEPLOYING.md): once it is full, nothing can be published, and when the journal is full too, nothing can be edited"
+IN_FRONT = "the proxy in front of the server answers, but the server doesn't: systemctl status vtserve"
+# How urgent a reply is that isn't the status.
+LEVELS = {401: UNKNOWN, 403: UNKNOWN, 404: UNKNOWN, 421: UNKNOWN}
+METRICS = [
+    ("up", "gauge", "Whether the server answers."),
+    ("broken", "gauge", "Whether the disk has failed."),
+    ("edits_total", "counter", "The sequence number of the last edit."),
+    ("published_edit", "gauge", "The last edit in the published archive."),
+    ("publications_total", "counter", "How often an archive was published."),
+    ("publication_left_sectors", "gauge", "What is left of the publication under way, 0 if none is."),
+    ("features", "gauge", "The features of the map."),
+    ("archive_bytes", "gauge", "The length of the published archive."),
+    ("journal_used_sectors", "gauge", "The sectors of the journal that are used."),
+    ("journal_sectors", "gauge", "The sectors of the journal."),
+    ("area_used_sectors", "gauge", "The sectors of an area that the last publication takes."),
+    ("area_next_sectors", "gauge", "The sectors of an area that the next publication may take."),
+    ("area_sectors", "gauge", "The sectors of an area."),
+    ("stale_cells", "gauge", "The cells that edits have touched since the last publication began."),
+    ("cells", "gauge", "The cells in which those are counted."),
+    ("watch_result", "gauge", "What `vtmap watch` ends with: 0 nothing to do, 1 soon, 2 now, 3 unknown."),
+]
+
+
+class Unseen(Exception):
+    """Why the server's status isn't known: the level and the text."""
+
+
+def status_of(client):
+    """What the server tells of itself."""
+    try:
+        status, content = client.ask("GET", "/admin/status")
+    except NoAnswer as fault:
+        raise Unseen(NOW, str(fault)) from fault
+    if status != 200:
+        raise Unseen(*fault_of_reply(client, status, word(content)))
+    try:
+        found = json.loads(content)
+    except ValueError:
+        found = None
+    if not isinstance(found, dict) or not {"journal", "area", "left", "generation"} <= set(found):
+        raise Unseen(NOW, f"{client.address}: this isn't what a vtserve tells of itself")
+    return found
+
+
+def fault_of_reply(client, status, said):
+    """How urgent a reply is, and what to do about it."""
+    if status == 404 and said == "NotFound":
+        return UNKNOWN, f"{client.address}: 404: is the server started with --admin?"
+    if said in WORDS:
+        return NOW, f"{client.address}: {status}: {said} ({told(WORDS[said])})"
+    text = IN_FRONT if status in (502, 503, 504) else told(STATUSES[status]) if status in STATUSES else "it isn't the reply of a vtserve"
+    return LEVELS.get(status, NOW), f"{client.address}: {status}: {text}"
+
+
+def replace(path, text):
+    """Replaces the content of a file that others may read."""
+    replaced(path, text, ".new")
+    os.chmod(path, 0o644)
+
+
+def next_area(status):
+    """The sectors that the next publication may take: those of the last one, and those of the edits since, as the last one needed for its map."""
+    used, journal = status["area"]["used"], status["journal"]["used"]
+    snapshot = used - -(-status["archive"] // SECTOR)
+    return used + round(journal * (used / snapshot if snapshot > 0 else 1))
+
+
+def fullness(status, most):
+    """What is full, or will be."""
+    journal, area = status["journal"], status["area"]
+    # An older server doesn't tell these.
+    stale, cells = status.get("stale", 0), status.get("cells", 1)
+    if status["broken"]:
+        yield NOW, ("the disk failed, or its file was removed, replaced or cut (the log says which): edits are refused until the server is started "
+                    "again (docs/DEPLOYING.md, After 500 Device)")
+    if status.get("version", 2) < 2:
+        yield SOON, "the disk has version 1: the page, `vtmap checkin` and `vtmap import` can't edit it. `vtserve upgrade` (docs/DEPLOYING.md)"
+    if journal["used"] == journal["places"]:
+        yield NOW, "the journal is full: no edit is taken until the map is published (`vtmap publish`)"
+    for used, whole, name, what in [
+        (journal["used"], journal["places"], "the journal", "publish (`vtmap publish`)"),
+        (area["used"], area["sectors"], "an area", LARGER),
+    ]:
+        if used * 100 >= whole * most:
+            yield SOON, f"{used:,} of the {whole:,} sectors of {name} are used: {what}"
+    if status["generation"] == 0 and FIRST * journal["used"] > area["sectors"]:
+        yield SOON, "nothing was published yet: whether a publication fits isn't known before the first one. Publish (`vtmap publish`)"
+    elif next_area(status) > area["sectors"] > area["used"]:
+        yield SOON, f"the next publication may not fit: about {next_area(status):,} sectors, an area has {area['sectors']:,}. Publish now, and {LARGER}"
+    elif area["used"] * 100 >= area["sectors"] * most and stale * 100 >= cells * MUCH:
+        yield SOON, (f"the next publication may not fit: the last one takes {area['used']:,} of the {area['sectors']:,} sectors of an area, and edits "
+                     f"since have touched {stale:,} of {cells:,} cells. Publish now, and {LARGER}")
+
+
+def left(status, client, wait):
+    """Whether a publication was left under way: nothing of it is done for a while."""
+    if status["left"] is None:
+        return
+    time.sleep(wait)
+    later = status_of(client)
+    if later["left"] == status["left"]:
+        yield SOON, f"a publication was left with {status['left']:,} sectors to go: `vtmap publish` finishes it, or drops it with --cancel"
+
+
+def speed(status, path, now, every):
+    """Whether the journal fills before the next publication, at the speed since the last one. Keeps in a file what was seen."""
+    try:
+        with open(regular(path), encoding="utf-8") as file:
+            seen = json.load(file)
+    except (OSError, ValueError):
+        seen = {}
+    if not isinstance(seen, dict) or not {"generation", "interval", "time", "used"} <= set(seen):
+        seen = {"generation": None, "interval": None, "time": None}
+    used, free = status["journal"]["used"], status["journal"]["places"] - status["journal"]["used"]
+    if seen["generation"] != status["generation"]:
+        interval = now - seen["time"] if seen["generation"] is not None else None
+        seen = {"generation": status["generation"], "interval": interval, "time": now, "used": used}
+        try:
+            replace(path, json.dumps(seen))
+        except OSError as fault:
+            yield UNKNOWN, f"--state {path}: {fault}"
+        return
+    between = every if every is not None else (seen["interval"] or DAY) / 3600
+    waited = (now - seen["time"]) / 3600
+    if (used - seen["used"]) * MANY > status["journal"]["places"]:
+        hours = free * waited / (used - seen["used"])
+        if hours < between:
+            publish = f"publications come every {between:.1f} hours: publish more often"
+            yield SOON, f"the journal is full in {hours:.1f} hours, if edits go on like this, and {publish}"
+    if status["edits"] > status.get("published", status["edits"]) and waited > 2 * between:
+        yield SOON, f"nothing was published for {waited:.1f} hours, though the map was edited: what does `vtmap publish` say?"
+
+
+def recorded(path, now, every):
+    """What `vtmap publish` recorded of the last publication."""
+    try:
+        with open(path, encoding="utf-8") as file:
+            last = json.load(file)
+        hours, result = (now - last["time"]) / 3600, last["result"]
+    except (OSError, ValueError, LookupError, TypeError) as error:
+        yield UNKNOWN, f"{path}: {error}: has `vtmap publish` run with --record?"
+        return
+    if result != "published":
+        yield NOW, f"the publication {hours:.1f} hours ago wasn't made: {result}"
+    elif every is not None and hours > 2 * every:
+        yield SOON, f"the last publication was {hours:.1f} hours ago, and they are to come every {every:.1f} hours"
+
+
+def backed_up(folder, now, most):
+    """Whether the newest backup in a folder is older than so many hours."""
+    try:
+        with os.scandir(folder) as entries:
+            newest = max((entry.stat().st_mtime for entry in entries if fnmatch.fnmatch(entry.name, BACKUP) and entry.is_file()), default=None)
+    except OSError as fault:
+        yield UNKNOWN, f"--backups: {fault}"
+        return
+    if newest is None:
+        yield SOON, f"{folder} has no backup: is vtserve-backup.timer enabled? systemctl start vtserve-backup makes one"
+    elif now - newest > 3600 * most:
+        hours = (now - newest) / 3600
+        yield SOON, f"the newest backup in {folder} is {hours:.1f} hours old, and it may be {most:g}: journalctl -u vtserve-backup says why"
+
+
+def metrics(path, status, result):
+    """Writes the metrics; without a status those that are known."""
+    values = {"up": int(status is not None), "watch_result": result}
+    if status is not None:
+        journal, area = status["journal"], status["area"]
+        values |= {
+            "broken": int(status["broken"]),
+            "edits_total": status["edits"],
+            "published_edit": status.get("published", 0),
+            "publications_total": status["generation"],
+            "publication_left_sectors": status["left"] or 0,
+            "features": status["features"],
+            "archive_bytes": status["archive"],
+            "journal_used_sectors": journal["used"],
+            "journal_sectors": journal["places"],
+            "area_used_sectors": area["used"],
+            "area_next_sectors": next_area(status),
+            "area_sectors": area["sectors"],
+        }
+        values |= {name: status[member] for name, member in [("stale_cells", "stale"), ("cells", "cells")] if member in status}
+    replace(path, "".join(
+        f"# HELP vtserve_{name} {text}\n# TYPE vtserve_{name} {kind}\nvtserve_{name} {values[name]}\n"
+        for name, kind, text in METRICS if name in values
+    ))
+
+
+def tasks(words, client, now):
+    """The status, or None, and what is to be done, each with its level."""
+    found = list(recorded(words.record, now, words.every)) if words.record else []
+    found += backed_up(words.backups, now, words.backup_hours) if words.backups else []
+    try:
+        status = status_of(client)
+        found += [*fullness(status, words.at), *left(status, client, words.wait)]
+        found += speed(status, words.state, now, words.every) if words.state else []
+    except Unseen as fault:
+        return None, [*found, fault.args]
+    return status, found
+
+
+def options(parser, _):
+    """The words of the command."""
+    parser.add_argument("--at", type=int, default=80, metavar="PERCENT", help="how full the journal and an area may be (80)")
+    parser.add_argument("--every", type=float, metavar="HOURS", help="how often the map is to be published (as often as was seen)")
+    parser.add_argument("--wait", type=float, default=5, metavar="SECONDS", help="how long nothing is done of a publication that was left (5)")
+    parser.add_argument("--state", metavar="FILE", help="keep what was seen for the next look")
+    parser.add_argument("--record", metavar="FILE", help="what `vtmap publish --record` keeps")
+    parser.add_argument("--backups", metavar="FOLDER", help="where backups of the map are, map-*.jsonl")
+    parser.add_argument("--backup-hours", type=float, default=26, metavar="HOURS", help="how old the newest of them may be (26)")
+    parser.add_argument("--metrics", metavar="FILE", help="write metrics for Prometheus")
+
+
+def work(words):
+    """Looks, and prints what is to be done."""
+    try:
+        status, found = tasks(words, Client(words.url), time.time())
+    except Fault as fault:
+        status, found = None, [(UNKNOWN, str(fault))]
+    result = next((level for level in (NOW, UNKNOWN, SOON) if any(level == one for one, _ in found)), 0)
+    for _, text in found:
+        print(text)
+    if not found:
+        print(f"{status['features']:,} features, edit {status['edits']:,}, generation {status['generation']:,}: nothing to do")
+    if words.metrics:
+        try:
+            metrics(words.metrics, status, result)
+        except OSError as fault:
+            print(f"--metrics {words.metrics}: {fault}")
+            return NOW if result == NOW else UNKNOWN
+    return result

@@ -1,0 +1,36 @@
+"""Files to which lines of JSON are added, of which a stop leaves the whole lines. Needs no package."""
+import fcntl
+import json
+import os
+
+
+class LineFile:
+    """A file whose lines begin with one of these texts. Nobody else can use it meanwhile. `rows` has the values of its lines."""
+
+    def __init__(self, path, starts, what):
+        self.path = path
+        self.file = open(path, "a+", encoding="utf-8")
+        try:
+            fcntl.flock(self.file, fcntl.LOCK_EX | fcntl.LOCK_NB)
+        except BlockingIOError as fault:
+            raise OSError(f"another import uses {path}") from fault
+        self.file.seek(0)
+        try:
+            text = self.file.read()
+            if not any(text.startswith(start[:len(text)]) for start in starts):
+                raise ValueError("it has something else")
+            # A line that a killed import left unfinished is of no feature that was sent.
+            whole = text[:text.rfind("\n") + 1]
+            self.rows = [json.loads(line) for line in whole.split("\n")[:-1]]
+        except ValueError as fault:
+            raise OSError(f"{path} is no file of {what}: {fault}") from fault
+        self.file.truncate(len(whole.encode()))
+
+    def add(self, rows):
+        """Adds lines."""
+        self.file.write("".join(json.dumps(row, ensure_ascii=False, separators=(",", ":")) + "\n" for row in rows))
+        self.file.flush()
+
+    def sync(self):
+        """Has what was added outlive a crash."""
+        os.fsync(self.file.fileno())

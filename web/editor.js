@@ -1,0 +1,221 @@
+// What is edited: a draft of one feature, which is saved as a checked edit, and what becomes of it if somebody else was faster.
+import { conflictOf } from "./conflict.js";
+import { MINE, THEIRS, drawShape } from "./draw.js";
+import { formOf } from "./form.js";
+import { button, close, covered, element, open, table, tell } from "./panel.js";
+import { Changed, canonical } from "./server.js";
+import { begun, chainsOf, described, grabbed, isLarge, isWhole, listsOf, pointsOf, remove } from "./shape.js";
+import { isOutline } from "./style.js";
+import { bounds, rounded } from "./world.js";
+import { PIECE, changeAll, changedOf, lost, piecesOf, wholeOf } from "./whole.js";
+
+const hint = text => element("p", { className: "hint" }, text);
+
+export class Editor {
+    // The draft, or null: the `feature` (null: it is to be deleted) and its `form`; its `id` (null: not known yet), what it `was` (null:
+    // nothing), its `pieces` if it is cut, what was `sent` since then, earlier geometries (`undo`), whether it `isNew`, `isDrawn` just now or
+    // `isSent` just now, and `theirs` in a conflict (null: it was deleted).
+    draft = null;
+
+    /** `saved(edit)` is called after each edit. */
+    constructor(view, server, layers, saved) {
+        Object.assign(this, { view, server, layers, saved });
+    }
+
+    /** Begins to edit a feature of a tile, or to delete it, as the map has it now. */
+    async begin({ id, own, tags: { whole } }, deletes) {
+        const found = Number.isSafeInteger(whole) ? await piecesOf(this.server, whole) : [], pieces = found.length ? found : null;
+        // Pieces without the first one, and what only has a tag `whole`, are features of their own.
+        const was = pieces ? wholeOf(pieces) : await this.server.feature(own);
+        if (!was) {
+            throw new Error("somebody else has deleted this feature");
+        }
+        // A new feature may have been begun meanwhile.
+        if (!this.draft) {
+            this.draft = { id: pieces ? id : own, was, pieces, sent: [], feature: deletes ? null : structuredClone(was), undo: [] };
+            deletes ? this.ask() : this.openForm();
+        }
+    }
+
+    /** Begins to draw a new feature. */
+    draw(kind) {
+        // A layer of which the style draws such features, if there is one.
+        const layers = this.layers().filter(({ id }) => !isOutline(id)), drawn = layers.find(({ id }) => this.view.style.draws(id, kind));
+        const layer = drawn ?? layers[0] ?? { id: "", minzoom: 10, maxzoom: 16 };
+        const feature = { layer: layer.id, minzoom: layer.minzoom, maxzoom: layer.maxzoom, geometry: begun(kind), tags: { name: "" } };
+        this.draft = { id: null, isNew: true, was: null, sent: [], feature, undo: [], isDrawn: true };
+        const how = hint("A double click or Enter ends it, Backspace removes the last point.");
+        const more = kind === "points" ? [] : [how, button("Done", () => this.finish())];
+        open("Click where it is", ...more, button("Cancel", () => this.drop()));
+    }
+
+    /** Adds a point to what is drawn. */
+    add(place) {
+        const [{ points }] = listsOf(this.draft.feature.geometry), point = rounded(place);
+        String(points.at(-1)) === String(point) || points.push(point);
+        this.draft.feature.geometry.points && this.finish();
+    }
+
+    /** Ends the drawing, if there are points enough. */
+    finish() {
+        if (this.draft?.isDrawn && isWhole(this.draft.feature.geometry)) {
+            this.draft.isDrawn = false;
+            this.openForm();
+        }
+    }
+
+    openForm() {
+        const { feature, pieces, was, id } = this.draft;
+        this.draft.form = formOf(feature, this.layers().map(layer => layer.id).filter(name => !isOutline(name)), !was);
+        const shape = pieces ? `The import cut it into ${pieces.length} pieces. Its shape can be changed by a desktop GIS (vtmap checkout).`
+            : `${described(feature.geometry)}. Drag a point to move it, or a small one to add it; a right click removes it, Ctrl+Z undoes.`;
+        const isWrong = !pieces && isLarge(feature);
+        const large = isWrong ? [hint("MapLibre draws it wrong: it is larger than a tile of its last zoom. The import cuts such features.")] : [];
+        open(was ? `Edit ${feature.layer} ${id}` : "New feature", this.draft.form, hint(shape), ...large,
+            button("Save", () => this.send(this.read())), button("Cancel", () => this.drop()));
+        this.uncover(feature);
+    }
+
+    ask() {
+        const { id, was, pieces } = this.draft, shape = pieces ? `${pieces.length} pieces` : described(was.geometry);
+        open(`Delete ${was.layer} ${id}?`, table(Object.entries(was.tags).map(([name, value]) => [name, String(value)])), hint(shape),
+            button("Delete it", () => this.send(null)), button("Cancel", () => this.drop()));
+    }
+
+    /** The feature that shape and form say. */
+    read() {
+        return { ...this.draft.feature, ...this.draft.form.read() };
+    }
+
+    /** Saves a feature, or deletes it (null), as a checked edit. If that is refused, or no reply comes, it can be called again. */
+    async send(feature) {
+        const { draft } = this;
+        Object.assign(draft, { feature, isSent: true });
+        try {
+            const edit = draft.pieces ? await changeAll(this.server, draft.pieces, feature) : await this.put(draft, structuredClone(feature));
+            this.drop();
+            tell(`feature ${draft.id} saved, edit ${edit}`);
+            await this.saved(edit);
+        } catch (fault) {
+            if (!(fault instanceof Changed)) {
+                throw fault;
+            }
+            await this.openConflict(draft);
+        } finally {
+            draft.isSent = false;
+        }
+    }
+
+    /**
+     * Makes the edit of a draft that isn't cut, and returns its number. A new feature keeps its id until somebody else takes it. If an earlier
+     * request of the draft was made and its reply was lost, the map has what was sent: then this is a change of that.
+     */
+    async put(draft, feature) {
+        draft.id ??= await this.nextId();
+        const { id, was, sent } = draft;
+        sent.push(feature);
+        try {
+            return await this.server.edit([feature ? { put: id, feature, was } : { delete: id, was }]);
+        } catch (fault) {
+            if (!(fault instanceof Changed)) {
+                throw fault;
+            }
+            const now = await this.server.feature(id), isOwn = now && sent.some(one => canonical(one) === canonical(now));
+            if (!isOwn && !draft.isNew) {
+                throw fault;
+            }
+            Object.assign(draft, isOwn ? { was: now, isNew: false } : { id: null, sent: [] });
+            return this.put(draft, feature);
+        }
+    }
+
+    /** The id after the greatest one in use, those of pieces aside. If somebody takes it first, the edit is refused, and gets another. */
+    async nextId() {
+        const { last } = await this.server.value("admin/status");
+        let [least, end] = last < PIECE ? [Number(last ?? 0) + 1, 0] : [1, PIECE];
+        while (least < end) {
+            const middle = Math.floor((least + end) / 2), row = await this.server.from(middle);
+            [least, end] = row?.id < PIECE ? [row.id + 1, end] : [least, middle];
+        }
+        return least;
+    }
+
+    /** Shows both versions of a feature that somebody else has changed. What is saved from here replaces what is shown as theirs. */
+    async openConflict(draft) {
+        const { id, was } = draft, pieces = draft.pieces && await piecesOf(this.server, id);
+        const theirs = pieces ? changedOf(pieces, draft.pieces) : await this.server.feature(id);
+        const mine = draft.feature && { ...draft.feature, ...(pieces && theirs ? { geometry: theirs.geometry } : {}) };
+        Object.assign(draft, { was: theirs, theirs, sent: [], pieces: pieces && !theirs ? lost(draft.pieces) : pieces });
+        open(`Changed by two: ${(was ?? mine).layer} ${id}`, ...conflictOf({ was, theirs, mine }, chosen => this.send(chosen), () => this.drop()));
+        this.uncover(mine ?? was);
+    }
+
+    /** Moves the map so that the panel doesn't cover a feature. */
+    uncover({ geometry }) {
+        const [west, north, east, south] = bounds(pointsOf(geometry)), { view } = this;
+        const over = view.toScreen([(west + east) / 2, (north + south) / 2]).map((at, axis) => at - (2 * view.middle[axis] - covered()[axis] - 40));
+        over.some(pixels => pixels > 0) ? view.move(view.centre.map((at, axis) => at + Math.max(over[axis], 0) / view.scale)) : view.redraw();
+    }
+
+    drop() {
+        this.draft = null;
+        close();
+        this.view.redraw();
+    }
+
+    /** Whether something would be lost if the draft were dropped. */
+    get hasChanges() {
+        const { isDrawn, isSent, form, was } = this.draft ?? {};
+        if (isSent) {
+            return true;
+        }
+        try {
+            return isDrawn ? pointsOf(this.draft.feature.geometry).length > 0 : Boolean(form) && canonical(this.read()) !== canonical(was);
+        } catch {
+            return true;
+        }
+    }
+
+    /** Whether somebody else has changed what is edited. While it is sent, a change may be the page's own, and the reply tells of others. */
+    async isOvertaken() {
+        const { draft } = this, { id, was, pieces, theirs } = draft ?? {};
+        const isChanged = Boolean(was) && !pieces && theirs === undefined && canonical(await this.server.feature(id)) !== canonical(was);
+        return isChanged && draft === this.draft && !draft.isSent;
+    }
+
+    /** The geometry whose points the mouse moves, or undefined: what is sent just now doesn't change. */
+    get shape() {
+        const { form, pieces, theirs, feature, isSent } = this.draft ?? {};
+        return form && !pieces && !isSent && theirs === undefined ? feature.geometry : undefined;
+    }
+
+    /** Changes the shape so that it can be undone. Returns what the change does. */
+    change(action) {
+        const before = JSON.stringify(this.shape), done = action(this.shape, this.view.toScreen);
+        (done || before !== JSON.stringify(this.shape)) && this.draft.undo.push(before);
+        this.view.redraw();
+        return done;
+    }
+
+    grab(point) {
+        return this.shape && this.change((shape, toScreen) => grabbed(shape, point, toScreen));
+    }
+
+    remove(point) {
+        this.shape && this.change((shape, toScreen) => remove(shape, point, toScreen));
+    }
+
+    undo() {
+        if (this.shape && this.draft.undo.length) {
+            this.draft.feature.geometry = JSON.parse(this.draft.undo.pop());
+        }
+    }
+
+    /** Draws the shapes of the draft. */
+    over(context) {
+        const { feature, pieces, theirs } = this.draft ?? {};
+        const onScreen = ({ geometry }) => chainsOf(geometry).map(chain => ({ ...chain, points: chain.points.map(this.view.toScreen) }));
+        theirs && !pieces && drawShape(context, onScreen(theirs), THEIRS, false);
+        feature && !pieces && drawShape(context, onScreen(feature), MINE, theirs === undefined);
+    }
+}

@@ -1,0 +1,184 @@
+// The server of the map: tiles, features, and checked edits, which are made only if each feature is what its author saw (docs/HTTP.md).
+import { WHY } from "./refusals.js";
+
+// Why a machine may not edit: nobody has logged in, nginx doesn't let this address edit, or the server runs without --admin.
+const MAY_NOT = [401, 403, 404];
+const MAX_BODY = 65536;
+// Seconds without a reply after which none is awaited any more: nginx answers within 75.
+const PATIENCE = 80;
+
+/** The length of a text as UTF-8. */
+export const bytesOf = text => new TextEncoder().encode(text).length;
+
+/** A feature isn't what the author of an edit saw. Nothing was changed. */
+export class Changed extends Error {
+}
+
+/** A refusal with its cause. Nothing was changed. */
+function refusal(status, word) {
+    // nginx refuses with a page of its own.
+    const why = WHY[Object.keys(WHY).find(key => word.startsWith(key)) ?? status], told = word.startsWith("<") ? "" : word.trim();
+    return new Error(why ? `${why} (${told || status})` : `${status} ${told}`);
+}
+
+/** A value of the server's JSON. An integer that a number of JavaScript would round is a BigInt. */
+function parse(json) {
+    return JSON.parse(json, (key, value, context) => {
+        if (typeof value !== "number" || Number.isSafeInteger(value)) {
+            return value;
+        }
+        if (!context?.source) {
+            throw new Error("it has a number that this browser would round: use a newer browser");
+        }
+        return BigInt(context.source);
+    });
+}
+
+/** A value as JSON. */
+export function text(value) {
+    return JSON.stringify(value, (key, part) => typeof part === "bigint" ? JSON.rawJSON(String(part)) : part);
+}
+
+/** A text of a feature that equal features have in common: members and tags in order. */
+export function canonical(feature) {
+    const inOrder = object => Object.fromEntries(Object.entries(object).sort(([one], [other]) => one < other ? -1 : 1));
+    return text(feature && inOrder({ ...feature, tags: inOrder(feature.tags) }));
+}
+
+export class Server {
+    /** The server at an address that ends in a slash. */
+    constructor(base) {
+        this.base = base;
+        // The number of the last edit that is known of.
+        this.known = 0;
+    }
+
+    async ask(path, words) {
+        try {
+            const reply = await fetch(new URL(path, this.base), { cache: "no-store", signal: AbortSignal.timeout(PATIENCE * 1000), ...words });
+            return { status: reply.status, content: await reply.arrayBuffer() };
+        } catch (fault) {
+            throw words?.signal?.aborted ? fault : new Error("the server doesn't answer");
+        }
+    }
+
+    /** The value of a reply, or null if there is none. */
+    async value(path) {
+        const { status, content } = await this.ask(path), word = new TextDecoder().decode(content);
+        if (status !== 200 && status !== 404) {
+            throw refusal(status, word);
+        }
+        return status === 200 ? parse(word) : null;
+    }
+
+    /** The bytes of a tile of the map with this edit. */
+    async tile(name, edit, signal) {
+        const { status, content } = await this.ask(`map/${name}.mvt?edit=${edit}`, { signal, cache: "default" });
+        if (status !== 200 && status !== 204) {
+            throw refusal(status, new TextDecoder().decode(content));
+        }
+        return new Uint8Array(content);
+    }
+
+    /**
+     * What the server tells of itself. If this machine may not edit, only why: `refused` is the status of the refusal. Without `logsIn` the
+     * browser sends no password and asks the person for none.
+     */
+    async status(logsIn) {
+        const { status, content } = await this.ask("admin/status", { credentials: logsIn ? "same-origin" : "omit" });
+        if (MAY_NOT.includes(status)) {
+            return { refused: status };
+        }
+        if (status !== 200) {
+            throw new Error(`the server doesn't answer (${status})`);
+        }
+        const told = parse(new TextDecoder().decode(content));
+        this.known = told.edits;
+        return told;
+    }
+
+    /** The number of the last edit. */
+    async lastEdit() {
+        this.known = (await this.value("admin/status")).edits;
+        return this.known;
+    }
+
+    /** The layers of the map with this edit. */
+    async layers(edit) {
+        return (await this.value(`map/metadata?edit=${edit}`)).vector_layers;
+    }
+
+    feature(id) {
+        return this.value(`features/${id}`);
+    }
+
+    /** The first feature with this id or a greater one, or null. */
+    from(id) {
+        return this.value(`admin/features/from/${id}`);
+    }
+
+    /** Makes changes as one edit, and returns its number. What gets no reply is sent again only if it wasn't made. */
+    async edit(changes) {
+        const body = text({ changes });
+        if (bytesOf(body) > MAX_BODY) {
+            throw refusal(413, "");
+        }
+        const send = () => this.ask("admin/edits", { method: "POST", body, headers: { "Content-Type": "application/json" } });
+        const sendAgain = async () => {
+            const edit = await this.madeAs(changes);
+            return edit === null ? send() : { edit };
+        };
+        const { edit, status, content } = await send().catch(sendAgain).catch(() => {
+            throw new Error("the server doesn't answer: the edit may be made or not. Save again: it isn't made twice");
+        });
+        if (edit !== undefined) {
+            return edit;
+        }
+        const word = new TextDecoder().decode(content).trim();
+        if (status === 409 && word.startsWith("Changed")) {
+            // It may be this very edit that changed the feature, by a request whose reply was lost.
+            if (await this.isMade(changes)) {
+                return this.lastEdit();
+            }
+            throw new Changed(word);
+        }
+        if (status !== 200) {
+            throw refusal(status, word);
+        }
+        this.known = parse(word).edit;
+        return this.known;
+    }
+
+    /**
+     * The number of an edit whose reply didn't come, or null if it wasn't made. A creation that somebody deleted since isn't made again: the list of
+     * edits tells it. If the server doesn't list them, nobody can tell, and this fails.
+     */
+    async madeAs(changes) {
+        const before = this.known, last = await this.lastEdit();
+        const key = list => list.map(({ put, feature = null, ...rest }) => `${put ?? rest.delete} ${canonical(feature)}`).sort().join();
+        for (let at = before + 1; at <= last;) {
+            const reply = await this.value(`admin/edits/from/${at}`).catch(() => null);
+            if (!reply?.edits.length) {
+                if (await this.isMade(changes)) {
+                    return last;
+                }
+                if (changes.some(change => change.was === null)) {
+                    throw new Error("it isn't known whether the edit was made");
+                }
+                return null;
+            }
+            const made = reply.edits.find(one => key(one.changes) === key(changes));
+            if (made) {
+                return made.edit;
+            }
+            at = reply.edits.at(-1).edit + 1;
+        }
+        return null;
+    }
+
+    /** Whether each feature is what these changes make of it. */
+    async isMade(changes) {
+        const now = await Promise.all(changes.map(change => this.feature(change.put ?? change.delete)));
+        return changes.every(({ feature = null }, at) => canonical(now[at]) === canonical(feature));
+    }
+}
