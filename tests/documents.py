@@ -8,10 +8,11 @@ backslash, and to the end of a here-document. The lines below it are its output,
 any lines, `[..]` in a line any characters. Blocks marked `sh` are commands that need another machine (systemd, a package
 registry, the network); they are counted, and not run.
 
-The commands of a page run in one bash, in order, in a fresh folder with copies of examples/, docs/ and crates/vtserve/stdin, as in a
-clone, with PROGRAM in crates/vtserve/out/ and on the PATH. Each page has its own network, processes, /etc, /usr/local and /var/lib
+The commands of a page run in one bash, in order, in a fresh folder with copies of vtmap/, bin/, web/, examples/, docs/ and
+crates/vtserve/stdin, as in a clone, with PROGRAM in crates/vtserve/out/ and on the PATH, and /usr/sbin for pages that root reads. Each page has its own network, processes, /etc, /usr/local and /var/lib
 (`unshare` and an overlay, so this needs root on Linux): ports and paths are as written, and nothing of the machine changes. Prints
-each difference and the counts, and ends with 1 if there is a difference. --show prints all that the commands print.
+each difference and the counts, and ends with 1 if there is a difference. --show prints all that the commands print. Without --page it
+also sees that the page and OFFICE.md have the reasons of refusals of vtmap/client/refusals.py.
 """
 import argparse
 import os
@@ -27,6 +28,8 @@ import time
 HERE = os.path.dirname(os.path.abspath(__file__))
 TOP = os.path.dirname(HERE)
 PAGES = ["README.md", "docs/HTTP.md", "docs/COMMANDS.md", "docs/DEPLOYING.md", "docs/OFFICE.md"]
+# Pages whose commands are run as root.
+OF_ROOT = ["docs/DEPLOYING.md"]
 OWN = ["/etc", "/usr/local", "/var/lib"]
 SECONDS = 600
 MAX_LINES = 40
@@ -79,10 +82,11 @@ def short(text):
 class Shell:
     """A bash whose standard output and standard error are a terminal, and whose standard input is empty."""
 
-    def __init__(self, folder, program):
+    def __init__(self, folder, program, is_root):
         self.screen, terminal = pty.openpty()
         script, self.script = os.pipe()
-        places = [os.path.dirname(program), os.environ.get("PATH", ""), "/usr/sbin"]
+        known = os.environ.get("PATH", "").split(":")
+        places = [os.path.dirname(program), *([*known, "/usr/sbin"] if is_root else [place for place in known if not place.endswith("sbin")])]
         words = {"PATH": ":".join(places), "HOME": folder, "LANG": "C.UTF-8", "TERM": "dumb"}
         self.child = subprocess.Popen(
             ["bash", "--norc", f"/dev/fd/{script}"],
@@ -136,7 +140,7 @@ def run_page(page, program, show):
             os.makedirs(upper)
             os.makedirs(work)
             subprocess.run(["mount", "-t", "overlay", "overlay", "-o", f"lowerdir={own},upperdir={upper},workdir={work}", own], check=True)
-        for name in ["examples", "docs"]:
+        for name in ["vtmap", "bin", "web", "examples", "docs"]:
             shutil.copytree(os.path.join(TOP, name), os.path.join(folder, name))
         os.makedirs(f"{folder}/crates/vtserve")
         shutil.copy(os.path.join(TOP, "crates", "vtserve", "stdin"), f"{folder}/crates/vtserve/stdin")
@@ -145,7 +149,7 @@ def run_page(page, program, show):
             shutil.copy(program, f"{place}/vtserve")
         with open(os.path.join(TOP, page), encoding="utf-8") as file:
             rows, left_out = commands(file.read())
-        shell, differ = Shell(folder, f"{scratch}/bin/vtserve"), 0
+        shell, differ = Shell(folder, f"{scratch}/bin/vtserve", page in OF_ROOT), 0
         for number, command, lines in rows:
             expected = tidy("\n".join(lines) + "\n")
             sought = pattern(expected.splitlines())
@@ -175,6 +179,8 @@ def main():
         apart = ["unshare", "--net", "--mount", "--pid", "--fork", "--kill-child", "--mount-proc"]
         again = [sys.executable, os.path.abspath(__file__), program, "--page", page, "--inside", *(["--show"] if words.show else [])]
         differ += subprocess.run([*apart, *again], check=False).returncode != 0
+    if not words.page:
+        differ += subprocess.run([sys.executable, "-m", "vtmap.client.refusals", "check"], cwd=TOP, check=False).returncode != 0
     print(f"{len(words.page or PAGES)} pages, {differ} differ")
     return 1 if differ else 0
 

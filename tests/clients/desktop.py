@@ -228,13 +228,13 @@ class Desk:
         run(self.folder, QGIS + "made = layer('building')\nwith edit(made):\n    made.deleteFeatures(made.allFeatureIds())\nprint('emptied')", emptied)
         edit = self.edits()
         told = "318 of 318 features are gone from the file: give --delete-many if they are to be deleted"
-        self.show("a layer that is gone isn't deleted without a word", gis("checkin", emptied), (2, [told]))
+        self.show("a layer that is gone isn't deleted without a word", gis("checkin", emptied), (1, [told]))
         self.show("nothing was sent", self.edits(), edit)
-        self.show("a file that isn't there", gis("checkin", emptied + ".no"), (2, [f"there is no file {emptied}.no"]))
+        self.show("a file that isn't there", gis("checkin", emptied + ".no"), (1, [f"there is no file {emptied}.no"]))
         with sqlite3.connect(self.file, isolation_level=None) as other:
             other.execute("BEGIN EXCLUSIVE")
             status, lines = gis("checkin", self.file)
             other.execute("ROLLBACK")
-        self.show("a file that another program writes just now", (status, lines[0].partition(" (")[0]), (2, f"{self.file} can't be written"))
+        self.show("a file that another program writes just now", (status, lines[0].partition(" (")[0]), (1, f"{self.file} can't be written"))
         status, lines = gis("checkin", self.file, "--url", "http://127.0.0.1:1")
         self.show("no server", (status, lines[0].partition(": ")[0]), (3, "no reply of http://127.0.0.1:1"))

@@ -41,6 +41,7 @@ from stand import BYTES, EXAMPLES, HALF, JSON, METADATA, MVT, PROGRAM, ROOT, SHO
 from stand import Cases, Nginx, Server, curl, feature, field, parsed, refusal, same, status_of, wanted
 from steps import steps
 from three_ways import three_ways
+from toolbox import toolbox
 from units import units
 from updates import updates
 
@@ -804,6 +805,7 @@ def main():
         "admin": admin,
         "batches": batches,
         "editors": editors,
+        "toolbox": toolbox,
         "endings": endings,
         "doors": doors,
         "steps": steps,
