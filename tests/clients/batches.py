@@ -14,6 +14,7 @@ from imports import has_gdal, imported, row, shown, written
 from stand import JSON, PROGRAM, TEXT, VTMAP, Nginx, Server, curl, feature, refusal, same, status_of, wanted
 
 DELETE_LAYER = [*VTMAP, "delete-layer"]
+FULL = "no room for edits until the map is published: publish, and run the same command again, or give it --publish"
 # Tile 0/0/0 with the points 7 and 8 of layer `p`, by the standard of vector tiles.
 TWO = "1a1e0a0170120908071801220309000012090808180122030900002880207802"
 OF_JSON = ("-H", "Content-Type: application/json")
@@ -176,7 +177,7 @@ def full_journals(cases, folder):
         room = "the journal has 13 of its 64 sectors free: give --publish"
         cases.show("batches: the fourth, without --publish", (status, lines[-2:]), (1, [room, "nothing was sent"]))
         status, lines = imported(path, server.url, *words, "--anyway")
-        full = "stopped at feature 206: JournalFull need 1 free 0 (publish, and run the same command again, or give it --publish)"
+        full = f"stopped at feature 206: JournalFull need 1 free 0 ({FULL})"
         cases.show("batches: with --anyway", (status, lines[-2:]), (1, [full, "13 taken, 0 refused: run the same command again with --first 193"]))
         status, lines = imported(path, server.url, *words, "--publish")
         cases.show("batches: the fourth, with --publish", (status, lines[-2:]), (0, ["        the journal is full: a publication", "64 taken, 0 refused"]))
@@ -184,7 +185,7 @@ def full_journals(cases, folder):
     path = written(folder, "wide.geojson", points(31, text="x" * 960))
     with Server(folder, "narrow_batches", 128) as server:
         status, lines = imported(path, server.url, *words, "--anyway")
-        full = "stopped at feature 11: JournalFull need 3 free 2 (publish, and run the same command again, or give it --publish)"
+        full = f"stopped at feature 11: JournalFull need 3 free 2 ({FULL})"
         left = "10 taken, 0 refused: run the same command again with --first 1"
         cases.show("batches: one that no journal of 32 sectors takes", (status, lines[-2:]), (1, [full, left]))
 

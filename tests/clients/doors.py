@@ -171,7 +171,8 @@ def publish_script(cases, folder):
                 code, told, kept = published(between.url, record)
             after = seen[[at for at, asked in enumerate(seen) if asked == "/publish/step"][2] + 1:]
             cases.show(f"doors: publish, and a step that gets {status or 'no reply'}: no step more",
-                       (code, "published" in told, '"published"' in kept, after), (ends, False, False, ["/publish/cancel"] if status else ["/publish/step"] * 2))
+                       (code, "published" in told, '"published"' in kept, after),
+                       (ends, False, False, ["/publish/cancel"] if status else ["/publish/step"] * 2))
             curl(server.url + "/publish/cancel", "-X", "POST")
         steps = []
 

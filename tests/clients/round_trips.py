@@ -32,7 +32,8 @@ def add(layer, wkt, **values):
     if wkt: one.SetGeometry(ogr.CreateGeometryFromWkt(wkt))
     layer.CreateFeature(one)
 chance = random.Random(5)
-wells = layer("well", ogr.wkbPoint, [("nr", ogr.OFTInteger), ("depth", ogr.OFTReal), ("built", ogr.OFTDate), ("seen", ogr.OFTDateTime), ("code", ogr.OFTString)])
+fields = [("nr", ogr.OFTInteger), ("depth", ogr.OFTReal), ("built", ogr.OFTDate), ("seen", ogr.OFTDateTime), ("code", ogr.OFTString)]
+wells = layer("well", ogr.wkbPoint, fields)
 for nr in range(1, 1001):
     add(wells, f"POINT({400000 + chance.random() * 20000} {6030000 + chance.random() * 20000})", nr=nr, depth=nr / 8, built=f"20{nr % 25:02}-01-31",
         seen="2024/01/31 12:30:05+00", code=f"{nr:05}")

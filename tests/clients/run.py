@@ -37,7 +37,7 @@ from operation import operation
 from pages import page
 from round_trips import round_trips
 from screens import screens
-from stand import BYTES, EXAMPLES, HALF, JSON, METADATA, MVT, PROGRAM, ROOT, SHOWN, SYSTEM_PYTHON, TEXT, TILE
+from stand import BYTES, EXAMPLES, HALF, JSON, METADATA, MVT, PROGRAM, ROOT, SHOWN, SYSTEM_PYTHON, TEXT, TILE, VTMAP
 from stand import Cases, Nginx, Server, curl, feature, field, parsed, refusal, same, status_of, wanted
 from steps import steps
 from three_ways import three_ways
@@ -471,7 +471,7 @@ def gdal(cases, folder):
         cases.say("no GDAL in the system's Python: no file is put into the map")
         return
     with Server(folder, "survey") as server:
-        tool = [SYSTEM_PYTHON, os.path.join(EXAMPLES, "import")]
+        tool = [*VTMAP, "import"]
         words = ["--layer", "survey", "--minzoom", "10", "--maxzoom", "16", "--first", "101", "--url", server.url]
         survey = os.path.join(EXAMPLES, "survey.geojson")
         told = subprocess.run([*tool, survey, *words], capture_output=True, text=True)
@@ -528,7 +528,8 @@ def import_to_a_full_journal(cases, folder, tool):
         cases.show("import of forty points for sixteen places", (told.returncode, lines), (1, room))
         told = subprocess.run([*words, "--url", server.url, "--anyway"], capture_output=True, text=True)
         lines = [line for line in told.stdout.splitlines() if said(line)][1:]
-        full = "stopped at feature 17: JournalFull need 1 free 0 (publish, and run the same command again, or give it --publish)"
+        why = "no room for edits until the map is published: publish, and run the same command again, or give it --publish"
+        full = f"stopped at feature 17: JournalFull need 1 free 0 ({why})"
         cases.show("the same with --anyway", (told.returncode, lines), (1, [full, "16 taken, 0 refused: run the same command again"]))
         told = subprocess.run([*words, "--url", server.url, "--publish"], capture_output=True, text=True)
         published = told.stdout.count("the journal is full: a publication")

@@ -180,14 +180,16 @@ def whole_ones(cases, folder):
         for number, one in pieces.items():
             curl(f"{server.url}/features/{number}", "-X", "PUT", body=json.dumps({**one, "tags": {**one["tags"], "name": "theirs"}}))
         code, lines = imports(large, small)
-        cases.show("three ways: a large feature that somebody renamed", (code, lines[-1]), (0, "0 new, 0 changed, 0 deleted, 1 unchanged, 1 left as the map has them"))
+        cases.show("three ways: a large feature that somebody renamed", (code, lines[-1]),
+                   (0, "0 new, 0 changed, 0 deleted, 1 unchanged, 1 left as the map has them"))
         code, lines = imports({**large, "properties": {**large["properties"], "height": 7}}, small)
         said = next((line for line in lines if line.startswith("conflict")), "")
         cases.show("three ways: and the file changes", (code, said.split(": ")[1], len(pieces) > 1), (1, f"s {min(pieces)} ('HY-1', 'hy-1')", True))
         number = next(number for number, one in listed(server).items() if one["tags"]["name"] == "hy-2")
         curl(f"{server.url}/features/{number}", "-X", "PUT", body=json.dumps({**listed(server)[number], "layer": "elsewhere"}))
         code, lines = imports(large, small)
-        cases.show("three ways: one that is in another layer by now", (code, lines[-1]), (0, "0 new, 0 changed, 0 deleted, 0 unchanged, 2 left as the map has them"))
+        cases.show("three ways: one that is in another layer by now", (code, lines[-1]),
+                   (0, "0 new, 0 changed, 0 deleted, 0 unchanged, 2 left as the map has them"))
 
 
 def half_a_file(cases, folder):

@@ -84,7 +84,8 @@ def for_people(key):
 
 def script():
     """The module of the page."""
-    rows = [(key, for_people(key).replace("*", "").replace("`", "")) for key in (*WORDS, *STATUSES) if (WORDS.get(key) or STATUSES[key]).for_people or key in WORDS]
+    keys = [*WORDS, *(status for status, reason in STATUSES.items() if reason.for_people)]
+    rows = [(key, for_people(key).replace("*", "").replace("`", "")) for key in keys]
     lines = "".join(f"    {json.dumps(key) if ' ' in str(key) else key}: {json.dumps(text)},\n" for key, text in rows)
     return f"// Why a request is refused, and what to do: by vtmap/client/refusals.py, which writes this file.\nexport const WHY = {{\n{lines}}};\n"
 

@@ -19,9 +19,9 @@ ABOUT = {"checkout": """Writes a GeoPackage with a table for each layer of the m
     vtmap checkin town.gpkg
 
 A layer that has points, lines and areas is several tables. Tags are columns, and so are the zooms that show a feature. A feature that the
-import has cut is one feature here. Numbers with a fraction and dates are texts on the map: --base FILE, which `vtmap import` keeps (IDS.base, or
-FILE.base beside the imported file), gives their columns the types that they had. --layer and --bbox choose a part of the map: what isn't in the file isn't touched by `vtmap checkin`. The
-server needs --admin."""}
+import has cut is one feature here. Numbers with a fraction and dates are texts on the map: --base FILE, which `vtmap import` keeps (IDS.base,
+or FILE.base beside the imported file), gives their columns the types that they had. --layer and --bbox choose a part of the map: what isn't in
+the file isn't touched by `vtmap checkin`. The server needs --admin."""}
 
 
 def options(parser, _):

@@ -159,16 +159,21 @@ def work(words, client):
     if words.dry_run:
         print("\n".join([*changes.would_send(), f"{changes.told()}: nothing was sent"]))
         return 1 if changes.failed() else 0
+    return sent(words, client, plan, changes)
+
+
+def sent(words, client, plan, changes):
+    """Sends the changes, and keeps the ids and what the file says. Returns the exit status."""
     if plan.ids:
         plan.ids.save()
-    if base:
-        base.keep_types(plan.types)
     try:
+        if changes.base:
+            changes.base.keep_types(plan.types)
         try:
             send(client, changes)
         finally:
-            if base:
-                base.end(client.edits)
+            if changes.base:
+                changes.base.end(client.edits)
         tell_disk(client)
         tell_place(client, plan)
     except NoAnswer as fault:
@@ -183,7 +188,7 @@ def work(words, client):
         print(f"{changes.so_far()}, then it was interrupted: {again(words, plan)}")
         return 130
     except OSError as fault:
-        print(f"standard output: {fault}: {changes.so_far()}: {again(words, plan)}", file=sys.stderr)
+        print(f"standard output, or {base_path(words)}: {fault}: {changes.so_far()}: {again(words, plan)}", file=sys.stderr)
         return 1
     print(changes.told())
     return 1 if changes.failed() else 0

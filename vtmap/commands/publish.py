@@ -18,8 +18,9 @@ ABOUT = {"publish": """Publishes the map of a running `vtserve serve` by steps, 
     vtmap publish --changed --record /var/lib/vtserve-watch/published
 
 It prints how many sectors are left after each step. A publication that somebody left under way is finished first; with --cancel it is dropped.
-Interrupted, it cancels the publication once the server has answered; interrupted twice, it doesn't wait for that. If the server refuses a step, it says why and cancels the publication; it ends with 1 then, and if
-somebody else has cancelled the publication, or the server was restarted. --record keeps the outcome in a file, for `vtmap watch`.
+Interrupted, it cancels the publication once the server has answered; interrupted twice, it doesn't wait for that. If the server refuses a
+step, it says why and cancels the publication; it ends with 1 then, and if somebody else has cancelled the publication, or the server was
+restarted. --record keeps the outcome in a file, for `vtmap watch`.
 
 --changed publishes only if the archive lacks an edit, which a server with --admin tells: nobody waits then, and readers keep the archive that
 they know. With --to also if the last archive isn't known to be in its place, by what --record kept.
@@ -147,12 +148,12 @@ def store(client, place):
         return False
     name = f"map-{time.strftime('%Y%m%dT%H%M%SZ', time.gmtime())}-{hashlib.sha256(archive).hexdigest()[:8]}.pmtiles"
     with tempfile.TemporaryDirectory() as folder:
-        files = [(os.path.join(folder, "archive"), archive), (os.path.join(folder, "newest.json"), json.dumps({"archive": name}, separators=(",", ":")).encode())]
-        for path, content in files:
-            with open(path, "wb") as file:
+        files = {"archive": archive, "newest.json": json.dumps({"archive": name}, separators=(",", ":")).encode()}
+        for part, content in files.items():
+            with open(os.path.join(folder, part), "wb") as file:
                 file.write(content)
-        is_there = (put(place, files[0][0], name, "application/vnd.pmtiles", "public, max-age=31536000, immutable")
-                    and put(place, files[1][0], "newest.json", "application/json", "no-cache"))
+        is_there = (put(place, os.path.join(folder, "archive"), name, "application/vnd.pmtiles", "public, max-age=31536000, immutable")
+                    and put(place, os.path.join(folder, "newest.json"), "newest.json", "application/json", "no-cache"))
     if is_there:
         print(f"{name} is the newest archive in {place}")
     return is_there
