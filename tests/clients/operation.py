@@ -14,7 +14,7 @@ import threading
 import time
 
 from imports import area_of, has_gdal, imported, lists_of, round_ring, row, world, written
-from stand import HERE, TOP, VTMAP, Nginx, Server, curl, feature, free_port, status_of
+from stand import HERE, PROGRAM, TOP, VTMAP, Nginx, Server, curl, feature, free_port, status_of
 
 sys.path += [os.path.join(HERE, "..", "..", "model"), TOP]
 import disk as model  # noqa: E402
@@ -167,6 +167,29 @@ def watching(cases, folder):
         cases.show("operation: vtmap watch, no server", watched(server.url)[0], 2)
         with open(metrics, encoding="utf-8") as file:
             cases.show("operation: its metric", "vtserve_up 0\n" in file.read(), True)
+
+
+def unpublished(cases, folder):
+    """What `vtmap watch` says of a disk of version 1, and of edits that no publication takes, though none is recorded."""
+    disk, state = os.path.join(folder, "old_version"), os.path.join(folder, "old_state")
+    subprocess.run([PROGRAM, "format", disk, "--sectors", "1024"], check=True, capture_output=True)
+    with open(disk, "r+b") as file:
+        file.seek(8)
+        file.write(b"\1")
+    with Server(folder, "old_version") as server:
+        code, lines = tool("watch", "--url", server.url)
+        cases.show("operation: vtmap watch, a disk of version 1", (code, [line.split(":")[0] for line in lines]), (1, ["the disk has version 1"]))
+    with Server(folder, "unpublished", 1024) as server:
+        words = ["watch", "--url", server.url, "--state", state]
+        curl(server.url + "/features/1", "-X", "PUT", body=feature())
+        cases.show("operation: vtmap watch, a first look", tool(*words, "--every", "0.00001")[0], 0)
+        time.sleep(1)
+        code, lines = tool(*words, "--every", "0.00001")
+        said = [re.sub(r"\d+\.\d+", "N", line.split(",")[0]) for line in lines]
+        cases.show("operation: vtmap watch, edits that no publication takes", (code, said), (1, ["nothing was published for N hours"]))
+        cases.show("operation: vtmap watch, by its usual times", tool(*words)[0], 0)
+        curl(server.url + "/publish", "-X", "POST")
+        cases.show("operation: vtmap watch, once they are published", tool(*words, "--every", "0.00001")[0], 0)
 
 
 # ---- the served disk file
@@ -469,6 +492,6 @@ def operation(cases, folder):
     """Each task of an operator."""
     place = os.path.join(folder, "operation")
     os.mkdir(place)
-    for part in (rooms, touched, watching, served_disk, passed_by, exactly, written_disks, wholes, stores):
+    for part in (rooms, touched, watching, unpublished, served_disk, passed_by, exactly, written_disks, wholes, stores):
         part(cases, place)
     shutil.rmtree(place)

@@ -473,7 +473,7 @@ def gdal(cases, folder):
     with Server(folder, "survey") as server:
         tool = [*VTMAP, "import"]
         words = ["--layer", "survey", "--minzoom", "10", "--maxzoom", "16", "--first", "101", "--url", server.url]
-        survey = os.path.join(EXAMPLES, "survey.geojson")
+        survey = shutil.copy(os.path.join(EXAMPLES, "survey.geojson"), folder)
         told = subprocess.run([*tool, survey, *words], capture_output=True, text=True)
         refused = "feature 106 refused: E7 Value"
         lines = [line[:len(refused)] if line.startswith(refused) else line for line in told.stdout.splitlines() if said(line)]

@@ -3,9 +3,10 @@ and what both changed is a conflict that is named. What the map is to have is wr
 import json
 import os
 import shutil
+import subprocess
 
 from imports import has_gdal, imported, row, square, written
-from stand import Server, curl, feature
+from stand import SYSTEM_PYTHON, VTMAP, Server, curl, feature
 from updates import listed, status
 
 WORDS = ["--layer", "p", "--id", "nr", "--update", "--delete-missing"]
@@ -165,6 +166,32 @@ def unknown(cases, folder):
                        (1, True, ["conflict: p 9 ('ours'): name: 'name 9' on the map, 'ours' in the file"]))
 
 
+def kept_elsewhere(cases, folder):
+    """A file in a folder where nothing can be written: it is imported, and what it said is kept where --base says."""
+    place = os.path.join(folder, "read_only")
+    os.mkdir(place)
+    path = written(place, "kept.geojson", rows(numbered(3)))
+    # A folder of this name in its place can't be written either, by root too.
+    os.mkdir(path + ".base")
+    with Server(folder, "kept", 65536) as server:
+        words = ["--layer", "p", "--id", "nr"]
+        code, lines = imported(path, server.url, *words)
+        cases.show("three ways: a name that is taken", (code, lines[-1].endswith(": nothing was sent")), (1, True))
+        base = os.path.join(folder, "kept.base")
+        cases.show("three ways: --base", imported(path, server.url, *words, "--base", base)[0], 0)
+        path = written(place, "kept.geojson", rows(numbered(3, n2="changed")))
+        code, lines = imported(path, server.url, *words, "--update", "--base", base)
+        cases.show("three ways: and the next time", (code, lines[-1]), (0, "0 new, 1 changed, 0 deleted, 2 unchanged"))
+        os.rmdir(path + ".base")
+        if shutil.which("setpriv"):
+            os.chmod(folder, 0o755)
+            os.chmod(place, 0o555)
+            line = ["setpriv", "--reuid", "65534", "--clear-groups", SYSTEM_PYTHON, *VTMAP[1:], "import", path, "--url", server.url, *words]
+            told = subprocess.run(line, capture_output=True, text=True, check=False)
+            said = [line for line in told.stdout.splitlines() if line.startswith("note: what the file says isn't kept")]
+            cases.show("three ways: where nothing can be written an import goes on, and says so", (told.returncode, len(said)), (0, 1))
+
+
 def whole_ones(cases, folder):
     """A large feature is one; texts are named; a feature that somebody moves to another layer is no id of another layer."""
     ids = os.path.join(folder, "map.ids")
@@ -216,6 +243,6 @@ def three_ways(cases, folder):
         return
     place = os.path.join(folder, "three_ways")
     os.mkdir(place)
-    for part in (theirs_stays, conflicts, unknown, whole_ones, half_a_file):
+    for part in (theirs_stays, conflicts, unknown, kept_elsewhere, whole_ones, half_a_file):
         part(cases, place)
     shutil.rmtree(place)

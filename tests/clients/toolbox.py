@@ -6,8 +6,9 @@ import shutil
 import subprocess
 import sys
 
+from between import Between
 from imports import has_gdal, row, written
-from stand import EXAMPLES, TOP, VTMAP, Server, curl, feature
+from stand import EXAMPLES, TOP, VTMAP, Nginx, Server, curl, feature
 
 NAMES = ["import", "update", "checkout", "checkin", "save", "load", "publish", "watch", "delete-layer", "qgis", "follow", "draw"]
 OLD = {
@@ -59,6 +60,48 @@ def addresses(cases, folder):
         ran(*VTMAP, "checkout", file, "--url", server.url)
         code, told = ran(*VTMAP, "checkin", file, words={"VTSERVE_URL": "http://127.0.0.1:1"})
         cases.show("toolbox: checkin asks the server that was checked out of", (code, told), (0, "0 new, 0 changed, 0 deleted, 0 conflicts, 0 refused\n"))
+
+
+def listings(cases, folder):
+    """A list of a large map is a few requests, which nginx doesn't log; of an older server one for each feature."""
+    nginx = shutil.which("nginx", path=os.environ.get("PATH", "") + ":/usr/sbin")
+    out, seen = os.path.join(folder, "listed.jsonl"), []
+    with Server(folder, "listings", 65536) as server:
+        for at in range(0, 600, 60):
+            changes = ",".join(f'{{"put":{number},"feature":{feature(tags={"name": str(number)})}}}' for number in range(at, at + 60))
+            curl(server.url + "/edits", "-X", "POST", body=f'{{"changes":[{changes}]}}')
+
+        def listed(name, instead=lambda *_: None):
+            with Between(server, instead=instead) as between:
+                told = ran(*VTMAP, "save", out, "--url", between.url)
+            seen.append(len(between.asked))
+            cases.show(f"toolbox: a list of 600 features, {name}", told, (0, "600 features saved\n"))
+
+        listed("by pages")
+        listed("of a server without pages", lambda _, path: (404, b"NotFound\n") if path.startswith("/admin/features/page/") else None)
+        cases.show("toolbox: and how many requests that takes", (seen[0] < 5, seen[1] > 600), (True, True))
+        if nginx:
+            with Nginx(nginx, folder, server) as front:
+                ran(*VTMAP, "save", out, "--url", front.url)
+                curl(front.url + "/features/7")
+                with open(os.path.join(front.folder, "access.log"), encoding="utf-8") as file:
+                    lines = file.read().splitlines()
+            cases.show("toolbox: nginx logs no list of features", [line.split('"')[1].split()[1] for line in lines], ["/admin/status", "/features/7"])
+
+
+def refusals(cases, folder):
+    """What a proxy says in HTML is told without its tags."""
+    page = b"<html>\r\n<head><title>418 I'm a teapot</title></head>\r\n<body>..</body></html>\r\n"
+    path = os.path.join(folder, "one.jsonl")
+    with open(path, "w", encoding="utf-8") as file:
+        file.write('{"feature":%s,"id":7}\n' % feature())
+    with Server(folder, "refusals") as server:
+        with Between(server, instead=lambda method, _: (418, page) if method == "POST" else None) as between:
+            told = ran(*VTMAP, "load", path, "--url", between.url)
+        cases.show("toolbox: a refusal in HTML", told, (1, "feature 7: 418 I'm a teapot\n"))
+        with Between(server, instead=lambda *_: (418, page)) as between:
+            told = ran(*VTMAP, "publish", "--url", between.url)
+        cases.show("toolbox: a publication that is refused so", told, (1, "/publish/begin: 418 I'm a teapot\n"))
 
 
 def places(cases, folder):
@@ -118,7 +161,7 @@ def toolbox(cases, folder):
     place = os.path.join(folder, "toolbox")
     os.mkdir(place)
     helps(cases)
-    for part in (addresses, places, interpreters):
+    for part in (addresses, listings, refusals, places, interpreters):
         part(cases, place)
     old_names(cases)
     constants(cases)

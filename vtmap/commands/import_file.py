@@ -1,4 +1,5 @@
 """`vtmap import` and `vtmap update`: the features of a file are planned, compared with the map, and sent. Needs GDAL's Python module."""
+import errno
 import json
 import os
 import sys
@@ -41,7 +42,13 @@ def base_of(words, client, status):
     if status is None or not has_ids(words):
         return None
     path, before = base_path(words), words.was_at and words.was_at.rstrip("/")
-    base = Base(path if os.path.exists(path) or not words.dry_run else None, client.address, before)
+    try:
+        base = Base(path if os.path.exists(path) or not words.dry_run else None, client.address, before)
+    except OSError as fault:
+        if words.update or words.base or fault.errno not in (errno.EACCES, errno.EPERM, errno.EROFS):
+            raise
+        print(f"note: what the file says isn't kept, so that `vtmap update` won't know it: {fault} (--base names another place)", flush=True)
+        return None
     if status["edits"] < base.edits:
         print(f"note: the map has {status['edits']:,} edits, and had {base.edits:,} at the last import: it was put back from a copy, or is another one. "
               "What the file said then isn't looked at", flush=True)

@@ -61,7 +61,8 @@ class Publication:
     def refused(self, path, status, said):
         """Ends at a refusal."""
         reason = WORDS.get(said.split(" ")[0]) or STATUSES.get(status)
-        raise Ended(1, f"refused: {said} {status}", f"{path}: {said} {status}" + (f" ({told(reason)})" if reason else ""))
+        text = said if str(status) in said else f"{said} {status}"
+        raise Ended(1, f"refused: {text}", f"{path}: {text}" + (f" ({told(reason)})" if reason else ""))
 
     def finish(self, left):
         """Does the steps that are left. Returns whether it did the last one itself: somebody else may, and then the server is idle."""
