@@ -268,7 +268,7 @@ def tables(cases, folder, server):
         cases.show(f"updates: {name}", (code, len(found) == 1 and is_near(found[0], [world(7.5, 54.5)], 200)), (0, True))
         cases.show(f"updates: {name}, one without a place", "note: they have no geometry, and aren't put: 1 feature" in lines, True)
     code, lines = imported(os.path.join(folder, "x_y.csv"), server.url)
-    cases.show("updates: a table whose columns aren't known", (code, "name the columns of the points by --x and --y" in lines[-1]), (1, True))
+    cases.show("updates: a table whose columns aren't known", (code, "name the columns of its points by --x and --y" in lines[-1]), (1, True))
     path = written(folder, "metres.geojson", [row("Point", [402861.31, 6040189.51])])
     code, lines = imported(path, server.url, "--crs", "EPSG:25832")
     found = [one["geometry"]["points"] for one in listed(server).values() if one["layer"] == "metres"]
