@@ -67,7 +67,7 @@ def answered_by_others(cases, folder):
 def unavailable(cases, folder):
     """What vtmap watch says of a 503: of the server itself, and of a proxy in front of it."""
     with Server(folder, "unavailable") as server:
-        for content, said in ((b"Memory\n", "the server's memory ran out"), (PAGE, "the proxy in front of the server answers, but the server doesn't")):
+        for content, said in ((b"Memory\n", "the server is out of memory"), (PAGE, "the proxy in front of the server answers, but the server doesn't")):
             with Between(server, instead=lambda *_, content=content: (503, content)) as between:
                 code, told = tool("watch", "--url", between.url)
             cases.show(f"doors: vtmap watch, {said}", (code, said in told or told), (2, True))
