@@ -1,5 +1,5 @@
 -- A service that breaks, or is broken, still shows the edits that it showed.
-use Rattle.std.proofs.Common.{◌≡◌, inl, inr, ℕ, ◌-◌, List, map, All, Result, Ok, Err, true, refl, sym, ap, ◌∙◌, subst, arith}
+use Rattle.std.proofs.Common.{◌≡◌, inl, inr, ℕ, List, map, All, Ok, Err, true, sym, ap, ◌∙◌, subst, arith}
 use Rattle.sector_disk.specs.Disk.{History}
 use Rattle.edit_journal.specs.Ring.{Ring}
 use Rattle.edit_journal.proofs.ReadAgain.{has_on}

@@ -1,6 +1,6 @@
 -- The edits of a journal that is read again.
 use Rattle.std.specs.Prelude.{Vec, Result, Ok, Err, MatchResult}
-use Rattle.std.proofs.Common.{Global, ◌≡◌, ◌≢◌, ◌≤◌, ◌+◌, ◌-◌, ◌∙◌, ℕ, List, map, drop, All, sym, ap, subst}
+use Rattle.std.proofs.Common.{Global, ◌≡◌, ◌≢◌, ◌≤◌, ◌+◌, ◌-◌, ℕ, List, map, drop, All, sym, subst}
 use Rattle.std.proofs.lemmas.List.{drop-map}
 use Rattle.std.proofs.lemmas.List.Elements.{All-map, All-weaker}
 use Rattle.sector_disk.specs.Asked.{OnlyReads}
@@ -14,7 +14,7 @@ use Rattle.edit_journal.specs.declared.fault.JournalFault.TheVariants.{Damaged}
 use Rattle.edit_journal.specs.declared.records.Record.{Record}
 use Rattle.edit_journal.proofs.ReadAgain.{are_read}
 use Rattle.edit_text.specs.Recorded.{RecordedEdit}
-use Rattle.tile_service.specs.Listing.{ShowsEdits, AreListed, ListsFrom, listed_from, listed_records}
+use Rattle.tile_service.specs.Listing.{ShowsEdits, AreListed, listed_from, listed_records}
 use Rattle.tile_service.specs.Machine.{list_edits}
 use Rattle.tile_service.specs.Runs.{Takes}
 use Rattle.tile_service.specs.Service.{ServiceView, IsUp}

@@ -3,7 +3,7 @@ use Rattle.sector_disk.proofs.AskedLaws.{writes_on}
 use Rattle.edit_journal.specs.Records.{record_of}
 use Rattle.edit_journal.specs.Appends.{ring_of, writes_in, syncs_in}
 use Rattle.edit_journal.proofs.Bodies.{staged_start, body_within, body_leaves, body_reads, body_seen}
-use Rattle.edit_journal.proofs.Bodies.{synced_reads, synced_within, synced_leaves, synced_bodies, two_syncs, one_sync}
+use Rattle.edit_journal.proofs.Bodies.{synced_reads, synced_within, synced_leaves}
 use Rattle.edit_journal.proofs.appending.stage.Goals as goal
 
 pub loop-part-init : goal.loop-part-init

@@ -1,13 +1,12 @@
-use Rattle.std.proofs.Common.{◌≡◌, ◌≤◌, ◌+◌, ◌-◌, ◌++◌, ◌∷◌, [], ◌∙◌, ℕ, suc, List, length, length-append, take, drop, refl, sym, ap, subst, arith}
-use Rattle.sector_disk.specs.Disk.{History, Image, seen}
+use Rattle.std.proofs.Common.{◌≡◌, ◌+◌, ◌-◌, ◌++◌, ◌∷◌, [], ◌∙◌, ℕ, suc, length, length-append, take, drop, sym, ap, subst, arith}
+use Rattle.sector_disk.specs.Disk.{History, seen}
 use Rattle.sector_disk.proofs.AskedLaws.{reads_on}
-use Rattle.edit_journal.specs.Records.{RecordData, record_data, records_of, parts_of}
-use Rattle.edit_journal.specs.Ring.{Ring, RecordStart, places_of, HoldsRecords}
+use Rattle.edit_journal.specs.Records.{record_data, records_of}
+use Rattle.edit_journal.specs.Ring.{RecordStart, places_of, HoldsRecords}
 use Rattle.edit_journal.specs.Appends.{ring_of, start_of}
 use Rattle.edit_journal.specs.Lists.{first_bytes}
 use Rattle.edit_journal.proofs.Reading.{records_more}
 use Rattle.edit_journal.proofs.ReadAgain.{first_full, first_next, moved_records, places_more}
-use Rattle.edit_journal.proofs.journal.Journal.records_from.Given.{Over}
 use Rattle.edit_journal.proofs.journal.Journal.records_from.Goals as goal
 
 pub returns-then-room-eq0-clause-found : goal.returns-then-room-eq0-clause-found

@@ -1,4 +1,4 @@
-use Rattle.std.proofs.Common.{◌≡◌, ◌≤◌, ◌+◌, ◌-◌, ◌++◌, List, length, take, drop}
+use Rattle.std.proofs.Common.{◌≡◌, ◌+◌, ◌-◌, ◌++◌, List, length, take, drop}
 use Rattle.sector_disk.specs.Asked.{OnlyReads}
 use Rattle.edit_journal.specs.Records.{RecordData, records_of, AreUpTo}
 use Rattle.edit_journal.specs.Ring.{places_of}

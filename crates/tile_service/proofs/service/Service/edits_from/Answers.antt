@@ -1,4 +1,4 @@
-use Rattle.std.proofs.Common.{◌≡◌, ◌+◌, ◌-◌, ℕ, refl, subst}
+use Rattle.std.proofs.Common.{ℕ, refl, subst}
 use Rattle.tile_service.specs.Listing.{AreListed, listed_from, listed_records}
 use Rattle.tile_service.proofs.Archive.Read.{up_unwritten}
 use Rattle.tile_service.proofs.Edits.ListedEdits.{shown_listed, up_shows, takes_list}
