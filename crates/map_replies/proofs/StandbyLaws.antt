@@ -45,6 +45,7 @@ parts_same (a ∷ xs) (b ∷ ys) more y later same many =
     head : List EditData → EditData
     head [] = []
     head (c ∷ cs) = c
+
     head_is : a ≡ b
     head_is = ap head same
 
@@ -127,6 +128,7 @@ module _ {D : Type 0} (sectors : D → ℕ) (honest : D → Type 0) (history : D
       value_in : Option Data → Data
       value_in None = is.value
       value_in (Some d) = d
+
       some_is : Some too.value ≡ Some is.value → too.value ≡ is.value
       some_is same = ap value_in same
 

@@ -1,5 +1,5 @@
 //! Lines over a map.
-ghost use Rattle.std.specs.Prelude.{◌≤◌, All, length};
+ghost use Rattle.std.specs.Prelude.{◌≡◌, ◌≤◌, All, length};
 ghost use Rattle.feature_model.specs.Data.{edit_data};
 ghost use Rattle.feature_model.specs.Spelled.{spelled_changes};
 ghost use Rattle.feature_model.specs.Types.{IsChange};
@@ -188,8 +188,10 @@ fn layers(answer: &mut Answer, store: &Store, at: TileAt) {
     }
 }
 
-/// The tiles to come, each with its id.
-fn list_tiles(answer: &mut Answer, store: &Store, tiles: &mut Tiles) {
+/// The tiles to come of the map as it is now, each with its id.
+fn list_tiles(answer: &mut Answer, store: &Store, tiles: &mut Tiles)
+    requires { tiles.old.features ≡ store.now.features }
+{
     let now = store.moment();
     answer.push('[');
     for _ in 0..u64::MAX {
