@@ -21,7 +21,7 @@ COMMANDS = {
     "watch": ("watch", "says what an operator should do before it is too late"),
     "delete-layer": ("delete_layer", "deletes the features of layers"),
     "qgis": ("qgis", "writes a QGIS project that shows the map"),
-    "follow": ("follow", "follows the edits of a server: into a standby, into a log, or both"),
+    "follow": ("follow", "follows the edits of a server: into standbys, into a log, or both"),
     "draw": ("draw", "draws a part of the map into a PNG file"),
 }
 ABOUT = """The office's toolbox for the map of a vtserve.

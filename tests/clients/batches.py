@@ -311,6 +311,10 @@ def behind_nginx(cases, folder):
         for status, kind in rows:
             reply = curl(front.url + "/edits", "-X", "POST", "-H", f"Content-Type: {kind}".strip(), body=batch(put(7), put(8)))
             cases.show(f"nginx: a batch as {kind or 'nothing'}", status_of(reply), status)
+        for kind, word in (("application/json", b"Next 3\n"), ("text/plain", None)):
+            reply = curl(front.url + "/admin/edits/at/9", "-X", "POST", "-H", f"Content-Type: {kind}", body=batch(put(7)))
+            found = status_of(reply), reply[2] if word else None
+            cases.show(f"nginx: an edit under a number as {kind}", found, (409 if word else 415, word))
         asked = ["-H", "Origin: http://other.example", "-H", "Access-Control-Request-Method: POST", "-H", "Access-Control-Request-Headers: content-type"]
         reply = curl(front.url + "/edits", "-X", "OPTIONS", *asked)
         fields = [name for name, _ in reply[1] if name.lower().startswith("access-control")]

@@ -39,6 +39,7 @@ from round_trips import round_trips
 from screens import screens
 from stand import BYTES, EXAMPLES, HALF, JSON, METADATA, MVT, PROGRAM, ROOT, SHOWN, SYSTEM_PYTHON, TEXT, TILE, VTMAP
 from stand import Cases, Nginx, Server, curl, feature, field, parsed, refusal, same, status_of, wanted
+from standby import long_follow, standby
 from steps import steps
 from three_ways import three_ways
 from toolbox import toolbox
@@ -810,6 +811,8 @@ def main():
         "endings": endings,
         "doors": doors,
         "steps": steps,
+        "standby": standby,
+        "long-follow": long_follow,
         "disk-full": disk_full,
         "kills": kills,
         "nginx": in_front,

@@ -17,6 +17,7 @@ EXPOSURE = {
     "vtserve-publish.service": 1.5,
     "vtserve-watch.service": 1.5,
     "vtserve-backup.service": 1.0,
+    "vtserve-standby.service": 1.5,
 }
 # What the units with timers run.
 TASKS = {

@@ -17,6 +17,7 @@ from dataclasses import dataclass
 from ..faults import NoAnswer, Stopped
 from ..geometry.wholes import PIECE
 from ..limits import MOST_CHANGES, NUMBER_END
+from . import followers
 from .address import address
 from .edits import NOTHING, batches, body_of, delete, encoded, fits
 from .refusals import FINAL, NO_ROOM, STATUSES, WORDS, WRONG_PASSWORD, told
@@ -193,12 +194,24 @@ class Client:
         return self.ask("POST", path)
 
     def publish(self):
-        """Publishes by steps, which frees the journal. A publication that is under way is finished first, whoever began it."""
+        """Publishes by steps, which frees the journal. A publication that is under way is finished first, whoever began it. It waits for who
+        follows the edits: the last step takes those up to its beginning out of their list."""
         status, content = self.post("/publish/begin")
         if word(content) == "Busy":
+            self.wait()
             self.finish()
             status, content = self.post("/publish/begin")
-        self.finish(self.left(status, content))
+        left = self.left(status, content)
+        self.wait()
+        self.finish(left)
+
+    def wait(self):
+        """Waits for who follows the edits, as the environment says."""
+        length, standbys = followers.said()
+        wait = followers.Wait(length, [Client(url) for url in standbys])
+        if wait.length:
+            status = self.status()
+            wait.wait(status["edits"] if status else 0)
 
     def step(self):
         """The reply to a step of a publication. If none comes, the next step goes on where that one ended, or finds nothing left to do."""

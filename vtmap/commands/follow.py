@@ -1,263 +1,154 @@
-"""`vtmap follow`: follows the edits of a running `vtserve serve --admin`, into a standby, into a log, or both. Needs no package."""
-import json
+"""`vtmap follow`: follows the edits of a running `vtserve serve --admin`, into standbys, into a log, or both. Needs no package."""
 import os
 import subprocess
+import sys
+import threading
 import time
-from datetime import datetime, timezone
 
-from ..client.client import FEED, Client, word
-from ..client.edits import encoded
-from ..faults import NoAnswer, Stopped
+from ..client.feed import ANEW, Leader, LeftBehind, Standby
+from ..ending import regular
+from ..faults import Fault, NoAnswer, Stopped
+from ..files.edit_log import EditLog
 
-ABOUT = {"follow": """Follows the edits of a running `vtserve serve --admin`: into a standby, which is a second vtserve, into a log, or both.
+ABOUT = {"follow": """Follows the edits of a running `vtserve serve --admin`: into standbys, each a second vtserve, into a log, or both.
 
     vtmap follow --to http://127.0.0.1:8081 --publish
     vtmap follow --log edits.jsonl
 
-The standby begins as a copy of the server's disk, and nobody else edits it:
+A standby begins as a copy of the server's disk, and nobody else edits it:
 
     vtserve copy map.disk standby.disk
     vtserve serve --port 8081 --connections 4294967295 --admin standby.disk
 
-Each edit of the server becomes an edit of the standby with the same number and the same changes. This is checked: at the beginning the last
-edit of the standby is compared with the server's, and each reply of the standby must have the number of the edit. If one of the servers, or
-this command, is stopped, it goes on where the standby is. A reply that was lost is no reason to send an edit twice: the standby is asked for
-its last edit first.
+Each edit of the server becomes an edit of the standby with the same number and the same changes, within --every seconds. The standby itself
+makes an edit only under that number, so none is made twice or left out, whoever is stopped meanwhile: this command, the server or the standby.
+Each begins where the standby is. At the beginning the standby's last edit is compared with the server's, if both still list it.
 
---log FILE appends a line of JSON for each edit, `{"time":..,"edit":7,"changes":[..]}`, with the time when the edit was seen: an audit trail. The
-number of its last line says where it goes on.
+--log FILE appends a line of JSON for each edit, `{"time":..,"edit":7,"changes":[{"put":9,"feature":{..},"was":{..}}]}`, with the time when the
+edit was seen and what each feature was before. For that the features of the map are kept in FILE.map. A new log begins with the next edit. FILE may
+be renamed meanwhile, as logrotate does: then a new one begins.
 
-A publication of the server ends the list of the edits in it. Whoever hasn't read them by then is left behind, and goes on from a newer copy:
---anew COMMAND is run by the shell, stops the standby, makes a copy and starts it again. Without it the command ends with status 1. A log gets
-a line `{"time":..,"missed":[8,12]}`. --publish publishes the standby when its journal is full, and when the server has published.
+A publication of the server takes the edits up to its beginning out of the list. `vtmap publish --pause 5` gives who follows the time to read
+them before. Whoever hasn't is left behind: a log gets a line `{"time":..,"missed":[8,12]}` and goes on; a standby has to begin anew from a copy,
+by --anew COMMAND, which the shell runs with its address in $STANDBY: it stops the standby, copies the disk and starts the standby again.
+--publish publishes a standby when its journal is full, and after the server has published.
 
-With --once it ends once all edits are followed; otherwise only if it can't go on."""}
-NO_FEED = "the server doesn't list its edits: it runs without --admin, or is older than that list"
-
-
-class LeftBehind(Exception):
-    """The number of the edit that is wanted, and that of the last one that the server has published."""
-
-
-class Server(Client):
-    """A server whose edits are listed."""
-
-    def edits_from(self, number):
-        """The edits from a number on that one reply has, in order, and the number of the last edit. LeftBehind if they were published."""
-        status, content = self.ask("GET", f"{FEED}/{number}")
-        if status == 200:
-            reply = self.value(content)
-            return reply["edits"], reply["last"]
-        if status == 410:
-            raise LeftBehind(number, self.known()["published"])
-        if status == 404:
-            known = self.known()
-            if number > known["edits"] + 1:
-                raise Stopped(f"{self.address} has edits up to {known['edits']:,}, and {number - 1:,} are known: is it another map, or an older copy?")
-            raise Stopped(NO_FEED)
-        self.stop_at(status, content)
-        raise Stopped(f"the edits from {number:,} on: {status} {word(content)}")
-
-    def known(self):
-        """What the server tells of itself."""
-        status = self.status()
-        if status is None:
-            raise Stopped(NO_FEED)
-        return status
-
-
-class Standby(Server):
-    """A server that gets the edits of another one. `at` is the number of its last edit."""
-
-    def begin(self, source):
-        """Asks for the last edit, and compares it with the same edit of the other server, if both still list it."""
-        self.at = self.known()["edits"]
-        try:
-            here, _ = self.edits_from(self.at)
-            there, _ = source.edits_from(self.at)
-        except LeftBehind:
-            return
-        if encoded(here[:1]) != encoded(there[:1]):
-            raise Stopped(f"edit {self.at:,} of {self.address} isn't that of {source.address}: one of them was edited by somebody else")
-
-    def take(self, edit):
-        """Makes the edit after the last one."""
-        status, content = self.ask(*request_of(edit["changes"]))
-        if status == 507 and content.startswith(b"JournalFull") and self.publishes:
-            print(f"        the journal of {self.address} is full: a publication", flush=True)
-            self.publish()
-            status, content = self.ask(*request_of(edit["changes"]))
-        if status != 200:
-            self.stop_at(status, content)
-            raise Stopped(f"edit {edit['edit']:,} isn't made at {self.address}: {status} {word(content)}")
-        made = self.value(content)["edit"]
-        if made != edit["edit"]:
-            raise Stopped(f"edit {edit['edit']:,} is edit {made:,} of {self.address}: it was edited by somebody else. Begin it anew from a copy")
-        self.at = made
-
-
-class Log:
-    """A file with a line for each edit. `at` is the number of the last one."""
-
-    def __init__(self, path):
-        self.path = path
-        self.at = None
-        self.file = open(path, "a+b")
-        whole = self.last_line()
-        if whole:
-            row = json.loads(whole)
-            self.at = row["edit"] if "edit" in row else row["missed"][1]
-
-    def last_line(self):
-        """The last whole line. What a crash left of a line behind it is cut off."""
-        end = self.file.seek(0, os.SEEK_END)
-        size = 1 << 16
-        while True:
-            begin = max(0, end - size)
-            self.file.seek(begin)
-            text = self.file.read(end - begin)
-            cut = text.rfind(b"\n") + 1
-            if begin == 0 or text.rfind(b"\n", 0, max(cut - 1, 0)) >= 0:
-                self.file.truncate(begin + cut)
-                return text[:cut].rstrip(b"\n").rpartition(b"\n")[2]
-            size *= 4
-
-    def begin(self, source):
-        """A new log begins with the first edit that the server still lists."""
-        if self.at is None:
-            self.at = source.known()["published"]
-
-    def take(self, edit):
-        """Appends an edit."""
-        self.write({"edit": edit["edit"], "changes": edit["changes"]})
-        self.at = edit["edit"]
-
-    def miss(self, last):
-        """Says that edits up to this one were missed."""
-        self.write({"missed": [self.at + 1, last]})
-        print(f"{self.path}: the edits {self.at + 1:,} to {last:,} were published before they were read, and are missing", flush=True)
-        self.at = last
-
-    def write(self, row):
-        """Appends a line, and has it outlive a crash."""
-        now = datetime.now(timezone.utc).isoformat(timespec="milliseconds").replace("+00:00", "Z")
-        self.file.write(json.dumps({"time": now, **row}, ensure_ascii=False, separators=(",", ":")).encode() + b"\n")
-        self.file.flush()
-        os.fsync(self.file.fileno())
-
-
-def request_of(changes):
-    """The request that makes an edit: for one change that of its feature, which takes as large a body as the one that made it."""
-    if len(changes) > 1:
-        return "POST", "/edits", encoded({"changes": changes})
-    change, = changes
-    if "delete" in change:
-        return "DELETE", f"/features/{change['delete']}", b""
-    return "PUT", f"/features/{change['put']}", encoded(change["feature"])
-
-
-def pass_on(source, sinks):
-    """Passes the edits of one reply on to each that lacks them. Returns whether there are more."""
-    first = min(sink.at for sink in sinks) + 1
-    edits, last = source.edits_from(first)
-    for number, edit in enumerate(edits, first):
-        if edit["edit"] != number:
-            raise Stopped(f"{source.address} lists edit {edit['edit']:,} in place of {number:,}")
-        for sink in sinks:
-            if sink.at == number - 1:
-                sink.take(edit)
-    return bool(edits) and edits[-1]["edit"] < last
-
-
-def left_behind(source, sinks, published, command):
-    """Goes on after a publication of edits that weren't read: a log misses them, and a standby begins anew. Returns whether it can."""
-    for sink in sinks:
-        if sink.at >= published:
-            continue
-        if isinstance(sink, Log):
-            sink.miss(published)
-            continue
-        print(f"{sink.address} has edits up to {sink.at:,}, and {source.address} has published up to {published:,}: it is left behind", flush=True)
-        if command is None:
-            return False
-        sink.close()
-        subprocess.run(command, shell=True, check=True)
-        sink.begin(source)
-        print(f"{sink.address} begins anew with edit {sink.at:,}", flush=True)
-    return True
+Each standby and the log is followed by itself: where one can't go on, it says why, and the others go on. It ends with 1 once none is left;
+with --once once all edits are followed."""}
+# How many seconds there are between two looks whether the server has published.
+LOOK = 10
 
 
 class Follower:
-    """What is followed, and where to. It survives a stop of any of them: `go` is called again."""
+    """Passes the edits of a server on to one standby, or to a log."""
 
-    def __init__(self, words):
-        self.words = words
-        self.source = Server(words.url)
-        self.standby = Standby(words.to, words.publish) if words.to else None
-        self.log = Log(words.log) if words.log else None
-        self.sinks = [sink for sink in (self.standby, self.log) if sink]
-        self.generation = None
+    def __init__(self, words, sink):
+        self.words, self.sink = words, sink
+        self.leader = Leader(words.url)
+        # With which status it ends, what was said last of who doesn't answer, the server's publication that is known, and whether it has begun.
+        self.status, self.told, self.generation, self.is_begun = 1, None, None, False
+        self.looked = 0
+
+    def run(self):
+        """Follows until it can't go on, or with --once until all edits are followed."""
+        try:
+            while not self.is_done():
+                time.sleep(self.words.every)
+            self.status = 0
+        except Fault as fault:
+            self.status = fault.status
+            print(f"{self.sink.address}: {fault}", file=sys.stderr, flush=True)
+        except OSError as fault:
+            print(f"{fault}" if fault.filename else f"{self.sink.address}: {fault}", file=sys.stderr, flush=True)
+
+    def is_done(self):
+        """Passes on what there is. Returns whether it is to end."""
+        try:
+            if not self.is_begun or self.sink.at is None:
+                self.begin()
+            while self.pass_on():
+                pass
+            self.publish_after()
+            self.told = None
+            return self.words.once and self.sink.at is not None and self.sink.at >= self.leader.known()["edits"]
+        except LeftBehind as behind:
+            self.left_behind(behind)
+        except NoAnswer as fault:
+            self.wait_for(fault)
+        return False
 
     def begin(self):
-        """Asks each where it is."""
-        for sink in self.sinks:
-            sink.begin(self.source)
-        print(f"following {self.source.address} from edit {min(sink.at for sink in self.sinks) + 1:,} on", flush=True)
+        """Finds out where the standby, or the log, is."""
+        self.sink.begin(self.leader)
+        if not self.is_begun:
+            print(f"{self.sink.address}: following {self.leader.address} from edit {self.sink.at + 1} on", flush=True)
+        self.is_begun = True
 
-    def go(self):
-        """Passes on what there is. Returns the status to end with, or None."""
-        try:
-            while pass_on(self.source, self.sinks):
-                pass
-        except LeftBehind as behind:
-            try:
-                return None if left_behind(self.source, self.sinks, behind.args[1], self.words.anew) else 1
-            except subprocess.CalledProcessError as fault:
-                raise Stopped(f"--anew: {fault}") from fault
-        if self.standby and self.words.publish:
-            self.publish_after()
-        return None
+    def pass_on(self):
+        """Passes the edits of one reply on. Returns whether there are more."""
+        edits, last = self.leader.edits_from(self.sink.at + 1)
+        if edits:
+            self.sink.take(edits)
+        if self.sink.at is None:
+            self.begin()
+        return self.sink.at < last
 
     def publish_after(self):
-        """Publishes the standby if the server has published since the last look."""
-        generation = self.source.known()["generation"]
+        """Publishes a standby if the server has published since the last look."""
+        if not isinstance(self.sink, Standby) or not self.words.publish or time.monotonic() < self.looked + LOOK:
+            return
+        self.looked = time.monotonic()
+        generation = self.leader.known()["generation"]
         if self.generation is not None and generation != self.generation:
-            print(f"{self.source.address} has published: so does {self.standby.address}", flush=True)
-            self.standby.publish()
+            print(f"{self.leader.address} has published: so does {self.sink.address}", flush=True)
+            self.sink.publish()
         self.generation = generation
+
+    def left_behind(self, behind):
+        """Goes on after a publication of edits that weren't read: a log misses them, and a standby begins anew."""
+        if isinstance(self.sink, EditLog):
+            self.sink.miss(self.leader, behind.published)
+            return
+        if self.words.anew is None:
+            raise Stopped(f"it has edits up to {behind.number - 1:,}, and {behind}. {ANEW.capitalize()}, and give --anew next time; `vtmap publish --pause 5` "
+                          "waits for who follows")
+        print(f"{self.sink.address} has edits up to {behind.number - 1:,}, and {behind}: --anew begins it anew", flush=True)
+        self.sink.close()
+        try:
+            subprocess.run(self.words.anew, shell=True, check=True, env={**os.environ, "STANDBY": self.sink.address})
+        except subprocess.CalledProcessError as fault:
+            raise Stopped(f"--anew: {fault}") from fault
+        self.is_begun = False
+
+    def wait_for(self, fault):
+        """Waits for the server, or the standby, which then says anew where it is: an edit whose reply was lost is made or not."""
+        if self.words.once:
+            raise fault
+        self.is_begun = False
+        if str(fault) != self.told:
+            self.told = str(fault)
+            print(f"{fault}: waiting", flush=True)
 
 
 def work(words):
-    """Follows until it can't go on, or with --once until all edits are followed."""
-    follower, is_begun, told = Follower(words), False, None
-    while True:
-        try:
-            if not is_begun:
-                follower.begin()
-                is_begun, told = True, None
-            status = follower.go()
-            if status is not None:
-                return status
-            if words.once and min(sink.at for sink in follower.sinks) >= follower.source.known()["edits"]:
-                return 0
-        except NoAnswer as fault:
-            if words.once:
-                raise
-            # The standby says anew where it is: the edit whose reply was lost is made or not.
-            is_begun = False
-            if str(fault) != told:
-                print(f"{fault}: waiting", flush=True)
-                told = str(fault)
-        time.sleep(words.every)
+    """Follows into each standby and into the log, each by itself."""
+    sinks = [Standby(url.rstrip("/"), words.publish) for url in words.to] + ([EditLog(regular(words.log))] if words.log else [])
+    followers = [Follower(words, sink) for sink in sinks]
+    threads = [threading.Thread(target=follower.run, daemon=True) for follower in followers]
+    for thread in threads:
+        thread.start()
+    for thread in threads:
+        thread.join()
+    return max(follower.status for follower in followers)
 
 
 def options(parser, _):
     """The words of the command."""
-    parser.add_argument("--to", metavar="URL", help="the standby")
+    parser.add_argument("--to", metavar="URL", action="append", default=[], help="a standby; may be given several times")
     parser.add_argument("--log", metavar="FILE", help="append each edit to this file")
-    parser.add_argument("--publish", action="store_true", help="publish the standby when its journal is full, and after the server")
-    parser.add_argument("--anew", metavar="COMMAND", help="what begins the standby anew from a copy")
-    parser.add_argument("--every", type=float, default=1, metavar="SECONDS", help="how often to ask for new edits (1)")
+    parser.add_argument("--publish", action="store_true", help="publish a standby when its journal is full, and after the server")
+    parser.add_argument("--anew", metavar="COMMAND", help="what begins a standby anew from a copy; its address is $STANDBY")
+    parser.add_argument("--every", type=float, default=0.5, metavar="SECONDS", help="how often to ask for new edits (0.5)")
     parser.add_argument("--once", action="store_true", help="end once all edits are followed")
 
 

@@ -1,0 +1,115 @@
+"""The feed of a server's edits, and a standby, which makes them under the same numbers. Needs no package.
+
+    leader, standby = Leader("http://127.0.0.1:8080"), Standby("http://127.0.0.1:8081")
+    standby.begin(leader)
+    edits, last = leader.edits_from(standby.at + 1)
+    standby.take(edits)
+"""
+from ..faults import Fault, NoAnswer, Stopped
+from .client import FEED, Client, word
+from .edits import encoded
+from .refusals import WORDS, told
+
+NUMBERED = "/admin/edits/at"
+NO_FEED = "the server doesn't list its edits: it runs without --admin, or is older than that list"
+NO_NUMBERS = "the server makes no edits under a number: it is older than they are"
+# What a proxy says of a server that starts just now, and the server of a moment without memory: it is waited for.
+WAITED_FOR = (502, 503, 504)
+ANEW = "begin it anew from a copy of the server's disk (docs/DEPLOYING.md, A second machine)"
+
+
+class LeftBehind(Fault):
+    """A publication has freed the edits from a number on. `published`: the last edit of that publication."""
+
+    def __init__(self, address, number, published):
+        super().__init__(f"{address} no longer lists edit {number:,}: it has published the edits up to {published:,}")
+        self.number, self.published = number, published
+
+
+class Leader(Client):
+    """A server whose edits are listed."""
+
+    def stop_at(self, status, content):
+        """Stops at a refusal that every further request would get; one that passes is no answer."""
+        if status in WAITED_FOR:
+            raise NoAnswer(f"no reply of {self.address}: {status} {word(content)}")
+        super().stop_at(status, content)
+
+    def edits_from(self, number):
+        """The edits from a number on that one reply has, in order, and the number of the last edit. LeftBehind if they were published."""
+        status, content = self.ask("GET", f"{FEED}/{number}")
+        if status == 200:
+            reply = self.value(content)
+            for at, edit in enumerate(reply["edits"], number):
+                if edit["edit"] != at:
+                    raise Stopped(f"{self.address} lists edit {edit['edit']:,} in place of {at:,}")
+            return reply["edits"], reply["last"]
+        if status == 410:
+            raise LeftBehind(self.address, number, self.known()["published"])
+        if status == 404:
+            edits = self.known()["edits"]
+            if number > edits + 1:
+                raise Stopped(f"{self.address} has edits up to {edits:,}, and {number - 1:,} are known: it is another map, or was put back from a copy")
+            raise Stopped(NO_FEED)
+        self.stop_at(status, content)
+        raise Stopped(f"the edits from {number:,} on: {status} {word(content)}")
+
+    def known(self):
+        """What the server tells of itself."""
+        status = self.status()
+        if status is None:
+            raise Stopped(NO_FEED)
+        return status
+
+    def edit(self, number):
+        """The edit of a number, or None if it isn't listed any more, or was never made."""
+        try:
+            edits, _ = self.edits_from(number)
+        except LeftBehind:
+            return None
+        return edits[0] if edits else None
+
+
+class Standby(Leader):
+    """A server that makes the edits of another one. `at` is the number of its last edit, None where that has to be asked for."""
+
+    at = None
+
+    def begin(self, leader):
+        """Asks for the last edit, and compares it with the same edit of the leader, if both still list it."""
+        self.at = self.known()["edits"]
+        here = self.edit(self.at) if self.at else None
+        there = leader.edit(self.at) if here else None
+        if there and encoded(here) != encoded(there):
+            raise Stopped(f"edit {self.at:,} of {self.address} isn't that of {leader.address}: it was edited by somebody else. {ANEW.capitalize()}")
+
+    def take(self, edits):
+        """Makes edits, the first of which is the one after the last. If the number of its next edit is another one, it has to begin again."""
+        for edit in edits:
+            status, content = self.reply_to(edit)
+            if status == 409 and content.startswith(b"Next "):
+                self.at = None
+                return
+            if status != 200:
+                self.refused(edit, status, content)
+            self.at = edit["edit"]
+
+    def reply_to(self, edit):
+        """The reply to an edit that gets its own number or isn't made. If the journal is full, it is sent again after a publication."""
+        path, body = f"{NUMBERED}/{edit['edit']}", encoded({"changes": edit["changes"]})
+        status, content = self.ask("POST", path, body)
+        if status == 507 and content.startswith(b"JournalFull") and self.publishes:
+            print(f"        the journal of {self.address} is full: a publication", flush=True)
+            self.publish()
+            status, content = self.ask("POST", path, body)
+        return status, content
+
+    def refused(self, edit, status, content):
+        """Stops at a refusal."""
+        said = word(content)
+        if status == 404 and said == "NotFound":
+            is_deletion = any("delete" in change for change in edit["changes"])
+            raise Stopped(f"edit {edit['edit']:,} deletes what {self.address} doesn't have: {ANEW}" if is_deletion else NO_NUMBERS)
+        self.stop_at(status, content)
+        reason = f" ({told(WORDS[said])})" if said in WORDS else ""
+        raise Stopped(f"edit {edit['edit']:,} isn't made at {self.address}: {status} {said}{reason}")

@@ -1,0 +1,160 @@
+"""The log of a map's edits: a file with a line for each. Needs no package.
+
+    {"time":"2026-11-29T12:45:10.123Z","edit":7,"changes":[{"put":9,"feature":{..},"was":{..}},{"delete":8,"was":{..}}]}
+    {"time":"2026-11-29T13:00:00.500Z","missed":[8,12]}
+
+A change is as the feed lists it, and `was` is what the map had of the feature before, `null` if nothing: as a checked edit has it. It is left
+out where that isn't known. `time` is when the edit was seen. For `was` the features of the map are kept in a second file (SQLite, FILE.map),
+which is made anew from the list of features where it is missing or too old.
+"""
+import gzip
+import json
+import os
+import sqlite3
+from datetime import datetime, timezone
+
+from ..client.edits import encoded
+from ..faults import Stopped
+
+SCHEMA = """
+    PRAGMA journal_mode = WAL;
+    PRAGMA synchronous = NORMAL;
+    PRAGMA locking_mode = EXCLUSIVE;
+    CREATE TABLE IF NOT EXISTS known (name TEXT PRIMARY KEY, number INTEGER NOT NULL);
+    CREATE TABLE IF NOT EXISTS feature (id INTEGER PRIMARY KEY, json BLOB NOT NULL);
+"""
+PIECE = 1 << 16
+
+
+class KeptMap:
+    """The features of the map after edit `at`, None if nothing is kept. What edits up to `sure` replace isn't known: the list of the features was
+    read while they were made."""
+
+    def __init__(self, path):
+        self.path = path
+        try:
+            self.file = sqlite3.connect(path, timeout=1, isolation_level=None)
+            self.file.executescript(SCHEMA)
+            known = dict(self.file.execute("SELECT name, number FROM known"))
+        except sqlite3.Error as fault:
+            raise Stopped(f"{path}: {fault}: does another `vtmap follow` write this log?") from fault
+        self.at, self.sure = known.get("at"), known.get("sure", 0)
+
+    def list(self, source, at=None):
+        """Keeps the features that a server lists, as of an edit that it still lists the ones after, or of now."""
+        before = source.known()["edits"]
+        if at is not None and at > before:
+            raise Stopped(f"{source.address} has edits up to {before:,}, and the log up to {at:,}: it is another map, or was put back from a copy")
+        self.file.execute("BEGIN")
+        try:
+            self.file.execute("DELETE FROM feature")
+            self.file.executemany("INSERT INTO feature VALUES (?, ?)", ((number, encoded(feature)) for number, feature in source.features()))
+            self.at, self.sure = before if at is None else at, source.known()["edits"]
+            self.keep()
+            self.file.execute("COMMIT")
+        except BaseException:
+            self.file.execute("ROLLBACK")
+            self.at = None
+            raise
+
+    def keep(self):
+        """Keeps of which edit the features are."""
+        self.file.executemany("INSERT OR REPLACE INTO known VALUES (?, ?)", [("at", self.at), ("sure", self.sure)])
+
+    def with_was(self, number, change):
+        """A change of an edit with what it replaces; makes it."""
+        name = change.get("put", change.get("delete"))
+        found = self.file.execute("SELECT json FROM feature WHERE id = ?", [name]).fetchone()
+        if "put" in change:
+            self.file.execute("INSERT OR REPLACE INTO feature VALUES (?, ?)", [name, encoded(change["feature"])])
+        else:
+            self.file.execute("DELETE FROM feature WHERE id = ?", [name])
+        return change if number <= self.sure else {**change, "was": found and json.loads(found[0])}
+
+
+class EditLog:
+    """A log that is written. `at` is the number of the last edit that its map has, and `logged` that of its last line."""
+
+    def __init__(self, path):
+        self.path = self.address = path
+        self.at = self.logged = self.map = None
+
+    def begin(self, source):
+        """Finds out where the log and its map are. A new log begins with the next edit."""
+        if self.map is None:
+            self.map = KeptMap(self.path + ".map")
+            self.logged = self.last_number()
+        if self.map.at is None:
+            self.map.list(source, self.logged)
+        self.at = self.map.at
+        if self.logged is None:
+            self.logged = self.at
+
+    def last_number(self):
+        """The number of the last line, None if there is none. What a crash left of a line behind it is cut off."""
+        if not os.path.exists(self.path):
+            return None
+        with open(self.path, "r+b") as file:
+            end = file.seek(0, os.SEEK_END)
+            size = PIECE
+            while True:
+                begin = max(0, end - size)
+                file.seek(begin)
+                text = file.read(end - begin)
+                cut = text.rfind(b"\n") + 1
+                if begin == 0 or text.rfind(b"\n", 0, max(cut - 1, 0)) >= 0:
+                    break
+                size *= 4
+            file.truncate(begin + cut)
+        line = text[:cut].rstrip(b"\n").rpartition(b"\n")[2]
+        return last_of(json.loads(line)) if line else None
+
+    def take(self, edits):
+        """Appends edits, the first of which is the one after the last."""
+        transaction = self.map.file
+        transaction.execute("BEGIN")
+        try:
+            rows = [{"edit": edit["edit"], "changes": [self.map.with_was(edit["edit"], change) for change in edit["changes"]]} for edit in edits]
+            self.write([row for row in rows if row["edit"] > self.logged])
+            self.map.at = edits[-1]["edit"]
+            self.map.keep()
+            transaction.execute("COMMIT")
+        except BaseException:
+            transaction.execute("ROLLBACK")
+            self.map.at = self.at
+            raise
+        self.at = self.map.at
+        self.logged = max(self.logged, self.at)
+
+    def miss(self, source, published):
+        """Says which edits were published before they were read, and keeps the map of now."""
+        if self.logged < published:
+            self.write([{"missed": [self.logged + 1, published]}])
+            print(f"{self.path}: the edits {self.logged + 1:,} to {published:,} were published before they were read, and are missing "
+                  "(`vtmap publish --pause` waits for who follows)", flush=True)
+            self.logged = published
+        self.map.list(source, published)
+        self.at = self.map.at
+
+    def write(self, rows):
+        """Appends lines, and has them outlive a crash. The file may have been renamed since, as logrotate does: then another one begins."""
+        if not rows:
+            return
+        now = datetime.now(timezone.utc).isoformat(timespec="milliseconds").replace("+00:00", "Z")
+        with open(self.path, "ab") as file:
+            file.write(b"".join(json.dumps({"time": now, **row}, ensure_ascii=False, separators=(",", ":")).encode() + b"\n" for row in rows))
+            file.flush()
+            os.fsync(file.fileno())
+
+
+def last_of(row):
+    """The last edit that a line speaks of."""
+    return row["edit"] if "edit" in row else row["missed"][1]
+
+
+def lines_of(path):
+    """The lines of a log, which may be compressed by gzip; a last one that isn't whole is left out."""
+    with (gzip.open if path.endswith(".gz") else open)(path, "rb") as file:
+        for line in file:
+            if line.endswith(b"\n"):
+                yield line
