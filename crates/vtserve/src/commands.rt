@@ -230,7 +230,7 @@ fn command_of<'a>(alloc: Global, row: Row) -> Result<Command<'a>, AllocError> {
 /// The command line of the program.
 pub(crate) fn command_line<'a>(alloc: Global) -> Result<Command<'a>, AllocError> {
     let mut program = Command::new(alloc, "vtserve")
-        .version("0.1.0")
+        .version("0.2.0")
         .about("A vector tile server whose map is edited over HTTP")
         .subcommand_required(true);
     for row in &COMMANDS {
