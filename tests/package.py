@@ -1,0 +1,205 @@
+#!/usr/bin/env python3
+"""Tries the Debian package in a fresh Debian: what it installs, README's commands, the units' commands, a new version, and a purge.
+
+    python3 tests/package.py PACKAGE [DEBIAN]    DEBIAN is a folder for a Debian 12, which debootstrap makes once and nothing changes later
+
+PACKAGE is what tools/package.sh makes. It needs root, debootstrap, and the network while packages are installed: all else runs in a
+network, processes and files of its own. It prints `ok` or `DIFFERS` for each case, and ends with 1 if one differs. With --stay it keeps
+the page on port 8000 of its network until a line comes on standard input, for a look with a browser in that network.
+"""
+import argparse
+import glob
+import os
+import shlex
+import shutil
+import subprocess
+import sys
+import tempfile
+
+HERE = os.path.dirname(os.path.abspath(__file__))
+sys.path += [HERE, os.path.join(HERE, "clients")]
+
+import documents  # noqa: E402
+from stand import Cases  # noqa: E402
+
+UNITS = "/usr/lib/systemd/system"
+# What this script uses of a Debian, and the package doesn't bring.
+WITH = "curl,nginx-light,systemd,procps"
+PAGE = {"": "text/html", "page.js": "text/javascript", "page.css": "text/css", "style.json": "application/json"}
+
+
+def ran(*words, root=None, **more):
+    """The status and the words of a command, in a root of its own if one is named."""
+    place = ["chroot", root] if root else []
+    names = {"PATH": "/usr/sbin:/usr/bin:/sbin:/bin", "HOME": "/root", "LANG": "C.UTF-8", "DEBIAN_FRONTEND": "noninteractive"}
+    child = subprocess.run([*place, *words], stdout=subprocess.PIPE, stderr=subprocess.STDOUT, text=True, env=names, check=False, **more)
+    return child.returncode, child.stdout
+
+
+def done(*words, root=None):
+    """What a command prints that has to succeed."""
+    status, text = ran(*words, root=root)
+    if status:
+        sys.exit(f"package.py: {' '.join(words)} ended with {status}:\n{text}")
+    return text
+
+
+def mounted(base, scratch):
+    """The root of a copy of the Debian in `base`, which stays as it is."""
+    if not os.path.exists(base):
+        done("debootstrap", "--variant=minbase", f"--include={WITH}", "bookworm", base)
+    root = os.path.join(scratch, "root")
+    for name in ("upper", "work", "root"):
+        os.mkdir(os.path.join(scratch, name))
+    done("mount", "-t", "overlay", "overlay", "-o", f"lowerdir={base},upperdir={scratch}/upper,workdir={scratch}/work", root)
+    for name in ("dev", "sys"):
+        done("mount", "--rbind", "/" + name, os.path.join(root, name))
+        done("mount", "--make-rslave", os.path.join(root, name))
+    done("mount", "-t", "proc", "proc", os.path.join(root, "proc"))
+    shutil.copy("/etc/resolv.conf", os.path.join(root, "etc", "resolv.conf"))
+    # As images of containers have it: a package starts no service here.
+    with open(os.path.join(root, "usr", "sbin", "policy-rc.d"), "w", encoding="utf-8") as file:
+        file.write("#!/bin/sh\nexit 101\n")
+    os.chmod(file.name, 0o755)
+    return root
+
+
+def installed(cases, root, package):
+    """What the package puts where, and that nothing runs."""
+    shutil.copy(package, os.path.join(root, "srv", "vtserve.deb"))
+    done("apt-get", "update", root=root)
+    cases.show("apt install of the package", ran("apt-get", "install", "-y", "/srv/vtserve.deb", root=root)[0], 0)
+    owners = done("stat", "-c", "%U:%G %a %n", "/var/lib/vtserve", "/var/backups/vtserve", root=root).splitlines()
+    cases.show("the folders and their owner", owners, ["vtserve:vtserve 755 /var/lib/vtserve", "vtserve:vtserve 750 /var/backups/vtserve"])
+    cases.show("the user can't log in", done("getent", "passwd", "vtserve", root=root).split(":")[5:], ["/var/lib/vtserve", "/usr/sbin/nologin\n"])
+    cases.show("no unit is enabled", ran("find", "/etc/systemd/system", "-name", "*vtserve*", root=root), (0, ""))
+    cases.show("nothing runs as the user", ran("pgrep", "-u", "vtserve", root=root), (1, ""))
+    version = done("dpkg-query", "-W", "-f", "${Version}", "vtserve", root=root)
+    for name in ("vtserve", "vtmap"):
+        cases.show(f"{name} --version", ran(name, "--version", root=root), (0, f"{name} {version}\n"))
+    for page in ("vtserve", "vtmap"):
+        text = subprocess.run(["zcat", f"{root}/usr/share/man/man1/{page}.1.gz"], stdout=subprocess.PIPE, check=True).stdout
+        told = subprocess.run(["groff", "-man", "-Tutf8", "-ww", "-z"], input=text, capture_output=True, check=False) if shutil.which("groff") else None
+        cases.show(f"the man page {page}(1), as groff reads it", told and (told.returncode, told.stderr) or (0, b""), (0, b""))
+    units = sorted(os.path.basename(path) for path in glob.glob(f"{root}{UNITS}/vtserve*"))
+    status, text = ran("systemd-analyze", "verify", *(f"{UNITS}/{unit}" for unit in units), root=root)
+    cases.show(f"systemd-analyze verify of {len(units)} units", [line for line in text.splitlines() if "vtserve" in line], [])
+
+
+def readme(cases, text):
+    """README's commands, with what they print. The folder is as a clone's."""
+    os.makedirs("/srv/clone")
+    for name in ("docs", "examples"):
+        os.symlink("/usr/share/doc/vtserve/" + name, "/srv/clone/" + name)
+    os.symlink("/usr/share/vtserve/web", "/srv/clone/web")
+    shell = documents.Shell("/srv/clone", "/usr/bin/vtserve", False)
+    for _, command, lines in documents.commands(text)[0]:
+        sought = documents.pattern(documents.tidy("\n".join(lines) + "\n").splitlines())
+        found = shell.run(command, sought)
+        cases.show(f"README: {command.splitlines()[0][:90]}", sought.fullmatch(found) is not None or found, True)
+    pages(cases, "README")
+    return shell
+
+
+def pages(cases, name):
+    """The files of the page, as nginx sends them."""
+    for path, kind in PAGE.items():
+        line = "%{http_code} %{content_type} %{size_download}"
+        found = ran("curl", "-s", "-o", "/dev/null", "-w", line, "http://127.0.0.1:8000/pages/" + path)[1].split()
+        cases.show(f"{name}: the page's /pages/{path}", (found[0], found[1].rstrip(";"), int(found[-1]) > 200), ("200", kind, True))
+
+
+def command_of(unit):
+    """The words of a unit's ExecStart, with the user that it runs as."""
+    with open(os.path.join(UNITS, unit), encoding="utf-8") as file:
+        lines = dict(line.split("=", 1) for line in file.read().replace("\\\n", " ").splitlines() if "=" in line and line[0] != "#")
+    words = shlex.split(lines["ExecStart"].replace("$$", "$").replace("%%", "%"))
+    return ["runuser", "-u", lines["User"], "--", *words] if "User" in lines else words
+
+
+def units(cases):
+    """What DEPLOYING.md says for the package, with the commands of its units."""
+    done("runuser", "-u", "vtserve", "--", "vtserve", "format", "/var/lib/vtserve/map.disk", "--sectors", "4096")
+    server = subprocess.Popen(command_of("vtserve.service"), stdout=subprocess.PIPE, stderr=subprocess.DEVNULL, text=True)
+    cases.show("vtserve.service: its command", server.stdout.readline(), "serving on 127.0.0.1:8080\n")
+    done("install", "-m", "644", "/usr/share/vtserve/nginx.conf", "/etc/vtserve/nginx.conf")
+    os.mkdir("/var/lib/vtserve-nginx")
+    os.symlink("/usr/share/vtserve/web", "/var/lib/vtserve-nginx/pages")
+    cases.show("vtserve-nginx.service: its command", ran(*command_of("vtserve-nginx.service")), (0, ""))
+    pages(cases, "vtserve-nginx.service")
+    done("install", "-d", "-o", "vtserve", "/var/lib/vtserve-watch")
+    survey = ("vtmap", "import", "/usr/share/doc/vtserve/examples/survey.geojson", "--layer", "survey", "--url", "http://127.0.0.1:8000")
+    cases.show("vtmap import, through nginx", ran(*survey)[1].splitlines()[-1], "5 taken, 1 refused")
+    for unit, wanted in (("vtserve-publish", "published"), ("vtserve-backup", "5 features saved"), ("vtserve-watch", "5 features")):
+        status, text = ran(*command_of(unit + ".service"))
+        cases.show(f"{unit}.service: its command", (status, wanted in text or text), (0, True))
+    return server
+
+
+def purged(cases, root):
+    """A new version keeps the style; a purge keeps maps; once they are gone, it leaves nothing."""
+    style = os.path.join(root, "etc", "vtserve", "style.json")
+    with open(style, "a", encoding="utf-8") as file:
+        file.write("\n")
+    wanted = os.path.getsize(style)
+    done("apt-get", "install", "-y", "--reinstall", "/srv/vtserve.deb", root=root)
+    cases.show("another installation keeps the style that was changed", os.path.getsize(style), wanted)
+    status, text = ran("apt-get", "purge", "-y", "vtserve", root=root)
+    cases.show("a purge says that it leaves maps", (status, "maps or backups are left" in text), (0, True))
+    cases.show("and they are there", (os.path.exists(root + "/var/lib/vtserve/map.disk"), ran("getent", "passwd", "vtserve", root=root)[0]), (True, 0))
+    done("apt-get", "install", "-y", "/srv/vtserve.deb", root=root)
+    done("sh", "-c", "rm -rf /srv/* /var/lib/vtserve/* /var/backups/vtserve/* /var/lib/vtserve-nginx /etc/vtserve/nginx.conf", root=root)
+    cases.show("a purge without maps", ran("apt-get", "purge", "-y", "vtserve", root=root)[0], 0)
+    words = ("sh", "-c", "find / -xdev -iname '*vtserve*' -o -iname '*vtmap*'; getent passwd vtserve")
+    cases.show("leaves nothing", ran(*words, root=root)[1].splitlines(), [])
+
+
+def inside(cases, root, stay):
+    """What is tried in a network and processes of their own."""
+    done("ip", "link", "set", "lo", "up")
+    with open(os.path.join(HERE, "..", "README.md"), encoding="utf-8") as file:
+        text = file.read()
+    os.chroot(root)
+    os.chdir("/")
+    done("mount", "-t", "proc", "proc", "/proc")
+    shell = readme(cases, text)
+    if stay:
+        cases.say(f"http://127.0.0.1:8000/pages/ in the network of process {os.getpid()}: a line ends this")
+        sys.stdin.readline()
+    done("nginx", "-p", "/srv/clone/front", "-c", "/usr/share/vtserve/nginx.conf", "-s", "stop")
+    shell.run("kill $!; wait", documents.pattern(["..."]))
+    server = units(cases)
+    done("nginx", "-p", "/var/lib/vtserve-nginx", "-c", "/etc/vtserve/nginx.conf", "-s", "stop")
+    server.terminate()
+    server.wait(60)
+
+
+def main():
+    parser = argparse.ArgumentParser(description="Tries the Debian package in a fresh Debian.")
+    parser.add_argument("package")
+    parser.add_argument("debian", nargs="?", help="a folder for a Debian, which is made if it isn't there")
+    parser.add_argument("--stay", action="store_true", help="wait while the page is there")
+    parser.add_argument("--inside", help=argparse.SUPPRESS)
+    words = parser.parse_args()
+    cases = Cases()
+    if words.inside:
+        inside(cases, words.inside, words.stay)
+        print(f"{cases.seen} cases of what runs, {cases.differ} differ", flush=True)
+        return 1 if cases.differ else 0
+    if os.environ.get("APART") != "1":
+        os.execvpe("unshare", ["unshare", "--mount", sys.executable, *sys.argv], {**os.environ, "APART": "1"})
+    with tempfile.TemporaryDirectory() as scratch:
+        root = mounted(os.path.abspath(words.debian or os.path.join(scratch, "debian")), scratch)
+        installed(cases, root, words.package)
+        apart = ["unshare", "--net", "--mount", "--pid", "--fork", "--kill-child"]
+        more = ["--stay"] if words.stay else []
+        again = [sys.executable, os.path.abspath(__file__), words.package, "--inside", root, *more]
+        cases.show("all that runs", subprocess.run([*apart, *again], check=False).returncode, 0)
+        purged(cases, root)
+        subprocess.run(["umount", "-R", "-l", root], check=False)
+    print(f"{cases.seen} cases of what is installed, {cases.differ} differ")
+    return 1 if cases.differ else 0
+
+
+if __name__ == "__main__":
+    sys.exit(main())
