@@ -69,15 +69,19 @@ function dot(context, [x, y], radius, colour, unit) {
 /** Draws a tile. The context has the tile's units; a pixel has `unit` of them. */
 export function drawTile(context, { rules }, style, zoom, unit) {
     context.lineJoin = context.lineCap = "round";
-    rules.forEach(({ area, edge, line, points }, at) => {
-        const rule = style.rules[at], pixels = width(rule, zoom);
-        context.fillStyle = rule.area;
-        rule.area && context.fill(area);
-        rule.edge && stroke(context, edge, rule.edge, unit);
-        rule.casing && stroke(context, line, rule.casing, (pixels + 1.5) * unit);
-        rule.line && stroke(context, line, rule.line, pixels * unit);
-        rule.point && points.forEach(point => dot(context, point, 5, rule.point, unit));
-    });
+    for (const [at, parts] of style.order) {
+        const { area, edge, line, points } = rules[at], rule = style.rules[at], pixels = width(rule, zoom);
+        if (parts.includes("areas")) {
+            context.fillStyle = rule.area;
+            rule.area && context.fill(area);
+            rule.edge && stroke(context, edge, rule.edge, unit);
+        }
+        if (parts.includes("lines")) {
+            rule.casing && stroke(context, line, rule.casing, (pixels + 1.5) * unit);
+            rule.line && stroke(context, line, rule.line, pixels * unit);
+        }
+        parts.includes("points") && rule.point && points.forEach(point => dot(context, point, 5, rule.point, unit));
+    }
 }
 
 /** Marks the features of a tile that are selected. A piece of a cut polygon has no edge: the outline of the whole is a line. */

@@ -9,6 +9,7 @@ const json = async path => (await fetch(path)).json();
 
 const style = new Style(await json("style.json"));
 const { vector_layers: layers } = await json(new URL("map/metadata", base));
+style.know(layers.map(({ id }) => id));
 const [zoom, latitude, longitude] = (style.centre ?? "").split("/").map(Number);
 const box = style.centre ? null : await publishedBox(base);
 maplibregl.setWorkerUrl("maplibre-gl-csp-worker.js");

@@ -1,6 +1,8 @@
 // The style of the page as MapLibre GL JS (and Mapbox GL JS) know it. Names aren't written: MapLibre would need fonts for them.
 import { isOutline } from "./style.js";
 
+// What each part of a rule is drawn with.
+const PART_OF = { area: "areas", edge: "areas", casing: "lines", line: "lines", point: "points" };
 const is = kind => ["==", ["geometry-type"], kind];
 const has = (tags = {}) => ["all", ...Object.entries(tags).map(([key, value]) => ["==", ["get", key], value])];
 
@@ -28,12 +30,13 @@ function drawn(id, layer, rule, earlier) {
     ].filter(Boolean);
 }
 
-/** The style for MapLibre of a style of the page, for the layers that the map has, with its tiles at an address. */
+/** The style for MapLibre of a style of the page, for the layers that the map has and the style knows, with its tiles at an address. */
 export function maplibreStyle(style, layers, tiles) {
     // MapLibre enlarges the tiles of the greatest zoom that features have for greater ones.
     const maxzoom = Math.max(0, ...layers.map(layer => layer.maxzoom));
-    const made = style.rules.flatMap((rule, at) => layers.filter(({ id }) => style.rulesOf(id).includes(rule)).flatMap(({ id }) =>
-        drawn(at, id, rule, style.rulesOf(id).slice(0, style.rulesOf(id).indexOf(rule)))));
+    const drawnOf = (at, layer) => drawn(at, layer, style.rules[at], style.rulesOf(layer).slice(0, style.rulesOf(layer).indexOf(style.rules[at])));
+    const made = style.order.flatMap(([at, parts]) => layers.filter(({ id }) => style.rulesOf(id).includes(style.rules[at]))
+        .flatMap(({ id }) => drawnOf(at, id)).filter(({ id }) => parts.includes(PART_OF[id.split(" ").at(-1)])));
     return {
         version: 8,
         sources: { map: { type: "vector", tiles: [tiles], minzoom: 0, maxzoom } },

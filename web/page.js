@@ -58,6 +58,7 @@ async function showEdit(edit) {
     layers = await server.layers(Math.max(edit, view.edit));
     view.showEdit(edit);
     view.maxzoom = Math.max(0, ...layers.map(layer => layer.maxzoom));
+    style.know(layers.map(({ id }) => id)) && view.restyle();
     const toggle = (id, isShown) => {
         isShown ? style.hidden.delete(id) : style.hidden.add(id);
         view.restyle();

@@ -3,11 +3,14 @@
 //
 // A rule is of one layer, or of "*", all layers that no rule names. If it has `when`, it is of the features with these tags. A feature is
 // drawn by the first rule that is of it. `area`, `edge`, `line`, `casing` and `point` are colours; `width` is that of lines in pixels at
-// zoom 15; `name` is the tag that is written beside the feature, from the zoom `from` on.
+// zoom 15; `name` is the tag that is written beside the feature, from the zoom `from` on. If the rule of "*" has `colours` (as #a1b2c3) in
+// place of these, each of its layers gets the next of them, in the order of their names; an area lets what is below it show.
 //
 // The import cuts large polygons: a piece has the tag `whole`, and the outlines are lines of the layer LAYER-outline. So a piece has no
 // edge, and the lines of LAYER-outline are drawn as edges of LAYER.
 const OUTLINE = "-outline";
+// What rules draw, and the opacity of areas in a colour of their layer's own.
+const PARTS = ["areas", "lines", "points"], OPACITY = 0.43;
 
 export const isOutline = layer => layer.endsWith(OUTLINE);
 /** The layer that people know a layer of a tile by. */
@@ -15,9 +18,30 @@ export const plain = layer => isOutline(layer) ? layer.slice(0, -OUTLINE.length)
 /** The width of a rule's lines in pixels. */
 export const width = (rule, zoom) => Math.max((rule.width ?? 2) * 1.5 ** (zoom - 15), 0.7);
 
+/** The rule of one of the layers of "*": the one at this place. */
+function ownRule({ colours, ...rest }, layer, at) {
+    const colour = colours[at % colours.length], parts = [1, 3, 5].map(from => parseInt(colour.slice(from, from + 2), 16));
+    return { ...rest, layer, isOwn: true, area: `rgba(${parts.join(", ")}, ${OPACITY})`, edge: colour, line: colour, point: colour };
+}
+
 export class Style {
     constructor({ background, centre, rules }) {
-        Object.assign(this, { background, centre, rules, hidden: new Set() });
+        Object.assign(this, { background, centre, given: rules, hidden: new Set() });
+        this.know([]);
+    }
+
+    /**
+     * Learns the layers of the map: those that no rule names get one each. Returns whether that changes the rules. `order` is that of drawing,
+     * places of rules with the parts that are drawn then: of layers with a colour of their own all areas are below all lines, and these below
+     * all points.
+     */
+    know(layers) {
+        const named = new Set(this.given.map(rule => rule.layer)), before = JSON.stringify(this.rules);
+        const others = [...new Set(layers.map(plain))].filter(layer => !named.has(layer)).sort();
+        this.rules = this.given.flatMap(rule => rule.colours ? others.map((layer, at) => ownRule(rule, layer, at)) : [rule]);
+        const own = [...this.rules.keys()].filter(at => this.rules[at].isOwn), inParts = PARTS.flatMap(part => own.map(at => [at, [part]]));
+        this.order = this.rules.flatMap(({ isOwn }, at) => !isOwn ? [[at, PARTS]] : at === own[0] ? inParts : []);
+        return before !== JSON.stringify(this.rules);
     }
 
     /** The rules of a layer. */
@@ -39,6 +63,6 @@ export class Style {
 
     /** The colour that the legend shows of a layer. */
     colourOf(layer) {
-        return this.rulesOf(layer).map(rule => rule.area ?? rule.line ?? rule.point)[0];
+        return this.rulesOf(layer).map(rule => rule.isOwn ? rule.edge : rule.area ?? rule.line ?? rule.point)[0];
     }
 }

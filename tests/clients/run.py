@@ -34,6 +34,7 @@ from imports import disk_full, imports, kills, large
 from desktop import desktop
 from lost_replies import lost_replies
 from operation import operation
+from page_tools import page_tools
 from pages import page
 from round_trips import round_trips
 from screens import screens
@@ -793,6 +794,7 @@ def main():
         "direct": direct,
         "screens": screens,
         "page": page,
+        "page-tools": page_tools,
         "desktop": desktop,
         "checkins": checkins,
         "lost-replies": lost_replies,

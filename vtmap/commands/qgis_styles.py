@@ -12,7 +12,7 @@ from ..geometry.wholes import OUTLINE
 PAGE = os.path.join(os.path.dirname(os.path.abspath(__file__)), "..", "..", "web", "style.json")
 NO_STYLE = {"background": "#a9cfe3", "rules": []}
 WHOLE = '"whole" IS NULL'
-# Colours of the layers that no rule names. An area lets what is below it show.
+# Colours of the layers that no rule names, if the page's style doesn't say them. An area lets what is below it show.
 COLOURS = ["#4e79a7", "#e15759", "#59a14f", "#f28e2b", "#b07aa1", "#9c755f", "#3b9c9c", "#d4a017", "#d37295", "#6b6b6b"]
 SEEN_THROUGH = 110
 
@@ -123,9 +123,9 @@ class Styles:
             self.points(layer, rule, conditions)
 
 
-def own_rule(place):
+def own_rule(place, colours):
     """The rule of a layer that the page's rules don't name: the colour of its place among these."""
-    colour = COLOURS[place % len(COLOURS)]
+    colour = colours[place % len(colours)]
     red, green, blue, _ = numbers(colour)
     return {"area": f"rgba({red}, {green}, {blue}, {SEEN_THROUGH / 255:.2f})", "edge": colour, "line": colour, "point": colour, "width": 3.5}
 
@@ -134,7 +134,8 @@ def styled(style, layers, outlines):
     """The styles of these layers, as XML, by the page's style; of no layers, one for all."""
     styles, rules = Styles(outlines), [rule for rule in style["rules"] if rule["layer"] != "*"]
     plain = {layer.removesuffix(OUTLINE) for layer in layers}
-    others = {layer: own_rule(place) for place, layer in enumerate(sorted(plain - {rule["layer"] for rule in rules}))}
+    colours = next((rule["colours"] for rule in style["rules"] if "colours" in rule), COLOURS)
+    others = {layer: own_rule(place, colours) for place, layer in enumerate(sorted(plain - {rule["layer"] for rule in rules}))}
     for place, rule in enumerate(rules):
         if rule["layer"] in plain:
             before = [f"NOT ({condition(other['when'])})" for other in rules[:place] if other["layer"] == rule["layer"] and "when" in other]
@@ -143,7 +144,7 @@ def styled(style, layers, outlines):
                 styles.lines(rule["layer"] + OUTLINE, rule["edge"], 1, [])
     # Of the others all areas are below all lines, and these below all points.
     for part in (["area", "edge"], ["line", "width"], ["point"]):
-        for layer, rule in others.items() if plain else [("", own_rule(0))]:
+        for layer, rule in others.items() if plain else [("", own_rule(0, colours))]:
             styles.draw(layer, {key: rule[key] for key in part}, [])
             if part[0] == "line" and layer:
                 styles.lines(layer + OUTLINE, rule["line"], 1, [])

@@ -1,0 +1,107 @@
+"""The part `page-tools` of run.py: what the page offers beside tags and shapes, in a real Chromium through nginx with docs/nginx.conf.
+
+The map has parcels that share corners, and layers that style.json doesn't name. Pictures are kept in the folder that PICTURES names, if it does.
+"""
+import json
+import os
+import re
+import shutil
+import subprocess
+
+from browser import Browser
+from imports import world
+from pages import HIGH, PAGE, PLACE, WIDE, People
+from stand import TOP, VTMAP, Nginx, Server, curl, feature, status_of
+
+# Where the map is: longitude and latitude, and the same in the world. A side of a parcel is 120 pixels of zoom 17.
+AT = (7.5, 54.5)
+X, Y = (int(part) for part in world(*AT))
+PIXEL = 2 ** 32 / 512 / 2 ** 17
+SIDE = int(120 * PIXEL)
+OPENED = f"#17/{AT[1]}/{AT[0]}"
+# The colour of a pixel of the map.
+COLOUR = """(() => {
+    const [x, y] = %s, {data} = document.getElementById("map").getContext("2d").getImageData(Math.round(x), Math.round(y), 1, 1);
+    return [...data].slice(0, 3);
+})()"""
+
+
+def parcel(column, row):
+    """A ring around one of the parcels, each of which shares corners with its neighbours."""
+    west, north = X + SIDE * column, Y + SIDE * row
+    return [[west, north], [west + SIDE, north], [west + SIDE, north + SIDE], [west, north + SIDE]]
+
+
+# The features of the map by their ids.
+FEATURES = {
+    1: ("parcel", {"polygons": [[parcel(-1, -1)]]}, {"name": "Smith", "use": "garden"}),
+    2: ("parcel", {"polygons": [[parcel(0, -1)]]}, {"name": "Jones", "use": "meadow"}),
+    3: ("parcel", {"polygons": [[parcel(-1, 0)]]}, {"name": "Miller", "built": 1962}),
+    11: ("cable", {"lines": [[[X - 2 * SIDE, Y + SIDE // 2], [X + 2 * SIDE, Y + SIDE // 2]]]}, {"volts": 400}),
+    12: ("valve", {"points": [[X + SIDE // 2, Y - SIDE // 2]]}, {"name": "Main valve"}),
+    13: ("zone", {"polygons": [[parcel(0, -1)]]}, {"name": "Flood"}),
+}
+OTHERS = ["cable", "parcel", "valve", "zone"]
+
+
+def numbers(colour):
+    """Red, green and blue of `#a1b2c3`."""
+    return [int(colour[at:at + 2], 16) for at in (1, 3, 5)]
+
+
+class Tools(People):
+    """A person with the page."""
+
+    def pixel(self, x, y):
+        """The colour of the map at a point of the world."""
+        return self.one.value(COLOUR % (PLACE % (x, y)))
+
+    def all(self):
+        self.one = self.opened(OPENED)
+        self.colours()
+        told = [fault for fault in self.one.faults() if not fault.startswith("Failed to load resource")]
+        self.show("the browser complains of nothing", told, [])
+
+    def colours(self):
+        """Layers that the style doesn't name."""
+        with open(os.path.join(PAGE, "style.json"), encoding="utf-8") as file:
+            colours = json.load(file)["rules"][-1]["colours"]
+        self.show("the style doesn't name them", len(colours) >= len(OTHERS), True)
+        self.one.press("Layers")
+        shown = self.one.value("[...document.querySelectorAll('#legend label')].map(each => [each.innerText, each.querySelector('i').style.background])")
+        wanted = [[layer, f"rgb({', '.join(map(str, numbers(colour)))})"] for layer, colour in zip(OTHERS, colours)]
+        self.show("layers that the style doesn't name have a colour each", [[layer.strip(), colour] for layer, colour in shown], wanted)
+        self.keep(self.one, "page-colours.png")
+        self.one.press("Layers")
+        self.show("a line has that of its layer", self.pixel(X + SIDE, Y + SIDE // 2), numbers(colours[0]))
+        self.show("a point too, above all areas", self.pixel(X + SIDE // 2, Y - SIDE // 2), numbers(colours[2]))
+        project = os.path.join(self.folder, "map.qgs")
+        subprocess.run([*VTMAP, "qgis", project, "--url", self.front.url], check=True, capture_output=True)
+        with open(project, encoding="utf-8") as file:
+            points = re.findall(r'layer="(\w+)"[^>]*geometry_type[^>]*Point.*?name="color" value="([\d,]+)"', file.read(), re.DOTALL)
+        wanted = [(layer, ",".join(map(str, numbers(colour))) + ",255") for layer, colour in zip(OTHERS, colours)]
+        self.show("the project for QGIS has the same", [pair for pair in points if pair[0] in OTHERS], wanted)
+        drawn = self.one.value("""Promise.all([import("./maplibre.js"), import("./style.js"), fetch("style.json").then(reply => reply.json())])
+            .then(([{maplibreStyle}, {Style}, given]) => {
+                const style = new Style(given), layers = %s;
+                style.know(layers);
+                return maplibreStyle(style, layers.map(id => ({id, maxzoom: 16})), "tiles").layers.slice(1).map(layer => [layer["source-layer"], layer.type]);
+            })""" % json.dumps(OTHERS[1:3]))
+        wanted = [[layer, kind] for kinds in (["fill", "line"], ["line"], ["circle"]) for layer in OTHERS[1:3] for kind in kinds]
+        self.show("MapLibre draws all areas of them below all lines, and these below all points", drawn, wanted)
+
+
+def page_tools(cases, folder):
+    nginx = shutil.which("nginx") or "/usr/sbin/nginx"
+    if not shutil.which("chromium") or not os.path.exists(nginx):
+        cases.say("no chromium or no nginx: the tools of the page aren't tried")
+        return
+    folder = os.path.join(folder, "page-tools")
+    os.mkdir(folder)
+    with Server(folder, "parcels", sectors=16384, more=["--admin"]) as server, Nginx(nginx, folder, server) as front:
+        shutil.copytree(PAGE, os.path.join(front.folder, "pages"))
+        for number, (layer, geometry, tags) in FEATURES.items():
+            reply = curl(f"{server.url}/features/{number}", "-X", "PUT", body=feature(layer, 14, 18, geometry, tags))
+            assert status_of(reply) == 200, reply
+        with Browser(os.path.join(folder, "profile"), WIDE, HIGH) as browser:
+            Tools(cases, browser, server, front, folder).all()
