@@ -152,9 +152,7 @@ export class Editor {
 
     /** Moves the map so that the panel doesn't cover a feature. */
     uncover({ geometry }) {
-        const [west, north, east, south] = bounds(pointsOf(geometry)), { view } = this;
-        const over = view.toScreen([(west + east) / 2, (north + south) / 2]).map((at, axis) => at - (2 * view.middle[axis] - covered()[axis] - 40));
-        over.some(pixels => pixels > 0) ? view.move(view.centre.map((at, axis) => at + Math.max(over[axis], 0) / view.scale)) : view.redraw();
+        this.view.uncover(bounds(pointsOf(geometry)), covered());
     }
 
     drop() {

@@ -1,7 +1,8 @@
 // The page: what is selected, and how the parts of this folder work together.
 import { Editor } from "./editor.js";
-import { button, byId, close, element, open, table, tell } from "./panel.js";
+import { button, byId, close, covered, element, open, table, tell } from "./panel.js";
 import { publishedBox } from "./place.js";
+import { search, titleOf } from "./search.js";
 import { Server } from "./server.js";
 import { listsOf, pointsOf } from "./shape.js";
 import { Style, isOutline, plain } from "./style.js";
@@ -10,6 +11,8 @@ import { WORLD, bounds, distance, isInside } from "./world.js";
 
 // Seconds between two looks at the map, of those who edit and of those who don't: nginx keeps tiles for these.
 const BETWEEN_LOOKS = { editor: 4, viewer: 30 };
+// How many of the features that are found are listed.
+const MAX_FOUND = 50;
 const server = new Server(new URL("../", location.href));
 let style, view, editor, layers;
 // Why this machine may not edit, as `Server.status` says it, or undefined; whether the first look is over; whether the last one got no answer.
@@ -53,6 +56,31 @@ function show(feature) {
     open(`${plain(feature.layer)} ${feature.id}`, ...parts);
 }
 
+/** Goes to a feature that was found, at a zoom that shows it, and selects it. */
+function goTo(feature) {
+    const { box, minzoom = 0, maxzoom = view.maxzoom } = feature;
+    const inView = view.features().some(({ id }) => id === feature.id);
+    inView || view.show(box);
+    inView || view.move(view.centre, Math.max(Math.min(view.zoom, maxzoom < view.maxzoom ? maxzoom + 0.9 : Infinity), minzoom));
+    selected = feature;
+    show(feature);
+    view.uncover(box, covered());
+}
+
+/** Finds what a text says: the one feature, or a list of them. */
+async function find(text) {
+    if (editor.draft) {
+        throw new Error("save or cancel what you edit first");
+    }
+    const found = await search(server, view, text), more = found.length - MAX_FOUND;
+    if (found.length > 1) {
+        const rows = found.slice(0, MAX_FOUND).map(feature => Object.assign(button(titleOf(feature, text), () => goTo(feature)), { className: "found" }));
+        open(`${found.length} found`, ...rows, ...(more > 0 ? [element("p", { className: "hint" }, `and ${more} more`)] : []));
+    } else {
+        found.length ? goTo(found[0]) : tell(`nothing in view has "${text}"` + (/^\d+$/.test(text) ? ", and no feature has this id" : ""), true);
+    }
+}
+
 /** Shows the map with an edit. */
 async function showEdit(edit) {
     layers = await server.layers(Math.max(edit, view.edit));
@@ -90,6 +118,10 @@ function listen() {
     byId("nearer").onclick = () => view.zoomBy(1);
     byId("farther").onclick = () => view.zoomBy(-1);
     byId("adding").onclick = ({ target }) => target.value && !editor.hasChanges && editor.draw(target.value);
+    byId("search").onsubmit = event => {
+        event.preventDefault();
+        find(event.target.firstElementChild.value.trim()).catch(fault => tell(fault.message, true));
+    };
     view.canvas.ondblclick = () => editor.finish();
     view.canvas.oncontextmenu = event => {
         event.preventDefault();
@@ -99,7 +131,7 @@ function listen() {
         const { isDrawn, feature } = editor.draft ?? {};
         key === "Enter" && editor.finish();
         key === "Escape" && !editor.hasChanges && editor.drop();
-        key === "Backspace" && isDrawn && listsOf(feature.geometry)[0].points.pop();
+        key === "Backspace" && isDrawn && !target.matches("input") && listsOf(feature.geometry)[0].points.pop();
         key === "z" && ctrlKey && !target.matches("input") && editor.undo();
         view.redraw();
     });

@@ -1,7 +1,7 @@
 // The view of the map: where it is, the tiles that it shows, and what mouse and wheel do to it.
 import { EXTENT, drawNames, drawTile, markTile, prepare } from "./draw.js";
 import { decode } from "./tile.js";
-import { WORLD, fromDegrees, toDegrees } from "./world.js";
+import { WORLD, bounds, fromDegrees, toDegrees } from "./world.js";
 
 // Pixels of a tile at its own zoom, the greatest zoom of the view, tiles that are kept, and how many zooms up a substitute is sought.
 const SIDE = 512, MAX_ZOOM = 21, MAX_TILES = 300, MAX_UP = 5;
@@ -180,11 +180,38 @@ export class View {
     /** The features of the tile at a point of the screen, each with its layer and its lists of points in pixels. */
     near([x, y]) {
         const square = this.squares().find(({ left, top, side }) => left <= x && x < left + side && top <= y && y < top + side);
-        const { tile, from, unit } = square && this.contentOf(square) || { tile: { layers: [] } };
+        return square ? this.featuresOf(square) : [];
+    }
+
+    /** The features of the tile in a square that the style draws, each with its layer and its lists of points in pixels. */
+    featuresOf(square) {
+        const { tile, from, unit } = this.contentOf(square) ?? { tile: { layers: [] } };
         const toPixels = ([column, row]) => [square.left + (column - from[0]) / unit, square.top + (row - from[1]) / unit];
         return tile.layers.flatMap(({ name, features }) => features.filter(({ tags }) => this.style.placeOf(name, tags) >= 0).map(feature => ({
             ...feature, layer: name, chains: feature.chains.map(chain => chain.map(toPixels)),
         })));
+    }
+
+    /** The features in view, as `near` gives them, but for their points: each once, with its `box` of the world, and pieces of a whole as one. */
+    features() {
+        const found = new Map(), [wide, high] = this.middle.map(half => 2 * half);
+        for (const square of this.squares()) {
+            for (const feature of this.featuresOf(square)) {
+                const [west, north, east, south] = bounds(feature.chains.flat()), id = feature.tags.whole ?? feature.id;
+                if (west <= wide && east >= 0 && north <= high && south >= 0) {
+                    const corners = [[west, north], [east, south]].map(point => this.toWorld(point)), { box } = found.get(id) ?? {};
+                    const joined = bounds([...corners, ...(box ? [box.slice(0, 2), box.slice(2)] : [])]);
+                    found.set(id, { ...feature, id, own: feature.id, box: joined });
+                }
+            }
+        }
+        return [...found.values()];
+    }
+
+    /** Moves the map so that a panel, which covers so many pixels at the right and at the bottom, leaves the middle of a box free. */
+    uncover([west, north, east, south], covered) {
+        const over = this.toScreen([(west + east) / 2, (north + south) / 2]).map((at, axis) => at - (2 * this.middle[axis] - covered[axis] - 40));
+        over.some(pixels => pixels > 0) ? this.move(this.centre.map((at, axis) => at + Math.max(over[axis], 0) / this.scale)) : this.redraw();
     }
 
     listen() {

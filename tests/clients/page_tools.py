@@ -41,7 +41,9 @@ FEATURES = {
     12: ("valve", {"points": [[X + SIDE // 2, Y - SIDE // 2]]}, {"name": "Main valve"}),
     13: ("zone", {"polygons": [[parcel(0, -1)]]}, {"name": "Flood"}),
 }
-OTHERS = ["cable", "parcel", "valve", "zone"]
+# One far away, at zooms 7 and 8 only.
+FAR, FAR_AT = 21, [[int(part) for part in world(*place)] for place in [(8.9, 48.1), (9.1, 48.1), (9.1, 47.9), (8.9, 47.9)]]
+OTHERS = ["cable", "lake", "parcel", "valve", "zone"]
 
 
 def numbers(colour):
@@ -59,6 +61,7 @@ class Tools(People):
     def all(self):
         self.one = self.opened(OPENED)
         self.colours()
+        self.search()
         told = [fault for fault in self.one.faults() if not fault.startswith("Failed to load resource")]
         self.show("the browser complains of nothing", told, [])
 
@@ -74,7 +77,7 @@ class Tools(People):
         self.keep(self.one, "page-colours.png")
         self.one.press("Layers")
         self.show("a line has that of its layer", self.pixel(X + SIDE, Y + SIDE // 2), numbers(colours[0]))
-        self.show("a point too, above all areas", self.pixel(X + SIDE // 2, Y - SIDE // 2), numbers(colours[2]))
+        self.show("a point too, above all areas", self.pixel(X + SIDE // 2, Y - SIDE // 2), numbers(colours[3]))
         project = os.path.join(self.folder, "map.qgs")
         subprocess.run([*VTMAP, "qgis", project, "--url", self.front.url], check=True, capture_output=True)
         with open(project, encoding="utf-8") as file:
@@ -86,9 +89,51 @@ class Tools(People):
                 const style = new Style(given), layers = %s;
                 style.know(layers);
                 return maplibreStyle(style, layers.map(id => ({id, maxzoom: 16})), "tiles").layers.slice(1).map(layer => [layer["source-layer"], layer.type]);
-            })""" % json.dumps(OTHERS[1:3]))
-        wanted = [[layer, kind] for kinds in (["fill", "line"], ["line"], ["circle"]) for layer in OTHERS[1:3] for kind in kinds]
+            })""" % json.dumps(OTHERS[2:4]))
+        wanted = [[layer, kind] for kinds in (["fill", "line"], ["line"], ["circle"]) for layer in OTHERS[2:4] for kind in kinds]
         self.show("MapLibre draws all areas of them below all lines, and these below all points", drawn, wanted)
+
+
+    def find(self, text, made=None):
+        """Searches, and gives the title of the panel, or what the foot says if no panel comes."""
+        made = made or self.one
+        made.value("document.getElementById('panel').hidden = true; document.getElementById('told').textContent = ''")
+        made.type("#search input", text)
+        made.press("Find")
+        made.wait("!document.getElementById('panel').hidden || document.getElementById('told').textContent", 10)
+        return made.text("#panel h2") if not made.value("document.getElementById('panel').hidden") else made.text("#told")
+
+    def search(self):
+        """By id everywhere, and by the texts of tags in view."""
+        self.show("a text finds the one feature in view that has it", self.find("garden"), "parcel 1")
+        self.show("with its tags", self.one.text("#panel table").split("\n"), ["name\tSmith", "use\tgarden"])
+        before = self.one.value("location.hash")
+        self.show("in small letters too, and by the name of its tag", [self.find(text) for text in ("MILLER", "use=mea", "built=1962")],
+                  ["parcel 3", "parcel 2", "parcel 3"])
+        self.show("the map stays where it is", self.one.value("location.hash"), before)
+        self.show("several are listed", self.find("m"), "4 found")
+        rows = self.one.value("[...document.querySelectorAll('#panel .found')].map(row => row.innerText)")
+        self.show("with the tag that has the text", sorted(rows), ["parcel 1: Smith", "parcel 2: meadow", "parcel 3: Miller", "valve 12: Main valve"])
+        self.keep(self.one, "page-found.png")
+        self.one.press("valve 12: Main valve")
+        self.one.wait("document.querySelector('#panel h2').textContent === 'valve 12'")
+        self.show("and a click shows one", self.one.text("#panel h2"), "valve 12")
+        self.show("what nothing has", self.find("church"), 'nothing in view has "church"')
+        self.show("and what nothing has as its id", self.find("77"), 'nothing in view has "77", and no feature has this id')
+        self.show("an id is found wherever it is", self.find("21"), "lake 21")
+        self.drawn(self.one)
+        zoom, latitude, longitude = (float(part) for part in self.one.value("location.hash.slice(1)").split("/"))
+        self.show("and shown at a zoom that has it", (7 <= zoom < 9, abs(latitude - 48) < 0.5, abs(longitude - 9) < 0.5), (True, True, True))
+        self.show("on the map", self.pixel(*(int(part) for part in world(9, 48))) != [169, 207, 227], True)
+        self.one.value(f"location.hash = '{OPENED}'")
+        self.drawn(self.one)
+        self.show("a feature that the map shows is found by its id without moving it", (self.find("13"), self.one.value("location.hash")), ("zone 13", before))
+        self.one.press("Edit")
+        self.one.wait("document.querySelector('#panel form')")
+        self.one.type("#search input", "garden")
+        self.one.press("Find")
+        self.show("while something is edited nothing is sought", self.one.wait("document.getElementById('told').textContent.startsWith('save')"), True)
+        self.one.press("Cancel")
 
 
 def page_tools(cases, folder):
@@ -103,5 +148,6 @@ def page_tools(cases, folder):
         for number, (layer, geometry, tags) in FEATURES.items():
             reply = curl(f"{server.url}/features/{number}", "-X", "PUT", body=feature(layer, 14, 18, geometry, tags))
             assert status_of(reply) == 200, reply
+        curl(f"{server.url}/features/{FAR}", "-X", "PUT", body=feature("lake", 7, 8, {"polygons": [[FAR_AT]]}, {}))
         with Browser(os.path.join(folder, "profile"), WIDE, HIGH) as browser:
             Tools(cases, browser, server, front, folder).all()
