@@ -3,6 +3,7 @@ import { conflictOf } from "./conflict.js";
 import { MINE, THEIRS, drawShape } from "./draw.js";
 import { formOf } from "./form.js";
 import { button, close, covered, element, open, table, tell } from "./panel.js";
+import { Neighbours } from "./neighbours.js";
 import { Changed, canonical } from "./server.js";
 import { begun, chainsOf, described, grabbed, isLarge, isWhole, listsOf, pointsOf, remove } from "./shape.js";
 import { isOutline } from "./style.js";
@@ -14,7 +15,7 @@ const hint = text => element("p", { className: "hint" }, text);
 export class Editor {
     // The draft, or null: the `feature` (null: it is to be deleted) and its `form`; its `id` (null: not known yet), what it `was` (null:
     // nothing), its `pieces` if it is cut, what was `sent` since then, earlier geometries (`undo`), whether it `isNew`, `isDrawn` just now or
-    // `isSent` just now, and `theirs` in a conflict (null: it was deleted).
+    // `isSent` just now, and `theirs` in a conflict (null: it was deleted). Its `neighbours`, and whether they come `along`.
     draft = null;
 
     /** `saved(edit)` is called after each edit. */
@@ -32,7 +33,8 @@ export class Editor {
         }
         // A new feature may have been begun meanwhile.
         if (!this.draft) {
-            this.draft = { id: pieces ? id : own, was, pieces, sent: [], feature: deletes ? null : structuredClone(was), undo: [] };
+            const neighbours = new Neighbours(this.view, this.server, pieces ? id : own);
+            this.draft = { id: pieces ? id : own, was, pieces, sent: [], feature: deletes ? null : structuredClone(was), undo: [], neighbours };
             deletes ? this.ask() : this.openForm();
         }
     }
@@ -43,17 +45,43 @@ export class Editor {
         const layers = this.layers().filter(({ id }) => !isOutline(id)), drawn = layers.find(({ id }) => this.view.style.draws(id, kind));
         const layer = drawn ?? layers[0] ?? { id: "", minzoom: 10, maxzoom: 16 };
         const feature = { layer: layer.id, minzoom: layer.minzoom, maxzoom: layer.maxzoom, geometry: begun(kind), tags: { name: "" } };
-        this.draft = { id: null, isNew: true, was: null, sent: [], feature, undo: [], isDrawn: true };
+        this.draft = { id: null, isNew: true, was: null, sent: [], feature, undo: [], isDrawn: true, neighbours: new Neighbours(this.view, this.server, null) };
         const how = hint("A double click or Enter ends it, Backspace removes the last point.");
         const more = kind === "points" ? [] : [how, button("Done", () => this.finish())];
         open("Click where it is", ...more, button("Cancel", () => this.drop()));
     }
 
     /** Adds a point to what is drawn. */
-    add(place) {
-        const [{ points }] = listsOf(this.draft.feature.geometry), point = rounded(place);
-        String(points.at(-1)) === String(point) || points.push(point);
-        this.draft.feature.geometry.points && this.finish();
+    add(place, isFree) {
+        const [{ points }] = listsOf(this.draft.feature.geometry), at = points.length, corner = isFree ? null : this.draft.neighbours.cornerAt(place);
+        // The second click of a double one is at the same place.
+        const where = String(corner?.tiled ?? rounded(place));
+        if (where !== this.draft.clicked) {
+            this.draft.clicked = where;
+            this.draft.added = {};
+            this.snap(place, corner, point => points[at] = rounded(point), this.draft.added);
+            this.draft.feature.geometry.points && this.finish();
+        }
+    }
+
+    /** Takes the last point of what is drawn back. */
+    takeBack() {
+        listsOf(this.draft.feature.geometry)[0].points.pop();
+        Object.assign(this.draft.added ?? {}, { corner: null });
+        this.draft.clicked = null;
+    }
+
+    /** Puts a point to a place, or to a corner there: at once, and again when it is known exactly where that is, if it is still the one of `last`. */
+    snap(place, corner, put, last) {
+        const { draft } = this;
+        last.corner = corner;
+        put(corner?.place ?? place);
+        corner?.exact.then(exact => {
+            if (last.corner === corner && draft === this.draft && !draft.isSent) {
+                put(exact);
+                this.view.redraw();
+            }
+        }, () => {});
     }
 
     /** Ends the drawing, if there are points enough. */
@@ -68,10 +96,13 @@ export class Editor {
         const { feature, pieces, was, id } = this.draft;
         this.draft.form = formOf(feature, this.layers().map(layer => layer.id).filter(name => !isOutline(name)), !was);
         const shape = pieces ? `The import cut it into ${pieces.length} pieces. Its shape can be changed by a desktop GIS (vtmap checkout).`
-            : `${described(feature.geometry)}. Drag a point to move it, or a small one to add it; a right click removes it, Ctrl+Z undoes.`;
+            : `${described(feature.geometry)}. Drag a point to move it, or a small one to add it; a right click removes it, Ctrl+Z undoes. `
+                + "A point snaps to a neighbour's, but not with Alt.";
         const isWrong = !pieces && isLarge(feature);
         const large = isWrong ? [hint("MapLibre draws it wrong: it is larger than a tile of its last zoom. The import cuts such features.")] : [];
-        open(was ? `Edit ${feature.layer} ${id}` : "New feature", this.draft.form, hint(shape), ...large,
+        const along = element("input", { type: "checkbox", onchange: ({ target }) => this.bring(target.checked) });
+        const asked = pieces ? [] : [element("label", { className: "along" }, along, "Corners that neighbours share move along")];
+        open(was ? `Edit ${feature.layer} ${id}` : "New feature", this.draft.form, hint(shape), ...asked, ...large,
             button("Save", () => this.send(this.read())), button("Cancel", () => this.drop()));
         this.uncover(feature);
     }
@@ -94,7 +125,7 @@ export class Editor {
         try {
             const edit = draft.pieces ? await changeAll(this.server, draft.pieces, feature) : await this.put(draft, structuredClone(feature));
             this.drop();
-            tell(`feature ${draft.id} saved, edit ${edit}`);
+            tell(`feature ${draft.id} saved${draft.others ? ` with ${draft.others} more` : ""}, edit ${edit}`);
             await this.saved(edit);
         } catch (fault) {
             if (!(fault instanceof Changed)) {
@@ -112,21 +143,50 @@ export class Editor {
      */
     async put(draft, feature) {
         draft.id ??= await this.nextId();
-        const { id, was, sent } = draft;
+        const { id, was, sent, neighbours } = draft, others = await this.alongOf(draft);
         sent.push(feature);
+        draft.others = others.length;
         try {
-            return await this.server.edit([feature ? { put: id, feature, was } : { delete: id, was }]);
+            return await this.server.edit([feature ? { put: id, feature, was } : { delete: id, was }, ...others]);
         } catch (fault) {
             if (!(fault instanceof Changed)) {
                 throw fault;
+            }
+            const other = others.find(({ put }) => fault.message === `Changed ${put}`);
+            if (other) {
+                neighbours.forget(other.put);
+                throw new Error(`somebody else has just changed feature ${other.put}, which moves along: save again`);
             }
             const now = await this.server.feature(id), isOwn = now && sent.some(one => canonical(one) === canonical(now));
             if (!isOwn && !draft.isNew) {
                 throw fault;
             }
+            others.forEach(({ put }) => neighbours.forget(put));
             Object.assign(draft, isOwn ? { was: now, isNew: false } : { id: null, sent: [] });
             return this.put(draft, feature);
         }
+    }
+
+    /** The shapes of a draft, from the first one on. */
+    historyOf(draft) {
+        return [...draft.undo.map(JSON.parse), draft.feature.geometry];
+    }
+
+    /** The changes of the neighbours that come along with a draft. In a conflict none do. */
+    async alongOf(draft) {
+        if (!draft.along || !draft.feature || draft.theirs !== undefined) {
+            return [];
+        }
+        await Promise.all([...draft.neighbours.touching].map(id => draft.neighbours.feature(id)));
+        return draft.neighbours.moved(this.historyOf(draft)).map(({ id, was, feature }) => ({ put: id, feature, was }));
+    }
+
+    /** Has the neighbours come along, or not. */
+    async bring(along) {
+        const { draft } = this;
+        draft.along = along;
+        await Promise.all(along ? [...draft.neighbours.touching].map(id => draft.neighbours.feature(id)) : []).catch(() => {});
+        this.view.redraw();
     }
 
     /** The id after the greatest one in use, those of pieces aside. If somebody takes it first, the edit is refused, and gets another. */
@@ -189,14 +249,19 @@ export class Editor {
 
     /** Changes the shape so that it can be undone. Returns what the change does. */
     change(action) {
-        const before = JSON.stringify(this.shape), done = action(this.shape, this.view.toScreen);
+        const before = JSON.stringify(this.shape);
+        this.draft.neighbours.look(this.shape);
+        this.bring(this.draft.along);
+        const done = action(this.shape, this.view.toScreen);
         (done || before !== JSON.stringify(this.shape)) && this.draft.undo.push(before);
         this.view.redraw();
         return done;
     }
 
     grab(point) {
-        return this.shape && this.change((shape, toScreen) => grabbed(shape, point, toScreen));
+        const moves = this.shape && this.change((shape, toScreen) => grabbed(shape, point, toScreen));
+        const last = {}, { neighbours } = this.draft ?? {};
+        return moves && ((place, isFree) => this.snap(place, isFree ? null : neighbours.cornerAt(place), moves, last));
     }
 
     remove(point) {
@@ -209,11 +274,21 @@ export class Editor {
         }
     }
 
+    /** The neighbours that come along, as they will be. If one would lose its shape, saving says so. */
+    get others() {
+        try {
+            return this.draft?.along && this.shape ? this.draft.neighbours.moved(this.historyOf(this.draft)) : [];
+        } catch {
+            return [];
+        }
+    }
+
     /** Draws the shapes of the draft. */
     over(context) {
         const { feature, pieces, theirs } = this.draft ?? {};
         const onScreen = ({ geometry }) => chainsOf(geometry).map(chain => ({ ...chain, points: chain.points.map(this.view.toScreen) }));
         theirs && !pieces && drawShape(context, onScreen(theirs), THEIRS, false);
+        this.others.forEach(other => drawShape(context, onScreen(other.feature), THEIRS, false));
         feature && !pieces && drawShape(context, onScreen(feature), MINE, theirs === undefined);
     }
 }

@@ -4,7 +4,7 @@ import { button, byId, close, covered, element, open, table, tell } from "./pane
 import { publishedBox } from "./place.js";
 import { search, titleOf } from "./search.js";
 import { Server } from "./server.js";
-import { listsOf, pointsOf } from "./shape.js";
+import { pointsOf } from "./shape.js";
 import { Style, isOutline, plain } from "./style.js";
 import { View } from "./view.js";
 import { WORLD, bounds, distance, isInside } from "./world.js";
@@ -33,9 +33,9 @@ function rank(point, { kind, chains, tags }) {
 }
 
 /** Selects a feature at a point of the screen, the next one if one there is selected already. */
-function select(point) {
+function select(point, isFree) {
     if (editor.draft) {
-        editor.draft.isDrawn && editor.add(view.toWorld(point));
+        editor.draft.isDrawn && editor.add(view.toWorld(point), isFree);
         view.redraw();
         return;
     }
@@ -128,10 +128,10 @@ function listen() {
         editor.remove([event.offsetX, event.offsetY]);
     };
     addEventListener("keydown", ({ key, ctrlKey, target }) => {
-        const { isDrawn, feature } = editor.draft ?? {};
+        const { isDrawn } = editor.draft ?? {};
         key === "Enter" && editor.finish();
         key === "Escape" && !editor.hasChanges && editor.drop();
-        key === "Backspace" && isDrawn && !target.matches("input") && listsOf(feature.geometry)[0].points.pop();
+        key === "Backspace" && isDrawn && !target.matches("input") && editor.takeBack();
         key === "z" && ctrlKey && !target.matches("input") && editor.undo();
         view.redraw();
     });

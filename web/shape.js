@@ -60,6 +60,49 @@ export function remove(geometry, point, toScreen) {
     }
 }
 
+/**
+ * How a shape became another, step by step: a corner is moved (`from`, `to`), or is `added` or `removed` `between` two others. Each geometry
+ * of a history differs from the one before by one corner.
+ */
+export function stepsOf(history) {
+    return history.slice(1).flatMap((after, at) => listsOf(after).flatMap(({ points }, place) => {
+        const before = listsOf(history[at])[place]?.points ?? [], differs = Math.max(points.length, before.length) - Math.min(points.length, before.length);
+        const first = [...points, null].findIndex((point, index) => String(point) !== String(before[index] ?? null));
+        const between = list => [list.at(first - 1), list[(first + 1) % list.length]];
+        if (first < 0 || differs > 1) {
+            return [];
+        }
+        return points.length === before.length ? [{ from: before[first], to: points[first] }]
+            : points.length > before.length ? [{ added: points[first], between: between(points) }] : [{ removed: before[first], between: between(before) }];
+    }));
+}
+
+/** A geometry whose corners follow the steps of a neighbour's, where it has the same ones. Fails if it would lose its shape. */
+export function followed(geometry, steps) {
+    const made = structuredClone(geometry), is = (one, other) => String(one) === String(other);
+    for (const { points, isClosed } of listsOf(made)) {
+        for (const { from, to, added, removed, between } of steps) {
+            const next = at => points[isClosed ? (at + 1) % points.length : at + 1];
+            const isEdge = (one, other) => between.some((end, at) => is(end, one) && is(between[1 - at], other));
+            if (from) {
+                points.forEach((point, at) => is(point, from) && (points[at] = to));
+            } else if (added) {
+                const at = points.findIndex((point, at) => isEdge(point, next(at)));
+                at >= 0 && points.splice(at + 1, 0, added);
+            } else {
+                const at = points.findIndex((point, at) => is(point, removed) && isEdge(points.at(isClosed ? at - 1 : Math.max(at - 1, 0)), next(at)));
+                at >= 0 && points.splice(at, 1);
+            }
+        }
+        const twice = kindOf(geometry) === "points" ? [] : points.filter((point, at) => is(point, points[at + 1] ?? (isClosed ? points[0] : null)));
+        twice.forEach(point => points.splice(points.indexOf(point), 1));
+        if (points.length < LEAST[kindOf(geometry)]) {
+            throw new Error("a neighbour would lose its shape");
+        }
+    }
+    return made;
+}
+
 /** Whether MapLibre draws a shape wrong at its last zoom: a segment, or an area, is larger than a tile (docs/HTTP.md, "Large features"). */
 export function isLarge({ geometry, maxzoom }) {
     const segments = (geometry.lines ?? []).flatMap(line => line.slice(1).map((point, at) => [line[at], point]));

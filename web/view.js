@@ -178,9 +178,13 @@ export class View {
     }
 
     /** The features of the tile at a point of the screen, each with its layer and its lists of points in pixels. */
-    near([x, y]) {
-        const square = this.squares().find(({ left, top, side }) => left <= x && x < left + side && top <= y && y < top + side);
-        return square ? this.featuresOf(square) : [];
+    near(point) {
+        return this.squaresAt(point, 0).flatMap(square => this.featuresOf(square));
+    }
+
+    /** The squares within so many pixels of a point of the screen. */
+    squaresAt([x, y], reach) {
+        return this.squares().filter(({ left, top, side }) => left <= x + reach && x - reach < left + side && top <= y + reach && y - reach < top + side);
     }
 
     /** The features of the tile in a square that the style draws, each with its layer and its lists of points in pixels. */
@@ -227,13 +231,14 @@ export class View {
         onPointer("pointermove", event => {
             const point = place(event);
             if (drag && !(drag.isClick &&= Math.hypot(point[0] - drag.from[0], point[1] - drag.from[1]) < 4)) {
-                drag.moves ? drag.moves(this.toWorld(point)) : this.move(this.centre.map((part, axis) => part - (point[axis] - drag.last[axis]) / this.scale));
+                const moved = () => this.centre.map((part, axis) => part - (point[axis] - drag.last[axis]) / this.scale);
+                drag.moves ? drag.moves(this.toWorld(point), event.altKey) : this.move(moved());
                 drag.last = point;
                 this.redraw();
             }
         });
         onPointer("pointerup", event => {
-            drag?.isClick && this.hooks.select(place(event));
+            drag?.isClick && this.hooks.select(place(event), event.altKey);
             drag = null;
         });
         on("wheel", event => {

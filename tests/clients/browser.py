@@ -105,8 +105,9 @@ class Page:
                 return value
             time.sleep(0.05)
 
-    def mouse(self, kind, x, y, button="left", clicks=1):
-        self.ask("Input.dispatchMouseEvent", type=kind, x=x, y=y, button=button, clickCount=clicks, buttons=1 if button == "left" else 2)
+    def mouse(self, kind, x, y, button="left", clicks=1, keys=0):
+        buttons = 1 if button == "left" else 2
+        self.ask("Input.dispatchMouseEvent", type=kind, x=x, y=y, button=button, clickCount=clicks, buttons=buttons, modifiers=keys)
 
     def click(self, x, y, button="left", clicks=1):
         """Clicks at a point of the screen."""
@@ -115,12 +116,12 @@ class Page:
             self.mouse("mousePressed", x, y, button, count)
             self.mouse("mouseReleased", x, y, button, count)
 
-    def drag(self, start, end):
-        """Drags from one point of the screen to another."""
-        self.mouse("mousePressed", *start)
+    def drag(self, start, end, keys=0):
+        """Drags from one point of the screen to another, with keys held: 1 is Alt."""
+        self.mouse("mousePressed", *start, keys=keys)
         for step in range(1, 9):
-            self.mouse("mouseMoved", *(a + (b - a) * step / 8 for a, b in zip(start, end)))
-        self.mouse("mouseReleased", *end)
+            self.mouse("mouseMoved", *(a + (b - a) * step / 8 for a, b in zip(start, end)), keys=keys)
+        self.mouse("mouseReleased", *end, keys=keys)
 
     def press(self, text):
         """Clicks at the button, or the word, that has a text."""

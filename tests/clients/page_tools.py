@@ -36,7 +36,7 @@ def parcel(column, row):
 FEATURES = {
     1: ("parcel", {"polygons": [[parcel(-1, -1)]]}, {"name": "Smith", "use": "garden"}),
     2: ("parcel", {"polygons": [[parcel(0, -1)]]}, {"name": "Jones", "use": "meadow"}),
-    3: ("parcel", {"polygons": [[parcel(-1, 0)]]}, {"name": "Miller", "built": 1962}),
+    3: ("parcel", {"polygons": [[parcel(-1, 0)]]}, {"name": "Miller", "built": 5000}),
     11: ("cable", {"lines": [[[X - 2 * SIDE, Y + SIDE // 2], [X + 2 * SIDE, Y + SIDE // 2]]]}, {"volts": 400}),
     12: ("valve", {"points": [[X + SIDE // 2, Y - SIDE // 2]]}, {"name": "Main valve"}),
     13: ("zone", {"polygons": [[parcel(0, -1)]]}, {"name": "Flood"}),
@@ -62,6 +62,8 @@ class Tools(People):
         self.one = self.opened(OPENED)
         self.colours()
         self.search()
+        self.snaps()
+        self.moves_along()
         told = [fault for fault in self.one.faults() if not fault.startswith("Failed to load resource")]
         self.show("the browser complains of nothing", told, [])
 
@@ -108,7 +110,7 @@ class Tools(People):
         self.show("a text finds the one feature in view that has it", self.find("garden"), "parcel 1")
         self.show("with its tags", self.one.text("#panel table").split("\n"), ["name\tSmith", "use\tgarden"])
         before = self.one.value("location.hash")
-        self.show("in small letters too, and by the name of its tag", [self.find(text) for text in ("MILLER", "use=mea", "built=1962")],
+        self.show("in small letters too, and by the name of its tag", [self.find(text) for text in ("MILLER", "use=mea", "built=5000")],
                   ["parcel 3", "parcel 2", "parcel 3"])
         self.show("the map stays where it is", self.one.value("location.hash"), before)
         self.show("several are listed", self.find("m"), "4 found")
@@ -133,6 +135,109 @@ class Tools(People):
         self.one.type("#search input", "garden")
         self.one.press("Find")
         self.show("while something is edited nothing is sought", self.one.wait("document.getElementById('told').textContent.startsWith('save')"), True)
+        self.one.press("Cancel")
+
+
+    def at(self, x, y):
+        """Where a point of the world is on the screen."""
+        return self.one.value(PLACE % (x, y))
+
+    def form(self, number, kind="parcel"):
+        """Opens the form of a feature that is found by its id."""
+        self.one.wait("document.getElementById('panel').hidden")
+        self.show(f"{number} is found", self.find(str(number)), f"{kind} {number}")
+        self.one.press("Edit")
+        self.one.wait("document.querySelector('#panel form')")
+
+    def moved(self, start, by, keys=0):
+        """Drags from a point of the world by pixels."""
+        x, y = self.at(*start)
+        self.one.drag((x, y), (x + by[0], y + by[1]), keys)
+
+    def ring(self, number):
+        """The outer ring of a feature."""
+        return self.get(number)["geometry"]["polygons"][0][0]
+
+    def edited(self):
+        """Saves, and gives what the page tells."""
+        self.one.press("Save")
+        return re.sub(r"\d+$", "K", self.saved(self.one))
+
+    def snaps(self):
+        """A corner that is dragged near a neighbour's becomes the same."""
+        gap = int(30 * PIXEL)
+        lone = [[X + gap, Y + gap], [X + SIDE, Y + gap], [X + SIDE, Y + SIDE], [X + gap, Y + SIDE]]
+        curl(f"{self.server.url}/features/88", "-X", "PUT", body=feature("parcel", 14, 18, {"polygons": [[lone]]}, {"name": "Lone"}))
+        self.one = self.opened(OPENED)
+        self.form(88)
+        self.moved(lone[0], (-33, -25), keys=1)
+        self.edited()
+        free = self.ring(88)[0]
+        self.show("with Alt a corner doesn't snap", ([X, Y] != free, abs(free[0] - X) < 8 * PIXEL, abs(free[1] - Y) < 8 * PIXEL), (True, True, True))
+        self.form(88)
+        self.moved(free, (5, -4))
+        self.one.wait("performance.now() > 0")
+        self.edited()
+        self.show("a corner that is dragged near a neighbour's is exactly there", self.ring(88)[0], [X, Y])
+        self.one.press("New line")
+        (x, y), (east, south) = self.at(X - SIDE, Y - SIDE), self.at(X + SIDE, Y - SIDE)
+        self.one.click(x + 4, y + 5)
+        self.one.click(east + 6, south - 3, clicks=2)
+        self.one.wait("document.querySelector('#panel form')")
+        self.one.type("#panel form input[aria-label=layer]", "cable")
+        self.edited()
+        line = self.get(89)["geometry"]["lines"][0]
+        self.show("so are the points of a new line", line, [[X - SIDE, Y - SIDE], [X + SIDE, Y - SIDE]])
+        curl(f"{self.server.url}/edits", body=json.dumps({"changes": [{"delete": 88}, {"delete": 89}]}))
+
+    def moves_along(self):
+        """Corners that neighbours share move with the one that is dragged, in one edit, if that is asked for."""
+        self.one = self.opened(OPENED)
+        before = {number: self.ring(number) for number in (1, 2, 3, 13)}
+        self.form(1)
+        self.moved([X, Y], (-25, 15))
+        self.edited()
+        alone = self.ring(1)[2]
+        self.show("a corner moves alone", ([self.ring(number) for number in (2, 3, 13)], alone != [X, Y]), ([before[2], before[3], before[13]], True))
+        self.form(1)
+        self.moved(alone, (25, -15))
+        self.edited()
+        self.show("and snaps back", self.ring(1)[2], [X, Y])
+        edits = self.edits_and_features()[0]
+        self.form(1)
+        self.one.value("document.querySelector('#panel .along input').click()")
+        self.moved([X, Y], (-40, 30))
+        x, y = self.at(X, Y - SIDE / 2)
+        self.keep(self.one, "page-along.png")
+        self.one.press("Save")
+        told = self.saved(self.one)
+        corner = self.ring(1)[2]
+        self.show("with the neighbours that share it, if asked", told, f"feature 1 saved with 3 more, edit {edits + 1}")
+        self.show("to the same place", ([self.ring(2)[3], self.ring(13)[3], self.ring(3)[1]], corner != [X, Y]), ([corner] * 3, True))
+        others = [before[2][:3], before[13][:3], [before[3][0], *before[3][2:]]]
+        self.show("and no other corner", [self.ring(2)[:3], self.ring(13)[:3], [self.ring(3)[0], *self.ring(3)[2:]]], others)
+        self.drawn(self.one)
+        self.form(1)
+        self.one.value("document.querySelector('#panel .along input').click()")
+        x, y = ((a + b) / 2 for a, b in zip(self.at(*corner), self.at(X, Y - SIDE)))
+        self.one.drag((x, y), (x + 30, y))
+        curl(f"{self.front.url}/features/2", "-X", "PUT", body=json.dumps({**self.get(2), "tags": {"name": "Brown"}}))
+        told = self.refused(self.one, "Save")
+        self.show("a neighbour that somebody changes meanwhile", told, "somebody else has just changed feature 2, which moves along: save again")
+        self.show("of which nothing is saved", len(self.ring(1)), 4)
+        self.edited()
+        added = self.ring(1)[2]
+        self.show("gets the new corner of the shared edge when it is saved again", [len(self.ring(1)), self.ring(2)[4], self.ring(13)[4]], [5, added, added])
+        self.show("and keeps what was changed", self.get(2)["tags"], {"name": "Brown"})
+        self.form(1)
+        self.one.value("document.querySelector('#panel .along input').click()")
+        self.one.click(*self.at(*added), button="right")
+        self.edited()
+        self.show("a corner that is removed goes from both", [len(self.ring(number)) for number in (1, 2, 13)], [4, 4, 4])
+        self.form(1)
+        self.one.value("document.querySelector('#panel .along input').click()")
+        self.moved(corner, (40, -30))
+        self.one.key("z", 90, modifiers=2)
         self.one.press("Cancel")
 
 
