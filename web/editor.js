@@ -76,12 +76,19 @@ export class Editor {
         const { draft } = this;
         last.corner = corner;
         put(corner?.place ?? place);
-        corner?.exact.then(exact => {
+        const known = corner?.exact.then(exact => {
             if (last.corner === corner && draft === this.draft && !draft.isSent) {
                 put(exact);
                 this.view.redraw();
             }
-        }, () => {});
+        }).catch(() => {});
+        draft.isExact = Promise.all([draft.isExact, known]);
+    }
+
+    /** Saves the draft as shape and form say, once it is known where its points are. */
+    async save() {
+        await this.draft.isExact;
+        return this.send(this.read());
     }
 
     /** Ends the drawing, if there are points enough. */
@@ -103,7 +110,7 @@ export class Editor {
         const along = element("input", { type: "checkbox", onchange: ({ target }) => this.bring(target.checked) });
         const asked = pieces ? [] : [element("label", { className: "along" }, along, "Corners that neighbours share move along")];
         open(was ? `Edit ${feature.layer} ${id}` : "New feature", this.draft.form, hint(shape), ...asked, ...large,
-            button("Save", () => this.send(this.read())), button("Cancel", () => this.drop()));
+            button("Save", () => this.save()), button("Cancel", () => this.drop()));
         this.uncover(feature);
     }
 
