@@ -37,9 +37,14 @@ export function maplibreStyle(style, layers, tiles) {
     const drawnOf = (at, layer) => drawn(at, layer, style.rules[at], style.rulesOf(layer).slice(0, style.rulesOf(layer).indexOf(style.rules[at])));
     const made = style.order.flatMap(([at, parts]) => layers.filter(({ id }) => style.rulesOf(id).includes(style.rules[at]))
         .flatMap(({ id }) => drawnOf(at, id)).filter(({ id }) => parts.includes(PART_OF[id.split(" ").at(-1)])));
+    const { tiles: below, side = 256, maxzoom: last = 19, credit = "" } = style.backdrop ?? {};
+    const backdrop = below ? { backdrop: { type: "raster", tiles: [below], tileSize: side, maxzoom: last, attribution: credit } } : {};
     return {
         version: 8,
-        sources: { map: { type: "vector", tiles: [tiles], minzoom: 0, maxzoom } },
-        layers: [{ id: "background", type: "background", paint: { "background-color": style.background } }, ...made],
+        sources: { map: { type: "vector", tiles: [tiles], minzoom: 0, maxzoom }, ...backdrop },
+        layers: [
+            { id: "background", type: "background", paint: { "background-color": style.background } },
+            ...Object.keys(backdrop).map(id => ({ id, type: "raster", source: id })), ...made,
+        ],
     };
 }

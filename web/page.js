@@ -91,9 +91,16 @@ async function showEdit(edit) {
         isShown ? style.hidden.delete(id) : style.hidden.add(id);
         view.restyle();
     };
-    byId("legend").lastElementChild.replaceChildren(...layers.filter(({ id }) => !isOutline(id)).map(({ id }) => element("label", {},
-        element("input", { type: "checkbox", checked: !style.hidden.has(id), onchange: event => toggle(id, event.target.checked) }),
-        element("i", { style: `background: ${style.colourOf(id)}` }), id)));
+    const row = (checked, toggles, ...parts) => element("label", {}, element("input", {
+        type: "checkbox", checked, onchange: ({ target }) => toggles(target.checked),
+    }), ...parts);
+    const rows = layers.filter(({ id }) => !isOutline(id)).map(({ id }) =>
+        row(!style.hidden.has(id), isShown => toggle(id, isShown), element("i", { style: `background: ${style.colourOf(id)}` }), id));
+    const backdrop = isShown => {
+        view.backdrop.isHidden = !isShown;
+        view.redraw();
+    };
+    byId("legend").lastElementChild.replaceChildren(...rows, ...(view.backdrop ? [row(!view.backdrop.isHidden, backdrop, " Backdrop")] : []));
 }
 
 /** Says what a look has seen. */
@@ -193,6 +200,7 @@ async function start() {
     });
     view.isSelected = ({ id, tags }) => !editor.draft && (tags.whole ?? id) === selected?.id && !byId("panel").hidden;
     editor = new Editor(view, server, () => layers, showEdit);
+    Object.assign(byId("credit"), { textContent: style.backdrop?.credit ?? "", hidden: !style.backdrop?.credit });
     listen();
     await watch();
 }

@@ -1,5 +1,7 @@
 // The style of the map, from style.json: `background` is the colour below everything, `centre` where the map opens if its address doesn't say
-// it ("zoom/latitude/longitude", or null for where its features are), and `rules` are drawn in their order, the first one undermost.
+// it ("zoom/latitude/longitude", or null for where its features are), and `rules` are drawn in their order, the first one undermost. Below them
+// all is the `backdrop`, if there is one: {"tiles": "https://HOST/{z}/{x}/{y}.png", "maxzoom": 19, "side": 256, "credit": "whose it is"}. The
+// host has to be named in nginx.conf too (`$backdrop`): otherwise the browser doesn't ask it.
 //
 // A rule is of one layer, or of "*", all layers that no rule names. If it has `when`, it is of the features with these tags. A feature is
 // drawn by the first rule that is of it. `area`, `edge`, `line`, `casing` and `point` are colours; `width` is that of lines in pixels at
@@ -25,8 +27,8 @@ function ownRule({ colours, ...rest }, layer, at) {
 }
 
 export class Style {
-    constructor({ background, centre, rules }) {
-        Object.assign(this, { background, centre, given: rules, hidden: new Set() });
+    constructor({ background, centre, backdrop, rules }) {
+        Object.assign(this, { background, centre, backdrop, given: rules, hidden: new Set() });
         this.know([]);
     }
 

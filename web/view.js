@@ -1,4 +1,5 @@
 // The view of the map: where it is, the tiles that it shows, and what mouse and wheel do to it.
+import { Backdrop } from "./backdrop.js";
 import { EXTENT, drawNames, drawTile, markTile, prepare } from "./draw.js";
 import { decode } from "./tile.js";
 import { WORLD, bounds, fromDegrees, toDegrees } from "./world.js";
@@ -15,6 +16,7 @@ export class View {
         Object.assign(this, { canvas, server, style, hooks, context: canvas.getContext("2d"), centre: [WORLD / 2, WORLD / 2], zoom: 1 });
         // The tiles by their names: the `edit` of which each is, its `layers`, what is `drawn` of them, and the request that `loads` it.
         Object.assign(this, { tiles: new Map(), edit: 0, maxzoom: 0, isSelected: () => false });
+        this.backdrop = style.backdrop && new Backdrop(style.backdrop, () => this.redraw());
         this.toScreen = point => point.map((part, axis) => (part - this.centre[axis]) * this.scale + this.middle[axis]);
         this.listen();
         new ResizeObserver(() => this.redraw()).observe(canvas);
@@ -47,6 +49,7 @@ export class View {
     }
 
     move(centre, zoom = this.zoom) {
+        this.isPlaced = true;
         this.centre = centre.map(part => clamped(part, 0, WORLD));
         this.zoom = clamped(zoom, 0, MAX_ZOOM);
         const [longitude, latitude] = toDegrees(this.centre);
@@ -88,9 +91,9 @@ export class View {
         });
     }
 
-    /** The tiles on the screen: each with the square that it has there. */
-    squares() {
-        const z = Math.min(Math.floor(this.zoom), this.maxzoom), side = SIDE * 2 ** (this.zoom - z), corner = this.toScreen([0, 0]), found = [];
+    /** The tiles on the screen, those of the map or of another zoom: each with the square that it has there. */
+    squares(z = Math.min(Math.floor(this.zoom), this.maxzoom)) {
+        const side = SIDE * 2 ** (this.zoom - z), corner = this.toScreen([0, 0]), found = [];
         const [west, north] = corner.map(at => Math.max(Math.floor(-at / side), 0));
         const [east, south] = corner.map((at, axis) => Math.min(Math.floor((2 * this.middle[axis] - at) / side), 2 ** z - 1));
         for (let row = north; row <= south; row++) {
@@ -117,6 +120,7 @@ export class View {
         [canvas.width, canvas.height] = this.middle.map(half => Math.round(2 * half * ratio));
         context.fillStyle = style.background;
         context.fillRect(0, 0, canvas.width, canvas.height);
+        this.isPlaced && this.backdrop?.draw(context, this, ratio);
         this.load(squares.map(({ z, column, row }) => `${z}/${column}/${row}`));
         for (const square of squares) {
             const content = this.contentOf(square);

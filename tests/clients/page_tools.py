@@ -2,16 +2,21 @@
 
 The map has parcels that share corners, and layers that style.json doesn't name. Pictures are kept in the folder that PICTURES names, if it does.
 """
+import http.server
 import json
 import os
 import re
 import shutil
+import struct
 import subprocess
+import threading
+import time
+import zlib
 
 from browser import Browser
 from imports import world
 from pages import HIGH, PAGE, PLACE, WIDE, People
-from stand import TOP, VTMAP, Nginx, Server, curl, feature, status_of
+from stand import SYSTEM_PYTHON, VTMAP, Nginx, Server, curl, feature, field, status_of
 
 # Where the map is: longitude and latitude, and the same in the world. A side of a parcel is 120 pixels of zoom 17.
 AT = (7.5, 54.5)
@@ -51,6 +56,28 @@ def numbers(colour):
     return [int(colour[at:at + 2], 16) for at in (1, 3, 5)]
 
 
+def image(colour):
+    """A PNG of 256 by 256 pixels of one colour."""
+    def chunk(name, content):
+        return struct.pack(">I", len(content)) + name + content + struct.pack(">I", zlib.crc32(name + content))
+    rows = zlib.compress((b"\0" + bytes(colour) * 256) * 256)
+    return b"\x89PNG\r\n\x1a\n" + chunk(b"IHDR", struct.pack(">2I5B", 256, 256, 8, 2, 0, 0, 0)) + chunk(b"IDAT", rows) + chunk(b"IEND", b"")
+
+
+class Images(http.server.BaseHTTPRequestHandler):
+    """A server of images: the colour of a tile tells its zoom."""
+
+    def do_GET(self):
+        self.server.asked.append(self.path)
+        self.send_response(200)
+        self.send_header("Content-Type", "image/png")
+        self.end_headers()
+        self.wfile.write(image([int(self.path.split("/")[1]), 200, 90]))
+
+    def log_message(self, *words):
+        pass
+
+
 class Tools(People):
     """A person with the page."""
 
@@ -58,12 +85,13 @@ class Tools(People):
         """The colour of the map at a point of the world."""
         return self.one.value(COLOUR % (PLACE % (x, y)))
 
-    def all(self):
+    def all(self, nginx):
         self.one = self.opened(OPENED)
         self.colours()
         self.search()
         self.snaps()
         self.moves_along()
+        self.backdrop(nginx)
         told = [fault for fault in self.one.faults() if not fault.startswith("Failed to load resource")]
         self.show("the browser complains of nothing", told, [])
 
@@ -241,6 +269,65 @@ class Tools(People):
         self.one.press("Cancel")
 
 
+    def shot(self, made, x, y):
+        """The colour of a pixel of the screen: a page mayn't read a map with images of others."""
+        path = os.path.join(self.folder, "shot.png")
+        made.picture(path)
+        script = "import sys; from PIL import Image; print(*Image.open(sys.argv[1]).convert('RGB').getpixel((int(sys.argv[2]), int(sys.argv[3]))))"
+        told = subprocess.run([SYSTEM_PYTHON, "-c", script, path, str(round(x)), str(round(y))], capture_output=True, text=True, check=True).stdout
+        return [int(part) for part in told.split()]
+
+    def sees(self, made, x, y, colour):
+        """Whether a pixel of the screen gets a colour within some seconds, or which it has."""
+        end = time.monotonic() + 8
+        while (found := self.shot(made, x, y)) != colour and time.monotonic() < end:
+            time.sleep(0.3)
+        return found == colour or found
+
+    def backdrop(self, nginx):
+        """Images of another server below the map, if style.json names one, and nginx.conf its host."""
+        policy = field(curl(self.front.url + "/pages/"), "content-security-policy")
+        self.show("nginx lets the page ask nobody else", re.findall(r"https?:", policy), [])
+        with http.server.ThreadingHTTPServer(("127.0.0.1", 0), Images) as images:
+            images.asked = []
+            threading.Thread(target=images.serve_forever, daemon=True).start()
+            host = f"http://127.0.0.1:{images.server_port}"
+            for name, changes in (("closed", []), ("backed", [('set $backdrop "";', f'set $backdrop " {host}";')])):
+                folder = os.path.join(self.folder, name)
+                os.mkdir(folder)
+                with Nginx(nginx, folder, self.server, changes) as front:
+                    shutil.copytree(PAGE, os.path.join(front.folder, "pages"))
+                    path = os.path.join(front.folder, "pages", "style.json")
+                    with open(path, encoding="utf-8") as file:
+                        style = json.load(file)
+                    style["backdrop"] = {"tiles": host + "/{z}/{x}/{y}.png", "maxzoom": 17, "credit": "Images by somebody"}
+                    with open(path, "w", encoding="utf-8") as file:
+                        json.dump(style, file)
+                    made = self.browser.open(f"{front.url}/pages/{OPENED}")
+                    made.wait("document.getElementById('told').textContent")
+                    self.drawn(made)
+                    time.sleep(1)
+                    (self.backed if changes else self.closed)(made, images)
+            images.shutdown()
+
+    def closed(self, made, images):
+        self.show("without its host in nginx.conf the browser doesn't ask for a backdrop", images.asked, [])
+        self.show("and the map is there", self.sees(made, WIDE / 2 + 180, HIGH / 2 + 60, numbers("#4e79a7")), True)
+
+    def backed(self, made, images):
+        below, line = (WIDE / 2 + 180, HIGH / 2 + 180), (WIDE / 2 + 180, HIGH / 2 + 60)
+        self.show("images lie below the map, those of the last zoom", self.sees(made, *below, [17, 200, 90]), True)
+        self.show("and the map above them", self.sees(made, *line, numbers("#4e79a7")), True)
+        self.show("and no more of them than the screen needs", len(images.asked) <= 20 or images.asked, True)
+        self.show("with whose they are", made.text("#credit"), "Images by somebody")
+        self.keep(made, "page-backdrop.png")
+        made.value("location.hash = location.hash.replace('#17.00', '#15.2')")
+        self.show("other zooms have others", self.sees(made, *below, [16, 200, 90]), True)
+        made.press("Layers")
+        made.value("[...document.querySelectorAll('#legend label')].at(-1).click()")
+        self.show("and they can be hidden", self.sees(made, *below, [169, 207, 227]), True)
+
+
 def page_tools(cases, folder):
     nginx = shutil.which("nginx") or "/usr/sbin/nginx"
     if not shutil.which("chromium") or not os.path.exists(nginx):
@@ -255,4 +342,4 @@ def page_tools(cases, folder):
             assert status_of(reply) == 200, reply
         curl(f"{server.url}/features/{FAR}", "-X", "PUT", body=feature("lake", 7, 8, {"polygons": [[FAR_AT]]}, {}))
         with Browser(os.path.join(folder, "profile"), WIDE, HIGH) as browser:
-            Tools(cases, browser, server, front, folder).all()
+            Tools(cases, browser, server, front, folder).all(nginx)
