@@ -138,8 +138,8 @@ function listen() {
         const { isDrawn } = editor.draft ?? {};
         key === "Enter" && editor.finish();
         key === "Escape" && !editor.hasChanges && editor.drop();
-        key === "Backspace" && isDrawn && !target.matches("input") && editor.takeBack();
-        key === "z" && ctrlKey && !target.matches("input") && editor.undo();
+        key === "Backspace" && isDrawn && !target.matches("input, textarea") && editor.takeBack();
+        key === "z" && ctrlKey && !target.matches("input, textarea") && editor.undo();
         view.redraw();
     });
     byId("login").onclick = () => logIn().catch(fault => tell(fault.message, true));

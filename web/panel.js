@@ -22,7 +22,7 @@ function complain(fault) {
 
 /** A button. While what it does goes on, no button and no field of the panel works; if it fails, the panel tells why. */
 export function button(name, action) {
-    const switched = isOff => panel.querySelectorAll("button, input, select").forEach(each => each.disabled = isOff);
+    const switched = isOff => panel.querySelectorAll("button, input, textarea, select").forEach(each => each.disabled = isOff);
     const onclick = async () => {
         panel.querySelector("p.fault")?.remove();
         switched(true);

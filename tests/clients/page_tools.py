@@ -91,6 +91,7 @@ class Tools(People):
         self.search()
         self.snaps()
         self.moves_along()
+        self.long_texts()
         self.backdrop(nginx)
         told = [fault for fault in self.one.faults() if not fault.startswith("Failed to load resource")]
         self.show("the browser complains of nothing", told, [])
@@ -268,6 +269,27 @@ class Tools(People):
         self.one.key("z", 90, modifiers=2)
         self.one.press("Cancel")
 
+
+    def long_texts(self):
+        """The form shows names and values whole, in as many lines as they need, and keeps the ends of lines."""
+        tags = {"a_name_of_a_tag_that_some_program_wrote_in_full": "short", "note": "word " * 60 + "end", "lines": "one\ntwo\nthree", "number": 2 ** 63}
+        curl(f"{self.server.url}/features/77", "-X", "PUT", body=feature("valve", 14, 18, {"points": [[X - SIDE, Y + SIDE]]}, tags))
+        self.one = self.opened(OPENED)
+        for wide in (WIDE, 390):
+            self.one.ask("Emulation.setDeviceMetricsOverride", width=wide, height=HIGH, deviceScaleFactor=1, mobile=False)
+            self.one.wait(f"innerWidth === {wide}")
+            self.form(77, "valve")
+            time.sleep(0.3)
+            cut = """[...document.querySelectorAll('#panel .tags textarea')]
+                .filter(each => each.scrollWidth > each.clientWidth || each.scrollHeight > each.clientHeight).map(each => each.value)"""
+            self.show(f"{wide} pixels wide, the form cuts no name and no value", self.one.value(cut), [])
+            self.keep(self.one, f"page-form-{wide}.png")
+            self.one.type("#panel .tags tr:first-child [aria-label=value]", "shorter" if wide == WIDE else "x " * 100)
+            self.show("nor what is typed", self.one.value(cut), [])
+            self.edited()
+        self.show("a text of several lines stays one", self.get(77)["tags"], {**tags, list(tags)[0]: "x " * 100})
+        self.one.ask("Emulation.setDeviceMetricsOverride", width=WIDE, height=HIGH, deviceScaleFactor=1, mobile=False)
+        curl(f"{self.server.url}/features/77", "-X", "DELETE")
 
     def shot(self, made, x, y):
         """The colour of a pixel of the screen: a page mayn't read a map with images of others."""

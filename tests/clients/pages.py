@@ -157,8 +157,8 @@ class People:
 
     def write(self, made, name, value):
         """Writes the last tag of the form."""
-        made.type("#panel form tbody tr:last-child input[aria-label=tag]", name)
-        made.type("#panel form tbody tr:last-child input[aria-label=value]", value)
+        made.type("#panel form tbody tr:last-child [aria-label=tag]", name)
+        made.type("#panel form tbody tr:last-child [aria-label=value]", value)
 
     def refused(self, made, name):
         """Presses a button, and gives what the panel says then of why that failed."""
@@ -460,7 +460,7 @@ class People:
         self.cut(600, range(140), {"name": "Cut", "note": "Ж" * 300})
         made = self.sea(75, "Edit")
         made.wait("document.querySelector('#panel form')")
-        named = "#panel form tbody tr:first-child input[aria-label=value]"
+        named = "#panel form tbody tr:first-child [aria-label=value]"
         told = []
         for name, words in [("One", REFUSE % (1, 1)), ("One", LOSE)]:
             made.type(named, name)
@@ -491,7 +491,7 @@ class People:
         self.cut(600, range(20), {"name": "Cut"})
         made = self.sea(5, "Edit")
         made.wait("document.querySelector('#panel form')")
-        made.type("#panel form tbody tr:first-child input[aria-label=value]", "Back")
+        made.type("#panel form tbody tr:first-child [aria-label=value]", "Back")
         before = [self.get(600 + PIECE * at) for at in range(20)]
         curl(f"{self.server.url}/edits", body=json.dumps({"changes": [{"delete": 600 + PIECE * at} for at in range(20)]}))
         made.press("Save")
@@ -505,7 +505,7 @@ class People:
         self.cut(700, [133], {"name": "Left"})
         made = self.sea(133, "Edit")
         made.wait("document.querySelector('#panel form')")
-        made.type("#panel form tbody tr:first-child input[aria-label=value]", "Alone")
+        made.type("#panel form tbody tr:first-child [aria-label=value]", "Alone")
         made.press("Save")
         self.saved(made)
         self.show("a piece without the first one is a feature of its own", self.names(700, [133]), ["Alone"])
@@ -551,7 +551,7 @@ class People:
         wanted = {"area": 9007199254740993, "name": "Nordwerth Island", "whole": 101}
         self.show("all pieces of a large feature are changed, and no number is rounded", tags, [wanted] * 17)
         self.edit_land()
-        self.one.type("#panel form tbody tr:first-child input[aria-label=value]", "8")
+        self.one.type("#panel form tbody tr:first-child [aria-label=value]", "8")
         curl(f"{self.front.url}/features/105", "-X", "PUT", body=json.dumps({**self.get(105), "tags": {**wanted, "name": "by others"}}))
         self.one.press("Save")
         self.one.wait("document.querySelector('#panel .differs')")
