@@ -200,6 +200,13 @@ export class View {
         })));
     }
 
+    /** Zooms as two fingers that were at two points of the screen are now at two others, and keeps the place between them there. */
+    pinch(before, after) {
+        const middle = ([[x, y], [toX, toY]]) => [(x + toX) / 2, (y + toY) / 2], far = ([[x, y], [toX, toY]]) => Math.max(Math.hypot(toX - x, toY - y), 1);
+        this.centre = this.centre.map((part, axis) => part - (middle(after)[axis] - middle(before)[axis]) / this.scale);
+        this.zoomBy(Math.log2(far(after) / far(before)), middle(after));
+    }
+
     /** The features in view, as `near` gives them, but for their points: each once, with its `box` of the world, and pieces of a whole as one. */
     features() {
         const found = new Map(), [wide, high] = this.middle.map(half => 2 * half);
@@ -224,16 +231,23 @@ export class View {
 
     listen() {
         const place = event => [event.offsetX, event.offsetY];
+        // What one finger, or the mouse, drags, and where each finger is.
         let drag = null;
-        const on = (name, action) => this.canvas.addEventListener(name, action);
-        // Of several fingers the first one moves the map.
-        const onPointer = (name, action) => on(name, event => event.isPrimary && action(event));
-        onPointer("pointerdown", event => {
+        const fingers = new Map(), on = (name, action) => this.canvas.addEventListener(name, action);
+        on("pointerdown", event => {
             this.canvas.setPointerCapture(event.pointerId);
-            drag = { from: place(event), last: place(event), moves: event.button === 0 && this.hooks.grab(place(event)), isClick: event.button === 0 };
+            fingers.set(event.pointerId, place(event));
+            // With a second finger nothing is dragged any more: two of them zoom.
+            drag = fingers.size > 1 ? null : {
+                from: place(event), last: place(event), moves: event.button === 0 && this.hooks.grab(place(event)), isClick: event.button === 0,
+            };
         });
-        onPointer("pointermove", event => {
+        on("pointermove", event => {
             const point = place(event);
+            if (fingers.size === 2 && fingers.has(event.pointerId)) {
+                const before = [...fingers.values()];
+                this.pinch(before, [...fingers.set(event.pointerId, point).values()]);
+            }
             if (drag && !(drag.isClick &&= Math.hypot(point[0] - drag.from[0], point[1] - drag.from[1]) < 4)) {
                 const moved = () => this.centre.map((part, axis) => part - (point[axis] - drag.last[axis]) / this.scale);
                 drag.moves ? drag.moves(this.toWorld(point), event.altKey) : this.move(moved());
@@ -241,10 +255,15 @@ export class View {
                 this.redraw();
             }
         });
-        onPointer("pointerup", event => {
-            drag?.isClick && this.hooks.select(place(event), event.altKey);
+        const lifted = event => {
+            fingers.delete(event.pointerId);
             drag = null;
+        };
+        on("pointerup", event => {
+            drag?.isClick && this.hooks.select(place(event), event.altKey);
+            lifted(event);
         });
+        on("lostpointercapture", lifted);
         on("wheel", event => {
             event.preventDefault();
             this.zoomBy(-event.deltaY * (event.deltaMode ? 30 : 1) / 300, place(event));

@@ -532,10 +532,20 @@ class People:
         left, top = made.value(PLACE % (x + 4500, y + 4500))
         self.show("on a narrow screen the feature that is edited is between buttons and panel", (0 < left < 390, nav < top < panel), (True, True))
         made.press("Cancel")
+        zoom = made.value("Number(location.hash.slice(1).split('/')[0])")
+        self.touch(made, [("touchStart", [(left - 50, top), (left + 50, top)]), ("touchMove", [(left - 70, top + 20), (left + 130, top + 20)]), ("touchEnd", [])])
+        now = made.value(PLACE % (x + 4500, y + 4500))
+        self.show("two fingers twice as far apart zoom in by one", round(made.value("Number(location.hash.slice(1).split('/')[0])") - zoom, 1), 1)
+        self.show("and the place between them goes with them", [round(now[0] - left), round(now[1] - top)], [30, 20])
         before = made.value("location.hash")
-        for kind, fingers in [("touchStart", [(150, 300), (250, 300)]), ("touchMove", [(150, 300), (280, 340)]), ("touchEnd", [])]:
+        self.touch(made, [("touchStart", [(200, 300)]), ("touchMove", [(230, 340)]), ("touchMove", [(260, 380)]), ("touchEnd", [])])
+        self.show("then one finger moves the map again", made.value("location.hash") != before, True)
+        self.show("and touches select nothing meanwhile", made.value("document.getElementById('panel').hidden"), True)
+
+    def touch(self, made, steps):
+        """Touches the screen: of each step what happens, and where the fingers are then."""
+        for kind, fingers in steps:
             made.ask("Input.dispatchTouchEvent", type=kind, touchPoints=[{"x": left, "y": top, "id": at} for at, (left, top) in enumerate(fingers)])
-        self.show("a second finger doesn't move the map", made.value("location.hash"), before)
 
     def large_feature(self):
         self.one.value("location.hash = '#15/54.5/7.5'")
