@@ -22,6 +22,8 @@ COMMANDS = {
     "delete-layer": ("delete_layer", "deletes the features of layers"),
     "qgis": ("qgis", "writes a QGIS project that shows the map"),
     "follow": ("follow", "follows the edits of a server: into standbys, into a log, or both"),
+    "log": ("log", "tells who changed what, and when, by that log"),
+    "undo": ("undo", "takes edits back: one, several, or a whole import"),
     "draw": ("draw", "draws a part of the map into a PNG file"),
 }
 ABOUT = """The office's toolbox for the map of a vtserve.

@@ -49,6 +49,13 @@ class Passes(http.server.BaseHTTPRequestHandler):
         pass
 
 
+class Port(http.server.ThreadingHTTPServer):
+    """The port of a stand-in. A client that breaks a connection off is no fault."""
+
+    def handle_error(self, *_):
+        pass
+
+
 class Between:
     """A port whose requests are passed on to a server. `before(method, path)` is called first; a reply is lost if `loses(method, path)`. If
     `instead(method, path)` is a status and a content, these are the reply, and the server isn't asked."""
@@ -57,7 +64,7 @@ class Between:
         self.port, self.before, self.loses, self.instead, self.asked = server.port, before, loses, instead, []
 
     def __enter__(self):
-        self.server = http.server.ThreadingHTTPServer(("127.0.0.1", 0), Passes)
+        self.server = Port(("127.0.0.1", 0), Passes)
         self.server.between = self
         self.url = f"http://127.0.0.1:{self.server.server_port}"
         threading.Thread(target=self.server.serve_forever, daemon=True).start()

@@ -44,6 +44,7 @@ from standby import long_follow, standby
 from steps import steps
 from three_ways import three_ways
 from toolbox import toolbox
+from trail import trail
 from units import units
 from updates import updates
 
@@ -815,6 +816,7 @@ def main():
         "steps": steps,
         "standby": standby,
         "long-follow": long_follow,
+        "trail": trail,
         "disk-full": disk_full,
         "kills": kills,
         "nginx": in_front,

@@ -70,6 +70,8 @@ class Client:
         # Whether a batch has been accepted; the first change of those that were sent last and aren't known to be made.
         self.has_batches = False
         self.last = None
+        # The numbers of the edits that were made.
+        self.made = []
         # The number of the last edit that is known of, and whether the server lists features by pages, as far as is known.
         self.edits, self.has_pages = 0, True
 
@@ -333,7 +335,8 @@ class Client:
             self.publish()
             status, content = self.deliver(method, path, body, group)
         if status == 200:
-            self.edits = max(self.edits, self.value(content)["edit"])
+            self.made.append(self.value(content)["edit"])
+            self.edits = max(self.edits, self.made[-1])
         return status, content
 
     def deliver(self, method, path, body, group):

@@ -25,8 +25,8 @@ makes an edit only under that number, so none is made twice or left out, whoever
 Each begins where the standby is. At the beginning the standby's last edit is compared with the server's, if both still list it.
 
 --log FILE appends a line of JSON for each edit, `{"time":..,"edit":7,"changes":[{"put":9,"feature":{..},"was":{..}}]}`, with the time when the
-edit was seen and what each feature was before. For that the features of the map are kept in FILE.map. A new log begins with the next edit. FILE may
-be renamed meanwhile, as logrotate does: then a new one begins.
+edit was seen and what each feature was before: `vtmap log` reads it, and `vtmap undo` takes edits back by it. For that the features of the map
+are kept in FILE.map. A new log begins with the next edit. FILE may be renamed meanwhile, as logrotate does: then a new one begins.
 
 A publication of the server takes the edits up to its beginning out of the list. `vtmap publish --pause 5` gives who follows the time to read
 them before. Whoever hasn't is left behind: a log gets a line `{"time":..,"missed":[8,12]}` and goes on; a standby has to begin anew from a copy,

@@ -1,7 +1,18 @@
-"""Ids as the words of a command have them. Needs no package."""
+"""Ids, and numbers of edits, as the words of a command have them. Needs no package."""
 
 
 def ranges(text):
     """The ranges of ids of `1-3000,5000`."""
     parts = [part.partition("-") for part in text.split(",")]
     return [range(int(first), int(last or first) + 1) for first, _, last in parts]
+
+
+def told_ranges(numbers):
+    """Ascending numbers as `ranges` reads them."""
+    found = []
+    for number in numbers:
+        if found and found[-1][1] == number - 1:
+            found[-1][1] = number
+        else:
+            found.append([number, number])
+    return ",".join(f"{first}" if first == last else f"{first}-{last}" for first, last in found)

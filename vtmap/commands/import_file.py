@@ -12,6 +12,7 @@ from ..files.id_file import IdFile
 from ..limits import MOST_CHANGES
 from ..progress import with_progress
 from .changes import Changes
+from .ids import told_ranges
 from .import_options import MAXZOOM, has_ids
 from .plan import Plan
 from .sizes import disk_for
@@ -121,6 +122,12 @@ def send(client, changes):
             print(f"feature {number} refused: {refusal}", flush=True)
 
 
+def tell_edits(client):
+    """Prints the numbers of the edits that were made."""
+    if client.made:
+        print(f"its edits: {told_ranges(client.made)} (`vtmap undo` takes them back)", flush=True)
+
+
 def tell_disk(client):
     """Prints what of the disk is used after the import, if the server tells it."""
     try:
@@ -181,17 +188,21 @@ def sent(words, client, plan, changes):
         finally:
             if changes.base:
                 changes.base.end(client.edits)
+        tell_edits(client)
         tell_disk(client)
         tell_place(client, plan)
     except NoAnswer as fault:
+        tell_edits(client)
         print(f"feature {client.last}: {fault}")
         print(f"{changes.so_far()}, then the server didn't answer: {again(words, plan)}")
         return 3
     except Stopped as fault:
+        tell_edits(client)
         print(f"stopped at feature {client.last}: {fault}")
         print(f"{changes.so_far()}: {again(words, plan)}")
         return 1
     except KeyboardInterrupt:
+        tell_edits(client)
         print(f"{changes.so_far()}, then it was interrupted: {again(words, plan)}")
         return 130
     except OSError as fault:

@@ -1,0 +1,147 @@
+"""`vtmap undo`: takes edits back by the opposite checked edits. Needs no package."""
+import json
+from collections import Counter, namedtuple
+
+from ..client.client import Client, conflict
+from ..client.edits import NOTHING, delete, encoded, put
+from ..faults import Refused
+from ..files.edit_log import last_of
+from ..progress import with_progress
+from .differences import named, told_change
+from .ids import ranges, told_ranges
+from .log import feature_of, id_of, rows_of
+
+ABOUT = {"undo": """Takes edits back: an edit, several, or a whole import, which prints the numbers of its edits.
+
+    vtmap undo 41 --log edits.jsonl
+    vtmap undo 12-40,57 --log edits.jsonl --dry-run
+
+What each feature was before is in the log that `vtmap follow --log` writes; of several files the oldest is first. The newest edit is taken back first.
+Each feature is put, or deleted, by a checked edit, only if it still is what the edits have made of it: what somebody has changed since is a conflict,
+is named, and stays as it is. `vtmap log --numbers` finds the edits of a person or a day. To take it back again, undo the edits that this prints.
+
+It ends with 1 if something is in conflict or refused. Interrupted, run it again: what is taken back already stays so."""}
+MOST_NAMED = 20
+
+# What is to become of a feature: what the edits have made of it, what it was before them, and the name that it is told by.
+Step = namedtuple("Step", "now before")
+
+
+def changes_of(paths, numbers):
+    """The changes of the edits of these numbers, the newest first. Refuses numbers that the log doesn't have."""
+    wanted, found, last = {number for part in numbers for number in part}, {}, 0
+    for row in rows_of(paths):
+        last = last_of(row)
+        if "edit" in row and row["edit"] in wanted:
+            found[row["edit"]] = row["changes"]
+    missing = sorted(wanted - set(found))
+    if missing:
+        more = f": it ends with edit {last:,}" if missing[-1] > last else ""
+        raise Refused(f"the log doesn't have the edits {told_ranges(missing)}{more}: nothing is taken back")
+    return [change for number in sorted(found, reverse=True) for change in reversed(found[number])]
+
+
+class Undo:
+    """What is taken back of each feature."""
+
+    def __init__(self, changes):
+        self.steps, self.stopped, self.unknown = {}, {}, set()
+        for change in changes:
+            self.add(id_of(change), change)
+
+    def add(self, number, change):
+        """Takes one more change of a feature back, which is older than those so far. Between it and them nothing else may have been made of it."""
+        if number in self.stopped or number in self.unknown:
+            return
+        if "was" not in change:
+            self.unknown.add(number)
+            return
+        made, step = change.get("feature"), self.steps.get(number)
+        if step is not None and encoded(step.before) != encoded(made):
+            self.stopped[number] = change
+            return
+        self.steps[number] = Step(made if step is None else step.now, change["was"])
+
+    def changes(self):
+        """The checked changes, those of the newest edit first."""
+        for number, (now, before) in self.steps.items():
+            if encoded(now) != encoded(before):
+                made = delete(number) if before is None else put(number, before)
+                yield made._replace(was=NOTHING if now is None else encoded(now))
+
+
+class Told:
+    """What becomes of the changes, and how it is told."""
+
+    def __init__(self):
+        self.counts, self.named = Counter(), 0
+
+    def name(self, text):
+        """Prints what becomes of a feature; of many only the first ones."""
+        self.named += 1
+        if self.named <= MOST_NAMED:
+            print(text, flush=True)
+
+    def end(self):
+        """Says how many weren't named, and counts all."""
+        if self.named > MOST_NAMED:
+            print(f"and {self.named - MOST_NAMED:,} more")
+        return ", ".join(f"{self.counts[kind]:,} {kind}" for kind in ("put back", "changed back", "deleted", "in conflict", "refused"))
+
+    def take(self, change, refusal):
+        """Tells what became of a change."""
+        now = None if change.was == NOTHING else json.loads(change.was)
+        before = None if change.body is None else json.loads(change.body)
+        name = named(change.number, before or now)
+        if refusal is None:
+            kind = "deleted" if before is None else "put back" if now is None else "changed back"
+            self.counts[kind] += 1
+            self.name(f"{kind}: {name}" + (f": {told_change(now, before)}" if now and before else ""))
+        elif refusal.is_conflict:
+            self.counts["in conflict"] += 1
+            there = f", on the map now: {told_change(now, refusal.now)}" if now and refusal.now else ""
+            print(f"conflict: {name}: {refusal}{there}", flush=True)
+        else:
+            self.counts["refused"] += 1
+            print(f"{name} refused: {refusal}", flush=True)
+
+
+def looked_at(client, changes):
+    """The changes with the refusal that each would get."""
+    for change in changes:
+        now = client.feature(change.number)
+        yield change, None if (b"null" if now is None else encoded(now)) == change.was else conflict(change, now)
+
+
+def work(words):
+    """Takes edits back."""
+    undo = Undo(changes_of(words.log, words.edits))
+    client, told = Client(words.url, words.publish), Told()
+    for change in undo.stopped.values():
+        told.counts["in conflict"] += 1
+        print(f"conflict: {named(id_of(change), feature_of(change))}: somebody has changed it between these edits", flush=True)
+    for number in sorted(undo.unknown):
+        told.counts["refused"] += 1
+        print(f"{number} refused: what it was before isn't known: the log began, or began anew, while it was edited", flush=True)
+    client.status()
+    made = looked_at(client, undo.changes()) if words.dry_run else with_progress(client.make(undo.changes()))
+    for change, refusal in made:
+        told.take(change, refusal)
+    end = told.end()
+    if client.made:
+        print(f"its edits: {told_ranges(client.made)}")
+    print(f"{end}: nothing was sent" if words.dry_run else end)
+    return 1 if told.counts["in conflict"] or told.counts["refused"] else 0
+
+
+def options(parser, _):
+    """The words of the command."""
+    parser.add_argument("edits", type=ranges, metavar="NUMBERS", help="the numbers of the edits, as in 12-40,57")
+    parser.add_argument("--log", metavar="FILE", action="append", required=True, help="what `vtmap follow --log` writes; several times, the oldest first")
+    parser.add_argument("--dry-run", action="store_true", help="print what would be done, and send nothing")
+    parser.add_argument("--publish", action="store_true", help="publish when the journal is full")
+
+
+def interrupted(_):
+    """What to do after an interruption."""
+    return "run the same command again"

@@ -1,0 +1,73 @@
+"""nginx's log of edits (`log_format edits` in docs/nginx.conf): who sent which edit. Needs no package.
+
+A line is `{"time":1764420310.123,"person":"anna","address":"192.168.1.7","request":"PUT /features/9","body":"{..}"}`. The reply, which has the number of
+the edit, isn't in it: an edit is found by its content and its time.
+"""
+import hashlib
+import json
+import re
+from collections import defaultdict, deque, namedtuple
+
+from ..client.edits import encoded
+
+# Who sent an edit: a name, else an address; and the time in seconds since 1970.
+Sent = namedtuple("Sent", "person time")
+FEATURE = re.compile(r"(PUT|DELETE) /features/([0-9]+)(?:\?.*)?")
+# How many seconds nginx may write a line after the edit was seen, and lines may be in another order than edits.
+SLACK = 1
+
+
+def number_of(text):
+    """A number with a fraction or an exponent: an integer, where it is one."""
+    found = float(text)
+    return int(found) if found.is_integer() else found
+
+
+def parsed(text):
+    """JSON whose numbers are compared by their values."""
+    return json.loads(text, parse_float=number_of)
+
+
+def key_of(changes):
+    """What is equal for equal changes: a hash of what is put, by id, and of what is deleted."""
+    rows = [(change["put"], change["feature"]) if "put" in change else (change["delete"], None) for change in changes]
+    return hashlib.sha256(encoded(sorted(rows, key=lambda row: row[0]))).digest()[:16]
+
+
+def changes_of(request, body):
+    """The changes of a request."""
+    found = FEATURE.fullmatch(request)
+    if found is None:
+        return parsed(body)["changes"]
+    return [{"put": int(found[2]), "feature": parsed(body)}] if found[1] == "PUT" else [{"delete": int(found[2])}]
+
+
+class Senders:
+    """Who sent which edit, by lines of nginx's log."""
+
+    def __init__(self):
+        self.sent = defaultdict(list)
+        self.unread, self.last = 0, 0
+
+    def add(self, line):
+        """Takes a line. One that isn't of an edit, or that nginx has cut, is counted."""
+        try:
+            row = parsed(line)
+            self.sent[key_of(changes_of(row["request"], row["body"]))].append(Sent(row["person"] or row["address"], row["time"]))
+        except (ValueError, LookupError, TypeError):
+            self.unread += 1
+
+    def end(self):
+        """Puts what was taken into the order of time."""
+        self.sent = {key: deque(sorted(rows, key=lambda row: row.time)) for key, rows in self.sent.items()}
+
+    def of(self, changes, seen):
+        """Who sent an edit that was seen at a time: the first one that sent these changes by then, and not before who sent an earlier edit. None if
+        nobody did. Edits are asked for in their order, each once."""
+        rows = self.sent.get(key_of(changes), ())
+        while rows and rows[0].time < self.last - SLACK:
+            rows.popleft()
+        if not rows or rows[0].time > seen + SLACK:
+            return None
+        self.last = max(self.last, rows[0].time)
+        return rows.popleft()
