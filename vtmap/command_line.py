@@ -15,6 +15,7 @@ COMMANDS = {
     "update": ("import_options", "sends what has changed in a file since its last import; what people changed on the map stays"),
     "checkout": ("checkout", "writes features of the map into a GeoPackage, to edit them in QGIS"),
     "checkin": ("checkin", "sends what was edited in that GeoPackage"),
+    "wfs": ("wfs", "lets QGIS edit the map itself by WFS, and other programs read it by OGC API Features"),
     "save": ("backup", "saves the features of the map in a file"),
     "load": ("backup", "puts them back"),
     "publish": ("publish", "publishes the map, while tiles and edits go on"),

@@ -2,6 +2,7 @@
 a reply, and some not at all, which a proxy may answer."""
 import http.client
 import http.server
+import sys
 import threading
 
 
@@ -19,11 +20,16 @@ class Passes(http.server.BaseHTTPRequestHandler):
         if instead is not None:
             self.answer(*instead)
             return
-        connection = http.client.HTTPConnection("127.0.0.1", between.port, timeout=120)
-        connection.request(self.command, self.path, body)
-        reply = connection.getresponse()
-        content = reply.read()
-        connection.close()
+        try:
+            connection = http.client.HTTPConnection("127.0.0.1", between.port, timeout=120)
+            connection.request(self.command, self.path, body)
+            reply = connection.getresponse()
+            content = reply.read()
+            connection.close()
+        except (OSError, http.client.HTTPException):
+            # The server has ended.
+            self.close_connection = True
+            return
         if between.loses(self.command, self.path):
             self.close_connection = True
             return
@@ -50,10 +56,11 @@ class Passes(http.server.BaseHTTPRequestHandler):
 
 
 class Port(http.server.ThreadingHTTPServer):
-    """The port of a stand-in. A client that breaks a connection off is no fault."""
+    """A port on which a client may end without waiting for its reply."""
 
-    def handle_error(self, *_):
-        pass
+    def handle_error(self, request, client_address):
+        if not isinstance(sys.exc_info()[1], OSError):
+            super().handle_error(request, client_address)
 
 
 class Between:

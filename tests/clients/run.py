@@ -33,6 +33,7 @@ from endings import endings
 from imports import disk_full, imports, kills, large
 from desktop import desktop
 from lost_replies import lost_replies
+from ogc import ogc
 from operation import operation
 from page_tools import page_tools
 from pages import page
@@ -47,6 +48,8 @@ from toolbox import toolbox
 from trail import trail
 from units import units
 from updates import updates
+from wfs import wfs
+from wfs_deaths import wfs_deaths
 
 
 def archive():
@@ -806,6 +809,9 @@ def main():
         "round-trips": round_trips,
         "updates": updates,
         "three-ways": three_ways,
+        "wfs": wfs,
+        "wfs-deaths": wfs_deaths,
+        "ogc": ogc,
         "operation": operation,
         "admin": admin,
         "batches": batches,

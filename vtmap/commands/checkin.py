@@ -6,9 +6,10 @@ from ..client.client import Client
 from ..client.edits import checked, delete, put
 from ..files import geopackage
 from ..files.checkout_file import Checkout, Unusable, there
-from ..geometry.shapes import SAFE, Unfit, points_of
-from ..geometry.wholes import OUTLINE, PIECE, WHOLE, wholes_of
-from ..interpreters import has, look_for
+from ..geometry.pieces import pieces_of
+from ..geometry.shapes import Unfit
+from ..geometry.wholes import WHOLE, wholes_of
+from ..interpreters import look_for
 from .checkout import Choice, needed
 from .deletions import are_many
 from .differences import told_change
@@ -32,49 +33,6 @@ def options(parser, _):
     parser.add_argument("--dry-run", action="store_true", help="list what would be sent, and send nothing")
     parser.add_argument("--delete-many", action="store_true", help="delete even more than half of the features that were checked out")
     parser.add_argument("--publish", action="store_true", help="publish when the journal is full")
-
-
-def pieces_of(row, now):
-    """The features by their ids that a row is to be on the map. Raises `Unfit`. A new row has no id that is somebody else's."""
-    base, feature = row.base, row.feature
-    if feature is None:
-        return {}
-    is_cut = base is not None and len(base.pieces) > 1
-    if is_cut and feature["geometry"] == base.feature["geometry"]:
-        return {number: {**feature, "layer": feature["layer"] + (OUTLINE if was["layer"].endswith(OUTLINE) else ""), "geometry": was["geometry"],
-                         "tags": {**feature["tags"], WHOLE: base.number}} for number, was in base.pieces.items()}
-    if base is not None and feature["geometry"] == base.feature["geometry"]:
-        return {row.number: feature}
-    made = cut(row, is_cut)
-    ids = [row.number, *(number for number in (base.pieces if base else ()) if number != row.number)]
-    step = 1
-    while len(ids) < len(made):
-        number = row.number + step * PIECE
-        if number not in ids and (base is not None or number in row.seen or number not in now):
-            ids.append(number)
-        step += 1
-    return dict(zip(ids, made))
-
-
-def cut(row, is_cut):
-    """The features of a new shape: itself, or its pieces."""
-    feature = row.feature
-    (kind, lists), = feature["geometry"].items()
-    if kind == "points" or not 0 <= feature["minzoom"] <= feature["maxzoom"] <= 19:
-        return [feature]
-    if has("osgeo"):
-        from ..geometry.feature_cutter import FeatureCutter
-        cutter = FeatureCutter(range(feature["minzoom"], feature["maxzoom"] + 1))
-        return cutter.features(row.number, (kind, lists), feature["tags"], feature["layer"])[0]
-    if is_cut or is_large(feature):
-        raise Unfit("it is so large that it has to be cut, which needs GDAL's Python module (Debian: python3-gdal), and no python3 here has it")
-    return [feature]
-
-
-def is_large(feature):
-    """Whether a shape may be larger than a tile of its last zoom."""
-    xs, ys = zip(*points_of(feature["geometry"]))
-    return max(max(xs) - min(xs), max(ys) - min(ys)) > SAFE << (20 - feature["maxzoom"])
 
 
 def seen_of(base, now):

@@ -1,0 +1,193 @@
+"""The part `ogc` of run.py: the OGC API Features of `vtmap wfs`, read by hand and by GDAL, and both of its services behind nginx."""
+import json
+import os
+import re
+import shutil
+import subprocess
+import sys
+
+from gateways import Gateway, Gis, put_at, text_of
+from pages import town
+from stand import TOP, Nginx, Server, curl, field, status_of
+
+sys.path.append(TOP)
+from vtmap.geometry.geojson import feature_of  # noqa: E402
+from vtmap.geometry.wholes import twice_area  # noqa: E402
+
+PLACES = ["Town Hall", "Church", "School", "Harbour", "Lighthouse"]
+
+
+def ogc(cases, folder):
+    """All of it."""
+    folder = os.path.join(folder, "ogc")
+    os.mkdir(folder)
+    with Server(folder, "town", sectors=16384) as server:
+        town(folder, server.url)
+        with Gateway(folder, server.url) as gateway:
+            documents(cases, gateway.url + "/ogc")
+            pages(cases, gateway.url + "/ogc/collections", server.url)
+            selections(cases, gateway.url + "/ogc/collections")
+            refusals(cases, gateway.url + "/ogc")
+            by_gdal(cases, gateway.url)
+            behind_nginx(cases, folder, server, gateway)
+
+
+def asked(url):
+    """The JSON of a reply."""
+    return json.loads(text_of(url))
+
+
+def documents(cases, url):
+    """What says what there is: each link leads to a document of its type."""
+    first = asked(url + "/")
+    cases.show("ogc: the landing page's links", [link["rel"] for link in first["links"]], ["self", "service-desc", "conformance", "data"])
+    listed = asked(url + "/collections")["collections"]
+    ids = ["building.areas", "land.areas", "park.areas", "place.points", "road.lines"]
+    cases.show("ogc: a collection for each kind of a layer", [(one["id"], one["itemType"]) for one in listed], [(name, "feature") for name in ids])
+    found = [(link["href"], link["type"], field(curl(link["href"]), "content-type")) for one in [first, *listed] for link in one["links"]]
+    cases.show("ogc: each link has the type that it says", [row for row in found if row[1] != row[2]], [])
+    west, south, east, north = listed[3]["extent"]["spatial"]["bbox"][0]
+    cases.show("ogc: the extent of the places", (7.49 < west < east < 7.52, 54.49 < south < north < 54.51), (True, True))
+    classes = [name.rpartition("/")[2] for name in asked(url + "/conformance")["conformsTo"]]
+    cases.show("ogc: what of the standard there is", classes, ["core", "oas30", "geojson"])
+    api = asked(url + "/api")
+    parameters = api["paths"]["/collections/building.areas/items"]["get"]["parameters"]
+    named = {parameter.get("name", parameter.get("$ref", "").rpartition("/")[2]) for parameter in parameters}
+    cases.show("ogc: the API names the parameters", named, {"bbox", "limit", "datetime", "after", "floors", "house", "f"})
+    missing = [path for path in api["paths"] if "{" not in path and status_of(curl(url + path)) != 200]
+    cases.show("ogc: each path of the API is there", (missing, len(api["paths"])), ([], 18))
+    cases.show("ogc: HEAD", (status_of(curl(url + "/", "--head")), curl(url + "/", "--head")[2]), (200, b""))
+
+
+def pages(cases, url, server):
+    """Pages, while somebody edits."""
+    whole = asked(f"{url}/building.areas/items")
+    cases.show("ogc: all of a collection", (whole["numberMatched"], whole["numberReturned"], len(whole["features"])), (318, 318, 318))
+    ids, place, count = [], f"{url}/building.areas/items?limit=50", 0
+    while place:
+        page = asked(place)
+        ids += [feature["id"] for feature in page["features"]]
+        curl(f"{server}/features/{ids[count]}", "-X", "DELETE")
+        count += 1
+        place = next((link["href"] for link in page["links"] if link["rel"] == "next"), None)
+    cases.show("ogc: by pages each feature once, though some are deleted", (count, ids), (7, [feature["id"] for feature in whole["features"]]))
+    place = asked(f"{url}/place.points/items/452")
+    cases.show("ogc: a feature", (place["id"], place["properties"], place["geometry"]["type"]), (452, {"name": "Church"}, "Point"))
+    put_at(server, 452, name="Old Church")
+    cases.show("ogc: is as it is now", asked(f"{url}/place.points/items/452")["properties"], {"name": "Old Church"})
+    put_at(server, 452, name="Church")
+    roads = asked(f"{url}/road.lines/items")["features"]
+    same = [feature_of(road) == json.loads(curl(f"{server}/features/{road['id']}")[2]) for road in roads]
+    cases.show("ogc: degrees lead back to each point of the map", (len(same), all(same)), (12, True))
+    rings = [ring for area in asked(f"{url}/park.areas/items")["features"] for polygon in polygons(area["geometry"]) for ring in polygon[:1]]
+    cases.show("ogc: outer rings are counterclockwise", {twice_area(ring) > 0 for ring in rings}, {True})
+    cases.show("ogc: a feature that the import has cut is one", len(asked(f"{url}/land.areas/items")["features"]), 1)
+
+
+def polygons(geometry):
+    """The polygons of a geometry."""
+    return [geometry["coordinates"]] if geometry["type"] == "Polygon" else geometry["coordinates"]
+
+
+def names(url):
+    """The names of the features of a reply."""
+    return [feature["properties"]["name"] for feature in asked(url)["features"]]
+
+
+def selections(cases, url):
+    """Boxes and properties."""
+    items = f"{url}/place.points/items"
+    for query, wanted in [
+        ("", PLACES),
+        ("?bbox=7.5,54.4,7.505,54.6", ["Town Hall", "School", "Harbour"]),
+        ("?bbox=7.5,54.4,-999,7.505,54.6,999", ["Town Hall", "School", "Harbour"]),
+        ("?bbox=170,54,7.5,55", ["Church"]),
+        ("?bbox=-180,-90,180,90", PLACES),
+        ("?bbox=8,54,9,55", []),
+        ("?name=Church", ["Church"]),
+        ("?name=Town%20Hall&bbox=8,54,9,55", []),
+        ("?datetime=2026-11-29T00:00:00Z", PLACES),
+        ("?limit=99999", PLACES),
+        ("?f=json", PLACES),
+    ]:
+        cases.show(f"ogc: places{query}", names(items + query), wanted)
+    cases.show("ogc: a number", {feature["properties"]["floors"] for feature in asked(f"{url}/building.areas/items?floors=2")["features"]}, {2})
+
+
+def refusals(cases, url):
+    """What there isn't, and what is wrong."""
+    places = "/collections/place.points"
+    missing = ["/collections/nix", "/collections/nix/items", "/nix", places + "/nix", *(f"{places}/items/{name}" for name in ("1", "x", "452/x"))]
+    queries = ["limit=0", "limit=x", "bbox=1,2,3", "bbox=1,2,3,x", "bbox=0,60,1,50", "bbox=nan,1,2,3", "nix=1", "after=-1"]
+    wrong = ["/?nix=1", "/collections?f=html", *(f"{places}/items?{query}" for query in queries)]
+    for path, status in [*((path, 404) for path in missing), *((path, 400) for path in wrong)]:
+        reply = curl(url + path)
+        found = status_of(reply), sorted(json.loads(reply[2])), field(reply, "content-type")
+        cases.show(f"ogc: {path}", found, (status, ["code", "description"], "application/json"))
+
+
+def counted(name, layer):
+    """How many features GDAL's command finds in a layer, by asking and by reading them."""
+    told = subprocess.run(["ogrinfo", "-ro", "-so", name, layer], capture_output=True, text=True, timeout=100).stdout
+    read = subprocess.run(["ogrinfo", "-ro", "-q", "-geom=NO", name, layer], capture_output=True, text=True, timeout=100).stdout
+    return [int(count) for count in re.findall("Feature Count: ([0-9]+)", told)], read.count("OGRFeature")
+
+
+def by_gdal(cases, url):
+    """GDAL reads both services."""
+    if not shutil.which("ogrinfo"):
+        cases.say("no ogrinfo: GDAL doesn't read the gateway")
+        return
+    count = len(asked(f"{url}/ogc/collections/building.areas/items")["features"])
+    for driver, path, prefix in (("WFS", "/wfs", "v:"), ("OAPIF", "/ogc", "")):
+        name = f"{driver}:{url}{path}"
+        cases.show(f"ogc: GDAL reads {driver}", [counted(name, prefix + layer) for layer in ("building.areas", "place.points")], [([count], count), ([5], 5)])
+        words = ["ogrinfo", "-ro", "-q", "-where", "name = 'Church'", name, prefix + "place.points"]
+        told = subprocess.run(words, capture_output=True, text=True, timeout=100).stdout
+        cases.show(f"ogc: GDAL selects by {driver}", (told.count("OGRFeature"), "Church" in told), (1, True))
+
+
+def behind_nginx(cases, folder, server, gateway):
+    """Both services behind nginx: for those who edit alone, under the proxy's address, with and without passwords."""
+    nginx = shutil.which("nginx", path=os.environ.get("PATH", "") + ":/usr/sbin")
+    if not nginx:
+        cases.say("no nginx: the gateway isn't tried behind it")
+        return
+    port = [("127.0.0.1:8081", f"127.0.0.1:{gateway.port}")]
+    with Nginx(nginx, folder, server, port) as front:
+        gis = Gis(front, "place.points")
+        gis.rows()
+        cases.show("nginx: the gateway names the proxy's address", gis.url.startswith(front.url + "/wfs/"), True)
+        cases.show("nginx: a save", gis.save(gis.update(451, name="By nginx")), "SUCCESS")
+        first = asked(f"{front.url}/ogc/")
+        cases.show("nginx: so does its other service", {link["href"].startswith(front.url + "/ogc/") for link in first["links"]}, {True})
+        cases.show("nginx: and its features", len(names(f"{front.url}/ogc/collections/place.points/items")), 5)
+        for path in ("/wfs?REQUEST=GetCapabilities", "/ogc/", "/ogc/collections/place.points/items"):
+            cases.show(f"nginx: {path} isn't for another address", status_of(curl(front.url + path, "--interface", "127.0.0.2")), 403)
+        packed = curl(f"{front.url}/wfs?REQUEST=GetFeature&TYPENAMES=building.areas", "-H", "Accept-Encoding: gzip")
+        cases.show("nginx: features are compressed", (status_of(packed), field(packed, "content-encoding")), (200, "gzip"))
+        body = "x" * (2 ** 20)
+        cases.show("nginx: a body of 1 MB reaches the gateway", status_of(curl(gis.url, "-H", "Content-Type: text/xml", body=body)), 200)
+    shutil.rmtree(front.folder)
+    with_passwords(cases, folder, server, gateway, nginx, port)
+
+
+def with_passwords(cases, folder, server, gateway, nginx, port):
+    """The block with passwords: who edits logs in."""
+    if not shutil.which("openssl"):
+        cases.say("no openssl: nobody logs in")
+        return
+    people = os.path.join(folder, "people")
+    with open(people, "w", encoding="utf-8") as file:
+        file.write("ann:" + subprocess.run(["openssl", "passwd", "-apr1", "secret"], capture_output=True, text=True, check=True).stdout)
+    os.chmod(people, 0o644)
+    block = [("# satisfy any;", "satisfy any;"), ("# auth_basic", "auth_basic"), ("/etc/vtserve/people", people)]
+    with Nginx(nginx, folder, server, [*port, *block]) as front:
+        away = ["--interface", "127.0.0.2"]
+        cases.show("nginx: without a password", status_of(curl(f"{front.url}/wfs?REQUEST=GetCapabilities", *away)), 401)
+        gis = Gis(front, "place.points", words=[*away, "-u", "ann:secret"])
+        gis.rows()
+        cases.show("nginx: with a name and a password", gis.save(gis.update(451, name="By Ann")), "SUCCESS")
+        _, lines = gateway.end()
+        cases.show("nginx: the gateway says who has saved", [line for line in lines if "ann" in line][0].startswith("saved: ann: 1 changed, edit "), True)
+    shutil.rmtree(front.folder)

@@ -1,0 +1,88 @@
+"""`vtmap wfs`: a gateway by which QGIS edits the live map, and others read it. Needs GDAL's Python module for shapes that are cut alone."""
+import argparse
+import signal
+import sys
+
+from ..client.client import Client
+from ..faults import NoAnswer, Stopped
+from ..files.checkout_file import KINDS
+from ..files.save_log import SaveLog
+from ..gateway.listener import listener
+from ..gateway.live_map import LiveMap
+from ..gateway.ogc_api import OgcApi
+from ..gateway.saves import Saves
+from ..gateway.sessions import Sessions
+from ..gateway.wfs import Wfs
+from ..interpreters import look_for
+
+ABOUT = {"wfs": """Lets a desktop GIS edit the map itself, by WFS, and other programs read it, by OGC API Features.
+
+    vtmap wfs --port 8081 --state wfs.state
+
+QGIS adds http://127.0.0.1:8081/wfs as a WFS connection (docs/OFFICE.md). GDAL, Leaflet, OpenLayers and geopandas read GeoJSON below
+http://127.0.0.1:8081/ogc/. It listens on 127.0.0.1 alone: on the machine of whoever edits, or beside the server behind nginx.
+
+Each layer of the map is a layer there for each kind of shapes that it has. Tags are attributes, and so are the zooms that show a feature. A feature
+that the import has cut is one feature.
+
+What QGIS saves by one Transaction is made by checked edits, all of it or nothing: if somebody else has changed a feature since QGIS got it, nothing
+is saved, and QGIS shows which feature that is. What a save needs is noted in the file of --state before it is sent, so that a save that was cut
+short is undone by the next start; the file also has what each QGIS has saved, so that a restart isn't noticed. Without it both end with the
+process.
+
+The server needs --admin. Large shapes are cut, for which GDAL's Python module is needed. It ends with 0 at SIGTERM, once a save that is under way
+is made."""}
+FORMS = {"text": "TEXT", "integer": "INTEGER", "boolean": "BOOLEAN"}
+
+
+def options(parser, _):
+    """The words of the command."""
+    parser.add_argument("--port", type=int, default=8081, help="the port of 127.0.0.1 (8081)")
+    parser.add_argument("--state", metavar="FILE", help="keep in this file what is being saved, and what each GIS has saved")
+    parser.add_argument("--layer", type=layer_of, action="append", default=[], metavar="LAYER:KIND[:TAG=FORM,..]",
+                        help="a layer that the map doesn't have yet, or further tags of one: KIND is points, lines or areas, FORM text, integer or boolean; "
+                        "may be repeated")
+    parser.add_argument("--publish", action="store_true", help="publish when the journal is full")
+
+
+def layer_of(text):
+    """The layer and the kind that a word names, and the types of tags by their names."""
+    layer, kind, *rest = text.split(":", 2)
+    kinds = {said: kind for kind, said in KINDS.items()}
+    tags = dict(part.rsplit("=", 1) for part in rest[0].split(",")) if rest else {}
+    if not layer or kind not in kinds or not set(tags.values()) <= set(FORMS):
+        raise argparse.ArgumentTypeError("LAYER:KIND[:TAG=FORM,..] is needed, as in road:lines:surface=text,lanes=integer")
+    return (layer, kinds[kind]), {tag: FORMS[form] for tag, form in tags.items()}
+
+
+def fault_of(words):
+    """What is wrong with the command line."""
+    return None if 0 < words.port < 65536 else "--port is a number from 1 to 65535"
+
+
+def work(words):
+    """Answers until it is stopped, in an interpreter that has GDAL's module if there is one."""
+    look_for("osgeo", words.line)
+    log, sessions = SaveLog(words.state), Sessions()
+    for row in log.done:
+        sessions.restore(row)
+    live = LiveMap(Client(words.url, words.publish), dict(words.layer))
+    wfs = Wfs(live, sessions, Saves(live, log))
+    server = listener(words.port, wfs, OgcApi(live, wfs.look))
+    begin(wfs)
+    signal.signal(signal.SIGTERM, lambda *_: sys.exit(0))
+    print(f"http://127.0.0.1:{words.port}/wfs", flush=True)
+    try:
+        server.serve_forever()
+    finally:
+        # A save that is under way ends first.
+        live.lock.acquire()
+    return 0
+
+
+def begin(wfs):
+    """Lists the map, and undoes what was cut short. Without a server that is done by the first request."""
+    try:
+        wfs.look()
+    except (NoAnswer, Stopped) as fault:
+        print(f"{fault}: waiting", flush=True)

@@ -1,0 +1,99 @@
+"""The file of `vtmap wfs --state`: what was to be saved before it is sent, and what a GIS has since it was. Needs no package.
+
+Each line is JSON. `{"begun": ID, "session": NAME, "groups": ..}` is on the disk before the first edit of a save is sent; then come `{"sent": ID}` for
+each edit that was made, and `{"saved": ID, ..}` or `{"undone": ID}`. A save that is only begun was cut short.
+"""
+import json
+import os
+import time
+from collections import Counter
+
+from ..client.edits import Change
+from ..ending import regular, replaced
+
+
+class SaveLog:
+    """The log at a path; None: nothing outlives the process."""
+
+    def __init__(self, path):
+        self.path, self.file, self.next = path, None, 1
+        # The saves that were cut short: their groups of changes, and how many of them were made, by their ids. The lines of those that were done.
+        self.begun, self.sent, self.done = {}, Counter(), []
+        if path:
+            self.read()
+
+    def read(self):
+        """Reads the log. A crash may have left a part of a line at its end."""
+        if os.path.exists(regular(self.path)):
+            with open(self.path, encoding="utf-8", errors="replace") as file:
+                for line in file:
+                    try:
+                        self.take(json.loads(line))
+                    except ValueError:
+                        continue
+
+    def take(self, row):
+        """Takes a line."""
+        if "begun" in row:
+            self.begun[row["begun"]] = groups_of(row["groups"])
+            self.next = max(self.next, row["begun"] + 1)
+        elif "sent" in row:
+            self.sent[row["sent"]] += 1
+        else:
+            self.begun.pop(row.get("saved", row.get("undone")), None)
+            if "saved" in row:
+                self.done.append(row)
+
+    def shorten(self, oldest):
+        """Writes the log anew, without what was saved before a time."""
+        if self.path:
+            self.done = [row for row in self.done if row["time"] >= oldest]
+            rows = [*self.done, *(begun_row(number, groups) for number, groups in self.begun.items())]
+            rows += [{"sent": number} for number in self.begun for _ in range(self.sent[number])]
+            replaced(self.path, "".join(json.dumps(row) + "\n" for row in rows))
+            self.file = open(self.path, "a", encoding="utf-8")
+
+    def begin(self, groups):
+        """Notes what is to be sent. Returns the id of the save."""
+        number, self.next = self.next, self.next + 1
+        self.begun[number] = groups
+        self.write(begun_row(number, groups), True)
+        return number
+
+    def made(self, number):
+        """Notes that the next group of a save was made."""
+        self.sent[number] += 1
+        self.write({"sent": number})
+
+    def finish(self, number, session, **told):
+        """Notes that a save was done, and what the GIS has since."""
+        del self.begun[number]
+        self.write({"saved": number, "session": session, "time": int(time.time()), **told}, True)
+
+    def undo(self, number):
+        """Notes that nothing of a save is left."""
+        del self.begun[number]
+        self.write({"undone": number}, True)
+
+    def write(self, row, is_kept=False):
+        """Appends a line. One that is kept outlives a crash of the machine."""
+        if self.file:
+            self.file.write(json.dumps(row) + "\n")
+            self.file.flush()
+            if is_kept:
+                os.fsync(self.file.fileno())
+
+
+def begun_row(number, groups):
+    """The line of a save that is begun."""
+    return {"begun": number, "groups": [[[change.number, text(change.body), change.text, text(change.was)] for change in group] for group in groups]}
+
+
+def groups_of(rows):
+    """The groups of changes of such a line."""
+    return [[Change(number, body and body.encode(), size, was and was.encode()) for number, body, size, was in group] for group in rows]
+
+
+def text(body):
+    """The JSON of a feature as a text."""
+    return None if body is None else body.decode()

@@ -1,0 +1,106 @@
+"""What a Transaction of WFS asks: its XML, read. Needs no package."""
+import re
+import xml.etree.ElementTree as tree
+from dataclasses import dataclass, field
+from xml.parsers import expat
+
+from ..files.geopackage import Unreadable
+from ..geometry.gml import geometry_of, local
+
+# Elements of a filter that names features by their ids, and the attributes that have these.
+OF_IDS = ("FeatureId", "GmlObjectId", "ResourceId")
+ID_NAMES = ("fid", "id", "rid")
+
+
+@dataclass
+class Action:
+    """What one element of a Transaction asks: `Insert`, `Update` or `Delete` of features of a type. `values` by the names of XML: a text, None or a
+    geometry."""
+
+    name: str
+    type: str
+    fids: list = field(default_factory=list)
+    values: dict = field(default_factory=dict)
+
+
+def parsed(body):
+    """The root of an XML text. One with a document type, which may have entities of its own, is refused."""
+    def refuse(*_):
+        raise Unreadable("the request has a document type")
+
+    checker = expat.ParserCreate()
+    checker.StartDoctypeDeclHandler = refuse
+    try:
+        checker.Parse(body, True)
+        return tree.fromstring(body)
+    except (expat.ExpatError, tree.ParseError, ValueError) as fault:
+        raise Unreadable(f"the request is no XML: {fault}") from fault
+
+
+def actions_of(root):
+    """The actions of a Transaction, in their order."""
+    made = []
+    for element in root:
+        name = local(element)
+        if name == "Insert":
+            made += [inserted(feature) for feature in element]
+        elif name in ("Update", "Delete"):
+            values = dict(value_named(part) for part in element if local(part) == "Property")
+            made.append(Action(name, type_in(element.get("typeName", "")), fids_of(element), values))
+        elif name in ("Native", "Replace"):
+            raise Unreadable(f"{name} isn't taken")
+    return made
+
+
+def type_in(text):
+    """The name of a type without its namespace."""
+    return text.strip().rpartition(":")[2]
+
+
+def inserted(feature):
+    """The action that adds a feature."""
+    if len(feature) == 0 or local(feature) == "FeatureCollection":
+        raise Unreadable("a feature to insert has no properties")
+    return Action("Insert", local(feature), [], {local(child): value_of(child) for child in feature})
+
+
+def value_named(element):
+    """The name and the value of a property that an Update changes."""
+    parts = {local(part): part for part in element}
+    name = next((parts[one].text or "" for one in ("Name", "ValueReference") if one in parts), "")
+    name = type_in(name.split("/")[-1])
+    if not name:
+        raise Unreadable("an Update doesn't say of which property")
+    return name, value_of(parts["Value"]) if "Value" in parts else None
+
+
+def value_of(element):
+    """The value of a property: a text, None if it has none, or a geometry."""
+    if len(element):
+        return geometry_of(element[0])
+    if any(key.rpartition("}")[2] == "nil" and value in ("true", "1") for key, value in element.attrib.items()):
+        return None
+    return element.text
+
+
+def fids_of(element):
+    """The ids of features that the filter of an action names. An edit says which features it changes: no other filter is taken."""
+    found = []
+    for part in (part for child in element if local(child) == "Filter" for part in child.iter()):
+        if local(part) not in ("Filter", "Or", *OF_IDS):
+            raise Unreadable(f"a filter with {local(part)} isn't taken: ids of features are needed")
+        found += fids_in(part)
+    if not found:
+        raise Unreadable("an action names no feature")
+    return found
+
+
+def fids_in(element):
+    """The ids of features that an element of a filter has as its attributes."""
+    return [value for key, value in element.attrib.items() if key.rpartition("}")[2] in ID_NAMES]
+
+
+def number_and_version(fid):
+    """The number of a feature and the version of it that an id names; None if it is no id of the gateway."""
+    found = re.fullmatch(r".*\.([0-9]{1,19})\.([0-9a-f]{16})(-[0-9]+)?", fid, re.DOTALL)
+    return found and (int(found[1]), found[2])

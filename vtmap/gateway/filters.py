@@ -1,0 +1,111 @@
+"""Filters of WFS and boxes, as tests of features. Needs no package."""
+import operator
+import re
+
+from ..faults import Refused
+from ..geometry.gml import SYSTEM, local
+from ..geometry.world import EARTH, WORLD
+from .actions import OF_IDS, fids_in, type_in
+from .tables import meets
+
+COMPARED = {"PropertyIsEqualTo": operator.eq, "PropertyIsNotEqualTo": operator.ne, "PropertyIsLessThan": operator.lt, "PropertyIsGreaterThan": operator.gt,
+            "PropertyIsLessThanOrEqualTo": operator.le, "PropertyIsGreaterThanOrEqualTo": operator.ge}
+NULLS, NAMES = ("PropertyIsNull", "PropertyIsNil"), ("PropertyName", "ValueReference")
+
+
+def box_of(text):
+    """The box of the parameter BBOX in the units of the map; None without one."""
+    if not text:
+        return None
+    parts = text.split(",")
+    if len(parts) > 4 and not SYSTEM.search(parts[4]):
+        raise Refused(f"BBOX in {parts[4]}: EPSG:3857 is needed")
+    return corners(numbers(parts[:4]))
+
+
+def numbers(parts):
+    """Four coordinates."""
+    try:
+        found = [float(part) for part in parts]
+    except ValueError:
+        found = []
+    if len(found) != 4 or any(part != part for part in found):
+        raise Refused(f"{','.join(parts)} is no box")
+    return found
+
+
+def corners(metres):
+    """The units of the map of a box in metres, which may reach beyond the world."""
+    west, south, east, north = (min(max(part / EARTH, -0.5), 0.5) for part in metres)
+    return (west + 0.5) * WORLD, (0.5 - north) * WORLD, (east + 0.5) * WORLD, (0.5 - south) * WORLD
+
+
+def test_of(element, table, session):
+    """What a filter asks of a feature, as a function of its view."""
+    name = local(element)
+    if name in ("Filter", "And", "Or", "Not"):
+        return joined_test(name, element, [test_of(child, table, session) for child in element])
+    if name in OF_IDS:
+        wanted = [session.held(fid)[0] for fid in fids_in(element)]
+        return lambda view: view.number in wanted
+    if name in ("BBOX", "Intersects"):
+        box = box_in(element)
+        return lambda view: meets(view.box, box)
+    named = [type_in((child.text or "").split("/")[-1]) for child in element if local(child) in NAMES]
+    test = value_test(name, element, [child.text or "" for child in element.iter() if local(child) == "Literal"])
+    if len(named) != 1 or test is None:
+        # A GIS shows no feature then, and no reason.
+        raise Refused(f"a filter with {name} isn't taken")
+    return lambda view: test(table.cell(view, named[0]))
+
+
+def joined_test(name, element, tests):
+    """A test that joins others."""
+    if not tests:
+        raise Refused(f"a filter with {name} of nothing isn't taken")
+    if name == "Not":
+        return lambda view: not tests[0](view)
+    are_ids = all(local(child) in OF_IDS for child in element)
+    some = any if name == "Or" or (name == "Filter" and are_ids) else all
+    return lambda view: some(test(view) for test in tests)
+
+
+def box_in(element):
+    """The box of an element of a filter."""
+    found = [child.text or "" for child in element.iter() if local(child) in ("lowerCorner", "upperCorner")]
+    if len(found) != 2:
+        raise Refused(f"a filter with {local(element)} has no box with two corners")
+    return corners(numbers(" ".join(found).split()))
+
+
+def value_test(name, element, literals):
+    """What a comparison asks of a value, as a function of it; None if it isn't known. A value that isn't there meets none but the null tests."""
+    if name in NULLS:
+        return lambda value: value is None
+    if name == "PropertyIsBetween" and len(literals) == 2:
+        return lambda value: value is not None and compared(operator.ge, value, literals[0]) and compared(operator.le, value, literals[1])
+    if name == "PropertyIsLike" and len(literals) == 1:
+        like = re.compile(pattern(element, literals[0]), re.DOTALL | (re.IGNORECASE if element.get("matchCase") == "false" else 0))
+        return lambda value: value is not None and bool(like.fullmatch(str(value)))
+    if name in COMPARED and len(literals) == 1:
+        return lambda value: value is not None and compared(COMPARED[name], value, literals[0])
+    return None
+
+
+def pattern(element, literal):
+    """The regular expression of a PropertyIsLike."""
+    marks = {element.get("wildCard"): ".*", element.get("singleChar"): "."}
+    escape, made, parts = element.get("escapeChar", element.get("escape")), "", iter(literal)
+    for part in parts:
+        made += re.escape(next(parts, "")) if part == escape else marks.get(part, re.escape(part))
+    return made
+
+
+def compared(how, value, literal):
+    """Whether a value and the text of another compare so: as numbers if the value is one."""
+    if isinstance(value, int):
+        try:
+            return how(value, float(literal))
+        except ValueError:
+            return how(str(value), literal)
+    return how(value, literal)

@@ -1,0 +1,147 @@
+"""The map as the gateway has it: listed once, and then followed by the server's feed of edits. Needs no package."""
+import json
+import threading
+from collections import defaultdict
+
+from ..client.client import FEED, changes_in, word
+from ..commands.checkout import needed
+from ..faults import Stopped
+from ..geometry.wholes import WHOLE, Whole, group_of, joined
+from .tables import Table, View
+
+# How often the map is listed anew where a publication has ended the list of the edits since.
+TRIES = 8
+# The most versions of features that are kept to tell what others changed.
+MOST_KNOWN = 200000
+
+
+class LiveMap:
+    """The features of the map up to the edit `edits`. `further`: types of tags by layer and kind, for tables and columns that the map doesn't have yet.
+    Whoever uses it holds `lock`."""
+
+    def __init__(self, client, further):
+        self.client, self.further, self.lock = client, further, threading.RLock()
+        self.edits = None
+        self.now, self.groups = {}, defaultdict(dict)
+        self.views, self.members = {}, defaultdict(dict)
+        self.made_tables, self.changed_tables = {}, set(further)
+        self.known = {}
+
+    # ---- following
+
+    def look(self):
+        """Takes what others have changed."""
+        for _ in range(TRIES):
+            if self.edits is not None and self.follow():
+                return
+            self.list()
+        raise Stopped(f"{self.client.address} lists no edits since its last one: it is older than that list, or publications end it too soon")
+
+    def list(self):
+        """Lists the map anew. Edits that are made meanwhile are listed by the feed again."""
+        edits = needed(self.client.status())["edits"]
+        now = dict(self.client.features())
+        self.take({**{number: None for number in self.now if number not in now}, **now})
+        self.edits = edits
+        print(f"the map has {len(now):,} features at edit {edits:,}", flush=True)
+
+    def follow(self):
+        """Takes the edits since the last one that is known. Returns whether the server lists them."""
+        while True:
+            reply = self.listed_from(self.edits + 1)
+            if reply is None:
+                return False
+            for edit in reply["edits"]:
+                self.take({number: body and json.loads(body) for number, body in changes_in(edit["changes"]).items()})
+                self.edits = edit["edit"]
+            if not reply["edits"] or self.edits >= reply["last"]:
+                return True
+
+    def listed_from(self, number):
+        """The reply with the edits from a number on; None if the server doesn't list them: a publication has ended the list, or it is another map."""
+        status, content = self.client.ask("GET", f"{FEED}/{number}")
+        if status == 200:
+            return self.client.value(content)
+        if status not in (404, 410):
+            self.client.stop_at(status, content)
+            raise Stopped(f"the edits from {number:,} on: {status} {word(content)}")
+        return None
+
+    def made(self, changes, number):
+        """Takes own changes, which are the edit of a number. What others did before it is followed later, and then these changes again."""
+        self.take({change.number: change.body and json.loads(change.body) for change in changes})
+        if self.edits is not None and number == self.edits + 1:
+            self.edits = number
+
+    # ---- features
+
+    def take(self, changes):
+        """Takes features by their ids; None for one that is gone."""
+        keys = set()
+        for number, feature in changes.items():
+            before = self.now.get(number)
+            if feature != before:
+                keys |= {group_of(one, WHOLE) or (number,) for one in (before, feature) if one is not None}
+                self.replace(number, before, feature)
+        for key in keys:
+            self.see(key)
+
+    def replace(self, number, before, feature):
+        """Replaces a feature."""
+        self.hide(number)
+        if before is not None:
+            del self.now[number]
+            if key := group_of(before, WHOLE):
+                del self.groups[key][number]
+                if not self.groups[key]:
+                    del self.groups[key]
+        if feature is not None:
+            self.now[number] = feature
+            if key := group_of(feature, WHOLE):
+                self.groups[key][number] = feature
+
+    def see(self, key):
+        """Makes the whole of a group anew, or a feature that is in none."""
+        number = key[0]
+        if len(key) > 1:
+            pieces = dict(sorted(self.groups.get(key, {}).items()))
+        else:
+            pieces = {number: self.now[number]} if number in self.now and not group_of(self.now[number], WHOLE) else {}
+        for piece in pieces:
+            self.hide(piece)
+        if len(key) > 1 and number in pieces:
+            self.show(View(joined(number, pieces, WHOLE)))
+        else:
+            for piece, feature in pieces.items():
+                self.show(View(Whole(piece, feature, {piece: feature})))
+
+    def show(self, view):
+        """Adds a view."""
+        self.views[view.number] = self.members[view.key][view.number] = view
+        self.changed_tables.add(view.key)
+
+    def hide(self, number):
+        """Removes a view, if there is one."""
+        view = self.views.pop(number, None)
+        if view is not None:
+            del self.members[view.key][number]
+            self.changed_tables.add(view.key)
+
+    def tables(self):
+        """The tables by their names."""
+        for key in self.changed_tables:
+            views = self.members[key].values()
+            if views or key in self.further:
+                self.made_tables[key] = Table(key, views, self.further.get(key, {}))
+            else:
+                self.made_tables.pop(key, None)
+        self.changed_tables.clear()
+        return {table.name: table for _, table in sorted(self.made_tables.items())}
+
+    # ---- versions
+
+    def remember(self, number, version, feature):
+        """Remembers a version that somebody has got."""
+        self.known.setdefault((number, version), feature)
+        while len(self.known) > MOST_KNOWN:
+            del self.known[next(iter(self.known))]

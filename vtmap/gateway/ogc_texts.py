@@ -1,0 +1,95 @@
+"""The documents of OGC API Features that say what there is: landing page, conformance, collections, and the description of the API. Needs no package."""
+import urllib.parse
+
+from ..geometry.world import WORLD, degrees
+
+JSON, GEOJSON, OPENAPI = "application/json", "application/geo+json", "application/vnd.oai.openapi+json;version=3.0"
+CLASSES = [f"http://www.opengis.net/spec/ogcapi-features-1/1.0/conf/{name}" for name in ("core", "oas30", "geojson")]
+CRS = "http://www.opengis.net/def/crs/OGC/1.3/CRS84"
+ABOUT = "The features of the map as they are now, to be read."
+# How many features a page has if the client doesn't say so, and at most.
+USUAL, MOST = 1000, 10000
+TYPES = {"TEXT": "string", "INTEGER": "integer", "BOOLEAN": "boolean"}
+# The parameters of items, beside the properties of a collection.
+PARAMETERS = {
+    "bbox": {"description": "West, south, east and north in degrees.", "style": "form", "explode": False,
+             "schema": {"type": "array", "minItems": 4, "maxItems": 6, "items": {"type": "number"}}},
+    "limit": {"description": "How many features a page has at most.", "style": "form", "explode": False,
+              "schema": {"type": "integer", "minimum": 1, "maximum": MOST, "default": USUAL}},
+    "datetime": {"description": "Features have no time: each of them is returned.", "style": "form", "explode": False, "schema": {"type": "string"}},
+    "after": {"description": "The id of a feature: those with greater ids are returned. `next` of a page has it.",
+              "schema": {"type": "integer", "minimum": 0}},
+}
+# Of each path.
+FORMAT = {"f": {"description": "The format: json.", "schema": {"type": "string", "enum": ["json"]}}}
+
+
+def link(rel, kind, href, title):
+    """A link of a document."""
+    return {"rel": rel, "type": kind, "href": href, "title": title}
+
+
+def landing(address):
+    """The first page."""
+    return {
+        "title": "vtserve",
+        "description": ABOUT,
+        "links": [
+            link("self", JSON, f"{address}/", "this document"),
+            link("service-desc", OPENAPI, f"{address}/api", "the API"),
+            link("conformance", JSON, f"{address}/conformance", "what of the standard there is"),
+            link("data", JSON, f"{address}/collections", "the collections"),
+        ],
+    }
+
+
+def collections(address, tables):
+    """All collections."""
+    return {"links": [link("self", JSON, f"{address}/collections", "this document")], "collections": [collection(address, table) for table in tables]}
+
+
+def place(address, table):
+    """The address of a collection."""
+    return f"{address}/collections/{urllib.parse.quote(table.name)}"
+
+
+def collection(address, table):
+    """A collection: the features of one kind of one layer."""
+    west, north, east, south = table.box or (0, 0, WORLD - 1, WORLD - 1)
+    here = place(address, table)
+    return {
+        "id": table.name,
+        "title": table.title,
+        "itemType": "feature",
+        "crs": [CRS],
+        "extent": {"spatial": {"bbox": [[*degrees((west, south)), *degrees((east, north))]], "crs": CRS}},
+        "links": [link("self", JSON, here, table.title), link("items", GEOJSON, f"{here}/items", f"the features of {table.title}")],
+    }
+
+
+def parameter(name, about):
+    """A parameter of the query."""
+    return {"name": name, "in": "query", "required": False, **about}
+
+
+def api(address, tables):
+    """The description of the API by OpenAPI 3.0."""
+    shared = {name: parameter(name, about) for name, about in {**PARAMETERS, **FORMAT}.items()}
+    named = [{"$ref": f"#/components/parameters/{name}"} for name in PARAMETERS]
+    paths = {"/": operation("landing page", JSON), "/conformance": operation("conformance", JSON), "/collections": operation("collections", JSON)}
+    for table in tables:
+        own = [parameter(tag, {"schema": {"type": TYPES[form]}}) for tag, form in table.columns.values() if tag not in shared]
+        here = f"/collections/{urllib.parse.quote(table.name)}"
+        paths[here] = operation(table.title, JSON)
+        paths[f"{here}/items"] = operation(f"features of {table.title}", GEOJSON, [*named, *own])
+        number = {"name": "featureId", "in": "path", "required": True, "schema": {"type": "string"}}
+        paths[f"{here}/items/{{featureId}}"] = operation(f"a feature of {table.title}", GEOJSON, [number])
+    return {"openapi": "3.0.3", "info": {"title": "vtserve", "description": ABOUT, "version": "1.0.0"}, "servers": [{"url": address}],
+            "paths": paths, "components": {"parameters": shared}}
+
+
+def operation(summary, kind, parameters=()):
+    """How a path is asked for."""
+    refusals = {status: {"description": text, "content": {JSON: {"schema": {"type": "object"}}}} for status, text in (("400", "refused"), ("404", "not found"))}
+    reply = {"description": summary, "content": {kind: {"schema": {"type": "object"}}}}
+    return {"get": {"summary": summary, "parameters": [*parameters, {"$ref": "#/components/parameters/f"}], "responses": {"200": reply, **refusals}}}

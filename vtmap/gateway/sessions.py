@@ -1,0 +1,130 @@
+"""Which version of each feature a GIS has. Needs no package.
+
+The id of a feature names its version (`place.points.352.9f..`), and a GIS sends it back when it saves. Only two things have to be known beside it: a
+GIS keeps the id of a feature that it has saved, though the feature has another version since; and while it is panned it gets no second version of a
+feature, since it would show both.
+"""
+import time
+from collections import defaultdict
+
+from ..faults import Refused
+from ..geometry.world import WORLD
+from .actions import number_and_version
+from .tables import is_within
+
+# Seconds without a request after which a session's boxes are dropped, and after which what it has saved is.
+IDLE, FORGOTTEN = 12 * 3600, 30 * 24 * 3600
+
+
+class Session:
+    """One layer of one GIS, which has an address of its own for its requests."""
+
+    def __init__(self):
+        self.used = time.time()
+        # What it has saved: the number and the version that an id has become; all ids of each of these, and the last one.
+        self.has, self.ids, self.fids = {}, defaultdict(set), {}
+        # Versions of conflicts that it was told (None: deleted), the ids under which it got these features since, and those that are as it was told.
+        self.told, self.given, self.seen = {}, {}, set()
+        # By the names of tables: the boxes that were asked for since the layer was loaded, and the features in them.
+        self.boxes = {}
+        # What its last Transaction was that added features, and the ids that these got.
+        self.mark, self.added = "", []
+
+    # ---- ids
+
+    def held(self, fid):
+        """The number of a feature, and the version of it that the GIS has."""
+        found = self.has.get(fid) or number_and_version(fid)
+        if not found:
+            raise Refused(f"no feature has the id {fid}")
+        return found
+
+    def fid(self, table, number, version):
+        """The id of a feature: that under which the GIS has this version already."""
+        fid = self.fids.get((number, version))
+        if fid is None:
+            fid, again = f"{table.name}.{number}.{version}", 1
+            while fid in self.has and self.has[fid] != (number, version):
+                again += 1
+                fid = f"{table.name}.{number}.{version}-{again}"
+            if again > 1:
+                self.note(fid, number, version)
+        return fid
+
+    def note(self, fid, number, version):
+        """Notes that an id stands for this version."""
+        if fid in self.has:
+            self.ids[self.has[fid]].discard(fid)
+        self.has[fid] = number, version
+        self.ids[number, version].add(fid)
+        self.fids[number, version] = fid
+
+    def saved(self, fid, table, number, before, version):
+        """What is to be noted once a feature is saved: each id under which the GIS has the version before stands for the new one."""
+        ids = sorted(self.ids[number, before]) if before else []
+        if before and f"{table.name}.{number}.{before}" not in self.has:
+            ids.append(f"{table.name}.{number}.{before}")
+        last = self.given.get(number, fid)
+        return [(one, number, version) for one in [*(one for one in [*ids, fid] if one != last), last]]
+
+    # ---- what it is given
+
+    def give(self, found):
+        """Notes that the GIS gets features of which it was told conflicts. `found`: pairs of table and view."""
+        numbers = {view.number: (table, view) for table, view in found} if self.told else {}
+        for number, version in self.told.items():
+            if number in numbers:
+                table, view = numbers[number]
+                self.given[number] = self.fid(table, number, view.version)
+                if view.version == version:
+                    self.seen.add((number, version))
+            elif version is None:
+                self.seen.add((number, version))
+
+    def pinned(self, table, box, views):
+        """The features of a box, each as the GIS has it already. A box inside of one before is asked for when the layer is loaded anew (F5): a GIS
+        that is panned asks for none of those."""
+        if box is None and table.name not in self.boxes:
+            return views
+        box = box or (0, 0, WORLD, WORLD)
+        boxes, shown = self.boxes.setdefault(table.name, ([], {}))
+        if any(is_within(box, one) for one in boxes):
+            boxes.clear()
+            shown.clear()
+        boxes.append(box)
+        for view in views:
+            if view.number not in shown or (view.number, view.version) in self.fids:
+                shown[view.number] = view
+        return [shown[view.number] for view in views]
+
+
+class Sessions:
+    """The sessions by their names."""
+
+    def __init__(self):
+        self.all, self.swept = defaultdict(Session), time.time()
+
+    def get(self, name):
+        """The session of a name, and one that nobody has without."""
+        if time.time() > self.swept + 3600:
+            self.sweep()
+        session = self.all[name] if name else Session()
+        session.used = time.time()
+        return session
+
+    def restore(self, row):
+        """Takes what was noted of a save."""
+        if row["session"]:
+            session = self.all[row["session"]]
+            for note in row["notes"]:
+                session.note(*note)
+            session.mark, session.added, session.used = row["mark"], row["added"], row["time"]
+
+    def sweep(self):
+        """Drops what hasn't been used for long."""
+        self.swept = now = time.time()
+        for name, session in list(self.all.items()):
+            if now > session.used + IDLE:
+                session.boxes.clear()
+            if now > session.used + FORGOTTEN:
+                del self.all[name]

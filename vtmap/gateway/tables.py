@@ -1,0 +1,106 @@
+"""The features of the map as a GIS sees them: a table for each kind of shapes that a layer has, with a column for each tag. Needs no package."""
+import hashlib
+from collections import Counter, defaultdict
+
+from ..client.edits import encoded
+from ..files.checkout_file import KINDS, ZOOMS, cell_of, form_of
+from ..geometry.shapes import bounds
+from .names import xml_name
+
+# Columns that aren't tags.
+SHAPE, ID = "geom", "feature_id"
+OWN = (SHAPE, ID, *ZOOMS)
+# The digits of a version. A feature of a table that has none yet is shown at these zooms.
+DIGITS, NEW_ZOOMS = 16, (0, 14)
+
+
+class View:
+    """A feature as people see it, the version that it is, and the box of its shape."""
+
+    def __init__(self, whole):
+        self.whole = whole
+        self.number, self.feature, self.layer = whole.number, whole.feature, whole.feature["layer"]
+        (self.kind,) = whole.feature["geometry"]
+        self.version = version_of(whole.pieces)
+        self.box = bounds((self.kind, whole.feature["geometry"][self.kind]))
+        # How it was written last: what that depends on, and the text.
+        self.written = None, ""
+
+    @property
+    def key(self):
+        """The table that it is in."""
+        return self.layer, self.kind
+
+
+class Table:
+    """The features of one kind of one layer. `columns`: the tag and the type of each, by its name. `further`: types of tags that a feature may get."""
+
+    def __init__(self, key, views, further):
+        self.layer, self.kind = key
+        self.name, self.title = table_name(*key), f"{self.layer} ({KINDS[self.kind]})"
+        self.views = sorted(views, key=lambda view: view.number)
+        values = defaultdict(list)
+        for view in self.views:
+            for tag, value in view.feature["tags"].items():
+                values[tag].append(value)
+        self.columns = named_columns({**further, **{tag: form_of(values[tag]) for tag in values}})
+        self.is_several = self.kind != "points" or any(len(view.feature["geometry"][self.kind]) > 1 for view in self.views)
+        zooms = Counter(tuple(view.feature[zoom] for zoom in ZOOMS) for view in self.views)
+        self.zooms = zooms.most_common(1)[0][0] if zooms else NEW_ZOOMS
+        self.box = around([view.box for view in self.views]) if self.views else None
+        self.form = self.is_several, tuple(self.columns.items())
+
+    def meeting(self, box):
+        """Its features in a box, all if that is None."""
+        return [view for view in self.views if box is None or meets(view.box, box)]
+
+    def cell(self, view, name):
+        """The value of a feature in a column: a number, a text or None."""
+        if name == ID:
+            return view.number
+        if name in ZOOMS:
+            return view.feature[name]
+        tag, form = self.columns.get(name, (None, "TEXT"))
+        value = view.feature["tags"].get(tag)
+        return value if form == "INTEGER" else text_of(value, form)
+
+
+def version_of(pieces):
+    """The version of a feature that is these features of the map, by their ids."""
+    return hashlib.sha256(encoded({str(number): feature for number, feature in pieces.items()})).hexdigest()[:DIGITS]
+
+
+def table_name(layer, kind):
+    """The name of a table. It always has the kind, so a project still finds its layer once the map's layer has a second kind."""
+    return f"{xml_name(layer)}.{KINDS[kind]}"
+
+
+def named_columns(forms):
+    """Tags and their types by names of columns. `forms`: the types by the tags."""
+    columns, taken = {}, set(OWN)
+    for tag in sorted(forms):
+        name = xml_name(tag, taken)
+        columns[name] = tag, forms[tag]
+        taken.add(name.lower())
+    return columns
+
+
+def text_of(value, form):
+    """The text that shows a tag in a column; None if there is no value."""
+    cell = cell_of(value, form)
+    return None if cell is None else ("true" if cell else "false") if isinstance(cell, bool) else str(cell)
+
+
+def around(boxes):
+    """The box around boxes of west, north, east and south."""
+    return tuple(choice(parts) for choice, parts in zip((min, min, max, max), zip(*boxes)))
+
+
+def meets(one, other):
+    """Whether two boxes meet."""
+    return one[0] <= other[2] and one[2] >= other[0] and one[1] <= other[3] and one[3] >= other[1]
+
+
+def is_within(one, other):
+    """Whether a box is inside of another."""
+    return other[0] <= one[0] and other[1] <= one[1] and one[2] <= other[2] and one[3] <= other[3]

@@ -1,0 +1,154 @@
+"""What a GIS saves by one Transaction of WFS: compared with the map of now, then made whole or not at all. Needs no package."""
+from collections import Counter
+
+from ..client.edits import checked, delete, put
+from ..commands.differences import told_change
+from ..faults import Refused
+from ..geometry.pieces import pieces_of
+from ..geometry.shapes import Unfit
+from ..geometry.wholes import PIECE
+from .saves import Taken
+from .tables import version_of
+from .wishes import Wish, changed, fault_of_piece, new_feature
+
+# How often new features get other ids because somebody else was faster.
+TRIES = 8
+ADVICE = "Load the layer anew (F5) to see them. If you save again then, your edits are put over theirs; or undo yours"
+
+
+class Conflict(Refused):
+    """Why nothing is saved: others have changed features of it."""
+
+    def __init__(self, features):
+        super().__init__(f"nothing of this was saved, since others have changed features meanwhile: {'; '.join(features)}. {ADVICE}")
+        self.features = features
+
+
+class Transaction:
+    """What a GIS saves at once. `live` is as the map is now."""
+
+    def __init__(self, live, session, actions):
+        self.live, self.session, self.tables = live, session, live.tables()
+        # What it makes of each feature, by the ids, and the versions that these had.
+        self.wishes, self.versions = {}, {}
+        self.conflicts, self.counts, self.free = [], Counter(), None
+        for action in actions:
+            self.add(action)
+        if self.conflicts:
+            raise Conflict(self.conflicts)
+
+    # ---- what is wanted
+
+    def add(self, action):
+        """Takes an action: what it changes of its features."""
+        table = self.tables.get(action.type)
+        if table is None:
+            raise Refused(f"the map has no layer {action.type}")
+        self.counts[action.name] += max(len(action.fids), 1)
+        if action.name == "Insert":
+            self.insert(action, table)
+        for fid in action.fids:
+            wish = self.wish(fid, table, action)
+            if wish is not None and action.name == "Delete":
+                wish.feature = None
+            elif wish is not None:
+                if wish.feature is None:
+                    raise Refused(f"{wish} is deleted and changed at once")
+                wish.feature = changed(wish.feature, action, table, str(wish))
+
+    def insert(self, action, table):
+        """Takes a new feature."""
+        number = self.new_id()
+        feature = changed(new_feature(table), action, table, f"a new feature of {table.layer}")
+        self.wishes[number] = Wish(table, None, number, None, feature)
+
+    def new_id(self):
+        """The next free id. Pieces of cut features have greater ones."""
+        if self.free is None:
+            self.free = max((number for number in self.live.now if number < PIECE), default=0) + 1
+        while self.free in self.live.now or self.free in self.wishes:
+            self.free += 1
+        return self.free
+
+    def wish(self, fid, table, action):
+        """The wish for a feature that the GIS has; None if others have changed it, or if it is to be deleted and is gone. If the GIS was told that, and
+        has got the feature as it is now, what is saved is put over it."""
+        number, version = self.session.held(fid)
+        if number in self.wishes:
+            return self.wishes[number]
+        view, before = self.live.views.get(number), self.live.known.get((number, version))
+        now = view and view.version
+        if view is None and action.name == "Delete":
+            return None
+        # A GIS that got no reply saves the same again.
+        is_made = before and view and action.name == "Update" and changed(before, action, table, f"{table.layer} {number}") == view.feature
+        if now != version and not is_made and not ((number, now) in self.session.seen and (view or before)):
+            self.tell(table, number, view, before)
+            return None
+        self.versions[number] = now
+        self.wishes[number] = Wish(table, fid, number, view and view.whole, view.feature if view else before)
+        return self.wishes[number]
+
+    def tell(self, table, number, view, before):
+        """Tells a conflict."""
+        now = f"now {told_change(before, view and view.feature)}" if before else "changed" if view else "deleted"
+        text = f"{table.layer} {number} ({now})"
+        if text not in self.conflicts:
+            self.conflicts.append(text)
+        self.session.told[number] = view and view.version
+
+    # ---- making it
+
+    def make(self, saves):
+        """Makes it. Returns what came of it."""
+        for _ in range(TRIES):
+            changes = self.changes()
+            new_ids = {number for wish in self.wishes.values() if wish.fid is None for number in wish.wanted}
+            try:
+                return saves.make(changes, new_ids)
+            except Taken as taken:
+                self.renumber(max(number % PIECE for number in taken.args[0]))
+        raise Refused("nothing of this was saved: others have taken the ids of new features again and again: save again")
+
+    def renumber(self, greatest):
+        """Gives new features ids above one that somebody else has just taken."""
+        self.free = max(self.free, greatest) + 1
+        for wish in [self.wishes.pop(number) for number, wish in list(self.wishes.items()) if wish.fid is None]:
+            wish.number = self.new_id()
+            self.wishes[wish.number] = wish
+
+    def changes(self):
+        """The changes that make it."""
+        return [change for wish in self.wishes.values() for change in self.changes_of(wish)]
+
+    def changes_of(self, wish):
+        """The changes that make one feature."""
+        try:
+            wish.wanted = pieces_of(wish, self.live.now)
+        except Unfit as fault:
+            raise Refused(f"{wish} can't be saved: {fault}") from fault
+        was = wish.base.pieces if wish.base else {}
+        found = [(number, feature) for number, feature in wish.wanted.items() if feature != was.get(number)]
+        for _, feature in found:
+            fault = fault_of_piece(feature)
+            if fault:
+                raise Refused(f"{wish} can't be saved: {fault}")
+        made = [checked(put(number, feature), was.get(number)) for number, feature in found]
+        return made + [checked(delete(number), feature) for number, feature in was.items() if number not in wish.wanted]
+
+    # ---- what the GIS has then
+
+    def saved(self):
+        """What is to be noted of each feature that the GIS has now: its id, the number and the version; and the ids of new features."""
+        notes, added = [], []
+        for number, wish in self.wishes.items():
+            if wish.feature is None:
+                continue
+            # The version that was saved: somebody else may have made another one since.
+            version = version_of(wish.wanted)
+            self.live.remember(number, version, wish.feature)
+            fid = wish.fid or self.session.fid(wish.table, number, version)
+            if wish.fid is None:
+                added.append(fid)
+            notes += self.session.saved(fid, wish.table, number, wish.base and self.versions[number], version)
+        return notes, added

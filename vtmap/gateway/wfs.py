@@ -1,0 +1,146 @@
+"""The requests of WFS, answered. Needs no package."""
+import hashlib
+import re
+import secrets
+
+from ..faults import Refused
+from ..geometry.gml import SYSTEM, local
+from . import wfs_texts
+from .actions import actions_of, parsed, type_in
+from .filters import box_of, test_of
+from .transaction import Conflict, Transaction
+
+# The hexadecimal digits of the name of a session.
+NAME_BYTES = 5
+CAPABILITIES, SCHEMA, FEATURES = "getcapabilities", "describefeaturetype", "getfeature"
+
+
+class Wfs:
+    """The WFS of a live map."""
+
+    def __init__(self, live, sessions, saves):
+        self.live, self.sessions, self.saves = live, sessions, saves
+
+    def look(self):
+        """Takes what others have changed, and undoes what was cut short."""
+        if self.saves.log.begun:
+            self.saves.recover()
+        self.live.look()
+
+    # ---- reading
+
+    def answer(self, name, given, address):
+        """The reply to a request with these parameters, by names in small letters. `name`: that of the session, empty for none."""
+        request = given.get("request", "").lower()
+        version = version_of(given)
+        if request not in (CAPABILITIES, SCHEMA, FEATURES):
+            raise Refused(f"no such request: {given.get('request')}")
+        with self.live.lock:
+            self.look()
+            tables = self.live.tables()
+            if request == CAPABILITIES:
+                # Two layers of a GIS have the same id with different contents, so each has an address of its own: QGIS uses this one.
+                return wfs_texts.capabilities(version, tables.values(), f"{address}/{name or secrets.token_hex(NAME_BYTES)}")
+            asked = named_tables(given, tables)
+            return wfs_texts.schema(version, asked) if request == SCHEMA else self.features(version, name, given, asked)
+
+    def features(self, version, name, given, tables):
+        """The features that a request asks for."""
+        see_system(given.get("srsname"))
+        session, is_hits = self.sessions.get(name), given.get("resulttype", "").lower() == "hits"
+        found = self.found(session, given, tables, is_hits)
+        matched, first = len(found), number_in(given, ("startindex",), 0)
+        if is_hits:
+            return wfs_texts.features(version, [], [], matched)
+        found = found[first:first + number_in(given, ("count", "maxfeatures"), matched)]
+        for _, view in found:
+            self.live.remember(view.number, view.version, view.feature)
+        session.give(found)
+        return wfs_texts.features(version, found, [session.fid(table, view.number, view.version) for table, view in found], matched)
+
+    def found(self, session, given, tables, is_hits):
+        """Pairs of table and view that a request asks for."""
+        box, fids = box_of(given.get("bbox")), given.get("featureid", given.get("resourceid"))
+        wanted = {session.held(fid)[0] for fid in fids.split(",")} if fids else None
+        asked, made = parsed(given["filter"].encode()) if given.get("filter") else None, []
+        for table in tables:
+            test = test_of(asked, table, session) if asked is not None else None
+            views = [view for view in table.meeting(box) if (wanted is None or view.number in wanted) and (test is None or test(view))]
+            is_plain = not is_hits and wanted is None and test is None
+            made += [(table, view) for view in (session.pinned(table, box, views) if is_plain else views)]
+        return made
+
+    # ---- saving
+
+    def transaction(self, name, body, person):
+        """The reply to a Transaction. `person`: who sends it, empty if that isn't known."""
+        root = parsed(body)
+        if local(root) != "Transaction":
+            raise Refused(f"a body with {local(root)} isn't taken")
+        with self.live.lock:
+            self.look()
+            session, mark = self.sessions.get(name), hashlib.sha256(body).hexdigest()
+            counts, added = {"Insert": len(session.added), "Update": 0, "Delete": 0}, session.added
+            # If the reply to it was lost, the GIS sends the same again: its new features are made once.
+            if session.mark != mark:
+                counts, added = self.save(name, session, actions_of(root), mark, person)
+            return wfs_texts.transacted(root.get("version", wfs_texts.V1.name), counts, added)
+
+    def save(self, name, session, actions, mark, person):
+        """Makes a Transaction. Returns its counts and the ids of new features."""
+        who = f"{person}: " if person else ""
+        try:
+            task = Transaction(self.live, session, actions)
+            made = task.make(self.saves)
+        except Conflict as conflict:
+            print(f"conflict: {who}{'; '.join(conflict.features)}", flush=True)
+            raise
+        notes, added = task.saved()
+        for note in notes:
+            session.note(*note)
+        session.mark, session.added = (mark, added) if added else ("", [])
+        self.saves.finish(made, name, notes=notes, mark=session.mark, added=added)
+        print(f"saved: {who}{told(task.counts)}{edits_told(made.edits)}", flush=True)
+        return task.counts, added
+
+
+def told(counts):
+    """The counts of a Transaction as a text."""
+    names = (("Insert", "new"), ("Update", "changed"), ("Delete", "deleted"))
+    return ", ".join(f"{counts[name]:,} {said}" for name, said in names if counts[name]) or "nothing"
+
+
+def edits_told(numbers):
+    """The numbers of edits as a text."""
+    if not numbers:
+        return ""
+    return f", edit {numbers[0]:,}" if len(numbers) == 1 else f", edits {numbers[0]:,} to {numbers[-1]:,}"
+
+
+def version_of(given):
+    """The version of a reply. GetCapabilities names several that the client takes."""
+    asked = given.get("version", wfs_texts.V2.name)
+    return wfs_texts.chosen(given.get("acceptversions", asked) if given.get("request", "").lower() == CAPABILITIES else asked)
+
+
+def named_tables(given, tables):
+    """The tables that a request names; all if it names none."""
+    names = [type_in(one) for one in re.split("[,()]", given.get("typenames", given.get("typename", ""))) if one.strip()]
+    wrong = [name for name in names if name not in tables]
+    if wrong:
+        raise Refused(f"the map has no layer {wrong[0]}")
+    return [tables[name] for name in names] if names else list(tables.values())
+
+
+def see_system(name):
+    """Refuses coordinates of another system than the map's."""
+    if name and not SYSTEM.search(name):
+        raise Refused(f"SRSNAME {name}: EPSG:3857 is needed")
+
+
+def number_in(given, names, usual):
+    """A number that a parameter of one of these names has."""
+    text = next((given[name] for name in names if given.get(name)), str(usual))
+    if not re.fullmatch("[0-9]{1,18}", text):
+        raise Refused(f"{text} is no number of features")
+    return int(text)
