@@ -132,8 +132,9 @@ def imports_in_batches(cases, folder):
         rows[70]["properties"]["name"] = "x" * 1025
         path = written(folder, "one_long.geojson", rows)
         status, lines = imported(path, server.url, *words, "--first", "1001")
-        said = [line.split(" (")[0] for line in lines[-2:]]
-        cases.show("batches: an import with a text that is too long", (status, said), (1, ["feature 1071 refused: E7 Value", "129 taken, 1 refused"]))
+        said = [line.split(" (")[0] for line in lines[-3:]]
+        wanted = ["feature 1071 refused: E7 Value", "its edits: 154-218", "129 taken, 1 refused"]
+        cases.show("batches: an import with a text that is too long", (status, said), (1, wanted))
         cases.show("batches: of it, 64 points are one edit, 63 one each, two one", edit_count(server), 153 + 1 + 63 + 1)
         saved = os.path.join(folder, "batched_backup.geojson")
         subprocess.run([*VTMAP, "save", saved, "--numbers", "1-150", "--url", server.url], check=True, capture_output=True)
@@ -180,7 +181,8 @@ def full_journals(cases, folder):
         full = f"stopped at feature 206: JournalFull need 1 free 0 ({FULL})"
         cases.show("batches: with --anyway", (status, lines[-2:]), (1, [full, "13 taken, 0 refused: run the same command again with --first 193"]))
         status, lines = imported(path, server.url, *words, "--publish")
-        cases.show("batches: the fourth, with --publish", (status, lines[-2:]), (0, ["        the journal is full: a publication", "64 taken, 0 refused"]))
+        wanted = ["        the journal is full: a publication", "its edits: 17 (`vtmap undo` takes them back)", "64 taken, 0 refused"]
+        cases.show("batches: the fourth, with --publish", (status, lines[-3:]), (0, wanted))
         cases.show("batches: which is one edit", edit_count(server), 3 + 13 + 1)
     path = written(folder, "wide.geojson", points(31, text="x" * 960))
     with Server(folder, "narrow_batches", 128) as server:
