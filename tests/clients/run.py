@@ -37,6 +37,7 @@ from ogc import ogc
 from operation import operation
 from page_tools import page_tools
 from pages import page
+from replicas import replicas
 from round_trips import round_trips
 from screens import screens
 from stand import BYTES, EXAMPLES, HALF, JSON, METADATA, MVT, PROGRAM, ROOT, SHOWN, SYSTEM_PYTHON, TEXT, TILE, VTMAP
@@ -44,6 +45,7 @@ from stand import Cases, Nginx, Server, curl, feature, field, parsed, refusal, s
 from standby import long_follow, standby
 from steps import steps
 from three_ways import three_ways
+from takeover import takeover
 from toolbox import toolbox
 from trail import trail
 from units import units
@@ -822,6 +824,8 @@ def main():
         "steps": steps,
         "standby": standby,
         "long-follow": long_follow,
+        "takeover": takeover,
+        "replicas": replicas,
         "trail": trail,
         "disk-full": disk_full,
         "kills": kills,

@@ -1,0 +1,98 @@
+"""The part `takeover` of run.py: a machine dies in the middle of edits, its disk with it, and the standby takes its place. The edits that were
+acknowledged are compared with the standby's one by one."""
+import json
+import os
+import shutil
+import signal
+import subprocess
+import time
+
+from standby import Editor, copied, features, follow, known, once, waited
+from stand import VTMAP, Server, curl
+
+# The edits before the machine dies, and the seconds between two of them.
+BEFORE, BETWEEN = 150, 0.02
+
+
+def listed(server):
+    """The edits that a server lists, by their numbers: what they put, None for what they delete."""
+    found, number = {}, 1
+    while True:
+        reply = json.loads(curl(f"{server.url}/admin/edits/from/{number}")[2])
+        for edit in reply["edits"]:
+            found[edit["edit"]] = {change.get("put", change.get("delete")): change.get("feature") for change in edit["changes"]}
+        number = len(found) + 1
+        if number > reply["last"]:
+            return found
+
+
+class Small(Editor):
+    """An editor of small changes, as people make them."""
+
+    def changes(self):
+        """The changes of some edit: one."""
+        number = self.random.randrange(1, 400)
+        return [{"delete": number}] if number in self.there and self.random.random() < 0.3 else [{"put": number, "feature": self.feature()}]
+
+
+def dies(cases, folder, every):
+    """One death. Returns the old machine's disk, the standby, and the editor."""
+    leader = Server(folder, f"leader {every}", 65536)
+    standby = Server(folder, copied(leader, folder, f"standby {every}"))
+    follower = follow(leader.url, "--to", standby.url, "--every", str(every))
+    follower.stdout.readline()
+    editor, times = Small(leader.port, 5), {}
+    for number in range(1, BEFORE + 1):
+        editor.edit()
+        times[number] = time.monotonic()
+        time.sleep(BETWEEN)
+    leader.end(signal.SIGKILL)
+    died = time.monotonic()
+    leader.__exit__()
+    os.rename(leader.disk, leader.disk + ".gone")
+    said = follower.stdout.readline()
+    follower.terminate()
+    follower.communicate()
+    has = listed(standby)
+    same = has == {number: editor.acknowledged[number] for number in range(1, len(has) + 1)}
+    cases.show(f"takeover: the first edits are at the standby, one by one, --every {every}", (same, said.endswith(": waiting\n")), (True, True))
+    late = [died - times[number] for number in times if number > len(has)]
+    cases.show("takeover: and what it lacks is younger than a second and what it waits", max(late, default=0) < every + 1 or late, True)
+    cases.say(f"takeover: {BEFORE} edits acknowledged, {len(late)} of them lost with the machine, the oldest {max(late, default=0):.2f} s before; --every {every}")
+    return leader, standby
+
+
+def takes_over(cases, folder, old, standby):
+    """The standby is edited and published. The old machine comes back: with its old disk it is refused, with a copy it is the standby."""
+    edits = known(standby)["edits"]
+    editor = Small(standby.port, 9)
+    editor.acknowledged = dict.fromkeys(range(1, edits + 1))
+    for _ in range(20):
+        editor.edit()
+    cases.show("takeover: edits go on at the standby", known(standby)["edits"], edits + 20)
+    told = subprocess.run([*VTMAP, "publish", "--url", standby.url], capture_output=True, text=True)
+    cases.show("takeover: and publications", (told.returncode, told.stdout.splitlines()[-1]), (0, "published"))
+    os.rename(old.disk + ".gone", old.disk)
+    with Server(folder, os.path.basename(old.disk)) as back:
+        code, lines = once(standby.url, "--to", back.url)
+        cases.show("takeover: the old disk is no standby any more", (code, "no longer lists edit" in lines[-1] or "somebody else" in lines[-1]), (1, True))
+    with Server(folder, copied(standby, folder, "again")) as again:
+        follower = follow(standby.url, "--to", again.url)
+        for _ in range(20):
+            editor.edit()
+        has_all = waited(lambda: known(again)["edits"] == edits + 40)
+        cases.show("takeover: a copy is", (has_all, features(again) == features(standby)), (True, True))
+        follower.terminate()
+        follower.communicate()
+
+
+def takeover(cases, folder):
+    """Machines that die."""
+    place = os.path.join(folder, "takeover_part")
+    os.mkdir(place)
+    for every in (0.1, 0.5, 2):
+        old, standby = dies(cases, place, every)
+        if every == 0.5:
+            takes_over(cases, place, old, standby)
+        standby.__exit__()
+    shutil.rmtree(place)
