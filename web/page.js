@@ -83,8 +83,9 @@ async function find(text) {
 
 /** Shows the map with an edit. */
 async function showEdit(edit) {
+    const changes = isBegun && !refused && edit > view.edit ? await server.changesAfter(view.edit, edit) : null;
     layers = await server.layers(Math.max(edit, view.edit));
-    view.showEdit(edit);
+    view.showEdit(edit, changes);
     view.maxzoom = Math.max(0, ...layers.map(layer => layer.maxzoom));
     style.know(layers.map(({ id }) => id)) && view.restyle();
     const toggle = (id, isShown) => {

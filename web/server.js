@@ -6,6 +6,8 @@ const MAY_NOT = [401, 403, 404];
 const MAX_BODY = 65536;
 // Seconds without a reply after which none is awaited any more: nginx answers within 75.
 const PATIENCE = 80;
+// Lists of edits that are asked for before all tiles are asked for instead.
+const MAX_LISTS = 4;
 
 /** The length of a text as UTF-8. */
 export const bytesOf = text => new TextEncoder().encode(text).length;
@@ -56,7 +58,7 @@ export class Server {
     async ask(path, words) {
         try {
             const reply = await fetch(new URL(path, this.base), { cache: "no-store", signal: AbortSignal.timeout(PATIENCE * 1000), ...words });
-            return { status: reply.status, content: await reply.arrayBuffer() };
+            return { status: reply.status, tag: reply.headers.get("ETag"), content: await reply.arrayBuffer() };
         } catch (fault) {
             throw words?.signal?.aborted ? fault : new Error("the server doesn't answer");
         }
@@ -71,13 +73,28 @@ export class Server {
         return status === 200 ? parse(word) : null;
     }
 
-    /** The bytes of a tile of the map with this edit. */
-    async tile(name, edit, signal) {
-        const { status, content } = await this.ask(`map/${name}.mvt?edit=${edit}`, { signal, cache: "default" });
-        if (status !== 200 && status !== 204) {
+    /** A tile of the map with this edit: its bytes and its tag. Without bytes it is the one that had the tag `known`. */
+    async tile(name, edit, known, signal) {
+        const headers = known ? { "If-None-Match": known } : {};
+        const { status, tag, content } = await this.ask(`map/${name}.mvt?edit=${edit}`, { signal, headers, cache: "default" });
+        if (status !== 200 && status !== 204 && status !== 304) {
             throw refusal(status, new TextDecoder().decode(content));
         }
-        return new Uint8Array(content);
+        return { tag, bytes: status === 304 ? null : new Uint8Array(content) };
+    }
+
+    /** The changes of the edits after one, up to another; null if the server doesn't list them, or they are many. */
+    async changesAfter(edit, last) {
+        const found = [];
+        for (let at = edit + 1, asked = 0; at <= last; asked++) {
+            const reply = asked < MAX_LISTS ? await this.value(`admin/edits/from/${at}`).catch(() => null) : null;
+            if (!reply?.edits.length) {
+                return null;
+            }
+            found.push(...reply.edits.flatMap(one => one.changes));
+            at = reply.edits.at(-1).edit + 1;
+        }
+        return found;
     }
 
     /**

@@ -1,6 +1,7 @@
 // The view of the map: where it is, the tiles that it shows, and what mouse and wheel do to it.
 import { Backdrop } from "./backdrop.js";
 import { EXTENT, drawNames, drawTile, markTile, prepare } from "./draw.js";
+import { pointsOf } from "./shape.js";
 import { decode } from "./tile.js";
 import { WORLD, bounds, fromDegrees, toDegrees } from "./world.js";
 
@@ -8,13 +9,26 @@ import { WORLD, bounds, fromDegrees, toDegrees } from "./world.js";
 const SIDE = 512, MAX_ZOOM = 21, MAX_TILES = 300, MAX_UP = 5;
 // Seconds after which no cache has a tile from before an edit: ten in that of nginx, and no more in the browser's.
 const CACHED = 12;
+// The part of a tile's side by which the box of a feature is taken larger: a tile has what reaches into it.
+const MARGIN = 1 / 16;
 const clamped = (value, least, greatest) => Math.min(Math.max(value, least), greatest);
+
+/** Whether changes may have changed a tile: they are of features that it has, or that lie in it now. */
+function isTouched(name, { layers }, changes) {
+    const [z, column, row] = name.split("/").map(Number), side = WORLD / 2 ** z, ids = new Set(changes.map(change => change.put ?? change.delete));
+    const meets = ({ geometry, minzoom, maxzoom }) => {
+        const [west, north, east, south] = bounds(pointsOf(geometry)).map((at, axis) => at / side - [column, row][axis % 2]);
+        return minzoom <= z && z <= maxzoom && west <= 1 + MARGIN && east >= -MARGIN && north <= 1 + MARGIN && south >= -MARGIN;
+    };
+    return layers.some(({ features }) => features.some(({ id }) => ids.has(id))) || changes.some(({ feature }) => feature && meets(feature));
+}
 
 export class View {
     /** `hooks`: what a click does (`select`), what a drag moves (`grab`), what is drawn above (`over`), and what reports a fault (`failed`). */
     constructor(canvas, server, style, hooks) {
         Object.assign(this, { canvas, server, style, hooks, context: canvas.getContext("2d"), centre: [WORLD / 2, WORLD / 2], zoom: 1 });
-        // The tiles by their names: the `edit` of which each is, its `layers`, what is `drawn` of them, and the request that `loads` it.
+        // The tiles by their names: the `edit` of which each is, its `tag`, its `layers`, what is `drawn` of them, when it was `asked` for, and the
+        // request that `loads` it.
         Object.assign(this, { tiles: new Map(), edit: 0, maxzoom: 0, isSelected: () => false });
         this.backdrop = style.backdrop && new Backdrop(style.backdrop, () => this.redraw());
         this.toScreen = point => point.map((part, axis) => (part - this.centre[axis]) * this.scale + this.middle[axis]);
@@ -65,14 +79,19 @@ export class View {
     }
 
     /**
-     * Shows the map with an edit. Tiles from before it are asked for again, and shown until then. The cache of nginx knows no edits of those
-     * who edit from elsewhere by a password, so once its time is over they are asked for once more.
+     * Shows the map with an edit. If the `changes` since the last one are known, only tiles that they may have changed are asked for again, and
+     * otherwise all; what there is of them is shown until then. The cache of nginx knows no edits of those who edit from elsewhere by a
+     * password, so once its time is over, tiles that came since then are asked for once more.
      */
-    showEdit(edit) {
-        this.edit = Math.max(this.edit, edit);
+    showEdit(edit, changes) {
+        const now = Math.max(this.edit, edit), isCurrent = (name, tile) => tile.layers && tile.edit === this.edit && !isTouched(name, tile, changes);
+        changes && this.tiles.forEach((tile, name) => isCurrent(name, tile) && (tile.edit = now));
+        this.edit = now;
+        this.shown ??= performance.now();
         clearTimeout(this.again);
         this.again = setTimeout(() => {
-            this.tiles.forEach(tile => tile.edit = -1);
+            this.tiles.forEach(tile => tile.asked >= this.shown && (tile.edit = -1));
+            this.shown = null;
             this.redraw();
         }, CACHED * 1000);
         this.redraw();
@@ -169,10 +188,11 @@ export class View {
     }
 
     async fetch(name, tile, edit) {
-        tile.loads = new AbortController();
+        Object.assign(tile, { loads: new AbortController(), asked: performance.now() });
         const { signal } = tile.loads;
         try {
-            Object.assign(tile, { layers: decode(await this.server.tile(name, edit, signal)), edit, drawn: null });
+            const { tag, bytes } = await this.server.tile(name, edit, tile.tag, signal);
+            Object.assign(tile, { edit, ...(bytes ? { layers: decode(bytes), tag, drawn: null } : {}) });
         } catch (fault) {
             signal.aborted || this.hooks.failed(fault);
             await new Promise(resolve => setTimeout(resolve, signal.aborted ? 0 : 3000));

@@ -92,6 +92,8 @@ class Tools(People):
         self.snaps()
         self.moves_along()
         self.long_texts()
+        self.changed_tiles()
+        self.unchanged_tiles(nginx)
         self.backdrop(nginx)
         told = [fault for fault in self.one.faults() if not fault.startswith("Failed to load resource")]
         self.show("the browser complains of nothing", told, [])
@@ -291,6 +293,58 @@ class Tools(People):
         self.one.ask("Emulation.setDeviceMetricsOverride", width=WIDE, height=HIGH, deviceScaleFactor=1, mobile=False)
         curl(f"{self.server.url}/features/77", "-X", "DELETE")
 
+    def tiles_asked(self, since):
+        """The tiles that the page has asked for since a time of its own, each once, in order."""
+        names = self.one.value(f"""[...new Set(performance.getEntriesByType("resource").filter(({{name, startTime}}) => startTime > {since})
+            .map(({{name}}) => name.match(/map\\/(\\d+\\/\\d+\\/\\d+)\\.mvt/)?.[1]).filter(Boolean))]""")
+        return sorted(names)
+
+    def changed_tiles(self):
+        """After an edit the page asks only for tiles that it may have changed."""
+        self.one = self.opened(OPENED)
+        here = [[int(part) * 2 ** 17 // 2 ** 32 for part in place] for place in ((X + SIDE // 2, Y - SIDE // 2), (X - 3 * SIDE, Y - SIDE // 2))]
+        names = [f"17/{column}/{row}" for column, row in here]
+        shown = self.tiles_asked(0)
+        self.show("several tiles are in view", (len([name for name in shown if name.startswith("17/")]) >= 4, set(names) <= set(shown)), (True, True))
+        # All tiles are asked for twice at first: those of a cache may be from before the last edit.
+        time.sleep(14)
+        since = self.one.value("performance.now()")
+        self.form(12, "valve")
+        self.write(self.one, "name", "Old valve")
+        self.edited()
+        time.sleep(14)
+        self.show("after an edit only the tile that has it is asked for, and once more when the cache is over", self.tiles_asked(since), names[:1])
+        since = self.one.value("performance.now()")
+        point = self.get(12)
+        body = json.dumps({**point, "geometry": {"points": [[X - 3 * SIDE, Y - SIDE // 2]]}})
+        curl(f"{self.server.url}/features/12", "-X", "PUT", body=body)
+        self.one.wait(f"document.getElementById('told').textContent.endsWith('edit {self.edits_and_features()[0]}')", 10)
+        self.drawn(self.one)
+        self.show("of what somebody else moves, the tiles before and after", self.tiles_asked(since), sorted(names))
+        self.show("which show it", self.find("valve"), "valve 12")
+        since = self.one.value("performance.now()")
+        curl(f"{self.server.url}/features/12", "-X", "PUT", body=json.dumps(point))
+        curl(f"{self.server.url}/publish", "-X", "POST")
+        self.one.wait(f"document.getElementById('told').textContent.endsWith('edit {self.edits_and_features()[0]}')", 10)
+        self.drawn(self.one)
+        self.show("after a publication the edits before it are no longer listed, and all are asked for", len(self.tiles_asked(since)) >= 4, True)
+
+    def unchanged_tiles(self, nginx):
+        """Who may not edit asks for all tiles each half minute; those that are as they were aren't sent again."""
+        folder = os.path.join(self.folder, "viewer")
+        os.mkdir(folder)
+        with Nginx(nginx, folder, self.server, [("allow 127.0.0.1;", "")]) as front:
+            shutil.copytree(PAGE, os.path.join(front.folder, "pages"))
+            made = self.browser.open(f"{front.url}/pages/{OPENED}")
+            made.wait("document.getElementById('told').textContent")
+            self.drawn(made)
+            time.sleep(32)
+            with open(os.path.join(front.folder, "access.log"), encoding="utf-8") as file:
+                rows = re.findall(r'"GET /map/17/\S+ HTTP/1.1" (\d+) (\d+)', file.read())
+            again = [status for status, _ in rows if status == "304"]
+            sent = [status for status, _ in rows if status == "200"]
+            self.show("who may not edit is sent no tile twice that is as it was", (len(again) >= 4 or rows, len(sent) <= 3 or rows), (True, True))
+
     def shot(self, made, x, y):
         """The colour of a pixel of the screen: a page mayn't read a map with images of others."""
         path = os.path.join(self.folder, "shot.png")
@@ -357,7 +411,7 @@ def page_tools(cases, folder):
         return
     folder = os.path.join(folder, "page-tools")
     os.mkdir(folder)
-    with Server(folder, "parcels", sectors=16384, more=["--admin"]) as server, Nginx(nginx, folder, server) as front:
+    with Server(folder, "parcels", sectors=16384, more=["--admin", "--etags"]) as server, Nginx(nginx, folder, server) as front:
         shutil.copytree(PAGE, os.path.join(front.folder, "pages"))
         for number, (layer, geometry, tags) in FEATURES.items():
             reply = curl(f"{server.url}/features/{number}", "-X", "PUT", body=feature(layer, 14, 18, geometry, tags))
