@@ -72,12 +72,12 @@ async function find(text) {
     if (editor.draft) {
         throw new Error("save or cancel what you edit first");
     }
-    const found = await search(server, view, text), more = found.length - MAX_FOUND;
+    const found = await search(refused ? null : server, view, text), more = found.length - MAX_FOUND;
     if (found.length > 1) {
         const rows = found.slice(0, MAX_FOUND).map(feature => Object.assign(button(titleOf(feature, text), () => goTo(feature)), { className: "found" }));
         open(`${found.length} found`, ...rows, ...(more > 0 ? [element("p", { className: "hint" }, `and ${more} more`)] : []));
     } else {
-        found.length ? goTo(found[0]) : tell(`nothing in view has "${text}"` + (/^\d+$/.test(text) ? ", and no feature has this id" : ""), true);
+        found.length ? goTo(found[0]) : tell(`nothing in view has "${text}"` + (!refused && /^\d+$/.test(text) ? ", and no feature has this id" : ""), true);
     }
 }
 

@@ -12,14 +12,17 @@ export function titleOf({ layer, id, tags }, text) {
     return `${plain(layer)} ${id}` + (value ?? own.name ? `: ${value ?? own.name}` : "");
 }
 
-/** The feature of an id that a text says, from the server, or null. Who may not edit is told of what is in view only. */
+/** The feature of an id that a text says, from the server, or null. */
 async function byId(server, text) {
-    const feature = /^\d{1,20}$/.test(text) ? await server.feature(text).catch(() => null) : null;
+    const feature = server && /^\d{1,20}$/.test(text) ? await server.feature(text).catch(() => null) : null;
     const own = Number.isSafeInteger(Number(text)) ? Number(text) : feature && BigInt(text);
     return feature && { ...feature, id: feature.tags.whole ?? own, own, box: bounds(pointsOf(feature.geometry)) };
 }
 
-/** The features that a text says, as tiles have them, each with its `box`; the one of an id also with its zooms. */
+/**
+ * The features that a text says, as tiles have them, each with its `box`; the one of an id also with its zooms. Who may not edit has no
+ * `server` to ask: the browser would want a password.
+ */
 export async function search(server, view, text) {
     const exact = await byId(server, text);
     const inView = view.features().filter(({ id, tags }) => {

@@ -338,6 +338,9 @@ class Tools(People):
             made = self.browser.open(f"{front.url}/pages/{OPENED}")
             made.wait("document.getElementById('told').textContent")
             self.drawn(made)
+            self.show("who may not edit finds what is in view", [self.find(text, made) for text in ("1", "21")], ["parcel 1", 'nothing in view has "21"'])
+            asked = made.value("performance.getEntriesByType('resource').filter(({name}) => name.includes('/features/')).length")
+            self.show("and isn't asked for a password", asked, 0)
             time.sleep(32)
             with open(os.path.join(front.folder, "access.log"), encoding="utf-8") as file:
                 rows = re.findall(r'"GET /map/17/\S+ HTTP/1.1" (\d+) (\d+)', file.read())
