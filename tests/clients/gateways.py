@@ -18,11 +18,11 @@ GML = 'xmlns="http://www.opengis.net/wfs" xmlns:ogc="http://www.opengis.net/ogc"
 class Gateway:
     """A process of `vtmap wfs` for the server at a URL."""
 
-    def __init__(self, folder, url, *more, port=None):
+    def __init__(self, folder, url, *more, port=None, under=()):
         self.port, self.path = port or free_port(), os.path.join(folder, "gateway.log")
         self.url = f"http://127.0.0.1:{self.port}"
         self.log = open(self.path, "ab")
-        words = [*VTMAP, "wfs", "--port", str(self.port), "--url", url, *more]
+        words = [*under, *VTMAP, "wfs", "--port", str(self.port), "--url", url, *more]
         self.child = subprocess.Popen(words, stdout=subprocess.PIPE, stderr=self.log, text=True)
         self.told = []
         while line := self.child.stdout.readline():
@@ -112,6 +112,13 @@ class Gis:
         told = text_of(self.url, *self.words, body=body)
         fault = re.search("<ows:ExceptionText>(.*?)</ows:ExceptionText>", told, re.DOTALL)
         return fault[1] if fault else " ".join([*re.findall("SUCCESS", told), *re.findall('fid="([^"]*)"', told)]) or told
+
+
+def triangle(x, y, side):
+    """A triangle in GML 2, of which a corner and a side are given in metres."""
+    ring = " ".join(f"{east},{north}" for east, north in ((x, y), (x + side, y), (x + side, y + side), (x, y)))
+    shape = f"<gml:outerBoundaryIs><gml:LinearRing><gml:coordinates>{ring}</gml:coordinates></gml:LinearRing></gml:outerBoundaryIs>"
+    return f'<gml:Polygon srsName="EPSG:3857">{shape}</gml:Polygon>'
 
 
 def point(x, y):

@@ -5,15 +5,18 @@ import re
 import shutil
 import subprocess
 import sys
+import time
 
+from browser import Browser
 from gateways import Gateway, Gis, put_at, text_of
 from pages import town
-from stand import TOP, Nginx, Server, curl, field, status_of
+from stand import TOP, VTMAP, Nginx, Server, curl, field, status_of
 
 sys.path.append(TOP)
 from vtmap.geometry.geojson import feature_of  # noqa: E402
 from vtmap.geometry.wholes import twice_area  # noqa: E402
 
+LEAFLET = "/usr/share/javascript/leaflet"
 PLACES = ["Town Hall", "Church", "School", "Harbour", "Lighthouse"]
 
 
@@ -23,12 +26,14 @@ def ogc(cases, folder):
     os.mkdir(folder)
     with Server(folder, "town", sectors=16384) as server:
         town(folder, server.url)
-        with Gateway(folder, server.url) as gateway:
+        trail = os.path.join(folder, "gateway.edits.log")
+        with Gateway(folder, server.url, "--log", trail) as gateway:
             documents(cases, gateway.url + "/ogc")
             pages(cases, gateway.url + "/ogc/collections", server.url)
             selections(cases, gateway.url + "/ogc/collections")
             refusals(cases, gateway.url + "/ogc")
             by_gdal(cases, gateway.url)
+            by_leaflet(cases, folder, server, gateway)
             behind_nginx(cases, folder, server, gateway)
 
 
@@ -147,13 +152,43 @@ def by_gdal(cases, url):
         cases.show(f"ogc: GDAL selects by {driver}", (told.count("OGRFeature"), "Church" in told), (1, True))
 
 
+def by_leaflet(cases, folder, server, gateway):
+    """The page with Leaflet, behind nginx, in Chromium. Its picture is kept in the folder that PICTURES names, if it does."""
+    nginx = shutil.which("nginx", path=os.environ.get("PATH", "") + ":/usr/sbin")
+    if not (nginx and shutil.which("chromium") and os.path.exists(LEAFLET)):
+        cases.say("no nginx, no Chromium or no libjs-leaflet: Leaflet doesn't draw the features")
+        return
+    port = [("127.0.0.1:8090", f"127.0.0.1:{gateway.port}")]
+    with Nginx(nginx, folder, server, port) as front, Browser(os.path.join(folder, "profile"), 760, 480) as browser:
+        pages = os.path.join(front.folder, "pages")
+        shutil.copytree(os.path.join(TOP, "web"), pages)
+        for name in ("leaflet.js", "leaflet.css"):
+            shutil.copy(os.path.join(LEAFLET, name), pages)
+        shutil.copytree(os.path.join(LEAFLET, "images"), os.path.join(pages, "images"))
+        page = browser.open(f"{front.url}/pages/features.html")
+        names = "[...document.querySelectorAll('.leaflet-control-layers-overlays label')].map(label => label.innerText.trim())"
+        wanted = ["land (areas)", "park (areas)", "road (lines)", "building (areas)", "place (points)"]
+        page.wait("document.querySelectorAll('.leaflet-control-layers-overlays label').length === 5 && document.querySelector('canvas')")
+        cases.show("ogc: Leaflet has each collection", page.value(names), wanted)
+        page.wait("document.querySelector('canvas').getContext('2d').getImageData(380, 240, 1, 1).data[3] > 0")
+        time.sleep(1)
+        page.click(380, 250)
+        told = page.wait("document.querySelector('.leaflet-popup pre')?.innerText") or ""
+        cases.show("ogc: a click shows a feature", told.split(" ")[0] in ("land", "park", "road", "building", "place"), True)
+        cases.show("ogc: and neither the page nor the browser complains", page.faults(), [])
+        if os.environ.get("PICTURES"):
+            time.sleep(1)
+            page.picture(os.path.join(os.environ["PICTURES"], "features-leaflet.png"))
+    shutil.rmtree(front.folder)
+
+
 def behind_nginx(cases, folder, server, gateway):
     """Both services behind nginx: for those who edit alone, under the proxy's address, with and without passwords."""
     nginx = shutil.which("nginx", path=os.environ.get("PATH", "") + ":/usr/sbin")
     if not nginx:
         cases.say("no nginx: the gateway isn't tried behind it")
         return
-    port = [("127.0.0.1:8081", f"127.0.0.1:{gateway.port}")]
+    port = [("127.0.0.1:8090", f"127.0.0.1:{gateway.port}")]
     with Nginx(nginx, folder, server, port) as front:
         gis = Gis(front, "place.points")
         gis.rows()
@@ -187,7 +222,14 @@ def with_passwords(cases, folder, server, gateway, nginx, port):
         cases.show("nginx: without a password", status_of(curl(f"{front.url}/wfs?REQUEST=GetCapabilities", *away)), 401)
         gis = Gis(front, "place.points", words=[*away, "-u", "ann:secret"])
         gis.rows()
+        log, trail = os.path.join(folder, "edits.jsonl"), os.path.join(folder, "gateway.edits.log")
+        follows = [*VTMAP, "follow", "--log", log, "--once", "--url", server.url]
+        subprocess.run(follows, check=True, capture_output=True)
         cases.show("nginx: with a name and a password", gis.save(gis.update(451, name="By Ann")), "SUCCESS")
+        subprocess.run(follows, check=True, capture_output=True)
+        told = subprocess.run([*VTMAP, "log", log, "--nginx", trail, "--person", "ann"], capture_output=True, text=True).stdout.splitlines()
+        cases.show("nginx: vtmap log says who has saved", [line.partition("  ann  ")[2] for line in told],
+                   ["changed place 451 ('By Ann'): name: 'By nginx' -> 'By Ann'"])
         _, lines = gateway.end()
-        cases.show("nginx: the gateway says who has saved", [line for line in lines if "ann" in line][0].startswith("saved: ann: 1 changed, edit "), True)
+        cases.show("nginx: and so does the gateway", [line for line in lines if "ann" in line][0].startswith("saved: ann: 1 changed, edit "), True)
     shutil.rmtree(front.folder)

@@ -28,6 +28,7 @@ def wfs_deaths(cases, folder):
         changed_since(cases, folder, server, was)
         ended(cases, folder, server)
         restarted(cases, folder, server)
+        unwritable(cases, folder, server)
     server_killed(cases, folder)
 
 
@@ -59,17 +60,19 @@ class Disturbed(Between):
         return None
 
 
-def saving(gis, actions):
-    """Saves in a thread, since no reply may come."""
-    def work():
+class Saving(threading.Thread):
+    """Saves beside, since no reply may come. `told` is what comes."""
+
+    def __init__(self, gis, actions):
+        super().__init__()
+        self.gis, self.actions, self.told = gis, actions, ""
+        self.start()
+
+    def run(self):
         try:
-            gis.save(*actions)
+            self.told = self.gis.save(*self.actions)
         except OSError:
             pass
-
-    thread = threading.Thread(target=work)
-    thread.start()
-    return thread
 
 
 def cut_short(folder, server, at, is_made, value):
@@ -78,7 +81,7 @@ def cut_short(folder, server, at, is_made, value):
     with Disturbed(server, at, lambda: gateway.child.kill(), is_made) as between, Gateway(folder, between.url, "--state", state) as gateway:
         gis = Gis(gateway, "building.areas")
         gis.rows()
-        thread = saving(gis, [gis.update(number, floors=value) for number in IDS])
+        thread = Saving(gis, [gis.update(number, floors=value) for number in IDS])
         gateway.child.wait(60)
         thread.join()
         time.sleep(0.5)
@@ -118,11 +121,11 @@ def ended(cases, folder, server):
     with Disturbed(server, 2, lambda: gateway.child.send_signal(signal.SIGTERM), True) as between, Gateway(folder, between.url) as gateway:
         gis = Gis(gateway, "building.areas")
         gis.rows()
-        thread = saving(gis, [gis.update(number, floors=93) for number in IDS])
+        thread = Saving(gis, [gis.update(number, floors=93) for number in IDS])
         status = gateway.child.wait(60)
         thread.join()
         floors = {feature["tags"]["floors"] for feature in buildings(server.url).values()}
-        cases.show("wfs: SIGTERM in the middle of a save: it is made whole", (status, floors), (0, {93}))
+        cases.show("wfs: SIGTERM in the middle of a save: it is made whole, and told", (status, floors, thread.told), (0, {93}, "SUCCESS"))
 
 
 def restarted(cases, folder, server):
@@ -142,6 +145,27 @@ def restarted(cases, folder, server):
             cases.show("wfs: and after F5", again, "SUCCESS")
 
 
+def unwritable(cases, folder, server):
+    """A file of --state that can't grow any more."""
+    most = 20000
+    under = ["prlimit", f"--fsize={most}"]
+    with Gateway(folder, server.url, "--state", os.path.join(folder, "small"), under=under) as gateway:
+        gis = Gis(gateway, "building.areas")
+        gis.rows()
+        for floors in range(100):
+            was = buildings(server.url)
+            told = gis.save(*(gis.update(number, floors=floors) for number in list(IDS)[:5]))
+            if told != "SUCCESS":
+                break
+        cases.show("wfs: a save that can't be noted isn't made", ("can't be written: File too large" in told, differing(server.url, was)), (True, []))
+        cases.show("wfs: and the map is read", len(gis.anew()), 318)
+    with Gateway(folder, server.url, "--state", os.path.join(folder, "small")) as gateway:
+        cases.show("wfs: after a restart with more room all is as it was told", differing(server.url, was), [])
+        gis = Gis(gateway, "building.areas")
+        gis.rows()
+        cases.show("wfs: and it is saved", gis.save(gis.update(133, floors=3)), "SUCCESS")
+
+
 def server_killed(cases, folder):
     """The server is killed in the middle of a save, and started again: what was made is undone by the next request."""
     for at in (1, 3):
@@ -153,7 +177,7 @@ def server_killed(cases, folder):
                 gis = Gis(gateway, "building.areas")
                 gis.rows()
                 told = gis.save(*(gis.update(number, floors=94) for number in IDS))
-                wanted = "nothing of this is saved, and what was sent before is undone once the server answers: "
+                wanted = "nothing of this is saved, and what was sent before is undone as soon as it can be: "
                 cases.show(f"{name}: is told", told[:len(wanted)], wanted)
                 cases.show(f"{name}: nothing is read meanwhile", "the map's server: no reply of" in gis.get("GetFeature"), True)
                 with Server(folder, disk, port=server.port) as again:

@@ -3,7 +3,7 @@ import argparse
 import signal
 import sys
 
-from ..client.client import Client
+from ..client.feed import Leader
 from ..faults import NoAnswer, Stopped
 from ..files.checkout_file import KINDS
 from ..files.save_log import SaveLog
@@ -17,10 +17,10 @@ from ..interpreters import look_for
 
 ABOUT = {"wfs": """Lets a desktop GIS edit the map itself, by WFS, and other programs read it, by OGC API Features.
 
-    vtmap wfs --port 8081 --state wfs.state
+    vtmap wfs --state wfs.state
 
-QGIS adds http://127.0.0.1:8081/wfs as a WFS connection (docs/OFFICE.md). GDAL, Leaflet, OpenLayers and geopandas read GeoJSON below
-http://127.0.0.1:8081/ogc/. It listens on 127.0.0.1 alone: on the machine of whoever edits, or beside the server behind nginx.
+QGIS adds http://127.0.0.1:8090/wfs as a WFS connection (docs/OFFICE.md). GDAL, Leaflet, OpenLayers and geopandas read GeoJSON below
+http://127.0.0.1:8090/ogc/. It listens on 127.0.0.1 alone: on the machine of whoever edits, or beside the server behind nginx.
 
 Each layer of the map is a layer there for each kind of shapes that it has. Tags are attributes, and so are the zooms that show a feature. A feature
 that the import has cut is one feature.
@@ -28,7 +28,7 @@ that the import has cut is one feature.
 What QGIS saves by one Transaction is made by checked edits, all of it or nothing: if somebody else has changed a feature since QGIS got it, nothing
 is saved, and QGIS shows which feature that is. What a save needs is noted in the file of --state before it is sent, so that a save that was cut
 short is undone by the next start; the file also has what each QGIS has saved, so that a restart isn't noticed. Without it both end with the
-process.
+process. --log FILE appends who has saved what, for `vtmap log --nginx FILE`.
 
 The server needs --admin. Large shapes are cut, for which GDAL's Python module is needed. It ends with 0 at SIGTERM, once a save that is under way
 is made."""}
@@ -37,8 +37,9 @@ FORMS = {"text": "TEXT", "integer": "INTEGER", "boolean": "BOOLEAN"}
 
 def options(parser, _):
     """The words of the command."""
-    parser.add_argument("--port", type=int, default=8081, help="the port of 127.0.0.1 (8081)")
+    parser.add_argument("--port", type=int, default=8090, help="the port of 127.0.0.1 (8090)")
     parser.add_argument("--state", metavar="FILE", help="keep in this file what is being saved, and what each GIS has saved")
+    parser.add_argument("--log", metavar="FILE", help="append who has saved what to this file, as `vtmap log --nginx` reads it")
     parser.add_argument("--layer", type=layer_of, action="append", default=[], metavar="LAYER:KIND[:TAG=FORM,..]",
                         help="a layer that the map doesn't have yet, or further tags of one: KIND is points, lines or areas, FORM text, integer or boolean; "
                         "may be repeated")
@@ -66,8 +67,8 @@ def work(words):
     log, sessions = SaveLog(words.state), Sessions()
     for row in log.done:
         sessions.restore(row)
-    live = LiveMap(Client(words.url, words.publish), dict(words.layer))
-    wfs = Wfs(live, sessions, Saves(live, log))
+    live = LiveMap(Leader(words.url, words.publish), dict(words.layer))
+    wfs = Wfs(live, sessions, Saves(live, log, words.log))
     server = listener(words.port, wfs, OgcApi(live, wfs.look))
     begin(wfs)
     signal.signal(signal.SIGTERM, lambda *_: sys.exit(0))
@@ -75,8 +76,7 @@ def work(words):
     try:
         server.serve_forever()
     finally:
-        # A save that is under way ends first.
-        live.lock.acquire()
+        server.saving.wait()
     return 0
 
 

@@ -6,6 +6,7 @@ the edit, isn't in it: an edit is found by its content and its time.
 import hashlib
 import json
 import re
+import time
 from collections import defaultdict, deque, namedtuple
 
 from ..client.edits import encoded
@@ -40,6 +41,11 @@ def changes_of(request, body):
     if found is None:
         return parsed(body)["changes"]
     return [{"put": int(found[2]), "feature": parsed(body)}] if found[1] == "PUT" else [{"delete": int(found[2])}]
+
+
+def line_of(person, body):
+    """The line of a batch that somebody has sent just now, who isn't known by nginx but by what passed it on."""
+    return json.dumps({"time": round(time.time(), 3), "person": person, "address": "", "request": "POST /admin/edits", "body": body.decode()}) + "\n"
 
 
 class Senders:

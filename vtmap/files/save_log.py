@@ -10,13 +10,20 @@ from collections import Counter
 
 from ..client.edits import Change
 from ..ending import regular, replaced
+from ..faults import Refused
+
+
+class Unwritable(Refused):
+    """Why the log can't be written."""
 
 
 class SaveLog:
-    """The log at a path; None: nothing outlives the process."""
+    """The log at a path; None: nothing outlives the process. What can't be written isn't noted."""
 
     def __init__(self, path):
         self.path, self.file, self.next = path, None, 1
+        # What comes before the next line: a line feed, if a part of a line may have been written.
+        self.before = ""
         # The saves that were cut short: their groups of changes, and how many of them were made, by their ids. The lines of those that were done.
         self.begun, self.sent, self.done = {}, Counter(), []
         if path:
@@ -51,13 +58,13 @@ class SaveLog:
             rows = [*self.done, *(begun_row(number, groups) for number, groups in self.begun.items())]
             rows += [{"sent": number} for number in self.begun for _ in range(self.sent[number])]
             replaced(self.path, "".join(json.dumps(row) + "\n" for row in rows))
-            self.file = open(self.path, "a", encoding="utf-8")
+            self.file = open(self.path, "ab", buffering=0)
 
     def begin(self, groups):
         """Notes what is to be sent. Returns the id of the save."""
         number, self.next = self.next, self.next + 1
-        self.begun[number] = groups
         self.write(begun_row(number, groups), True)
+        self.begun[number] = groups
         return number
 
     def made(self, number):
@@ -67,21 +74,28 @@ class SaveLog:
 
     def finish(self, number, session, **told):
         """Notes that a save was done, and what the GIS has since."""
-        del self.begun[number]
         self.write({"saved": number, "session": session, "time": int(time.time()), **told}, True)
+        del self.begun[number]
 
     def undo(self, number):
         """Notes that nothing of a save is left."""
-        del self.begun[number]
         self.write({"undone": number}, True)
+        del self.begun[number]
 
     def write(self, row, is_kept=False):
         """Appends a line. One that is kept outlives a crash of the machine."""
-        if self.file:
-            self.file.write(json.dumps(row) + "\n")
-            self.file.flush()
+        if self.path is None:
+            return
+        left = f"{self.before}{json.dumps(row)}\n".encode()
+        try:
+            while left:
+                left = left[self.file.write(left):]
             if is_kept:
                 os.fsync(self.file.fileno())
+            self.before = ""
+        except OSError as fault:
+            self.before = "\n"
+            raise Unwritable(f"{self.path} can't be written: {fault.strerror}") from fault
 
 
 def begun_row(number, groups):

@@ -3,6 +3,7 @@ import gzip
 import json
 import re
 import sys
+import threading
 import traceback
 import urllib.parse
 from http.server import BaseHTTPRequestHandler, ThreadingHTTPServer
@@ -55,6 +56,11 @@ class Handler(BaseHTTPRequestHandler):
     do_HEAD = do_GET
 
     def do_POST(self):
+        """Makes a Transaction. The process doesn't end before its reply is sent."""
+        with self.server.saving:
+            self.post()
+
+    def post(self):
         """Makes a Transaction."""
         session, length = session_in(self.path.partition("?")[0]), self.headers.get("content-length", "")
         if not re.fullmatch("[0-9]{1,12}", length) or int(length) > MOST_BODY:
@@ -68,7 +74,7 @@ class Handler(BaseHTTPRequestHandler):
         if session is None or "xml" not in self.headers.get("content-type", "").lower():
             self.reply(404 if session is None else 415, b"NotFound" if session is None else b"text/xml is needed", TEXT)
             return
-        person = self.headers.get("x-forwarded-user", "")
+        person = self.headers.get("x-forwarded-user") or self.headers.get("x-real-ip") or self.client_address[0]
         self.answer_wfs(wfs_texts.V1, "OperationProcessingFailed", lambda: self.wfs.transaction(session, body, person))
 
     # ---- replies
@@ -125,9 +131,34 @@ class Handler(BaseHTTPRequestHandler):
             self.end_headers()
             if self.command != "HEAD":
                 self.wfile.write(data)
+            self.wfile.flush()
         except OSError:
             # A GIS no longer waits once somebody has moved the map on.
             self.close_connection = True
+
+
+class Saving:
+    """How many saves are under way."""
+
+    def __init__(self):
+        self.count, self.changed = 0, threading.Condition()
+
+    def __enter__(self):
+        self.add(1)
+
+    def __exit__(self, *fault):
+        self.add(-1)
+
+    def add(self, number):
+        """One more, or one less."""
+        with self.changed:
+            self.count += number
+            self.changed.notify_all()
+
+    def wait(self):
+        """Waits until there is none."""
+        with self.changed:
+            self.changed.wait_for(lambda: self.count == 0)
 
 
 class Listener(ThreadingHTTPServer):
@@ -135,6 +166,10 @@ class Listener(ThreadingHTTPServer):
 
     daemon_threads = True
     request_queue_size = 64
+
+    def __init__(self, *words):
+        super().__init__(*words)
+        self.saving = Saving()
 
     def handle_error(self, request, client_address):
         """Says nothing of a client that has gone, and all of another fault."""

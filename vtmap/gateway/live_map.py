@@ -3,8 +3,8 @@ import json
 import threading
 from collections import defaultdict
 
-from ..client.client import FEED, changes_in, word
-from ..commands.checkout import needed
+from ..client.client import changes_in
+from ..client.feed import LeftBehind
 from ..faults import Stopped
 from ..geometry.wholes import WHOLE, Whole, group_of, joined
 from .tables import Table, View
@@ -16,8 +16,8 @@ MOST_KNOWN = 200000
 
 
 class LiveMap:
-    """The features of the map up to the edit `edits`. `further`: types of tags by layer and kind, for tables and columns that the map doesn't have yet.
-    Whoever uses it holds `lock`."""
+    """The features of the map up to the edit `edits`. `client`: a `Leader`. `further`: types of tags by layer and kind, for tables and columns that the
+    map doesn't have yet. Whoever uses it holds `lock`."""
 
     def __init__(self, client, further):
         self.client, self.further, self.lock = client, further, threading.RLock()
@@ -35,11 +35,11 @@ class LiveMap:
             if self.edits is not None and self.follow():
                 return
             self.list()
-        raise Stopped(f"{self.client.address} lists no edits since its last one: it is older than that list, or publications end it too soon")
+        raise Stopped(f"{self.client.address} publishes its edits sooner than they are read")
 
     def list(self):
         """Lists the map anew. Edits that are made meanwhile are listed by the feed again."""
-        edits = needed(self.client.status())["edits"]
+        edits = self.client.known()["edits"]
         now = dict(self.client.features())
         self.take({**{number: None for number in self.now if number not in now}, **now})
         self.edits = edits
@@ -48,24 +48,20 @@ class LiveMap:
     def follow(self):
         """Takes the edits since the last one that is known. Returns whether the server lists them."""
         while True:
-            reply = self.listed_from(self.edits + 1)
-            if reply is None:
+            try:
+                edits, last = self.client.edits_from(self.edits + 1)
+            except LeftBehind:
                 return False
-            for edit in reply["edits"]:
+            except Stopped:
+                # A map that was put back from a copy has fewer edits.
+                if self.client.known()["edits"] >= self.edits:
+                    raise
+                return False
+            for edit in edits:
                 self.take({number: body and json.loads(body) for number, body in changes_in(edit["changes"]).items()})
                 self.edits = edit["edit"]
-            if not reply["edits"] or self.edits >= reply["last"]:
+            if not edits or self.edits >= last:
                 return True
-
-    def listed_from(self, number):
-        """The reply with the edits from a number on; None if the server doesn't list them: a publication has ended the list, or it is another map."""
-        status, content = self.client.ask("GET", f"{FEED}/{number}")
-        if status == 200:
-            return self.client.value(content)
-        if status not in (404, 410):
-            self.client.stop_at(status, content)
-            raise Stopped(f"the edits from {number:,} on: {status} {word(content)}")
-        return None
 
     def made(self, changes, number):
         """Takes own changes, which are the edit of a number. What others did before it is followed later, and then these changes again."""

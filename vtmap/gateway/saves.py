@@ -9,6 +9,8 @@ import time
 from ..client.client import CHECKED, refusal
 from ..client.edits import NOTHING, batches, body_of, delete, encoded, fits, sectors
 from ..faults import NoAnswer, Refused, Stopped
+from ..files.proxy_log import line_of
+from ..files.save_log import Unwritable
 from .sessions import FORGOTTEN
 
 
@@ -17,26 +19,29 @@ class Taken(Exception):
 
 
 class Made:
-    """What a save came to: its id in the log, and the numbers of its edits."""
+    """What a save came to: its id in the log, who saves, and the numbers of its edits."""
 
-    def __init__(self, number):
-        self.number, self.edits = number, []
+    def __init__(self, number, person):
+        self.number, self.person, self.edits = number, person, []
 
 
 class Saves:
-    """Makes saves on a live map, and keeps a log of them."""
+    """Makes saves on a live map, and keeps a log of them. `trail`: the path of the file with who has saved what, or None."""
 
-    def __init__(self, live, log):
-        self.live, self.log, self.client = live, log, live.client
+    def __init__(self, live, log, trail=None):
+        self.live, self.log, self.client, self.trail = live, log, live.client, trail
         self.log.shorten(time.time() - FORGOTTEN)
 
     # ---- sending
 
-    def make(self, changes, new_ids):
+    def make(self, changes, new_ids, person):
         """Makes changes. Raises `Refused` if they aren't made, and `Taken` if ids that are to be new aren't. What came of it is finished by `finish`."""
         groups = list(batches(step for change in changes for step in steps(change)))
         self.see_room(groups)
-        made = Made(self.log.begin(groups))
+        try:
+            made = Made(self.log.begin(groups), person)
+        except Unwritable as fault:
+            raise Refused(f"nothing of this was saved: {fault}") from fault
         for group in groups:
             fault, taken = self.try_edit(group, made, new_ids)
             if fault is not None:
@@ -63,12 +68,17 @@ class Saves:
             return str(refusal(status, content, 0)), set()
         except (NoAnswer, Stopped) as stopped:
             return f"the map's server: {stopped}", set()
+        except (Unwritable, OSError) as fault:
+            return str(fault), set()
 
     def note(self, made, group, edit):
         """Notes that a group is made."""
-        self.log.made(made.number)
-        self.live.made(group, edit)
         made.edits.append(edit)
+        self.live.made(group, edit)
+        self.log.made(made.number)
+        if self.trail:
+            with open(self.trail, "a", encoding="utf-8") as file:
+                file.write(line_of(made.person, body_of(group)))
 
     def what_changed(self, group, made, new_ids):
         """Why a checked edit isn't made, None if it is made, and the new ids that somebody else has."""
@@ -81,8 +91,11 @@ class Saves:
         return f"others have just changed {', '.join(map(str, sorted(others)))}", others if others <= new_ids else set()
 
     def finish(self, made, session, **told):
-        """Notes what the GIS has since a save."""
-        self.log.finish(made.number, session, **told)
+        """Notes what the GIS has since a save. A save that can't be noted is undone: the next start would do so."""
+        try:
+            self.log.finish(made.number, session, **told)
+        except Unwritable as fault:
+            self.give_up(made.number, str(fault), set())
 
     # ---- undoing
 
@@ -90,8 +103,8 @@ class Saves:
         """Undoes what was made of a save, and says why it isn't made."""
         try:
             left = self.undo(number)
-        except (NoAnswer, Stopped):
-            raise Refused(f"nothing of this is saved, and what was sent before is undone once the server answers: {fault}") from None
+        except (NoAnswer, Stopped, Unwritable):
+            raise Refused(f"nothing of this is saved, and what was sent before is undone as soon as it can be: {fault}") from None
         if taken and not left:
             raise Taken(taken)
         but = f", but for {left}, which others have changed just then" if left else ""

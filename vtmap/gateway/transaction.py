@@ -99,13 +99,13 @@ class Transaction:
 
     # ---- making it
 
-    def make(self, saves):
-        """Makes it. Returns what came of it."""
+    def make(self, saves, person):
+        """Makes it, for a person. Returns what came of it."""
         for _ in range(TRIES):
             changes = self.changes()
             new_ids = {number for wish in self.wishes.values() if wish.fid is None for number in wish.wanted}
             try:
-                return saves.make(changes, new_ids)
+                return saves.make(changes, new_ids, person)
             except Taken as taken:
                 self.renumber(max(number % PIECE for number in taken.args[0]))
         raise Refused("nothing of this was saved: others have taken the ids of new features again and again: save again")

@@ -3,7 +3,8 @@ import hashlib
 import re
 import secrets
 
-from ..faults import Refused
+from ..faults import Refused, Stopped
+from ..files.save_log import Unwritable
 from ..geometry.gml import SYSTEM, local
 from . import wfs_texts
 from .actions import actions_of, parsed, type_in
@@ -21,10 +22,14 @@ class Wfs:
     def __init__(self, live, sessions, saves):
         self.live, self.sessions, self.saves = live, sessions, saves
 
-    def look(self):
-        """Takes what others have changed, and undoes what was cut short."""
+    def look(self, is_saving=False):
+        """Takes what others have changed, and undoes what was cut short. Where that can't be undone yet, the map is read, and nothing is saved."""
         if self.saves.log.begun:
-            self.saves.recover()
+            try:
+                self.saves.recover()
+            except (Stopped, Unwritable):
+                if is_saving:
+                    raise
         self.live.look()
 
     # ---- reading
@@ -73,12 +78,12 @@ class Wfs:
     # ---- saving
 
     def transaction(self, name, body, person):
-        """The reply to a Transaction. `person`: who sends it, empty if that isn't known."""
+        """The reply to a Transaction. `person`: who sends it, a name or an address."""
         root = parsed(body)
         if local(root) != "Transaction":
             raise Refused(f"a body with {local(root)} isn't taken")
         with self.live.lock:
-            self.look()
+            self.look(is_saving=True)
             session, mark = self.sessions.get(name), hashlib.sha256(body).hexdigest()
             counts, added = {"Insert": len(session.added), "Update": 0, "Delete": 0}, session.added
             # If the reply to it was lost, the GIS sends the same again: its new features are made once.
@@ -88,19 +93,19 @@ class Wfs:
 
     def save(self, name, session, actions, mark, person):
         """Makes a Transaction. Returns its counts and the ids of new features."""
-        who = f"{person}: " if person else ""
         try:
             task = Transaction(self.live, session, actions)
-            made = task.make(self.saves)
+            made = task.make(self.saves, person)
         except Conflict as conflict:
-            print(f"conflict: {who}{'; '.join(conflict.features)}", flush=True)
+            print(f"conflict: {person}: {'; '.join(conflict.features)}", flush=True)
             raise
         notes, added = task.saved()
+        mark = mark if added else ""
+        self.saves.finish(made, name, notes=notes, mark=mark, added=added)
         for note in notes:
             session.note(*note)
-        session.mark, session.added = (mark, added) if added else ("", [])
-        self.saves.finish(made, name, notes=notes, mark=session.mark, added=added)
-        print(f"saved: {who}{told(task.counts)}{edits_told(made.edits)}", flush=True)
+        session.mark, session.added = mark, added
+        print(f"saved: {person}: {told(task.counts)}{edits_told(made.edits)}", flush=True)
         return task.counts, added
 
 

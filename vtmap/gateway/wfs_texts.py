@@ -56,9 +56,15 @@ def capabilities(version, tables, address):
 
 def operation(version, name, address):
     """How an operation is asked for."""
-    formats = f'<ows:Parameter name="outputFormat"><ows:AllowedValues><ows:Value>{version.format}</ows:Value></ows:AllowedValues></ows:Parameter>'
+    words = parameter(version, "outputFormat", [version.format]) + parameter(version, "resultType", ["results", "hits"]) if name == "GetFeature" else ""
     return (f'<ows:Operation name="{name}"><ows:DCP><ows:HTTP><ows:Get xlink:href="{address}?"/><ows:Post xlink:href="{address}"/></ows:HTTP></ows:DCP>'
-            f"{formats if name == 'GetFeature' else ''}</ows:Operation>")
+            f"{words}</ows:Operation>")
+
+
+def parameter(version, name, values):
+    """The values that a parameter may have."""
+    made = "".join(f"<ows:Value>{value}</ows:Value>" for value in values)
+    return f'<ows:Parameter name="{name}">{f"<ows:AllowedValues>{made}</ows:AllowedValues>" if version is V2 else made}</ows:Parameter>'
 
 
 def constraints():
