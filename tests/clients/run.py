@@ -52,6 +52,7 @@ from units import units
 from updates import updates
 from wfs import wfs
 from wfs_deaths import wfs_deaths
+from wfs_qgis import wfs_qgis
 
 
 def archive():
@@ -813,6 +814,7 @@ def main():
         "three-ways": three_ways,
         "wfs": wfs,
         "wfs-deaths": wfs_deaths,
+        "wfs-qgis": wfs_qgis,
         "ogc": ogc,
         "operation": operation,
         "admin": admin,

@@ -5,9 +5,11 @@ The units aren't run: that needs a machine whose first process is systemd.
 import os
 import re
 import shutil
+import signal
 import subprocess
 import time
 
+from gateways import Gateway, Gis, triangle
 from stand import PROGRAM, TOP, VTMAP, Server, curl, feature, free_port, status_of
 
 # The greatest exposure of each unit, by systemd-analyze.
@@ -19,6 +21,7 @@ EXPOSURE = {
     "vtserve-backup.service": 1.0,
     "vtserve-log.service": 1.5,
     "vtserve-standby.service": 1.5,
+    "vtserve-wfs.service": 1.5,
 }
 # What the units with timers run, and those that follow the edits.
 TASKS = {
@@ -106,6 +109,27 @@ def tasks(cases, folder):
             cases.show(f"units: what {name} runs, and system calls that it doesn't allow", (ran.returncode, sorted(calls - filtered(name) - OF_ROOT)), (0, []))
 
 
+def gateway(cases, folder):
+    """The system calls of `vtmap wfs`, which is read and saves a shape that GDAL cuts, and its memory."""
+    trace = os.path.join(folder, "gateway.trace")
+    words = ["--state", os.path.join(folder, "gateway.state"), "--layer", "park:areas:name=text"]
+    with Server(folder, "gateway", 4096) as server, Gateway(folder, server.url, *words, under=["strace", "-f", "-o", trace]) as desk:
+        gis = Gis(desk, "park.areas")
+        gis.rows()
+        told = gis.save(gis.insert(triangle(834000, 7264000, 5000), name="Park"))
+        with open(f"/proc/{desk.child.pid}/task/{desk.child.pid}/children", encoding="ascii") as file:
+            os.kill(int(file.read().split()[0]), signal.SIGTERM)
+        ended = desk.child.wait(60)
+    with open(trace, encoding="utf-8", errors="replace") as file:
+        lines = file.read().splitlines()
+    calls = {found[1] for line in lines if (found := re.match(r"\d+ +(\w+)\(", line))}
+    cases.show("units: vtmap wfs saves, and ends at SIGTERM", (told.split(".")[0], ended), ("SUCCESS park", 0))
+    # A library that GDAL's module loads asks where its memory is to lie, and goes on without.
+    calls.discard("set_mempolicy")
+    cases.show("units: system calls of it that its unit doesn't allow", sorted(calls - filtered("vtserve-wfs.service")), [])
+    cases.show("units: memory of it that is writable and executable", [line for line in lines if "PROT_WRITE|PROT_EXEC" in line], [])
+
+
 def lines_of(name):
     """The lines of a unit; one that goes on after a backslash is one."""
     with open(unit(name), encoding="utf-8") as file:
@@ -166,6 +190,7 @@ def units(cases, folder):
         cases.say("no strace: the filter of system calls isn't tried")
         return
     tasks(cases, folder)
+    gateway(cases, folder)
     statuses, calls, lines = session(folder)
     cases.show("units: a session under strace", statuses, [200] * 7)
     cases.show("units: system calls of serve that its unit doesn't allow", sorted(calls - filtered("vtserve.service")), [])
