@@ -8,7 +8,7 @@ import subprocess
 import time
 
 from standby import Editor, copied, features, follow, known, once, waited
-from stand import VTMAP, Server, curl
+from stand import VTMAP, Server, curl, feature, status_of
 
 # The edits before the machine dies, and the seconds between two of them.
 BEFORE, BETWEEN = 150, 0.02
@@ -58,7 +58,7 @@ def dies(cases, folder, every):
     cases.show(f"takeover: the first edits are at the standby, one by one, --every {every}", (same, said.endswith(": waiting\n")), (True, True))
     late = [died - times[number] for number in times if number > len(has)]
     cases.show("takeover: and what it lacks is younger than a second and what it waits", max(late, default=0) < every + 1 or late, True)
-    cases.say(f"takeover: {BEFORE} edits acknowledged, {len(late)} of them lost with the machine, the oldest {max(late, default=0):.2f} s before; --every {every}")
+    cases.say(f"takeover: of {BEFORE} edits {len(late)} are lost with the machine, the oldest made {max(late, default=0):.2f} s before; --every {every}")
     return leader, standby
 
 
@@ -75,13 +75,51 @@ def takes_over(cases, folder, old, standby):
     os.rename(old.disk + ".gone", old.disk)
     with Server(folder, os.path.basename(old.disk)) as back:
         code, lines = once(standby.url, "--to", back.url)
-        cases.show("takeover: the old disk is no standby any more", (code, "no longer lists edit" in lines[-1] or "somebody else" in lines[-1]), (1, True))
+        # It has other edits under the same numbers, or more of them, or some that are published.
+        why = any(words in lines[-1] for words in ("somebody else", "another map", "no longer lists edit"))
+        cases.show("takeover: the old disk is no standby any more", (code, why), (1, True))
     with Server(folder, copied(standby, folder, "again")) as again:
         follower = follow(standby.url, "--to", again.url)
         for _ in range(20):
             editor.edit()
         has_all = waited(lambda: known(again)["edits"] == edits + 40)
         cases.show("takeover: a copy is", (has_all, features(again) == features(standby)), (True, True))
+        follower.terminate()
+        follower.communicate()
+
+
+def breaks(cases, folder):
+    """The disk fails, by strace: a broken server still lists what it has acknowledged, and not the edit in doubt; and after a restart that too, if
+    it was stored."""
+    if not shutil.which("strace"):
+        cases.say("takeover: no strace: no disk fails")
+        return
+    failing = ["strace", "-f", "-o", os.path.join(folder, "calls"), "-e", "trace=fdatasync", "-e", "inject=fdatasync:error=EIO:when=90+"]
+    made = Server(folder, "failing", 65536)
+    made.end()
+    made.__exit__()
+    with Server(folder, copied(made, folder, "healthy")) as standby:
+        with Server(folder, "failing", port=made.port, under=failing) as leader:
+            follower = follow(leader.url, "--to", standby.url)
+            follower.stdout.readline()
+            statuses = []
+            while statuses[-1:] != [500] and len(statuses) < 200:
+                statuses.append(status_of(curl(f"{leader.url}/features/{len(statuses)}", "-X", "PUT", body=feature())))
+            acknowledged = statuses.count(200)
+            has_all = waited(lambda: known(standby)["edits"] == acknowledged)
+            cases.show("takeover: a broken server lists each acknowledged edit", (has_all, known(leader)["broken"], acknowledged > 9), (True, True, True))
+            time.sleep(1)
+            cases.show("takeover: and not the one in doubt", (known(standby)["edits"], sorted(listed(leader))), (acknowledged, [*range(1, acknowledged + 1)]))
+            server = subprocess.run(["pgrep", "-P", str(leader.child.pid)], capture_output=True, text=True).stdout
+            os.kill(int(server), signal.SIGKILL)
+            leader.child.wait(60)
+        with Server(folder, "failing", port=made.port) as leader:
+            curl(f"{leader.url}/features/1000", "-X", "PUT", body=feature())
+            edits = known(leader)["edits"]
+            has_all = waited(lambda: known(standby)["edits"] == edits)
+            seen = has_all, edits - acknowledged in (1, 2), features(leader) == features(standby)
+            cases.show("takeover: after a restart they are equal again", seen, (True, True, True))
+            cases.say(f"takeover: after {acknowledged} edits a sync failed; the edit in doubt was {'' if edits - acknowledged == 2 else 'not '}stored")
         follower.terminate()
         follower.communicate()
 
@@ -95,4 +133,5 @@ def takeover(cases, folder):
         if every == 0.5:
             takes_over(cases, place, old, standby)
         standby.__exit__()
+    breaks(cases, place)
     shutil.rmtree(place)
