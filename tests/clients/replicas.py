@@ -15,7 +15,7 @@ def with_replicas(ports):
     with open(os.path.join(TOP, "docs", "nginx.conf"), encoding="utf-8") as file:
         kept = re.search(r"    # upstream replicas \{\n(    # .*\n)*?    # \}\n", file.read())[0]
     lines = [line.replace("    # ", "    ", 1) for line in kept.splitlines(True)]
-    servers = [line for line in lines if re.search(r"server 127.0.0.1:808[1-9];", line)]
+    servers = [line for line in lines if re.search(r"server 127.0.0.1:809[1-9];", line)]
     group = "".join(line for line in lines if line not in servers)
     group = group.replace("least_conn;\n", "least_conn;\n" + "".join(f"        server 127.0.0.1:{port};\n" for port in ports[1:]))
     group = group.replace("127.0.0.1:8080 backup", f"127.0.0.1:{ports[0]} backup")

@@ -1,6 +1,6 @@
 """The feed of a server's edits, and a standby, which makes them under the same numbers. Needs no package.
 
-    leader, standby = Leader("http://127.0.0.1:8080"), Standby("http://127.0.0.1:8081")
+    leader, standby = Leader("http://127.0.0.1:8080"), Standby("http://127.0.0.1:8090")
     standby.begin(leader)
     edits, last = leader.edits_from(standby.at + 1)
     standby.take(edits)

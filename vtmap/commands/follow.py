@@ -12,13 +12,13 @@ from ..files.edit_log import EditLog
 
 ABOUT = {"follow": """Follows the edits of a running `vtserve serve --admin`: into standbys, each a second vtserve, into a log, or both.
 
-    vtmap follow --to http://127.0.0.1:8081 --publish
+    vtmap follow --to http://127.0.0.1:8090 --publish
     vtmap follow --log edits.jsonl
 
 A standby begins as a copy of the server's disk, and nobody else edits it:
 
     vtserve copy map.disk standby.disk
-    vtserve serve --port 8081 --connections 4294967295 --admin standby.disk
+    vtserve serve --port 8090 --connections 4294967295 --admin standby.disk
 
 Each edit of the server becomes an edit of the standby with the same number and the same changes, within --every seconds. The standby itself
 makes an edit only under that number, so none is made twice or left out, whoever is stopped meanwhile: this command, the server or the standby.
