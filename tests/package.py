@@ -15,6 +15,7 @@ import shutil
 import subprocess
 import sys
 import tempfile
+import time
 
 HERE = os.path.dirname(os.path.abspath(__file__))
 sys.path += [HERE, os.path.join(HERE, "clients")]
@@ -23,6 +24,8 @@ import documents  # noqa: E402
 from stand import Cases  # noqa: E402
 
 UNITS = "/usr/lib/systemd/system"
+FEATURE = '{"layer":"p","minzoom":0,"maxzoom":2,"geometry":{"points":[[0,0]]},"tags":{}}'
+LOG = "/var/lib/vtserve-log/edits.jsonl"
 # What this script uses of a Debian, and the package doesn't bring.
 WITH = "curl,nginx-light,systemd,procps"
 PAGE = {"": "text/html", "page.js": "text/javascript", "page.css": "text/css", "style.json": "application/json"}
@@ -133,6 +136,14 @@ def units(cases):
     for unit, wanted in (("vtserve-publish", "published"), ("vtserve-backup", "5 features saved"), ("vtserve-watch", "5 features")):
         status, text = ran(*command_of(unit + ".service"))
         cases.show(f"{unit}.service: its command", (status, wanted in text or text), (0, True))
+    done("install", "-d", "-o", "vtserve", "/var/lib/vtserve-log")
+    with subprocess.Popen(command_of("vtserve-log.service"), stdout=subprocess.DEVNULL, stderr=subprocess.DEVNULL) as log:
+        end = time.monotonic() + 20
+        while not os.path.exists(LOG) and time.monotonic() < end:
+            done("curl", "-s", "-X", "PUT", "--data", FEATURE, "http://127.0.0.1:8080/features/900")
+            time.sleep(1)
+        cases.show("vtserve-log.service: its command logs an edit", os.path.exists(LOG), True)
+        log.terminate()
     return server
 
 
@@ -145,10 +156,12 @@ def purged(cases, root):
     done("apt-get", "install", "-y", "--reinstall", "/srv/vtserve.deb", root=root)
     cases.show("another installation keeps the style that was changed", os.path.getsize(style), wanted)
     status, text = ran("apt-get", "purge", "-y", "vtserve", root=root)
-    cases.show("a purge says that it leaves maps", (status, "maps or backups are left" in text), (0, True))
-    cases.show("and they are there", (os.path.exists(root + "/var/lib/vtserve/map.disk"), ran("getent", "passwd", "vtserve", root=root)[0]), (True, 0))
+    left = "vtserve: left are /var/lib/vtserve /var/backups/vtserve /var/lib/vtserve-log, and the user"
+    cases.show("a purge says that it leaves maps, backups and the log of edits", (status, left in text or text), (0, True))
+    kept = [os.path.exists(root + path) for path in ("/var/lib/vtserve/map.disk", "/var/lib/vtserve-log/edits.jsonl")]
+    cases.show("and they are there", (kept, ran("getent", "passwd", "vtserve", root=root)[0]), ([True, True], 0))
     done("apt-get", "install", "-y", "/srv/vtserve.deb", root=root)
-    done("sh", "-c", "rm -rf /srv/* /var/lib/vtserve/* /var/backups/vtserve/* /var/lib/vtserve-nginx /etc/vtserve/nginx.conf", root=root)
+    done("sh", "-c", "rm -rf /srv/* /var/lib/vtserve/* /var/backups/vtserve/* /var/lib/vtserve-log /var/lib/vtserve-nginx /etc/vtserve/nginx.conf", root=root)
     cases.show("a purge without maps", ran("apt-get", "purge", "-y", "vtserve", root=root)[0], 0)
     words = ("sh", "-c", "find / -xdev -iname '*vtserve*' -o -iname '*vtmap*'; getent passwd vtserve")
     cases.show("leaves nothing", ran(*words, root=root)[1].splitlines(), [])

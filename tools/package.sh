@@ -47,7 +47,7 @@ ln -s ../../share/vtserve/web "$root/usr/lib/vtserve/web"
 # What runs it: nothing of it is enabled.
 mkdir -p "$units" "$root/etc/logrotate.d"
 for unit in "$top"/docs/vtserve*.service "$top"/docs/vtserve*.timer; do
-    sed 's#/usr/local/bin/#/usr/bin/#' "$unit" > "$units/$(basename "$unit")"
+    sed 's#/usr/local/bin/#/usr/bin/#g' "$unit" > "$units/$(basename "$unit")"
 done
 install -m 644 "$top/docs/vtserve.logrotate" "$root/etc/logrotate.d/vtserve"
 install -m 644 "$top/docs/nginx.conf" "$share/nginx.conf"
