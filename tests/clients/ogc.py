@@ -8,15 +8,27 @@ import sys
 import time
 
 from browser import Browser
-from gateways import Gateway, Gis, put_at, text_of
+from gateways import Gateway, Gis, map_at, put_at, text_of
 from pages import town
-from stand import TOP, VTMAP, Nginx, Server, curl, field, status_of
+from stand import SYSTEM_PYTHON, TOP, VTMAP, Nginx, Server, curl, field, status_of
 
 sys.path.append(TOP)
 from vtmap.geometry.geojson import feature_of  # noqa: E402
 from vtmap.geometry.wholes import twice_area  # noqa: E402
 
 LEAFLET = "/usr/share/javascript/leaflet"
+EDITS = """
+import json, sys
+from osgeo import ogr
+source = ogr.Open(sys.argv[1], 1)
+places = source.GetLayerByName("v:place.points")
+named = {place.GetField("name"): place for place in places}
+named["School"].SetField("name", "Old School")
+new = ogr.Feature(places.GetLayerDefn())
+new.SetField("name", "By GDAL")
+new.SetGeometry(ogr.CreateGeometryFromWkt("POINT (834900 7265400)"))
+print(json.dumps([places.SetFeature(named["School"]), places.CreateFeature(new), places.DeleteFeature(named["Harbour"].GetFID())]))
+"""
 PLACES = ["Town Hall", "Church", "School", "Harbour", "Lighthouse"]
 
 
@@ -35,6 +47,8 @@ def ogc(cases, folder):
             by_gdal(cases, gateway.url)
             by_leaflet(cases, folder, server, gateway)
             behind_nginx(cases, folder, server, gateway)
+            edited_by_gdal(cases, gateway.url, server.url)
+            with_passwords(cases, folder, server, gateway)
 
 
 def asked(url):
@@ -112,6 +126,7 @@ def selections(cases, url):
         ("?name=Church", ["Church"]),
         ("?name=Town%20Hall&bbox=8,54,9,55", []),
         ("?datetime=2026-11-29T00:00:00Z", PLACES),
+        ("?datetime=../2026-11-29", PLACES),
         ("?limit=99999", PLACES),
         ("?f=json", PLACES),
     ]:
@@ -123,7 +138,7 @@ def refusals(cases, url):
     """What there isn't, and what is wrong."""
     places = "/collections/place.points"
     missing = ["/collections/nix", "/collections/nix/items", "/nix", places + "/nix", *(f"{places}/items/{name}" for name in ("1", "x", "452/x"))]
-    queries = ["limit=0", "limit=x", "bbox=1,2,3", "bbox=1,2,3,x", "bbox=0,60,1,50", "bbox=nan,1,2,3", "nix=1", "after=-1"]
+    queries = ["limit=0", "limit=x", "bbox=1,2,3", "bbox=1,2,3,x", "bbox=0,60,1,50", "bbox=nan,1,2,3", "nix=1", "after=-1", "datetime=now"]
     wrong = ["/?nix=1", "/collections?f=html", *(f"{places}/items?{query}" for query in queries)]
     for path, status in [*((path, 404) for path in missing), *((path, 400) for path in wrong)]:
         reply = curl(url + path)
@@ -150,6 +165,18 @@ def by_gdal(cases, url):
         words = ["ogrinfo", "-ro", "-q", "-where", "name = 'Church'", name, prefix + "place.points"]
         told = subprocess.run(words, capture_output=True, text=True, timeout=100).stdout
         cases.show(f"ogc: GDAL selects by {driver}", (told.count("OGRFeature"), "Church" in told), (1, True))
+
+
+def edited_by_gdal(cases, url, server):
+    """GDAL's module for Python changes, adds and deletes features by WFS."""
+    if subprocess.run([SYSTEM_PYTHON, "-c", "import osgeo"], capture_output=True).returncode != 0:
+        cases.say("no GDAL in the system's Python: it edits nothing by WFS")
+        return
+    told = subprocess.run([SYSTEM_PYTHON, "-c", EDITS, f"WFS:{url}/wfs"], capture_output=True, text=True, timeout=100)
+    made = json.loads(told.stdout or "null") or told.stderr
+    cases.show("ogc: GDAL changes, adds and deletes by WFS", made, [0, 0, 0])
+    found = {number: feature["tags"].get("name") for number, feature in map_at(server).items() if feature["layer"] == "place"}
+    cases.show("ogc: which is on the map", sorted(found.values()), sorted([*(set(PLACES) - {"School", "Harbour"}), "Old School", "By GDAL"]))
 
 
 def by_leaflet(cases, folder, server, gateway):
@@ -203,15 +230,17 @@ def behind_nginx(cases, folder, server, gateway):
         cases.show("nginx: features are compressed", (status_of(packed), field(packed, "content-encoding")), (200, "gzip"))
         body = "x" * (2 ** 20)
         cases.show("nginx: a body of 1 MB reaches the gateway", status_of(curl(gis.url, "-H", "Content-Type: text/xml", body=body)), 200)
+    curl(f"{server.url}/features/451", "-X", "PUT", body=curl(f"{server.url}/features/451")[2].decode().replace("By nginx", "Town Hall"))
     shutil.rmtree(front.folder)
-    with_passwords(cases, folder, server, gateway, nginx, port)
 
 
-def with_passwords(cases, folder, server, gateway, nginx, port):
+def with_passwords(cases, folder, server, gateway):
     """The block with passwords: who edits logs in."""
-    if not shutil.which("openssl"):
-        cases.say("no openssl: nobody logs in")
+    nginx = shutil.which("nginx", path=os.environ.get("PATH", "") + ":/usr/sbin")
+    if not (nginx and shutil.which("openssl")):
+        cases.say("no nginx, or no openssl: nobody logs in")
         return
+    port = [("127.0.0.1:8090", f"127.0.0.1:{gateway.port}")]
     people = os.path.join(folder, "people")
     with open(people, "w", encoding="utf-8") as file:
         file.write("ann:" + subprocess.run(["openssl", "passwd", "-apr1", "secret"], capture_output=True, text=True, check=True).stdout)
@@ -229,7 +258,7 @@ def with_passwords(cases, folder, server, gateway, nginx, port):
         subprocess.run(follows, check=True, capture_output=True)
         told = subprocess.run([*VTMAP, "log", log, "--nginx", trail, "--person", "ann"], capture_output=True, text=True).stdout.splitlines()
         cases.show("nginx: vtmap log says who has saved", [line.partition("  ann  ")[2] for line in told],
-                   ["changed place 451 ('By Ann'): name: 'By nginx' -> 'By Ann'"])
+                   ["changed place 451 ('By Ann'): name: 'Town Hall' -> 'By Ann'"])
         _, lines = gateway.end()
         cases.show("nginx: and so does the gateway", [line for line in lines if "ann" in line][0].startswith("saved: ann: 1 changed, edit "), True)
     shutil.rmtree(front.folder)

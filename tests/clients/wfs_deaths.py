@@ -1,14 +1,16 @@
 """The part `wfs-deaths` of run.py: the gateway or the server ends in the middle of a long save, by `kill -9` and by SIGTERM. What was made of the save
 is undone, by the next start or once the server answers; and a restart isn't noticed by who edits."""
+import json
 import os
 import signal
+import subprocess
 import threading
 import time
 
 from between import Between
-from gateways import Gateway, Gis, edits_at, map_at, point, put_at
+from gateways import Gateway, Gis, edits_at, feature_at, map_at, point, put_at, text_of
 from pages import town
-from stand import Server
+from stand import VTMAP, Server, curl, feature, free_port
 
 EDITS = "/admin/edits"
 # 200 features are four edits.
@@ -29,6 +31,8 @@ def wfs_deaths(cases, folder):
         ended(cases, folder, server)
         restarted(cases, folder, server)
         unwritable(cases, folder, server)
+        behind(cases, folder, server)
+    waiting(cases, folder)
     server_killed(cases, folder)
 
 
@@ -143,6 +147,38 @@ def restarted(cases, folder, server):
             gis.anew()
             again = gis.save(gis.update(451, name="after F5"), gis.update(452, name="after F5"))
             cases.show("wfs: and after F5", again, "SUCCESS")
+
+
+def waiting(cases, folder):
+    """A gateway that begins before its server, and two with one file."""
+    port, state = free_port(), os.path.join(folder, "waiting")
+    with Gateway(folder, f"http://127.0.0.1:{port}", "--state", state) as gateway:
+        cases.show("wfs: a gateway without a server waits", gateway.told[0].startswith(f"no reply of http://127.0.0.1:{port}: "), True)
+        told = text_of(f"{gateway.url}/wfs?REQUEST=GetCapabilities")
+        cases.show("wfs: and says so", "the map's server: no reply of" in told, True)
+        with Server(folder, "late", port=port) as server:
+            curl(f"{server.url}/features/7", "-X", "PUT", body=feature())
+            cases.show("wfs: until it is there", len(Gis(gateway, "p.points").rows()), 1)
+        second = subprocess.run([*VTMAP, "wfs", "--state", state, "--port", str(free_port())], capture_output=True, text=True, timeout=60)
+        cases.show("wfs: a second one can't use the same file", (second.returncode, second.stderr), (1, f"another `vtmap wfs` uses {state}\n"))
+        second = subprocess.run([*VTMAP, "wfs", "--port", str(gateway.port)], capture_output=True, text=True, timeout=60)
+        told = f"port {gateway.port} of 127.0.0.1 can't be opened: Address already in use\n"
+        cases.show("wfs: nor the same port", (second.returncode, second.stderr), (1, told))
+
+
+def behind(cases, folder, server):
+    """Many edits, publications and an older map while nobody asks the gateway."""
+    with Gateway(folder, server.url) as gateway:
+        gis = Gis(gateway, "building.areas")
+        gis.rows()
+        for name in ("one", "two"):
+            put_at(server.url, 451, name=name)
+            curl(f"{server.url}/publish", "-X", "POST")
+        cases.show("wfs: after a publication of edits that it hasn't read", Gis(gateway, "place.points").rows()[451]["name"], "two")
+        changes = [{"put": 451, "feature": {**feature_at(server.url, 451), "tags": {"name": f"again {at}"}}} for at in range(1100)]
+        for change in changes:
+            text_of(f"{server.url}/edits", body=json.dumps({"changes": [change]}))
+        cases.show("wfs: after 1,100 edits", Gis(gateway, "place.points").rows()[451]["name"], "again 1099")
 
 
 def unwritable(cases, folder, server):

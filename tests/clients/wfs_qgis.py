@@ -2,12 +2,13 @@
 OGC API Features. Somebody else edits the map meanwhile."""
 import json
 import os
+import shutil
 import subprocess
 
 from desktop import run
 from gateways import Gateway, edits_at, feature_at, map_at, put_at
 from pages import town
-from stand import SYSTEM_PYTHON, Server
+from stand import SYSTEM_PYTHON, Nginx, Server
 
 QGIS = """
 import json, os, sys, urllib.request
@@ -140,6 +141,17 @@ say([made.isValid(), sum(1 for _ in made.getFeatures()), made.crs().authid()])
 """
 
 
+LOGIN = QGIS + """
+for words in ("username='ann' password='secret' ", "username='ann' password='wrong' ", ""):
+    place = QgsVectorLayer(f"pagingEnabled='true' srsname='EPSG:3857' typename='v:place.points' url='{gateway}/wfs' version='auto' {words}", "place", "WFS")
+    say(place.isValid())
+    if place.isValid():
+        place.startEditing()
+        place.changeAttributeValue(rows(place)[455].id(), place.fields().indexOf("name"), "By Ann")
+        say(saved(place))
+"""
+
+
 def wfs_qgis(cases, folder):
     """All of it."""
     if subprocess.run([SYSTEM_PYTHON, "-c", "import qgis.core, osgeo"], capture_output=True).returncode != 0:
@@ -155,6 +167,7 @@ def wfs_qgis(cases, folder):
             desk.edits()
             desk.conflict()
             desk.project()
+            desk.login(server, gateway)
 
 
 class Desk:
@@ -214,6 +227,23 @@ class Desk:
         self.show("and the next Save is put over it", (last, self.tags(453)), (True, {"name": "mine 453", "kind": "school"}))
         wanted = [["Church", "Newer"], ["Church", "Newer"], ["By others", "Newer"]]
         self.show("panned, QGIS shows no feature twice", [sorted(names) for names in panned], wanted)
+
+    def login(self, server, gateway):
+        """nginx asks for a password."""
+        nginx = shutil.which("nginx", path=os.environ.get("PATH", "") + ":/usr/sbin")
+        if not (nginx and shutil.which("openssl")):
+            self.cases.say("no nginx, or no openssl: QGIS doesn't log in")
+            return
+        people = os.path.join(self.folder, "people")
+        with open(people, "w", encoding="utf-8") as file:
+            file.write("ann:" + subprocess.run(["openssl", "passwd", "-apr1", "secret"], capture_output=True, text=True, check=True).stdout)
+        os.chmod(people, 0o644)
+        block = [("# auth_basic", "auth_basic"), ("/etc/vtserve/people", people), ("        deny all;\n", ""), ("127.0.0.1:8090", f"127.0.0.1:{gateway.port}")]
+        with Nginx(nginx, self.folder, server, block) as front:
+            self.gateway = front.url
+            found = self.said(LOGIN)
+        self.show("behind nginx it logs in and saves; with a wrong password, and with none, there is no layer", found, [True, True, False, False])
+        self.show("what it saved", self.tags(455), {"name": "By Ann"})
 
     def project(self):
         found = self.said(PROJECT)

@@ -3,6 +3,7 @@
 Each line is JSON. `{"begun": ID, "session": NAME, "groups": ..}` is on the disk before the first edit of a save is sent; then come `{"sent": ID}` for
 each edit that was made, and `{"saved": ID, ..}` or `{"undone": ID}`. A save that is only begun was cut short.
 """
+import fcntl
 import json
 import os
 import time
@@ -27,6 +28,7 @@ class SaveLog:
         # The saves that were cut short: their groups of changes, and how many of them were made, by their ids. The lines of those that were done.
         self.begun, self.sent, self.done = {}, Counter(), []
         if path:
+            self.lock = locked(path + ".lock")
             self.read()
 
     def read(self):
@@ -96,6 +98,16 @@ class SaveLog:
         except OSError as fault:
             self.before = "\n"
             raise Unwritable(f"{self.path} can't be written: {fault.strerror}") from fault
+
+
+def locked(path):
+    """A file that nobody else can lock meanwhile."""
+    file = open(path, "ab")
+    try:
+        fcntl.flock(file, fcntl.LOCK_EX | fcntl.LOCK_NB)
+    except BlockingIOError as fault:
+        raise Refused(f"another `vtmap wfs` uses {path.removesuffix('.lock')}") from fault
+    return file
 
 
 def begun_row(number, groups):

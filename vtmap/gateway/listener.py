@@ -99,6 +99,8 @@ class Handler(BaseHTTPRequestHandler):
             text = wfs_texts.report(version, "NoApplicableCode", f"the map's server: {stopped}")
         except Fault as fault:
             text = wfs_texts.report(version, code, str(fault))
+        except RecursionError:
+            text = wfs_texts.report(version, code, "the request is nested too deep")
         except Exception as fault:
             text = wfs_texts.report(version, "NoApplicableCode", broken(fault))
         self.reply(200, text.encode(), XML)

@@ -11,6 +11,8 @@ from .tables import Table, View
 
 # How often the map is listed anew where a publication has ended the list of the edits since.
 TRIES = 8
+# Whoever lacks more edits than this, and than the map has features, lists it anew.
+MANY = 1000
 # The most versions of features that are kept to tell what others changed.
 MOST_KNOWN = 200000
 
@@ -46,7 +48,7 @@ class LiveMap:
         print(f"the map has {len(now):,} features at edit {edits:,}", flush=True)
 
     def follow(self):
-        """Takes the edits since the last one that is known. Returns whether the server lists them."""
+        """Takes the edits since the last one that is known. Returns whether the server lists them, and they aren't too many."""
         while True:
             try:
                 edits, last = self.client.edits_from(self.edits + 1)
@@ -56,6 +58,8 @@ class LiveMap:
                 # A map that was put back from a copy has fewer edits.
                 if self.client.known()["edits"] >= self.edits:
                     raise
+                return False
+            if last - self.edits > max(MANY, len(self.now)):
                 return False
             for edit in edits:
                 self.take({number: body and json.loads(body) for number, body in changes_in(edit["changes"]).items()})

@@ -15,6 +15,9 @@ from .tables import meets, text_of
 # Digits of a degree: a hundredth of a square of the map.
 DIGITS = 8
 FORMATS = ("json", "geojson")
+# A time of RFC 3339, or an interval, which may be open.
+TIME = r"[0-9]{4}-[0-9]{2}-[0-9]{2}([Tt][0-9]{2}:[0-9]{2}:[0-9]{2}(\.[0-9]+)?([Zz]|[-+][0-9]{2}:[0-9]{2}))?"
+TIMES = re.compile(rf"{TIME}|({TIME}|\.\.)?/({TIME}|\.\.)?|\.\.")
 
 
 class Unknown(Refused):
@@ -79,6 +82,8 @@ def items(table, given, here):
     """A page of features, in the order of their ids. The next one begins after the last id, so no feature is listed twice while others edit."""
     see_names(given, [*PARAMETERS, *(tag for tag, _ in table.columns.values())])
     boxes = boxes_of(given.get("bbox"))
+    if not TIMES.fullmatch(given.get("datetime", "..")):
+        raise Refused(f"datetime is no time and no interval: {given['datetime']}")
     found = [view for view in table.views if is_asked(view, table, boxes, given)]
     after, limit = number_of(given, "after", 0), min(number_of(given, "limit", USUAL), MOST)
     if limit == 0:

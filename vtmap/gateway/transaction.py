@@ -54,13 +54,12 @@ class Transaction:
             elif wish is not None:
                 if wish.feature is None:
                     raise Refused(f"{wish} is deleted and changed at once")
-                wish.feature = changed(wish.feature, action, table, str(wish))
+                wish.feature = changed(wish.feature, action, table, wish.number)
 
     def insert(self, action, table):
         """Takes a new feature."""
         number = self.new_id()
-        feature = changed(new_feature(table), action, table, f"a new feature of {table.layer}")
-        self.wishes[number] = Wish(table, None, number, None, feature)
+        self.wishes[number] = Wish(table, None, number, None, changed(new_feature(table), action, table))
 
     def new_id(self):
         """The next free id. Pieces of cut features have greater ones."""
@@ -81,7 +80,7 @@ class Transaction:
         if view is None and action.name == "Delete":
             return None
         # A GIS that got no reply saves the same again.
-        is_made = before and view and action.name == "Update" and changed(before, action, table, f"{table.layer} {number}") == view.feature
+        is_made = before and view and action.name == "Update" and changed(before, action, table, number) == view.feature
         if now != version and not is_made and not ((number, now) in self.session.seen and (view or before)):
             self.tell(table, number, view, before)
             return None

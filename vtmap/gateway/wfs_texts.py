@@ -89,9 +89,9 @@ def schema(version, tables):
         columns = [(SHAPE, "gml:" + SHAPES[table.kind][table.is_several]), (ID, "xsd:long")]
         columns += [(name, FORMS[form]) for name, (_, form) in table.columns.items()] + [(zoom, "xsd:int") for zoom in ZOOMS]
         inner = "".join(f'<xsd:element name="{name}" type="{form}" minOccurs="0" nillable="true"/>' for name, form in columns)
-        made.append(f'<xsd:complexType name="{table.name}.Type"><xsd:complexContent><xsd:extension base="gml:AbstractFeatureType"><xsd:sequence>{inner}'
+        made.append(f'<xsd:complexType name="{table.name}Type"><xsd:complexContent><xsd:extension base="gml:AbstractFeatureType"><xsd:sequence>{inner}'
                     f'</xsd:sequence></xsd:extension></xsd:complexContent></xsd:complexType><xsd:element name="{table.name}" '
-                    f'type="v:{table.name}.Type" substitutionGroup="gml:{version.feature}"/>')
+                    f'type="v:{table.name}Type" substitutionGroup="gml:{version.feature}"/>')
     return (f'{HEAD}<xsd:schema xmlns:xsd="http://www.w3.org/2001/XMLSchema" xmlns:gml="{version.gml}" xmlns:v="{SPACE}" targetNamespace="{SPACE}" '
             f'elementFormDefault="qualified"><xsd:import namespace="{version.gml}" schemaLocation="http://schemas.opengis.net/gml/{version.schema}/gml.xsd"/>'
             f'{"".join(made)}</xsd:schema>')

@@ -29,14 +29,15 @@ def new_feature(table):
     return {"layer": table.layer, **dict(zip(ZOOMS, table.zooms)), "geometry": None, "tags": {}}
 
 
-def changed(feature, action, table, name):
-    """The feature with the values of an action. `name`: how people know it."""
-    made = {**feature, "tags": dict(feature["tags"])}
+def changed(feature, action, table, number=None):
+    """The feature with the values of an action. `number`: that of a feature which isn't new."""
+    made, name = {**feature, "tags": dict(feature["tags"])}, f"a new feature of {table.layer}" if number is None else f"{table.layer} {number}"
     for key, value in action.values.items():
         if key == SHAPE:
             made["geometry"] = shape(value, made["geometry"], table, name)
-        elif key == ID and action.name == "Update":
-            raise Refused(f"{name}: the server gives {ID}, it can't be changed")
+        elif key == ID:
+            if number is not None and value != str(number):
+                raise Refused(f"{name}: the server gives {ID}, it can't be changed")
         elif key in ZOOMS:
             made[key] = zoom(value, dict(zip(ZOOMS, table.zooms))[key], f"{name}: {key}")
         elif key not in OWN and isinstance(value, (str, type(None))):
