@@ -144,6 +144,11 @@ def units(cases):
             time.sleep(1)
         cases.show("vtserve-log.service: its command logs an edit", os.path.exists(LOG), True)
         log.terminate()
+    done("install", "-d", "-o", "vtserve", "-m", "700", "/var/lib/vtserve-wfs")
+    with subprocess.Popen(command_of("vtserve-wfs.service"), stdout=subprocess.DEVNULL, stderr=subprocess.DEVNULL) as gateway:
+        asked = ("curl", "-s", "-o", "/dev/null", "-w", "%{http_code}", "--retry", "10", "--retry-all-errors", "-f", "http://127.0.0.1:8000/ogc/")
+        cases.show("vtserve-wfs.service: its command, through nginx", ran(*asked), (0, "200"))
+        gateway.terminate()
     return server
 
 
@@ -156,12 +161,13 @@ def purged(cases, root):
     done("apt-get", "install", "-y", "--reinstall", "/srv/vtserve.deb", root=root)
     cases.show("another installation keeps the style that was changed", os.path.getsize(style), wanted)
     status, text = ran("apt-get", "purge", "-y", "vtserve", root=root)
-    left = "vtserve: left are /var/lib/vtserve /var/backups/vtserve /var/lib/vtserve-log, and the user"
+    left = "vtserve: left are /var/lib/vtserve /var/backups/vtserve /var/lib/vtserve-log /var/lib/vtserve-wfs, and the user"
     cases.show("a purge says that it leaves maps, backups and the log of edits", (status, left in text or text), (0, True))
     kept = [os.path.exists(root + path) for path in ("/var/lib/vtserve/map.disk", "/var/lib/vtserve-log/edits.jsonl")]
     cases.show("and they are there", (kept, ran("getent", "passwd", "vtserve", root=root)[0]), ([True, True], 0))
     done("apt-get", "install", "-y", "/srv/vtserve.deb", root=root)
-    done("sh", "-c", "rm -rf /srv/* /var/lib/vtserve/* /var/backups/vtserve/* /var/lib/vtserve-log /var/lib/vtserve-nginx /etc/vtserve/nginx.conf", root=root)
+    folders = "/var/lib/vtserve/* /var/backups/vtserve/* /var/lib/vtserve-*"
+    done("sh", "-c", f"rm -rf /srv/* {folders} /etc/vtserve/nginx.conf", root=root)
     cases.show("a purge without maps", ran("apt-get", "purge", "-y", "vtserve", root=root)[0], 0)
     words = ("sh", "-c", "find / -xdev -iname '*vtserve*' -o -iname '*vtmap*'; getent passwd vtserve")
     cases.show("leaves nothing", ran(*words, root=root)[1].splitlines(), [])
