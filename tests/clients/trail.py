@@ -113,6 +113,17 @@ def told(cases, office):
     cases.show("trail: --json", (code, row_of["edit"], row_of["person"], row_of["changes"][0]["delete"]), (0, 4, "bob", 8))
 
 
+def faults(cases, office):
+    """A second one that writes the log, and a file system that is full."""
+    code, lines = vtmap("follow", "--url", office.server.url, "--log", office.path, "--once")
+    cases.show("trail: a second one for the same log", (code, lines[-1].endswith(": another `vtmap follow` writes this log")), (1, True))
+    path = os.path.join(os.path.dirname(office.path), "other.jsonl")
+    for size, code in ((1, 1), (10 ** 7, 0)):
+        words = ["prlimit", f"--fsize={size * 1000}", *VTMAP, "follow", "--url", office.server.url, "--log", path, "--once"]
+        child = subprocess.run(words, capture_output=True, text=True)
+        cases.show(f"trail: a log in files of at most {size} KB", (child.returncode, "Traceback" in child.stderr), (code, False))
+
+
 def same_again(cases, office):
     """The same change by several people in turn, and by somebody who goes past nginx."""
     first = office.last() + 1
@@ -205,6 +216,7 @@ def trail(cases, folder):
             file.write("anna:{PLAIN}secret\nbob:{PLAIN}secret\n")
         office = Office(place, server, front)
         told(cases, office)
+        faults(cases, office)
         same_again(cases, office)
         undone(cases, office)
         conflicts(cases, office)

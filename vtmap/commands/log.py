@@ -113,8 +113,13 @@ def told(change):
 
 def lines(edit):
     """The lines of an edit."""
-    time = edit.time.strftime("%Y-%m-%d %H:%M:%S")
-    return [f"{time}  {edit.number}  {edit.person}  {told(change)}" for change in edit.changes]
+    time, person = edit.time.strftime("%Y-%m-%d %H:%M:%S"), shown(edit.person)
+    return [f"{time}  {edit.number}  {person}  {told(change)}" for change in edit.changes]
+
+
+def shown(person):
+    """A name that somebody has sent, as a terminal may have it."""
+    return person if person.isprintable() else repr(person)
 
 
 def missing(row):
@@ -126,7 +131,7 @@ def missing(row):
 def names_of(words, edit, change):
     """What a change is counted under."""
     return {
-        "person": lambda: edit.person,
+        "person": lambda: shown(edit.person),
         "day": lambda: edit.time.date().isoformat(),
         "layer": lambda: (layers_of(change) or [NOBODY])[0],
         "feature": lambda: named(id_of(change), feature_of(change)) if feature_of(change) else f"{id_of(change)}",

@@ -11,6 +11,7 @@ import gzip
 import json
 import os
 import sqlite3
+from contextlib import contextmanager
 from datetime import datetime, timezone
 
 from ..client.edits import encoded
@@ -31,35 +32,47 @@ class KeptMap:
     read while they were made."""
 
     def __init__(self, path):
-        self.path = path
-        try:
+        self.path, self.at, self.sure = path, None, 0
+        with self.told():
             self.file = sqlite3.connect(path, timeout=1, isolation_level=None)
             self.file.executescript(SCHEMA)
             known = dict(self.file.execute("SELECT name, number FROM known"))
-        except sqlite3.Error as fault:
-            raise Stopped(f"{path}: {fault}: does another `vtmap follow` write this log?") from fault
         self.at, self.sure = known.get("at"), known.get("sure", 0)
+
+    @contextmanager
+    def told(self):
+        """Stops at a fault of the file, with its path."""
+        try:
+            yield
+        except sqlite3.Error as fault:
+            other = ": another `vtmap follow` writes this log" if "locked" in str(fault) else ""
+            raise Stopped(f"{self.path}: {fault}{other}") from fault
+
+    @contextmanager
+    def changed(self):
+        """Changes the features, and of which edit they are: all of it, or nothing."""
+        before = self.at, self.sure
+        with self.told():
+            self.file.execute("BEGIN")
+            try:
+                yield self.file
+                self.file.executemany("INSERT OR REPLACE INTO known VALUES (?, ?)", [("at", self.at), ("sure", self.sure)])
+                self.file.execute("COMMIT")
+            except BaseException:
+                self.at, self.sure = before
+                if self.file.in_transaction:
+                    self.file.execute("ROLLBACK")
+                raise
 
     def list(self, source, at=None):
         """Keeps the features that a server lists, as of an edit that it still lists the ones after, or of now."""
         before = source.known()["edits"]
         if at is not None and at > before:
             raise Stopped(f"{source.address} has edits up to {before:,}, and the log up to {at:,}: it is another map, or was put back from a copy")
-        self.file.execute("BEGIN")
-        try:
-            self.file.execute("DELETE FROM feature")
-            self.file.executemany("INSERT INTO feature VALUES (?, ?)", ((number, encoded(feature)) for number, feature in source.features()))
+        with self.changed() as file:
+            file.execute("DELETE FROM feature")
+            file.executemany("INSERT INTO feature VALUES (?, ?)", ((number, encoded(feature)) for number, feature in source.features()))
             self.at, self.sure = before if at is None else at, source.known()["edits"]
-            self.keep()
-            self.file.execute("COMMIT")
-        except BaseException:
-            self.file.execute("ROLLBACK")
-            self.at = None
-            raise
-
-    def keep(self):
-        """Keeps of which edit the features are."""
-        self.file.executemany("INSERT OR REPLACE INTO known VALUES (?, ?)", [("at", self.at), ("sure", self.sure)])
 
     def with_was(self, number, change):
         """A change of an edit with what it replaces; makes it."""
@@ -111,18 +124,10 @@ class EditLog:
 
     def take(self, edits):
         """Appends edits, the first of which is the one after the last."""
-        transaction = self.map.file
-        transaction.execute("BEGIN")
-        try:
+        with self.map.changed():
             rows = [{"edit": edit["edit"], "changes": [self.map.with_was(edit["edit"], change) for change in edit["changes"]]} for edit in edits]
             self.write([row for row in rows if row["edit"] > self.logged])
             self.map.at = edits[-1]["edit"]
-            self.map.keep()
-            transaction.execute("COMMIT")
-        except BaseException:
-            transaction.execute("ROLLBACK")
-            self.map.at = self.at
-            raise
         self.at = self.map.at
         self.logged = max(self.logged, self.at)
 
