@@ -53,6 +53,7 @@ from updates import updates
 from wfs import wfs
 from wfs_deaths import wfs_deaths
 from wfs_qgis import wfs_qgis
+from wfs_random import wfs_random
 
 
 def archive():
@@ -814,6 +815,7 @@ def main():
         "three-ways": three_ways,
         "wfs": wfs,
         "wfs-deaths": wfs_deaths,
+        "wfs-random": wfs_random,
         "wfs-qgis": wfs_qgis,
         "ogc": ogc,
         "operation": operation,

@@ -228,6 +228,7 @@ def hostile(cases, gateway):
         ("EPSG:3857 is needed", f"<Transaction {GML}>{gis.insert(point(1, 1).replace('3857', '25832'))}</Transaction>"),
         ("outside of the world", f"<Transaction {GML}>{gis.insert(point(1e9, 1.0))}</Transaction>"),
         ("no such coordinates", f"<Transaction {GML}>{gis.insert(point(1, 1).replace('1,1', 'x'))}</Transaction>"),
+        ("feature 451 isn't of road.lines", f"<Transaction {GML}>{gis.update(451, name='x').replace('place.points', 'road.lines', 1)}</Transaction>"),
         ("nested too deep", f"<Transaction {GML}>{gis.insert('<MultiPoint><a>' * 5000 + '</a></MultiPoint>' * 5000)}</Transaction>"),
     ]:
         cases.show(f"wfs: {text}: {body[:50]}", text in gis.send(body), True)

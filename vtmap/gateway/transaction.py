@@ -84,6 +84,8 @@ class Transaction:
         if now != version and not is_made and not ((number, now) in self.session.seen and (view or before)):
             self.tell(table, number, view, before)
             return None
+        if view and view.key != (table.layer, table.kind):
+            raise Refused(f"feature {number} isn't of {table.name}")
         self.versions[number] = now
         self.wishes[number] = Wish(table, fid, number, view and view.whole, view.feature if view else before)
         return self.wishes[number]
