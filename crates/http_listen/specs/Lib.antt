@@ -1,6 +1,13 @@
+pub mod Asked
 pub mod Connections
+pub mod Conversations
+pub mod Found
+pub mod Goes
 pub mod Lines
 pub mod Listeners
+pub mod Orders
 pub mod Paces
 pub mod Places
 pub mod Rests
+pub mod Stays
+pub mod Talks

@@ -22,6 +22,10 @@ module _ {S : Type 0} where
   abbrev pub kept_at : Places S → ℕ → Option (Kept S)
   kept_at places key = kept_in places.places key
 
+  -- the key that the next connection gets
+  abbrev pub next_key : Places S → ℕ
+  next_key places = places.places.vacant_key
+
   -- the connections are the same
   abbrev pub KeepsAll : Places S → Places S → Type 0
   KeepsAll old new = (key : ℕ) → kept_at new key ≡ kept_at old key

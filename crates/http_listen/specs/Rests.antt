@@ -1,8 +1,8 @@
 -- The rest of a content that a stretch left.
-use Rattle.std.specs.Prelude.{ℕ, ◌+◌, ◌^◌, ◌-◌, min, cond, Option, None, Some, Result, Ok, Err}
+use Rattle.std.specs.Prelude.{◌+◌, ◌^◌, ◌-◌, min, cond, Option, None, Some, Result, Ok, Err}
 use Rattle.http_serve.specs.declared.connection.End.TheVariants.{Closed, Asked}
 use Rattle.http_serve.specs.declared.connection.ServeFault.{ServeFault}
-use Rattle.http_serve.specs.declared.connection.ServeFault.TheVariants.{Memory, Read, Write, Content, Rest}
+use Rattle.http_serve.specs.declared.connection.ServeFault.TheVariants.{Rest}
 use Rattle.http_serve.specs.declared.connection.Served.{Served}
 use Rattle.http_serve.specs.declared.handlers.Ticket.{Ticket}
 use Rattle.http_listen.specs.declared.rests.Unsent.{Unsent}

@@ -1,8 +1,16 @@
 //! New connections, and what makes room for them.
+ghost use Rattle.std.specs.Prelude.{◌≢◌, ℕ};
+ghost use Rattle.http_listen.specs.declared.kept.Kept.{Kept};
+ghost use Rattle.http_listen.specs.declared.rests.Unsent.{Unsent};
+ghost use Rattle.http_listen.specs.declared.rooms.Found.TheVariants.{Asks, Reads};
+ghost use Rattle.http_listen.specs.Found.{IsReady};
+ghost use Rattle.http_listen.specs.Goes.{Goes};
+ghost use Rattle.http_listen.specs.Places.{kept_at};
 
 use crate::places::List;
 use crate::refusals::{Refusal, refusal_of};
 use crate::rooms::{Found, Room, fails_too_often};
+use crate::talks::Talks;
 use crate::waits::{MAX_KEPT, Waits};
 use std::io::Write;
 use std::net::OpenStream;
@@ -11,7 +19,7 @@ use std::time::Duration;
 /// How many milliseconds a new connection is left in the listener's queue while there is no room for it.
 const QUEUE_MILLISECONDS: u64 = 10;
 
-impl<S: OpenStream + Drop> Room<S> {
+impl<S: Talks + OpenStream + Drop> Room<S> {
     /// The connection that is closed for one that comes: one that has ended, or else the one that has waited longest for a request, if it
     /// has waited for a second and has sent nothing.
     fn giving_way(&self, now: Duration) -> Option<usize> {
@@ -31,7 +39,9 @@ impl<S: OpenStream + Drop> Room<S> {
         now: Duration,
         listener: &mut L,
         log: &mut W,
-    ) {
+    )
+        ensures goes { Goes S.told (kept_at self.old.places) (kept_at self.new.places) }
+    {
         let pause = Duration::from_millis(QUEUE_MILLISECONDS);
         self.crowded = now.saturating_add(pause);
         if listener.wait(Duration::ZERO, &mut self.places).is_err() {
@@ -50,7 +60,9 @@ impl<S: OpenStream + Drop> Room<S> {
         listener: &mut L,
         refusal: Refusal,
         log: &mut W,
-    ) -> bool {
+    ) -> bool
+        ensures goes { Goes S.told (kept_at self.old.places) (kept_at self.new.places) }
+    {
         match refusal {
             Refusal::Empty => {
                 self.failed_accepts = 0;
@@ -72,7 +84,12 @@ impl<S: OpenStream + Drop> Room<S> {
         now: Duration,
         listener: &mut L,
         log: &mut W,
-    ) -> Found<S> {
+    ) -> Found<S>
+        ensures ready { IsReady result }
+        ensures goes { Goes S.told (kept_at self.old.places) (kept_at self.new.places) }
+        ensures other { (kept : Kept S) (end : ℕ) → result ≢ Asks kept end }
+        ensures no_rest { (kept : Kept S) (unsent : Unsent) → result ≢ Reads kept unsent }
+    {
         self.accepts = self.accepts.saturating_sub(1);
         if self.places.count() >= listener.max_open().min(MAX_KEPT) {
             self.give_way(now, listener, log);

@@ -1,20 +1,27 @@
 //! The connections of a listener.
-ghost use Rattle.std.specs.Prelude.{◌≡◌, ◌<◌, Bool, Result, List, OnOk, OnErr};
+ghost use Rattle.std.specs.Prelude.{◌≡◌, ◌<◌, ◌∷◌, [], ℕ, Bool, Result, List, None, Some, take, OnOk, OnErr};
 ghost use Rattle.http_serve.specs.declared.connection.ServeFault.{ServeFault};
 ghost use Rattle.http_serve.specs.declared.connection.Served.{Served};
 ghost use Rattle.http_listen.specs.Rests.{rest_after};
+ghost use Rattle.http_listen.specs.Asked.{IsAsked};
+ghost use Rattle.http_listen.specs.Conversations.{Act, Deed, Answers, Does, Runs, Steps};
+ghost use Rattle.http_listen.specs.Orders.{AreInOrder};
+ghost use Rattle.http_listen.specs.Goes.{Acts};
+ghost use Rattle.http_listen.specs.Places.{kept_at};
+ghost use Rattle.http_listen.specs.Talks.{Moves};
 ghost use Rattle.http_listen.specs.Connections.{Event, Serves, ComesTo, NextStretch, NextPart, AreOverKnown, begun};
 
-use crate::kept::{Kept, Turn};
+use crate::kept::{Ending, Kept, Turn};
 use crate::rests::{Unsent, add_part};
 use crate::rooms::{Found, Room, time_of};
+use crate::talks::Talks;
 use crate::waits::Waits;
 use crate::writers::ReplyWriter;
 use http_serve::{Buffers, Downloads, MAX_READS, ServeFault, Served, serve_fronts};
 use std::alloc::Global;
-use std::io::{Read, Write};
+use std::io::Write;
 use std::net::OpenStream;
-use std::time::Clock;
+use std::time::{Clock, Duration};
 use thiserror::Error;
 
 /// Why no more connections are served.
@@ -52,11 +59,16 @@ fn serve_front<S, H>(
     handler: &mut H,
 ) -> Past<S>
 where
-    S: Write + OpenStream + Drop,
+    S: Talks + OpenStream + Drop,
     H: Downloads,
     ensures comes { ComesTo H.replies H.fails result.outcome handler.old handler.new }
     // What is left is read by the ticket of the reply that stopped.
     ensures unsent { result.kept.turn.unsent ≡ rest_after (H.ticket_of handler.new) result.outcome }
+    // What the stream took and what waits for it grew by the replies to these bytes, at the end. Nothing was read.
+    ensures answers { (out : List ℕ) × Answers H.replies H.fails handler.old (take end kept.input) out result.outcome handler.new
+        × Moves (S.told kept.stream) kept.output [] out (S.told result.kept.stream) result.kept.output }
+    ensures turn { result.kept.turn ≡ record kept.turn { unsent = result.kept.turn.unsent } }
+    ensures input { result.kept.input ≡ kept.input }
 {
     let Kept {
         stream,
@@ -89,16 +101,61 @@ fn open<S, H, W>(
     log: &mut W,
 )
 where
-    S: Read + Write + OpenStream + Drop,
+    S: Talks + OpenStream + Drop,
     H: Downloads,
     W: Write,
-    ensures { NextStretch H.replies H.fails handler.old handler.new }
+    requires whole { kept.turn.unsent ≡ None }
+    ensures comes { NextStretch H.replies H.fails handler.old handler.new }
+    ensures acted { (act : Act) × Does H.replies H.fails H.reads H.ticket_of handler.old act handler.new
+        × Acts S.told (kept_at room.old.places) kept act (kept_at room.new.places) }
 {
     let past = serve_front(buffers, 0, kept, 0, handler);
     room.opened(past.kept, past.outcome, log);
 }
 
-/// Answers the first `end` bytes of a connection's input, in a stretch of it, and begins to send the replies.
+/// A connection after an act, at this time, and what it came to, if it ends.
+#[derive(Drop)]
+struct Acted<S> {
+    now: Duration,
+    kept: Kept<S>,
+    ending: Ending,
+}
+
+/// Answers the first `end` bytes of a connection's input, in a stretch of it, and begins to send the replies. Nothing waits to be sent before.
+fn answer_front<S, H, C>(
+    clock: &C,
+    buffers: &mut Buffers,
+    room: &mut Room<S>,
+    kept: Kept<S>,
+    end: usize,
+    handler: &mut H,
+) -> Acted<S>
+where
+    S: Talks + OpenStream + Drop,
+    H: Downloads,
+    C: Clock,
+    requires sent { kept.output ≡ [] }
+    requires whole { kept.turn.unsent ≡ None }
+    requires asked { IsAsked kept.input kept.turn.ended end }
+    ensures comes { NextStretch H.replies H.fails handler.old handler.new }
+    ensures places { room.new.places ≡ room.old.places }
+    ensures acts { (act : Act) × Does H.replies H.fails H.reads H.ticket_of handler.old act handler.new
+        × Steps S.told kept (act ∷ []) (result.ending ≡ None) result.kept }
+{
+    let limit = room.output_limit();
+    let start = time_of(clock);
+    let Past { outcome, mut kept } = serve_front(buffers, limit, kept, end, handler);
+    room.spend(clock, start);
+    let now = room.now(clock);
+    kept.answered(now, end, outcome);
+    let ending = match outcome {
+        Err(ServeFault::Write { .. }) => Some(outcome),
+        _ => kept.send_replies(now),
+    };
+    Acted { now, kept, ending }
+}
+
+/// Answers the first `end` bytes of a connection's input, and keeps or ends it.
 fn answer<S, H, W, C>(
     clock: &C,
     buffers: &mut Buffers,
@@ -109,37 +166,39 @@ fn answer<S, H, W, C>(
     log: &mut W,
 )
 where
-    S: Read + Write + OpenStream + Drop,
+    S: Talks + OpenStream + Drop,
     H: Downloads,
     W: Write,
     C: Clock,
-    ensures { NextStretch H.replies H.fails handler.old handler.new }
+    requires sent { kept.output ≡ [] }
+    requires whole { kept.turn.unsent ≡ None }
+    requires asked { IsAsked kept.input kept.turn.ended end }
+    ensures comes { NextStretch H.replies H.fails handler.old handler.new }
+    ensures acted { (act : Act) × Does H.replies H.fails H.reads H.ticket_of handler.old act handler.new
+        × Acts S.told (kept_at room.old.places) kept act (kept_at room.new.places) }
 {
-    let limit = room.output_limit();
-    let start = time_of(clock);
-    let Past { outcome, mut kept } = serve_front(buffers, limit, kept, end, handler);
-    room.spend(clock, start);
-    let now = room.now(clock);
-    kept.answered(now, end, outcome);
-    let ending = kept.send_replies(now);
+    let Acted { now, kept, ending } = answer_front(clock, buffers, room, kept, end, handler);
     room.keep_or_end(now, kept, ending, log);
 }
 
-/// Reads the next part of the content that a connection sends, and begins to send it.
-fn send_part<S, H, W, C>(
+/// Reads the next part of the content that a connection sends, and begins to send it. Nothing waits to be sent before.
+fn read_part<S, H, C>(
     clock: &C,
     room: &mut Room<S>,
     mut kept: Kept<S>,
     unsent: Unsent,
     handler: &mut H,
-    log: &mut W,
-)
+) -> Acted<S>
 where
-    S: Read + Write + OpenStream + Drop,
+    S: Talks + OpenStream + Drop,
     H: Downloads,
-    W: Write,
     C: Clock,
-    ensures { NextPart H.reads handler.old handler.new }
+    requires sent { kept.output ≡ [] }
+    requires rest { kept.turn.unsent ≡ Some unsent }
+    ensures reads { NextPart H.reads handler.old handler.new }
+    ensures places { room.new.places ≡ room.old.places }
+    ensures acts { (act : Act) × Does H.replies H.fails H.reads H.ticket_of handler.old act handler.new
+        × Steps S.told kept (act ∷ []) (result.ending ≡ None) result.kept }
 {
     let start = time_of(clock);
     kept.output.clear();
@@ -147,6 +206,30 @@ where
     room.spend(clock, start);
     let now = room.now(clock);
     let ending = kept.send_part(now, outcome);
+    Acted { now, kept, ending }
+}
+
+/// Reads the next part of the content that a connection sends, and keeps or ends it.
+fn send_part<S, H, W, C>(
+    clock: &C,
+    room: &mut Room<S>,
+    kept: Kept<S>,
+    unsent: Unsent,
+    handler: &mut H,
+    log: &mut W,
+)
+where
+    S: Talks + OpenStream + Drop,
+    H: Downloads,
+    W: Write,
+    C: Clock,
+    requires sent { kept.output ≡ [] }
+    requires rest { kept.turn.unsent ≡ Some unsent }
+    ensures reads { NextPart H.reads handler.old handler.new }
+    ensures acted { (act : Act) × Does H.replies H.fails H.reads H.ticket_of handler.old act handler.new
+        × Acts S.told (kept_at room.old.places) kept act (kept_at room.new.places) }
+{
+    let Acted { now, kept, ending } = read_part(clock, room, kept, unsent, handler);
     room.keep_or_end(now, kept, ending, log);
 }
 
@@ -198,7 +281,7 @@ pub fn serve_on<L, H, W, C>(
 ) -> Result<(), ListenFault>
 where
     L: Waits,
-    L::Stream: Read + Write + OpenStream,
+    L::Stream: Talks + OpenStream,
     H: Downloads,
     W: Write,
     C: Clock,
@@ -209,6 +292,9 @@ where
         × (begun served ≡ connections) × AreOverKnown served) }
     ensures fewer_known { OnErr result ((served : List Event) × Serves H.replies H.fails H.reads handler.old served handler.new
         × (begun served < connections) × AreOverKnown served) }
+    // What is done is done for the connections, each by its number. Of one of them nothing is answered while something of its last reply's content
+    // is left, and what is read of that is its next bytes, by that reply's ticket.
+    ensures named { (deeds : List Deed) × Runs H.replies H.fails H.reads H.ticket_of handler.old deeds handler.new × AreInOrder connections deeds }
 {
     let mut room = Room::new(alloc);
     let mut buffers = Buffers::new(alloc);

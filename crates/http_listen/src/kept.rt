@@ -1,7 +1,9 @@
 //! Connections between two of their turns.
-ghost use Rattle.std.specs.Prelude.{OnOk};
+ghost use Rattle.std.specs.Prelude.{◌≡◌, true, false, [], None, IsSome, drop, OnOk};
 ghost use Rattle.std.specs.Io.KnownBytes.{Appends};
+ghost use Rattle.http_listen.specs.Conversations.{Beside, Stands, IsRead, IsSearched, Steps};
 ghost use Rattle.http_listen.specs.Lines.{line_of};
+ghost use Rattle.http_listen.specs.Talks.{Moves};
 
 use crate::inputs::Input;
 use crate::lines::write_line;
@@ -11,11 +13,12 @@ use crate::paces::{Pace, Stage};
 use crate::places::List;
 use crate::readiness::Readiness;
 use crate::rests::{Unsent, once_sent};
+use crate::talks::Talks;
 use crate::turns::Next;
 use http_requests::MAX_REQUEST;
 use http_serve::{End, ServeFault, Served};
 use std::alloc::Global;
-use std::io::{self, ErrorKind, Read, Write};
+use std::io::{self, ErrorKind, Write};
 use std::net::{OpenStream, Shutdown};
 use std::time::Duration;
 
@@ -80,7 +83,14 @@ pub(crate) struct Kept<S> {
 
 impl<S> Kept<S> {
     /// A connection of which nothing was read.
-    pub(crate) fn new(alloc: Global, stream: S, number: u64, now: Duration) -> Self {
+    pub(crate) fn new(alloc: Global, stream: S, number: u64, now: Duration) -> Self
+        ensures stream { result.stream ≡ stream }
+        ensures number { result.turn.number ≡ number }
+        ensures input { result.input ≡ [] }
+        ensures output { result.output ≡ [] }
+        ensures unsent { result.turn.unsent ≡ None }
+        ensures drops { result.turn.drops ≡ None }
+    {
         let turn = Turn {
             number,
             requests: 0,
@@ -104,12 +114,17 @@ impl<S> Kept<S> {
     }
 
     /// Whether replies wait to be sent, or the rest of one to be read and sent. If none do, it waits for bytes.
-    pub(crate) fn sends(&self) -> bool {
+    pub(crate) fn sends(&self) -> bool
+        ensures sent { result ≡ false → self.now.output ≡ [] }
+        ensures whole { result ≡ false → self.now.turn.unsent ≡ None }
+    {
         self.has_output() || self.turn.unsent.is_some()
     }
 
     /// Whether bytes wait to be sent.
-    pub(crate) fn has_output(&self) -> bool {
+    pub(crate) fn has_output(&self) -> bool
+        ensures { result ≡ false → self.now.output ≡ [] }
+    {
         !self.output.waiting().is_empty()
     }
 
@@ -185,7 +200,9 @@ impl<S> Kept<S> {
     }
 
     /// More bytes are waited for.
-    pub(crate) fn begin_read(&mut self, now: Duration) {
+    pub(crate) fn begin_read(&mut self, now: Duration)
+        ensures { Stands self.old self.new }
+    {
         self.turn.searches = false;
         self.pace = self.pace.reads(self.input.len() == 0);
         self.turn.since = now;
@@ -197,7 +214,14 @@ impl<S> Kept<S> {
         now: Duration,
         end: usize,
         outcome: Result<Served, ServeFault>,
-    ) {
+    )
+        ensures stream { self.new.stream ≡ self.old.stream }
+        ensures input { self.new.input ≡ drop end self.old.input }
+        ensures output { self.new.output ≡ self.old.output }
+        ensures number { self.new.turn.number ≡ self.old.turn.number }
+        ensures drops { self.new.turn.drops ≡ self.old.turn.drops }
+        ensures unsent { self.new.turn.unsent ≡ self.old.turn.unsent }
+    {
         let outcome = once_sent(outcome);
         let goes_on = matches!(
             outcome,
@@ -211,13 +235,13 @@ impl<S> Kept<S> {
         self.turn.ready.writes = true;
         self.input.drop_front(end);
         self.turn.since = now;
-        if let Err(ServeFault::Write { .. }) = outcome {
-            self.output.clear();
-        }
     }
 
     /// The replies of its last stretch were sent.
-    pub(crate) fn replied(&mut self, now: Duration) {
+    pub(crate) fn replied(&mut self, now: Duration)
+        requires { self.old.output ≡ [] }
+        ensures { Stands self.old self.new }
+    {
         self.output.clear();
         if let Ok(served) = self.turn.outcome {
             self.turn.requests = self.turn.requests.saturating_add(served.requests);
@@ -238,7 +262,10 @@ impl<S: OpenStream> Kept<S> {
         now: Duration,
         outcome: Result<Served, ServeFault>,
         log: &mut W,
-    ) -> bool {
+    ) -> bool
+        ensures number { self.new.turn.number ≡ self.old.turn.number }
+        ensures ended { result ≡ true → IsSome self.new.turn.drops }
+    {
         let _ = self.log_end(outcome, log);
         if outcome.is_err() || self.turn.ended || self.stream.shutdown(Shutdown::Write).is_err() {
             return false;
@@ -254,9 +281,11 @@ impl<S: OpenStream> Kept<S> {
     }
 }
 
-impl<S: Read> Kept<S> {
+impl<S: Talks> Kept<S> {
     /// A read failed. Whether bytes may come yet.
-    fn may_read_again(&mut self, error: &io::Error) -> bool {
+    fn may_read_again(&mut self, error: &io::Error) -> bool
+        ensures { Stands self.old self.new }
+    {
         if error.kind() == ErrorKind::WouldBlock {
             self.turn.ready.reads = false;
         }
@@ -265,22 +294,27 @@ impl<S: Read> Kept<S> {
 
     /// Makes one read, and searches the input for a request, if bytes or its end came. If all connections hold too much, one that has begun
     /// a request is ended.
-    pub(crate) fn receive(&mut self, now: Duration, is_full: bool) -> Next {
+    pub(crate) fn receive(&mut self, now: Duration, is_full: bool) -> Next
+        ensures read { IsRead S.told self.old result self.new }
+        ensures searched { IsSearched self.new.input self.new.turn.ended result }
+    {
         if is_full && self.input.len() > 0 {
             return Next::Rests(Some(Err(ServeFault::Memory)));
         }
         let mut piece = [0; PIECE];
         let space = MAX_REQUEST.saturating_sub(self.input.len()).min(PIECE);
-        match self.stream.read(&mut piece[..space]) {
-            Ok(0) => self.turn.ended = true,
-            Ok(count) => {
-                self.turn.ready = self.turn.ready.read(count >= space);
-                if self.input.add(&piece[..count]).is_err() {
-                    return Next::Rests(Some(Err(ServeFault::Memory)));
-                }
-            }
+        let count = match self.stream.receive(&mut piece[..space]) {
+            Ok(count) => count,
             Err(e) if self.may_read_again(&e) => return Next::Rests(None),
             Err(_) => return Next::Rests(Some(Err(ServeFault::Read { requests: 0 }))),
+        };
+        if count == 0 {
+            self.turn.ended = true;
+        } else {
+            self.turn.ready = self.turn.ready.read(count >= space);
+            if self.input.add(&piece[..count]).is_err() {
+                return Next::Rests(Some(Err(ServeFault::Memory)));
+            }
         }
         self.pace = self.pace_at(now).received();
         self.turn.since = now;
@@ -288,9 +322,12 @@ impl<S: Read> Kept<S> {
     }
 
     /// Makes one read, and drops what it gives. Whether more may come.
-    pub(crate) fn drop_piece(&mut self, now: Duration, left: usize) -> bool {
+    pub(crate) fn drop_piece(&mut self, now: Duration, left: usize) -> bool
+        requires { IsSome self.old.turn.drops }
+        ensures { Steps S.told self.old [] ⊥ self.new }
+    {
         let mut piece = [0; PIECE];
-        match self.stream.read(&mut piece) {
+        match self.stream.receive(&mut piece) {
             Ok(count) => {
                 self.turn.ready = self.turn.ready.read(count >= PIECE);
                 self.turn.drops = Some(left.saturating_sub(count));
@@ -303,9 +340,13 @@ impl<S: Read> Kept<S> {
     }
 }
 
-impl<S: Write> Kept<S> {
+impl<S: Talks> Kept<S> {
     /// Makes one write of the replies that wait.
-    pub(crate) fn send(&mut self, now: Duration) -> Result<(), ServeFault> {
+    pub(crate) fn send(&mut self, now: Duration) -> Result<(), ServeFault>
+        ensures moves { Moves (S.told self.old.stream) self.old.output [] [] (S.told self.new.stream) self.new.output }
+        ensures beside { Beside self.old self.new }
+        ensures unsent { self.new.turn.unsent ≡ self.old.turn.unsent }
+    {
         match self.output.send(&mut self.stream) {
             Ok(0) => Err(ServeFault::Write { requests: 0 }),
             Ok(count) => {

@@ -1,9 +1,10 @@
 //! The replies of a connection that wait to be sent.
-ghost use Rattle.std.specs.Prelude.{◌≡◌, ◌≤◌, ◌++◌, [], true, false, length, take, drop, IfOk, OnOk, OnErr};
-ghost use Rattle.std.specs.Io.KnownBytes.{Appends, Keeps};
+ghost use Rattle.std.specs.Prelude.{◌≡◌, ◌≤◌, ◌++◌, [], true, false, length, drop, IfOk, OnOk};
+ghost use Rattle.http_listen.specs.Talks.{Moves};
 
+use crate::talks::Talks;
 use std::alloc::Global;
-use std::io::{self, Write};
+use std::io::{self, ErrorKind};
 use std::marker::Model;
 
 /// Bytes that wait to be sent. Without bytes it holds no memory.
@@ -75,24 +76,27 @@ impl Output {
         self.sent = 0;
     }
 
-    /// Makes one write of the bytes that wait. Those that it takes wait no more.
-    pub(crate) fn send<W: Write>(&mut self, writer: &mut W) -> io::Result<usize>
-        ensures ok { IfOk result (λ n. Appends (W.contents writer.old) (W.contents writer.new) (take n self.old)
-            × (self.new ≡ drop n self.old) × (n ≤ length self.old)) }
-        ensures err { OnErr result ((self.new ≡ self.old) × Keeps (W.contents writer.old) (W.contents writer.new)) }
+    /// Makes one write of the bytes that wait. Those that the stream takes wait no more.
+    pub(crate) fn send<S: Talks>(&mut self, stream: &mut S) -> io::Result<usize>
+        ensures moves { Moves (S.told stream.old) self.old [] [] (S.told stream.new) self.new }
+        ensures ok { IfOk result (λ n. (self.new ≡ drop n self.old) × (n ≤ length self.old)) }
     {
-        let count = writer.write(self.waiting())?;
+        let count = stream.send(self.waiting())?;
         self.sent += count;
         Ok(count)
     }
 
-    /// Writes all bytes that wait, and drops them, whether that succeeds or not.
-    pub(crate) fn send_all<W: Write>(&mut self, writer: &mut W) -> io::Result<()>
-        ensures ok { OnOk result (Appends (W.contents writer.old) (W.contents writer.new) self.old) }
-        ensures none { self.new ≡ [] }
+    /// Makes writes of the bytes that wait until none do, or one fails or takes none.
+    pub(crate) fn send_all<S: Talks>(&mut self, stream: &mut S) -> io::Result<()>
+        ensures moves { Moves (S.told stream.old) self.old [] [] (S.told stream.new) self.new }
+        ensures none { OnOk result (self.new ≡ []) }
     {
-        let outcome = writer.write_all(self.waiting());
+        'writes: while !self.waiting().is_empty() {
+            if self.send(stream)? == 0 {
+                return Err(ErrorKind::WriteZero.into());
+            }
+        }
         self.clear();
-        outcome
+        Ok(())
     }
 }

@@ -1,8 +1,11 @@
 //! Writes that wait for a peer whose time is limited.
-ghost use Rattle.std.specs.Io.{WritesAtMost};
+ghost use Rattle.std.specs.Prelude.{[], take, MatchResult};
+ghost use Rattle.std.specs.Io.{ReadsAtMost, WritesAtMost};
+ghost use Rattle.http_listen.specs.Talks.{Grows};
 
 use crate::paces::{Pace, WAIT_SECONDS};
-use std::io::{self, ErrorKind, Write};
+use crate::talks::Talks;
+use std::io::{self, ErrorKind};
 use std::net::OpenStream;
 use std::time::Duration;
 
@@ -41,15 +44,17 @@ impl<S: OpenStream> PacedWriter<S> {
     }
 }
 
-impl<S: Write> PacedWriter<S> {
+impl<S: Talks> PacedWriter<S> {
     /// Makes one write. The error is `TimedOut` if the peer has no time left.
-    fn write_round(&mut self, buf: &[u8]) -> io::Result<usize>
-        ensures { WritesAtMost result buf.now }
+    fn send_round(&mut self, buf: &[u8]) -> io::Result<usize>
+        ensures bound { WritesAtMost result buf.now }
+        ensures told { MatchResult result (λ n. Grows (S.told self.old.stream) [] (take n buf.now) (S.told self.new.stream))
+            (λ _. Grows (S.told self.old.stream) [] [] (S.told self.new.stream)) }
     {
         if self.pace.is_over() {
             return Err(ErrorKind::TimedOut.into());
         }
-        let outcome = self.stream.write(buf);
+        let outcome = self.stream.send(buf);
         let count = match &outcome {
             Ok(count) => *count,
             Err(_) => 0,
@@ -62,19 +67,21 @@ impl<S: Write> PacedWriter<S> {
     }
 }
 
-impl<S: Write> Write for PacedWriter<S> {
-    fn write(&mut self, buf: &[u8]) -> io::Result<usize> {
-        for _ in 0..MAX_ROUNDS {
-            match self.write_round(buf) {
+impl<S: Talks> Talks for PacedWriter<S> {
+    ghost told = { λ w. S.told w.stream };
+
+    fn receive(&mut self, buf: &mut [u8]) -> io::Result<usize> {
+        self.stream.receive(buf)
+    }
+
+    fn send(&mut self, buf: &[u8]) -> io::Result<usize> {
+        'rounds: for _round in 0..MAX_ROUNDS {
+            match self.send_round(buf) {
                 Err(e) if is_passing(&e) => {}
                 Ok(count) => return Ok(count),
                 Err(e) => return Err(e),
             }
         }
         Err(ErrorKind::WouldBlock.into())
-    }
-
-    fn flush(&mut self) -> io::Result<()> {
-        self.stream.flush()
     }
 }

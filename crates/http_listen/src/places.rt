@@ -1,6 +1,8 @@
 //! The places of open connections: which may have their turn, and which may be closed for others.
-ghost use Rattle.std.specs.Prelude.{◌≡◌};
-ghost use Rattle.http_listen.specs.Places.{KeepsAll, Reports};
+ghost use Rattle.std.specs.Prelude.{◌≡◌, ◌≢◌, ℕ, None, IsSome, IfOk, IfErr, OnErr};
+ghost use Rattle.http_listen.specs.Conversations.{Puts};
+ghost use Rattle.http_listen.specs.Stays.{AllStand};
+ghost use Rattle.http_listen.specs.Places.{kept_at, next_key, KeepsAll, Reports};
 
 use crate::kept::Kept;
 use crate::rooms::MAX_OUTPUT;
@@ -66,7 +68,9 @@ pub struct Places<S> {
 
 impl<S> Places<S> {
     /// No connections.
-    pub(crate) fn new(alloc: Global) -> Self {
+    pub(crate) fn new(alloc: Global) -> Self
+        ensures { (key : ℕ) → kept_at result key ≡ None }
+    {
         Places {
             places: Slab::new(alloc),
             ready: EMPTY,
@@ -260,7 +264,13 @@ impl<S> Places<S> {
 
     /// Adds a connection, at the end of the list that it is to be in. Returns its key, which is the one that the last connection had
     /// that was taken out, or the connection if memory runs out.
-    pub(crate) fn put(&mut self, kept: Kept<S>) -> Result<usize, Kept<S>> {
+    pub(crate) fn put(&mut self, kept: Kept<S>) -> Result<usize, Kept<S>>
+        ensures free { IfOk result (λ key. kept_at self.old key ≡ None) }
+        ensures next { IfOk result (λ key. key ≡ next_key self.old) }
+        ensures put { IfOk result (λ key. Puts (kept_at self.old) key kept (kept_at self.new)) }
+        ensures back { IfErr result (λ back. back ≡ kept) }
+        ensures same { OnErr result (KeepsAll self.old self.new) }
+    {
         let output = kept.output.held();
         let held = output.saturating_add(kept.input.len());
         let is_large = output > MAX_OUTPUT;
@@ -286,7 +296,12 @@ impl<S> Places<S> {
     }
 
     /// Takes a connection out.
-    pub(crate) fn take(&mut self, key: usize) -> Option<Kept<S>> {
+    pub(crate) fn take(&mut self, key: usize) -> Option<Kept<S>>
+        ensures taken { result ≡ kept_at self.old key }
+        ensures none { kept_at self.new key ≡ None }
+        ensures next { IsSome result → next_key self.new ≡ key }
+        ensures others { (other : ℕ) → other ≢ key → kept_at self.new other ≡ kept_at self.old other }
+    {
         self.unlink(key);
         let Place {
             kept,
@@ -314,6 +329,7 @@ impl<S> Places<S> {
     pub(crate) fn watch<L>(&mut self, key: usize, listener: &mut L) -> bool
     where
         L: Waits<Stream = S>,
+        ensures { AllStand (kept_at self.old) (kept_at self.new) }
     {
         let Some(place) = self.places.get_mut(key) else {
             return false;

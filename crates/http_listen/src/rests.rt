@@ -1,5 +1,5 @@
 //! The rest of a content that a stretch left: it is read part by part, each once the peer has taken the part before.
-ghost use Rattle.std.specs.Prelude.{◌≡◌, ◌≤◌, ◌+◌, ◌++◌, Some, Option, List, ℕ, length, IfOk, MatchOption};
+ghost use Rattle.std.specs.Prelude.{◌≡◌, ◌≤◌, ◌+◌, ◌++◌, Some, Option, List, ℕ, length, IfOk, OnErr, MatchOption};
 ghost use Rattle.http_listen.specs.Rests.{rest_after, once_sent};
 
 use crate::outputs::Output;
@@ -83,6 +83,7 @@ fn add_bytes<H: Downloads>(
     ensures added { IfOk result (λ left. (bytes : List ℕ) × H.reads handler.old unsent.ticket unsent.at (Some bytes) handler.new
         × (output.new ≡ output.old ++ bytes)
         × MatchOption left (unsent.end ≤ unsent.at + length bytes) (λ next. next ≡ record unsent { at = unsent.at + length bytes })) }
+    ensures same { OnErr result (output.new ≡ output.old) }
 {
     match handler.read_rest(unsent.ticket, unsent.at, part) {
         Ok(()) => {}
@@ -110,6 +111,7 @@ pub(crate) fn add_part<H: Downloads>(
     ensures added { IfOk result (λ left. (bytes : List ℕ) × H.reads handler.old unsent.ticket unsent.at (Some bytes) handler.new
         × (output.new ≡ output.old ++ bytes)
         × MatchOption left (unsent.end ≤ unsent.at + length bytes) (λ next. next ≡ record unsent { at = unsent.at + length bytes })) }
+    ensures same { OnErr result (output.new ≡ output.old) }
 {
     let mut part = [0; PART_SIZE];
     let count = unsent.part_len();

@@ -1,17 +1,22 @@
 //! The open connections, and whose turn it is.
-ghost use Rattle.std.specs.Prelude.{◌≡◌, ◌≢◌, Some, true};
+ghost use Rattle.std.specs.Prelude.{◌≡◌, ◌≢◌, ℕ, IfSome, None, Some, true};
 ghost use Rattle.http_listen.specs.declared.rooms.Found.{Found};
 ghost use Rattle.http_listen.specs.declared.rooms.Found.TheVariants.{New};
+ghost use Rattle.http_listen.specs.Found.{IsReady};
+ghost use Rattle.http_listen.specs.Goes.{Seats, Goes, GoesTo, Finds};
+ghost use Rattle.http_listen.specs.Places.{kept_at, next_key};
+ghost use Rattle.http_listen.specs.declared.kept.Kept.{Kept};
 
 use crate::deadlines::Deadlines;
 use crate::kept::{Ending, Kept};
 use crate::places::{List, Places};
 use crate::rests::Unsent;
+use crate::talks::Talks;
 use crate::turns::Next;
 use crate::waits::Waits;
 use http_serve::{ServeFault, Served};
 use std::alloc::Global;
-use std::io::{Read, Write};
+use std::io::Write;
 use std::net::OpenStream;
 use std::time::{Clock, Duration};
 
@@ -85,7 +90,9 @@ pub(crate) struct Room<S> {
 
 impl<S> Room<S> {
     /// No connection is open.
-    pub(crate) fn new(alloc: Global) -> Self {
+    pub(crate) fn new(alloc: Global) -> Self
+        ensures { (key : ℕ) → kept_at result.places key ≡ None }
+    {
         Room {
             places: Places::new(alloc),
             round: 0,
@@ -107,7 +114,9 @@ impl<S> Room<S> {
     }
 
     /// An answer was made since this time of the clock. If it took long, its time doesn't count.
-    pub(crate) fn spend<C: Clock>(&mut self, clock: &C, since: Duration) {
+    pub(crate) fn spend<C: Clock>(&mut self, clock: &C, since: Duration)
+        ensures { self.new.places ≡ self.old.places }
+    {
         let passed = time_of(clock).saturating_sub(since);
         if passed >= Duration::from_secs(LONG_ANSWER_SECONDS) {
             self.spent = self.spent.saturating_add(passed);
@@ -131,9 +140,11 @@ impl<S> Room<S> {
     }
 }
 
-impl<S: OpenStream + Drop> Room<S> {
+impl<S: Talks + OpenStream + Drop> Room<S> {
     /// Keeps a connection up to its next turn. If memory runs out, it is closed. Returns its key.
-    fn keep<W: Write>(&mut self, kept: Kept<S>, log: &mut W) -> Option<usize> {
+    fn keep<W: Write>(&mut self, kept: Kept<S>, log: &mut W) -> Option<usize>
+        ensures { Seats (kept_at self.old.places) (next_key self.old.places) kept (kept_at self.new.places) }
+    {
         self.deadlines.note(kept.deadline());
         if !kept.sends() {
             self.may_stop = true;
@@ -156,7 +167,10 @@ impl<S: OpenStream + Drop> Room<S> {
         mut kept: Kept<S>,
         ending: Ending,
         log: &mut W,
-    ) {
+    )
+        ensures { (last : Kept S) × (last.turn.number ≡ kept.turn.number) × (last.turn.drops ≡ None → (ending ≡ None) × (last ≡ kept))
+            × Seats (kept_at self.old.places) (next_key self.old.places) last (kept_at self.new.places) }
+    {
         let is_kept = match ending {
             Some(outcome) => kept.end(now, outcome, log),
             None => true,
@@ -172,7 +186,10 @@ impl<S: OpenStream + Drop> Room<S> {
         kept: Kept<S>,
         outcome: Result<Served, ServeFault>,
         log: &mut W,
-    ) {
+    )
+        ensures { (last : Kept S) × (last.turn.number ≡ kept.turn.number) × (last.turn.drops ≡ None → last ≡ kept)
+            × Seats (kept_at self.old.places) (next_key self.old.places) last (kept_at self.new.places) }
+    {
         if outcome.is_err() {
             return self.keep_or_end(kept.turn.since, kept, Some(outcome), log);
         }
@@ -183,7 +200,9 @@ impl<S: OpenStream + Drop> Room<S> {
     }
 
     /// Ends the connection at a key, whose peer is waited for no longer.
-    pub(crate) fn end_at<W: Write>(&mut self, now: Duration, key: usize, log: &mut W) {
+    pub(crate) fn end_at<W: Write>(&mut self, now: Duration, key: usize, log: &mut W)
+        ensures { Goes S.told (kept_at self.old.places) (kept_at self.new.places) }
+    {
         let Some(kept) = self.places.take(key) else {
             return;
         };
@@ -194,10 +213,13 @@ impl<S: OpenStream + Drop> Room<S> {
     }
 }
 
-impl<S: Read + Write + OpenStream + Drop> Room<S> {
+impl<S: Talks + OpenStream + Drop> Room<S> {
     /// Gives the next connection of this round its turn, if there is one. Returns what is to be done then.
     fn give_turn<W: Write>(&mut self, now: Duration, log: &mut W) -> Option<Found<S>>
-        ensures { (found : Found S) → result ≡ Some found → (stream : S) → found ≢ New stream }
+        ensures not_new { (found : Found S) → result ≡ Some found → (stream : S) → found ≢ New stream }
+        ensures ready { IfSome result IsReady }
+        // None takes the place of another one, and nothing of one that is open is lost.
+        ensures goes { GoesTo S.told (kept_at self.old.places) result (kept_at self.new.places) }
     {
         self.round = self.round.checked_sub(1)?;
         let key = self.places.ends(List::Ready).first?;
@@ -220,6 +242,9 @@ impl<S: Read + Write + OpenStream + Drop> Room<S> {
         log: &mut W,
     ) -> Found<S>
         ensures wanted { (stream : S) → result ≡ New stream → accepts ≡ true }
+        // While replies wait, or the rest of one, nothing is answered, and no other rest is read.
+        ensures ready { IsReady result }
+        ensures goes { Finds S.told (kept_at self.old.places) result (kept_at self.new.places) }
     {
         let now = self.now(clock);
         let stops = listener.stops();

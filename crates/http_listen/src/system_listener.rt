@@ -2,6 +2,7 @@
 ghost use Rattle.std.specs.Prelude.{◌≡◌, ℕ, [], IfOk, OnOk, OnErr};
 ghost use Rattle.http_listen.specs.Listeners.{is_of_listener, has_listener, change_of, after_event, after_events};
 ghost use Rattle.http_listen.specs.Places.{kept_at, KeepsAll};
+ghost use Rattle.http_listen.specs.Stays.{AllStand};
 
 use crate::places::Places;
 use crate::waits::{Change, Waits};
@@ -130,6 +131,7 @@ impl Waits for SystemListener {
     }
 
     fn wait(&mut self, longest: Duration, places: &mut Places<TcpStream>) -> io::Result<bool>
+        ensures stand { AllStand (kept_at places.old) (kept_at places.new) }
         ensures same { self.new ≡ record self.old { events = self.new.events } }
         // What the system gave is reported, and nothing else.
         ensures comes { IfOk result (λ comes. comes ≡ has_listener self.new.events) }

@@ -1,10 +1,13 @@
 //! The turn of a connection: a read, or a write.
+ghost use Rattle.std.specs.Prelude.{◌≡◌, [], None, IsSome, IfOk, OnErr};
+ghost use Rattle.http_listen.specs.Conversations.{Beside, Stands, IsSearched, Turned};
+ghost use Rattle.http_listen.specs.Talks.{Moves};
 
 use crate::kept::{Ending, Kept};
 use crate::rests::Unsent;
+use crate::talks::Talks;
 use http_requests::Scanned;
 use http_serve::ServeFault;
-use std::io::{Read, Write};
 use std::time::Duration;
 
 /// What follows the turn of a connection.
@@ -20,10 +23,14 @@ pub(crate) enum Next {
     Closes,
 }
 
-impl<S: Write> Kept<S> {
+impl<S: Talks> Kept<S> {
     /// Sends what the stream can take of the replies. If it has taken all, the connection goes on, or ends. If there is a rest to be read,
     /// it waits until the stream can take more. Returns what the connection came to, if it ends.
-    pub(crate) fn send_replies(&mut self, now: Duration) -> Ending {
+    pub(crate) fn send_replies(&mut self, now: Duration) -> Ending
+        ensures moves { Moves (S.told self.old.stream) self.old.output [] [] (S.told self.new.stream) self.new.output }
+        ensures beside { Beside self.old self.new }
+        ensures unsent { self.new.turn.unsent ≡ self.old.turn.unsent }
+    {
         if self.has_output() {
             if let Err(fault) = self.send(now) {
                 return Some(Err(fault));
@@ -48,7 +55,12 @@ impl<S: Write> Kept<S> {
         &mut self,
         now: Duration,
         outcome: Result<Option<Unsent>, ServeFault>,
-    ) -> Ending {
+    ) -> Ending
+        ensures moves { Moves (S.told self.old.stream) self.old.output [] [] (S.told self.new.stream) self.new.output }
+        ensures beside { Beside self.old self.new }
+        ensures unsent { IfOk outcome (λ left. self.new.turn.unsent ≡ left) }
+        ensures failed { OnErr outcome (IsSome result) }
+    {
         match outcome {
             Ok(unsent) => {
                 self.turn.unsent = unsent;
@@ -62,7 +74,10 @@ impl<S: Write> Kept<S> {
 impl<S> Kept<S> {
     /// Searches the input for a request, or bytes that are none, whatever follows: these are answered, or all bytes at the input's end. If
     /// there is none, more is waited for.
-    pub(crate) fn search(&mut self, now: Duration) -> Next {
+    pub(crate) fn search(&mut self, now: Duration) -> Next
+        ensures stands { Stands self.old self.new }
+        ensures searched { IsSearched self.new.input self.new.turn.ended result }
+    {
         let asked = match self.input.scan() {
             Scanned::Whole(end) => Some(end),
             Scanned::More if !self.turn.ended => None,
@@ -81,14 +96,13 @@ impl<S> Kept<S> {
     }
 }
 
-impl<S: Read + Write> Kept<S> {
+impl<S: Talks> Kept<S> {
     /// Has its turn: a read, or a write. No request is looked for while replies wait, or the rest of one.
-    pub(crate) fn take_turn(&mut self, now: Duration, is_full: bool) -> Next {
+    pub(crate) fn take_turn(&mut self, now: Duration, is_full: bool) -> Next
+        ensures { Turned S.told self.old result self.new }
+    {
         if self.has_output() {
             return Next::Rests(self.send_replies(now));
-        }
-        if let Some(unsent) = self.turn.unsent {
-            return Next::Reads(unsent);
         }
         if let Some(left) = self.turn.drops {
             return if self.drop_piece(now, left) {
@@ -96,6 +110,9 @@ impl<S: Read + Write> Kept<S> {
             } else {
                 Next::Closes
             };
+        }
+        if let Some(unsent) = self.turn.unsent {
+            return Next::Reads(unsent);
         }
         if self.turn.searches {
             return self.search(now);

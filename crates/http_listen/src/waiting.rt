@@ -1,8 +1,11 @@
 //! What is done between two rounds of turns.
+ghost use Rattle.http_listen.specs.Goes.{Goes};
+ghost use Rattle.http_listen.specs.Places.{kept_at};
 
 use crate::paced::nanoseconds_of;
 use crate::places::List;
 use crate::rooms::{Room, fails_too_often};
+use crate::talks::Talks;
 use crate::waits::Waits;
 use std::io::{ErrorKind, Write};
 use std::net::OpenStream;
@@ -41,9 +44,11 @@ impl<S> Room<S> {
     }
 }
 
-impl<S: OpenStream + Drop> Room<S> {
+impl<S: Talks + OpenStream + Drop> Room<S> {
     /// Ends one of the connections. Whether there was one.
-    pub(crate) fn end_any<W: Write>(&mut self, now: Duration, log: &mut W) -> bool {
+    pub(crate) fn end_any<W: Write>(&mut self, now: Duration, log: &mut W) -> bool
+        ensures goes { Goes S.told (kept_at self.old.places) (kept_at self.new.places) }
+    {
         match self.places.any() {
             Some(key) => {
                 self.end_at(now, key, log);
@@ -54,10 +59,12 @@ impl<S: OpenStream + Drop> Room<S> {
     }
 
     /// Ends the connections whose peers have no time left and which may not have their turn. All are looked at.
-    fn end_late<W: Write>(&mut self, now: Duration, log: &mut W) {
+    fn end_late<W: Write>(&mut self, now: Duration, log: &mut W)
+        ensures goes { Goes S.told (kept_at self.old.places) (kept_at self.new.places) }
+    {
         let time = nanoseconds_of(now);
         self.deadlines.begin_look(time, self.places.count());
-        for key in 0..self.places.key_bound() {
+        'looks: for key in 0..self.places.key_bound() {
             let deadline = match self.places.get(key) {
                 Some(kept) if kept.list(key) != List::Ready => kept.deadline(),
                 _ => continue,
@@ -71,7 +78,9 @@ impl<S: OpenStream + Drop> Room<S> {
     }
 
     /// Ends the connections of a server that stops, but for those whose replies are still sent. If there may be one, all are looked at.
-    pub(crate) fn end_stopped<W: Write>(&mut self, now: Duration, log: &mut W) {
+    pub(crate) fn end_stopped<W: Write>(&mut self, now: Duration, log: &mut W)
+        ensures goes { Goes S.told (kept_at self.old.places) (kept_at self.new.places) }
+    {
         let since = self.stops.unwrap_or(now);
         self.stops = Some(since);
         let over = now.saturating_sub(since) >= Duration::from_secs(STOP_SECONDS);
@@ -79,7 +88,7 @@ impl<S: OpenStream + Drop> Room<S> {
             return;
         }
         self.may_stop = false;
-        for key in 0..self.places.key_bound() {
+        'ends: for key in 0..self.places.key_bound() {
             match self.places.get(key) {
                 Some(kept) if over || !kept.sends() => {}
                 _ => continue,
@@ -95,8 +104,10 @@ impl<S: OpenStream + Drop> Room<S> {
         now: Duration,
         listener: &mut L,
         log: &mut W,
-    ) {
-        for _ in 0..self.places.ends(List::Unwatched).count {
+    )
+        ensures goes { Goes S.told (kept_at self.old.places) (kept_at self.new.places) }
+    {
+        'watches: for _ in 0..self.places.ends(List::Unwatched).count {
             let Some(key) = self.places.ends(List::Unwatched).first else {
                 return;
             };
@@ -114,7 +125,9 @@ impl<S: OpenStream + Drop> Room<S> {
         listener: &mut L,
         accepts: bool,
         log: &mut W,
-    ) -> bool {
+    ) -> bool
+        ensures goes { Goes S.told (kept_at self.old.places) (kept_at self.new.places) }
+    {
         self.watch_all(now, listener, log);
         let longest = self.longest(now, accepts);
         let outcome = listener.wait(longest, &mut self.places);

@@ -1,4 +1,6 @@
 //! Listeners whose connections can be waited for together.
+ghost use Rattle.http_listen.specs.Places.{kept_at};
+ghost use Rattle.http_listen.specs.Stays.{AllStand};
 
 use crate::places::Places;
 use std::io;
@@ -52,7 +54,8 @@ pub trait Waits {
     /// # Errors
     ///
     /// They can't be waited for.
-    fn wait(&mut self, longest: Duration, places: &mut Places<Self::Stream>) -> io::Result<bool>;
+    fn wait(&mut self, longest: Duration, places: &mut Places<Self::Stream>) -> io::Result<bool>
+        ensures stand { AllStand (kept_at places.old) (kept_at places.new) };
 
     /// Whether no more requests are to be read: the connections end then, once the replies that wait are sent, or after a second.
     fn stops(&self) -> bool {

@@ -1,9 +1,11 @@
 //! The writer of a stretch.
-ghost use Rattle.std.specs.Prelude.{◌≤◌, length};
+ghost use Rattle.std.specs.Prelude.{◌≡◌, ◌≤◌, [], take, length, OnOk};
+ghost use Rattle.http_listen.specs.Talks.{Moves, notes};
 
 use crate::outputs::Output;
 use crate::paced::PacedWriter;
 use crate::paces::Pace;
+use crate::talks::Talks;
 use std::io::{self, Write};
 use std::net::OpenStream;
 
@@ -11,7 +13,7 @@ use std::net::OpenStream;
 const LEAST_SENT: usize = 4_096;
 
 /// A writer that collects replies in memory, up to a limit. Of many bytes it collects only what the peer doesn't take now. What is beyond the
-/// limit is sent at once, after what was collected, and the peer is waited for.
+/// limit is sent at once, after what was collected, and the peer is waited for. What it holds is what the stream told and what it has collected.
 #[derive(Drop)]
 pub(crate) struct ReplyWriter<S> {
     output: Output,
@@ -24,7 +26,10 @@ pub(crate) struct ReplyWriter<S> {
 
 impl<S: OpenStream> ReplyWriter<S> {
     /// A writer that has collected these replies.
-    pub(crate) fn new(stream: S, pace: Pace, output: Output, limit: usize) -> Self {
+    pub(crate) fn new(stream: S, pace: Pace, output: Output, limit: usize) -> Self
+        ensures stream { result.paced.stream ≡ stream }
+        ensures output { result.output ≡ output }
+    {
         ReplyWriter {
             output,
             limit,
@@ -34,7 +39,10 @@ impl<S: OpenStream> ReplyWriter<S> {
     }
 
     /// The stream, the time that its peer has left, and the replies that wait. No call of the stream waits any more.
-    pub(crate) fn into_parts(self) -> (S, Pace, Output) {
+    pub(crate) fn into_parts(self) -> (S, Pace, Output)
+        ensures stream { result.0 ≡ self.paced.stream }
+        ensures output { result.2 ≡ self.output }
+    {
         if self.at_once {
             let _ = self.paced.stream.set_nonblocking(true);
         }
@@ -42,16 +50,11 @@ impl<S: OpenStream> ReplyWriter<S> {
     }
 }
 
-impl<S: Write + OpenStream> ReplyWriter<S> {
-    /// Sends what was collected. What is written from now on is sent at once.
-    fn send_collected(&mut self) -> io::Result<()> {
-        self.at_once = true;
-        self.paced.prepare();
-        self.output.send_all(&mut self.paced)
-    }
-
+impl<S: Talks> ReplyWriter<S> {
     /// Makes one write of what was collected, if there is anything.
-    fn send_some(&mut self) {
+    fn send_some(&mut self)
+        ensures { Moves (S.told self.old.paced.stream) self.old.output [] [] (S.told self.new.paced.stream) self.new.output }
+    {
         if self.output.waiting().is_empty() {
             return;
         }
@@ -66,7 +69,8 @@ impl<S: Write + OpenStream> ReplyWriter<S> {
     /// Makes one write of bytes, if they are many and nothing waits before them, and returns how many the peer took. A call that fails is
     /// as one that takes none: the next one tells.
     fn send_now(&mut self, buf: &[u8]) -> usize
-        ensures { result ≤ length buf.now }
+        ensures bound { result ≤ length buf.now }
+        ensures moves { Moves (S.told self.old.paced.stream) self.old.output [] (take result buf.now) (S.told self.new.paced.stream) self.new.output }
     {
         if buf.len() < LEAST_SENT {
             return 0;
@@ -75,28 +79,33 @@ impl<S: Write + OpenStream> ReplyWriter<S> {
         if !self.output.waiting().is_empty() {
             return 0;
         }
-        let count = self.paced.stream.write(buf).unwrap_or(0);
-        self.paced.pace = self.paced.pace.sent(count);
-        count
+        match self.paced.stream.send(buf) {
+            Ok(count) => {
+                self.paced.pace = self.paced.pace.sent(count);
+                count
+            }
+            Err(_) => 0,
+        }
     }
 }
 
-impl<S: Write + OpenStream> Write for ReplyWriter<S> {
+impl<S: Talks + OpenStream> Write for ReplyWriter<S> {
+    ghost contents = { λ w. notes (S.told w.paced.stream) w.output };
+
     fn write(&mut self, buf: &[u8]) -> io::Result<usize> {
-        if self.at_once {
-            return self.paced.write(buf);
+        if !self.at_once {
+            let count = self.send_now(buf);
+            if count > 0 {
+                return Ok(count);
+            }
+            if self.output.add(buf, self.limit) {
+                return Ok(buf.len());
+            }
+            self.at_once = true;
+            self.paced.prepare();
         }
-        let count = self.send_now(buf);
-        if count > 0 {
-            return Ok(count);
-        }
-        if self.output.add(buf, self.limit) {
-            return Ok(buf.len());
-        }
-        match self.send_collected() {
-            Ok(()) => self.paced.write(buf),
-            Err(e) => Err(e),
-        }
+        self.output.send_all(&mut self.paced)?;
+        self.paced.send(buf)
     }
 
     fn flush(&mut self) -> io::Result<()> {

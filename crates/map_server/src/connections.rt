@@ -5,11 +5,11 @@ ghost use Rattle.map_replies.specs.State.{asked_service, Tells, TellsCut, TellsR
 ghost use Rattle.tile_service.specs.Machine.{Happening};
 ghost use Rattle.tile_service.specs.Runs.{TakesRun};
 
-use http_listen::{ListenFault, Waits, serve_on};
+use http_listen::{ListenFault, Talks, Waits, serve_on};
 use map_replies::MapReplies;
 use sector_disk::Sectors;
 use std::alloc::Global;
-use std::io::{Read, Write};
+use std::io::Write;
 use std::net::OpenStream;
 use std::time::Clock;
 
@@ -29,7 +29,7 @@ pub fn serve_map_on<D, L, W, C>(
 where
     D: Sectors + Drop,
     L: Waits,
-    L::Stream: Read + Write + OpenStream,
+    L::Stream: Talks + OpenStream,
     W: Write,
     C: Clock,
     // The replies of all stretches, in order, report one run of the service. A crash at any moment leaves some first edits of it: all

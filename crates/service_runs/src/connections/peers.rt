@@ -7,12 +7,12 @@ mod listener;
 mod serving;
 
 pub(crate) use gathered::{Gathered, Room};
-use http_listen::Change;
+use http_listen::{Change, Talks};
 pub(crate) use lines::{OfPeer, gather, room_in};
 pub(crate) use serving::serve_peers;
 use std::alloc::{AllocError, Global};
 use std::cell::{Cell, RefCell};
-use std::io::{self, ErrorKind, Read, Write};
+use std::io::{self, ErrorKind};
 use std::net::{OpenStream, Shutdown};
 use std::time::{Clock, Duration};
 
@@ -276,8 +276,8 @@ struct Stream<'a> {
     watch: Watch<'a>,
 }
 
-impl Read for Stream<'_> {
-    fn read(&mut self, buf: &mut [u8]) -> io::Result<usize> {
+impl Talks for Stream<'_> {
+    fn receive(&mut self, buf: &mut [u8]) -> io::Result<usize> {
         let peer = self.peer;
         let mut course = peer.course.get();
         let is_set = course.no_delay && course.at_once;
@@ -297,10 +297,8 @@ impl Read for Stream<'_> {
             }
         }
     }
-}
 
-impl Write for Stream<'_> {
-    fn write(&mut self, buf: &[u8]) -> io::Result<usize> {
+    fn send(&mut self, buf: &[u8]) -> io::Result<usize> {
         let peer = self.peer;
         if is_interrupted(&peer.signals) {
             return Err(ErrorKind::Interrupted.into());
@@ -319,10 +317,6 @@ impl Write for Stream<'_> {
         peer.take(&buf[..count])?;
         peer.signals.set(1);
         Ok(count)
-    }
-
-    fn flush(&mut self) -> io::Result<()> {
-        Ok(())
     }
 }
 

@@ -1,4 +1,36 @@
+use Rattle.std.proofs.Common.{None, refl, ap, take}
+use Rattle.std.specs.Prelude.{is_some}
+use Rattle.http_listen.specs.declared.kept.Turn.{Turn}
+use Rattle.http_listen.specs.Conversations.{answered}
+use Rattle.http_listen.specs.Places.{next_key}
+use Rattle.http_listen.proofs.StepLemmas.{steps_answered}
+use Rattle.http_listen.proofs.TalkLemmas.{moves_none}
 use Rattle.http_listen.proofs.connections.open.Goals as goal
 
-pub returns : goal.returns
-returns g c = (c.serve_front-past.result.outcome, c.serve_front-past.ensures.comes)
+pub returns-clause-comes : goal.returns-clause-comes
+returns-clause-comes g c = (c.serve_front-past.result.outcome, c.serve_front-past.ensures.comes)
+
+pub returns-clause-acted : goal.returns-clause-acted
+returns-clause-acted g c =
+    let told = g.S.Talks.told in
+    let kept = c.args.kept in
+    let made = c.serve_front-past.ensures in
+    let out = made.answers in
+    let front = c.serve_front-past.result.kept in
+    let outcome = c.serve_front-past.result.outcome in
+    let ticket = g.H.Downloads.ticket_of c.serve_front-past.new.handler in
+    let put = c.opened.ensures in (
+      answered (take 0 kept.input) out.0 outcome ticket,
+      (out.1, refl),
+      record {
+        mid = front;
+        last = put.0;
+        ending = None;
+        steps = steps_answered told kept front front 0 out.0 outcome ticket _ out.2 (moves_none (told front.stream) front.output) made.input
+            (ap (λ (t : Turn). t.number) made.turn) (ap is_some (ap (λ (t : Turn). t.drops) made.turn)) (c.requires.whole, made.unsent);
+        number = put.1;
+        same = λ e. (refl, put.2 e);
+        key = next_key c.args.room.now.places;
+        seats = put.3;
+      },
+    )

@@ -1,6 +1,9 @@
 //! A listener to which peers connect.
+ghost use Rattle.http_listen.specs.Places.{kept_at};
+ghost use Rattle.http_listen.specs.Stays.{AllStand};
+
 use super::{Peer, Stream, Watch, is_interrupted};
-use http_listen::{Places, Waits};
+use http_listen::{Change, Places, Waits};
 use std::cell::Cell;
 use std::io::{self, ErrorKind};
 use std::time::Duration;
@@ -32,6 +35,19 @@ pub(super) struct Listener<'a> {
     /// When it stops.
     stops: u64,
     watch: Watch<'a>,
+}
+
+/// Reports a change of the stream at a key. Whether there is one.
+fn report_change(key: usize, change: Option<Change>, places: &mut Places<Stream<'_>>) -> bool
+    ensures { AllStand (kept_at places.old) (kept_at places.new) }
+{
+    match change {
+        Some(change) => {
+            places.report(key, change);
+            true
+        }
+        None => false,
+    }
 }
 
 impl<'a> Listener<'a> {
@@ -74,17 +90,17 @@ impl<'a> Listener<'a> {
     }
 
     /// Reports what the streams have become ready for. Returns `None` if one has, and otherwise when one may.
-    fn report(&self, now: u64, places: &mut Places<Stream<'_>>) -> Option<u64> {
+    fn report(&self, now: u64, places: &mut Places<Stream<'_>>) -> Option<u64>
+        ensures { AllStand (kept_at places.old) (kept_at places.new) }
+    {
         let mut any = false;
         let mut next = u64::MAX;
-        for peer in self.peers {
+        'reports: for peer in self.peers {
             let Some(key) = peer.course.get().key else {
                 continue;
             };
-            if let Some(change) = peer.change(now) {
-                places.report(key, change);
-                any = true;
-            }
+            let is_reported = report_change(key, peer.change(now), places);
+            any = any || is_reported;
             next = next.min(peer.next(now));
         }
         if any { None } else { Some(next) }
@@ -153,7 +169,7 @@ impl<'a> Waits for Listener<'a> {
         }
         let milliseconds = u64::try_from(longest.as_millis()).unwrap_or(u64::MAX);
         let end = self.watch.now.get().saturating_add(milliseconds);
-        for _ in 0..=milliseconds {
+        'waits: for _ in 0..=milliseconds {
             let now = self.watch.now.get();
             let comes = self.comes(now);
             let Some(next) = self.report(now, places) else {

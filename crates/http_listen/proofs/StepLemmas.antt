@@ -1,0 +1,276 @@
+-- Steps of one connection, and its conversation.
+use Rattle.std.proofs.Common.{false, ◌≡◌, ℕ, List, [], ◌∷◌, ◌++◌, None, Some, Result, Ok, Err, refl, sym, ap, subst, ◌∙◌, append_assoc, append-nil, take, drop, take-append-drop, true≢false}
+use Rattle.std.specs.Prelude.{◌≤◌, ◌+◌, length, ⊤, is_some, IsSome, IfOk, OnErr, MatchOption}
+use Rattle.std.specs.declared.option.Option.{Option}
+use Rattle.http_serve.specs.declared.connection.ServeFault.{ServeFault}
+use Rattle.http_serve.specs.declared.connection.Served.{Served}
+use Rattle.http_serve.specs.declared.handlers.Ticket.{Ticket}
+use Rattle.http_listen.specs.declared.kept.Kept.{Kept}
+use Rattle.http_listen.specs.declared.rests.Unsent.{Unsent}
+use Rattle.http_listen.specs.declared.turns.Next.{Next}
+use Rattle.http_listen.specs.declared.turns.Next.TheVariants.{Asks, Reads, Rests, Closes}
+use Rattle.http_listen.specs.Conversations.{Act, answered, fetched, asked, replied, fetched_bytes, IsLeft, IsNext, Follows, Conversation, Steps, IsTalking, IsSearched, GoesOn, IsRead, Turned, Stands, Beside}
+use Rattle.http_listen.specs.Talks.{Told, Grows, Moves}
+use Rattle.http_listen.proofs.TalkLemmas.{grows_none, moves_none, moves_both, moves_read, moves_added}
+
+-- Acts, and then other ones.
+pub asked_both : (front back : List Act) → asked (front ++ back) ≡ asked front ++ asked back
+asked_both [] back = refl
+asked_both (answered bytes replies result ticket ∷ front) back =
+    ap (λ l. bytes ++ l) (asked_both front back) ∙ sym (append_assoc bytes (asked front) (asked back))
+asked_both (fetched ticket offset outcome ∷ front) back = asked_both front back
+
+pub replied_both : (front back : List Act) → replied (front ++ back) ≡ replied front ++ replied back
+replied_both [] back = refl
+replied_both (answered bytes replies result ticket ∷ front) back =
+    ap (λ l. replies ++ l) (replied_both front back) ∙ sym (append_assoc replies (replied front) (replied back))
+replied_both (fetched ticket offset None ∷ front) back = replied_both front back
+replied_both (fetched ticket offset (Some bytes) ∷ front) back =
+    ap (λ l. bytes ++ l) (replied_both front back) ∙ sym (append_assoc bytes (replied front) (replied back))
+
+pub follows_both : (before between after : Option Unsent) (front back : List Act) → Follows before front between → Follows between back after
+    → Follows before (front ++ back) after
+follows_both before between after [] back p q = subst (λ (u : Option Unsent). Follows u back after) p q
+follows_both before between after (act ∷ front) back p q = (p.0, p.1, follows_both p.0 between after front back p.2 q)
+
+-- Something isn't nothing.
+not_some : {T : Type 0} {x : T} → Some x ≡ None → ⊥
+not_some e = true≢false (ap is_some e)
+
+-- An option without a value.
+pub none_of : {T : Type 0} (x : Option T) → is_some x ≡ false → x ≡ None
+none_of None e = refl
+none_of (Some x) e = absurd (true≢false e)
+
+-- Equal lists, one after the other.
+both_same : {a b c d : List ℕ} → a ≡ b → c ≡ d → a ++ c ≡ b ++ d
+both_same {a} {b} {c} {d} p q = ap (λ l. l ++ c) p ∙ ap (λ l. b ++ l) q
+
+module _ {S : Type 0} (told : S → Option Told) where
+  -- The same stream told the same.
+  stands_grow : {old new : S} → new ≡ old → Grows (told old) [] [] (told new)
+  stands_grow {old} {new} e = subst (λ (s : S). Grows (told old) [] [] (told s)) (sym e) (grows_none (told old))
+
+  -- A conversation goes on with what was done.
+  pub talking_on : (first : Option Told) (acts more : List Act) (whole : Type 0) (old new : Kept S) → IsTalking told first acts old
+      → Steps told old more whole new → whole → IsTalking told first (acts ++ more) new
+  talking_on first acts more whole old new t s w =
+      let lost : s.lost ≡ [] = (s.kept w).0 in
+      let cut : s.cut ≡ [] = (s.kept w).1 in
+      let input : old.input ++ s.given ≡ asked more ++ new.input =
+      s.input ∙ ap (λ l. asked more ++ (new.input ++ l)) lost ∙ ap (λ l. asked more ++ l) (append-nil new.input) in
+      let moved : Moves (told old.stream) old.output s.given (replied more) (told new.stream) new.output =
+      subst (λ (l : List ℕ). Moves (told old.stream) old.output s.given (replied more) (told new.stream) l)
+      (ap (λ l. new.output ++ l) cut ∙ append-nil new.output) s.moved in
+      let both = moves_both first (told old.stream) (told new.stream) [] old.output new.output (asked acts ++ old.input) s.given (replied acts) (replied more)
+      t.moved moved in
+      let given : (asked acts ++ old.input) ++ s.given ≡ asked (acts ++ more) ++ new.input =
+      append_assoc (asked acts) old.input s.given ∙ ap (λ l. asked acts ++ l) input
+      ∙ sym (append_assoc (asked acts) (asked more) new.input) ∙ ap (λ l. l ++ new.input) (sym (asked_both acts more)) in
+      record {
+        moved = subst (λ (l : List ℕ). Moves first [] l (replied (acts ++ more)) (told new.stream) new.output) given
+            (subst (λ (l : List ℕ). Moves first [] ((asked acts ++ old.input) ++ s.given) l (told new.stream) new.output) (sym (replied_both acts more)) both);
+        follows = subst (λ (u : Option Unsent). Follows None (acts ++ more) u) (sym (s.kept w).2)
+            (follows_both None old.turn.unsent s.left acts more t.follows s.follows);
+      }
+
+  -- In the end it is a conversation, whatever was lost in the last step.
+  pub talking_ends : (first : Option Told) (acts more : List Act) (whole : Type 0) (old new : Kept S) → IsTalking told first acts old
+      → Steps told old more whole new → Conversation first (acts ++ more) (told new.stream)
+  talking_ends first acts more whole old new t s =
+      let both = moves_both first (told old.stream) (told new.stream) [] old.output (new.output ++ s.cut) (asked acts ++ old.input) s.given (replied acts)
+      (replied more) t.moved s.moved in
+      let given : (asked acts ++ old.input) ++ s.given ≡ asked (acts ++ more) ++ (new.input ++ s.lost) =
+      append_assoc (asked acts) old.input s.given ∙ ap (λ l. asked acts ++ l) s.input
+      ∙ sym (append_assoc (asked acts) (asked more) (new.input ++ s.lost)) ∙ ap (λ l. l ++ (new.input ++ s.lost)) (sym (asked_both acts more)) in
+      record {
+        rest = new.input ++ s.lost;
+        waits = new.output ++ s.cut;
+        moved = subst (λ (l : List ℕ). Moves first [] l (replied (acts ++ more)) (told new.stream) (new.output ++ s.cut)) given
+            (subst (λ (l : List ℕ). Moves first [] ((asked acts ++ old.input) ++ s.given) l (told new.stream) (new.output ++ s.cut)) (sym (replied_both acts more)) both);
+        left = s.left;
+        follows = follows_both None old.turn.unsent s.left acts more t.follows s.follows;
+      }
+
+  -- A connection of which nothing was read, and to which nothing is sent.
+  pub talking_new : (kept : Kept S) → kept.input ≡ [] → kept.output ≡ [] → kept.turn.unsent ≡ None → IsTalking told (told kept.stream) [] kept
+  talking_new kept input output unsent = record {
+    moved = subst (λ (l : List ℕ). Moves (told kept.stream) [] l [] (told kept.stream) kept.output) (sym input)
+        (subst (λ (l : List ℕ). Moves (told kept.stream) [] [] [] (told kept.stream) l) (sym output) (moves_none (told kept.stream) []));
+    follows = unsent;
+  }
+
+  -- What was sent is the front of what waited.
+  pub steps_sent : (old new : Kept S) (whole : Type 0) → Moves (told old.stream) old.output [] [] (told new.stream) new.output → Beside old new
+      → new.turn.unsent ≡ old.turn.unsent → Steps told old [] whole new
+  steps_sent old new whole moves beside unsent = record {
+    number = beside.number;
+    drops = ap is_some beside.drops;
+    given = [];
+    lost = [];
+    cut = [];
+    input = append-nil old.input ∙ sym beside.input ∙ sym (append-nil new.input);
+    moved = subst (λ (l : List ℕ). Moves (told old.stream) old.output [] [] (told new.stream) l) (sym (append-nil new.output)) moves;
+    left = old.turn.unsent;
+    follows = refl;
+    kept = λ _. (refl, refl, unsent);
+  }
+
+  -- Nothing was sent or read.
+  pub steps_none : (kept : Kept S) (whole : Type 0) → Steps told kept [] whole kept
+  steps_none kept whole = steps_sent kept kept whole (moves_none (told kept.stream) kept.output) (record { input = refl; number = refl; drops = refl }) refl
+
+  -- What was read is the end of the input.
+  pub steps_read : (old new : Kept S) (result : Next) (whole : Type 0) → (whole → GoesOn result) → IsRead told old result new → Steps told old [] whole new
+  steps_read old new result whole goes_on r = record {
+    number = r.number;
+    drops = r.drops;
+    given = r.given;
+    lost = r.lost;
+    cut = [];
+    input = sym r.input;
+    moved = subst (λ (l : List ℕ). Moves (told old.stream) old.output r.given [] (told new.stream) l) (sym r.output ∙ sym (append-nil new.output))
+        (moves_read (told old.stream) (told new.stream) old.output r.given r.grows);
+    left = old.turn.unsent;
+    follows = refl;
+    kept = λ w. (r.kept (goes_on w), refl, r.unsent);
+  }
+
+  pub turned_read : (old new : Kept S) (result : Next) → IsRead told old result new → IsSearched new.input new.turn.ended result → old.output ≡ [] → old.turn.unsent ≡ None
+      → old.turn.drops ≡ None → Turned told old result new
+  turned_read old new (Asks end) r s output unsent drops =
+      (steps_read old new (Asks end) ⊤ (λ _. tt) r, r.output ∙ output, r.unsent ∙ unsent, none_of new.turn.drops (r.drops ∙ ap is_some drops), s.is)
+  turned_read old new (Reads u) r s output unsent drops = absurd s.is
+  turned_read old new (Rests None) r s output unsent drops = steps_read old new (Rests None) _ (λ _. tt) r
+  turned_read old new (Rests (Some outcome)) r s output unsent drops = steps_read old new (Rests (Some outcome)) _ (λ w. absurd (not_some w.0)) r
+  turned_read old new Closes r s output unsent drops = absurd s.is
+
+  -- A search reads nothing.
+  pub stands_read : (old new : Kept S) (result : Next) → Stands old new → IsRead told old result new
+  stands_read old new result s = record {
+    given = [];
+    lost = [];
+    grows = stands_grow s.stream;
+    input = ap (λ l. l ++ []) s.input;
+    output = s.output;
+    number = s.number;
+    drops = ap is_some s.drops;
+    unsent = s.unsent;
+    kept = λ _. refl;
+  }
+
+  -- Nothing was read.
+  pub none_read : (kept : Kept S) (result : Next) → IsRead told kept result kept
+  none_read kept result =
+      stands_read kept kept result (record { stream = refl; input = refl; output = refl; number = refl; drops = refl; unsent = refl })
+
+  -- Bytes were read and dropped.
+  pub steps_dropped : (old new : Kept S) (given : List ℕ) → Grows (told old.stream) given [] (told new.stream) → new.input ≡ old.input → new.output ≡ old.output
+      → new.turn.number ≡ old.turn.number → is_some new.turn.drops ≡ is_some old.turn.drops → Steps told old [] ⊥ new
+  steps_dropped old new given grows input output number drops = record {
+    number = number;
+    drops = drops;
+    given = given;
+    lost = given;
+    cut = [];
+    input = ap (λ l. l ++ given) (sym input);
+    moved = subst (λ (l : List ℕ). Moves (told old.stream) old.output given [] (told new.stream) l) (sym output ∙ sym (append-nil new.output))
+        (moves_read (told old.stream) (told new.stream) old.output given grows);
+    left = old.turn.unsent;
+    follows = refl;
+    kept = λ w. absurd w;
+  }
+
+  -- The first bytes of the input were answered.
+  pub steps_answered : (old front new : Kept S) (end : ℕ) (out : List ℕ) (result : Result Served ServeFault) (ticket : Ticket) (whole : Type 0)
+      → Moves (told old.stream) old.output [] out (told front.stream) front.output → Moves (told front.stream) front.output [] [] (told new.stream) new.output
+      → new.input ≡ drop end old.input → new.turn.number ≡ old.turn.number → is_some new.turn.drops ≡ is_some old.turn.drops
+      → IsNext old.turn.unsent (answered (take end old.input) out result ticket) new.turn.unsent
+      → Steps told old (answered (take end old.input) out result ticket ∷ []) whole new
+  steps_answered old front new end out result ticket whole first then input number drops next = record {
+    number = number;
+    drops = drops;
+    given = [];
+    lost = [];
+    cut = [];
+    input = append-nil old.input ∙ sym (take-append-drop end old.input) ∙ ap (λ l. take end old.input ++ l) (sym input)
+        ∙ both_same (sym (append-nil (take end old.input))) (sym (append-nil new.input));
+    moved = subst (λ (l : List ℕ). Moves (told old.stream) old.output [] (out ++ []) (told new.stream) l) (sym (append-nil new.output))
+        (moves_both (told old.stream) (told front.stream) (told new.stream) old.output front.output new.output [] [] out [] first then);
+    left = new.turn.unsent;
+    follows = (new.turn.unsent, next, refl);
+    kept = λ _. (refl, refl, refl);
+  }
+
+  -- Bytes of a content were read, and added to the output, of which nothing waited.
+  pub steps_fetched : (old new : Kept S) (unsent : Unsent) (bytes : List ℕ) (whole : Type 0)
+      → old.turn.unsent ≡ Some unsent → old.output ≡ [] → Moves (told old.stream) bytes [] [] (told new.stream) new.output → Beside old new
+      → IsLeft unsent (Some bytes) new.turn.unsent
+      → Steps told old (fetched unsent.ticket unsent.at (Some bytes) ∷ []) whole new
+  steps_fetched old new unsent bytes whole rest none moves beside left = record {
+    number = beside.number;
+    drops = ap is_some beside.drops;
+    given = [];
+    lost = [];
+    cut = [];
+    input = append-nil old.input ∙ sym beside.input ∙ sym (append-nil new.input);
+    moved = subst (λ (l : List ℕ). Moves (told old.stream) l [] (bytes ++ []) (told new.stream) (new.output ++ [])) (sym none)
+        (subst (λ (l : List ℕ). Moves (told old.stream) [] [] (bytes ++ []) (told new.stream) l) (sym (append-nil new.output))
+        (moves_both (told old.stream) (told old.stream) (told new.stream) [] bytes new.output [] [] bytes [] (moves_added (told old.stream) [] bytes) moves));
+    left = new.turn.unsent;
+    follows = (new.turn.unsent, (unsent, rest, refl, refl, left), refl);
+    kept = λ _. (refl, refl, refl);
+  }
+
+  -- what may be left once bytes were read, or couldn't be
+  some_left : (unsent : Unsent) (outcome : Option (List ℕ)) → (left : Option Unsent) × IsLeft unsent outcome left
+  some_left unsent None = (None, tt)
+  some_left unsent (Some bytes) = (Some (record unsent { at = unsent.at + length bytes }), refl)
+
+  -- They couldn't be read, or weren't added, and the connection ends.
+  pub steps_failed : (old new : Kept S) (unsent : Unsent) (outcome : Option (List ℕ)) (whole : Type 0) → (whole → ⊥)
+      → old.turn.unsent ≡ Some unsent → old.output ≡ [] → Moves (told old.stream) [] [] [] (told new.stream) new.output → Beside old new
+      → Steps told old (fetched unsent.ticket unsent.at outcome ∷ []) whole new
+  steps_failed old new unsent outcome whole never rest none moves beside =
+      let bytes = fetched_bytes outcome in
+      let left = some_left unsent outcome in
+      record {
+        number = beside.number;
+        drops = ap is_some beside.drops;
+        given = [];
+        lost = [];
+        cut = bytes ++ [];
+        input = append-nil old.input ∙ sym beside.input ∙ sym (append-nil new.input);
+        moved = subst (λ (l : List ℕ). Moves (told old.stream) l [] (bytes ++ []) (told new.stream) (new.output ++ (bytes ++ []))) (sym none)
+            (moves_both (told old.stream) (told new.stream) (told new.stream) [] new.output (new.output ++ (bytes ++ [])) [] [] [] (bytes ++ []) moves
+            (moves_added (told new.stream) new.output (bytes ++ [])));
+        left = left.0;
+        follows = (left.0, (unsent, rest, refl, refl, left.1), refl);
+        kept = λ w. absurd (never w);
+      }
+
+  -- The act of a connection of whose content bytes were to be read.
+  pub fetched_act : {H E : Type 0} (reads : H → Ticket → ℕ → Option (List ℕ) → H → Type 0) (h k : H) (old new : Kept S) (unsent : Unsent)
+      (before output : List ℕ) (result : Result (Option Unsent) ServeFault) (ending : Option E)
+      → old.turn.unsent ≡ Some unsent → old.output ≡ [] → before ≡ []
+      → (outcome : Option (List ℕ)) × reads h unsent.ticket unsent.at outcome k
+      → IfOk result (λ left. (bytes : List ℕ) × reads h unsent.ticket unsent.at (Some bytes) k × (output ≡ before ++ bytes)
+      × MatchOption left (unsent.end ≤ unsent.at + length bytes) (λ next. next ≡ record unsent { at = unsent.at + length bytes }))
+      → OnErr result (output ≡ before) → Moves (told old.stream) output [] [] (told new.stream) new.output → Beside old new
+      → IfOk result (λ left. new.turn.unsent ≡ left) → OnErr result (IsSome ending)
+      → (outcome : Option (List ℕ)) × reads h unsent.ticket unsent.at outcome k
+      × Steps told old (fetched unsent.ticket unsent.at outcome ∷ []) (ending ≡ None) new
+  fetched_act reads h k old new unsent before output (Ok left) ending rest none empty read added same moves beside next failed =
+      let bytes = added.0 in
+      let all : output ≡ bytes = added.2 ∙ ap (λ l. l ++ bytes) empty in (
+        Some bytes,
+        added.1,
+        steps_fetched old new unsent bytes (ending ≡ None) rest none (subst (λ (l : List ℕ). Moves (told old.stream) l [] [] (told new.stream) new.output) all moves)
+            beside (subst (λ (u : Option Unsent). IsLeft unsent (Some bytes) u) (sym next) added.3),
+      )
+  fetched_act reads h k old new unsent before output (Err fault) ending rest none empty read added same moves beside next failed = (
+    read.0,
+    read.1,
+    steps_failed old new unsent read.0 (ending ≡ None) (λ e. true≢false (sym failed ∙ ap is_some e)) rest none
+        (subst (λ (l : List ℕ). Moves (told old.stream) l [] [] (told new.stream) new.output) (same ∙ empty) moves) beside,
+  )

@@ -1,0 +1,198 @@
+-- The conversation of one connection: what is done for it, one act after the other, and what its stream told.
+use Rattle.std.specs.Prelude.{◌≡◌, ◌≢◌, ◌<◌, ◌≤◌, ◌+◌, ℕ, Bool, nat_eq, cond, All, List, [], ◌∷◌, ◌++◌, length, Option, None, Some, is_some, Result, MatchOption, ⊤, false}
+use Rattle.http_serve.specs.declared.connection.ServeFault.{ServeFault}
+use Rattle.http_serve.specs.declared.connection.Served.{Served}
+use Rattle.http_serve.specs.declared.handlers.Ticket.{Ticket}
+use Rattle.http_requests.specs.Requests.{RequestView}
+use Rattle.http_serve.specs.Reply.{ReplyView}
+use Rattle.http_listen.specs.declared.kept.Kept.{Kept}
+use Rattle.http_listen.specs.declared.rests.Unsent.{Unsent}
+use Rattle.http_listen.specs.declared.turns.Next.{Next}
+use Rattle.http_listen.specs.declared.turns.Next.TheVariants.{Asks, Reads, Rests, Closes}
+use Rattle.http_listen.specs.Asked.{IsAsked}
+use Rattle.http_listen.specs.Connections.{CameTo}
+use Rattle.http_listen.specs.Rests.{rest_after}
+use Rattle.http_listen.specs.Talks.{Told, Grows, Moves}
+
+-- what is done for a connection
+pub data Act : Type 0 where
+  -- these bytes were answered by these replies, and came to this; the last reply's content has this ticket
+  answered : (asked replies : List ℕ) → Result Served ServeFault → Ticket → Act
+  -- bytes of a content that a reply left were read by its ticket, from an offset on, or couldn't be
+  fetched : Ticket → ℕ → Option (List ℕ) → Act
+
+-- the bytes that were read of a content, none if they couldn't be
+abbrev pub fetched_bytes : Option (List ℕ) → List ℕ
+fetched_bytes None = []
+fetched_bytes (Some bytes) = bytes
+
+-- the bytes that were answered
+abbrev pub asked : List Act → List ℕ
+asked [] = []
+asked (answered bytes replies result ticket ∷ acts) = bytes ++ asked acts
+asked (fetched ticket offset outcome ∷ acts) = asked acts
+
+-- the replies to them, with what was read of their contents later
+abbrev pub replied : List Act → List ℕ
+replied [] = []
+replied (answered bytes replies result ticket ∷ acts) = replies ++ replied acts
+replied (fetched ticket offset outcome ∷ acts) = fetched_bytes outcome ++ replied acts
+
+-- what is left of a content once these bytes of it were read
+abbrev pub IsLeft : Unsent → Option (List ℕ) → Option Unsent → Type 0
+IsLeft unsent None left = ⊤
+IsLeft unsent (Some bytes) left =
+    MatchOption left (unsent.end ≤ unsent.at + length bytes) (λ next. next ≡ record unsent { at = unsent.at + length bytes })
+
+-- An act is in its place, by what is left before it of the last reply's content and after it: while something is left, nothing is answered,
+-- and what is read is the next bytes, by the ticket of that reply.
+abbrev pub IsNext : Option Unsent → Act → Option Unsent → Type 0
+IsNext before (answered bytes replies result ticket) after = (before ≡ None) × (after ≡ rest_after ticket result)
+IsNext before (fetched ticket offset outcome) after =
+    (unsent : Unsent) × (before ≡ Some unsent) × (ticket ≡ unsent.ticket) × (offset ≡ unsent.at) × IsLeft unsent outcome after
+
+-- so is each of these
+abbrev pub Follows : Option Unsent → List Act → Option Unsent → Type 0
+Follows before [] after = after ≡ before
+Follows before (act ∷ acts) after = (between : Option Unsent) × IsNext before act between × Follows between acts after
+
+-- A connection's stream told first as it was accepted, and last in the end. It gave the bytes that were answered, in order, and then the rest;
+-- it took the replies, in order, but for those that wait: their last bytes.
+pub record Conversation (first : Option Told) (acts : List Act) (last : Option Told) : Type 0 where
+  pub rest : List ℕ
+  pub waits : List ℕ
+  pub moved : Moves first [] (asked acts ++ rest) (replied acts) last waits
+  pub left : Option Unsent
+  pub follows : Follows None acts left
+
+-- replies, and those of which the handler's part fails
+module _ {S : Type 0} (replies fails : S → RequestView → ReplyView → S → Type 0) where
+  -- bytes were answered: what a writer that held nothing holds then is the replies
+  abbrev pub Answers : S → (bytes replies : List ℕ) → Result Served ServeFault → S → Type 0
+  Answers old bytes out result new = (leaves : Option (List ℕ)) × CameTo replies fails result old
+      (record { first = false; result = result; left = Some bytes; held = Some []; leaves = leaves; holds = Some out }) new
+
+-- the same handler, with its reads and tickets
+module _ {S : Type 0} (replies fails : S → RequestView → ReplyView → S → Type 0)
+    (reads : S → Ticket → ℕ → Option (List ℕ) → S → Type 0) (ticket_of : S → Ticket) where
+  -- an act leads from a state to the next
+  abbrev pub Does : S → Act → S → Type 0
+  Does old (answered bytes out result ticket) new = Answers replies fails old bytes out result new × (ticket ≡ ticket_of new)
+  Does old (fetched ticket offset outcome) new = reads old ticket offset outcome new
+
+-- what streams told
+module _ {S : Type 0} (told : S → Option Told) where
+  -- Acts lead from a connection to what it is then. Only if it isn't whole, bytes of its input or its output are lost.
+  pub record Steps (old : Kept S) (acts : List Act) (whole : Type 0) (new : Kept S) : Type 0 where
+    pub number : new.turn.number ≡ old.turn.number
+    pub drops : is_some new.turn.drops ≡ is_some old.turn.drops
+    pub given : List ℕ
+    pub lost : List ℕ
+    pub cut : List ℕ
+    pub input : old.input ++ given ≡ asked acts ++ (new.input ++ lost)
+    pub moved : Moves (told old.stream) old.output given (replied acts) (told new.stream) (new.output ++ cut)
+    pub left : Option Unsent
+    pub follows : Follows old.turn.unsent acts left
+    pub kept : whole → (lost ≡ []) × (cut ≡ []) × (new.turn.unsent ≡ left)
+
+  -- A connection in the middle of its conversation: all that was read and isn't answered is its input, and all that is to be sent its output.
+  pub record IsTalking (first : Option Told) (acts : List Act) (kept : Kept S) : Type 0 where
+    pub moved : Moves first [] (asked acts ++ kept.input) (replied acts) (told kept.stream) kept.output
+    pub follows : Follows None acts kept.turn.unsent
+
+-- what may follow a search of the input, which has ended or not
+abbrev pub FollowsSearch : List ℕ → Bool → Next → Type 0
+FollowsSearch input ended (Asks end) = IsAsked input ended end
+FollowsSearch input ended (Reads unsent) = ⊥
+FollowsSearch input ended (Rests ending) = ⊤
+FollowsSearch input ended Closes = ⊥
+
+pub record IsSearched (input : List ℕ) (ended : Bool) (result : Next) : Type 0 where
+  pub is : FollowsSearch input ended result
+
+-- the connection goes on
+abbrev pub GoesOn : Next → Type 0
+GoesOn (Asks end) = ⊤
+GoesOn (Reads unsent) = ⊤
+GoesOn (Rests None) = ⊤
+GoesOn (Rests (Some outcome)) = ⊥
+GoesOn Closes = ⊥
+
+-- what streams told
+module _ {S : Type 0} (told : S → Option Told) where
+  -- bytes were read and are the end of the input; if it ends now, some may be lost
+  pub record IsRead (old : Kept S) (result : Next) (new : Kept S) : Type 0 where
+    pub given : List ℕ
+    pub lost : List ℕ
+    pub grows : Grows (told old.stream) given [] (told new.stream)
+    pub input : new.input ++ lost ≡ old.input ++ given
+    pub output : new.output ≡ old.output
+    pub number : new.turn.number ≡ old.turn.number
+    pub drops : is_some new.turn.drops ≡ is_some old.turn.drops
+    pub unsent : new.turn.unsent ≡ old.turn.unsent
+    pub kept : GoesOn result → lost ≡ []
+
+  -- What a turn did, by what follows it. Nothing waits to be sent where bytes are to be answered or a content read.
+  abbrev pub Turned : Kept S → Next → Kept S → Type 0
+  Turned old (Asks end) new = Steps told old [] ⊤ new × (new.output ≡ []) × (new.turn.unsent ≡ None) × (new.turn.drops ≡ None)
+      × IsAsked new.input new.turn.ended end
+  Turned old (Reads unsent) new = Steps told old [] ⊤ new × (new.output ≡ []) × (new.turn.unsent ≡ Some unsent) × (new.turn.drops ≡ None)
+  Turned old (Rests ending) new = Steps told old [] ((ending ≡ None) × (old.turn.drops ≡ None)) new
+  Turned old Closes new = Steps told old [] ⊥ new
+
+-- A connection whose stream and output may have moved is else the same, but for what is left of a content.
+pub record Beside {S : Type 0} (old new : Kept S) : Type 0 where
+  pub input : new.input ≡ old.input
+  pub number : new.turn.number ≡ old.turn.number
+  pub drops : new.turn.drops ≡ old.turn.drops
+
+-- a connection whose stream, bytes and rest of a content are the same
+pub record Stands {S : Type 0} (old new : Kept S) : Type 0 where
+  pub stream : new.stream ≡ old.stream
+  pub input : new.input ≡ old.input
+  pub output : new.output ≡ old.output
+  pub number : new.turn.number ≡ old.turn.number
+  pub drops : new.turn.drops ≡ old.turn.drops
+  pub unsent : new.turn.unsent ≡ old.turn.unsent
+
+-- ---- all connections
+
+-- what is done for one of the connections, by its number
+pub record Deed : Type 0 where
+  pub number : ℕ
+  pub act : Act
+
+-- the acts of one of them
+abbrev pub acts_of : ℕ → List Deed → List Act
+acts_of number [] = []
+acts_of number (deed ∷ deeds) = cond (nat_eq deed.number number) (deed.act ∷ acts_of number deeds) (acts_of number deeds)
+
+-- a handler
+module _ {S : Type 0} (replies fails : S → RequestView → ReplyView → S → Type 0)
+    (reads : S → Ticket → ℕ → Option (List ℕ) → S → Type 0) (ticket_of : S → Ticket) where
+  -- All that was done, in this order, leads from a state to the next.
+  abbrev pub Runs : S → List Deed → S → Type 0
+  Runs old [] new = new ≡ old
+  Runs old (deed ∷ deeds) new = (middle : S) × Does replies fails reads ticket_of old deed.act middle × Runs middle deeds new
+
+-- Each of the first connections, up to this many, has a conversation. All that was done is theirs.
+pub record Conversations (count : ℕ) (first last : ℕ → Option Told) (deeds : List Deed) : Type 0 where
+  pub each : (number : ℕ) → 0 < number → number ≤ count → Conversation (first number) (acts_of number deeds) (last number)
+  pub theirs : All (λ deed. (0 < deed.number) × (deed.number ≤ count)) deeds
+
+-- connections by their keys, and what streams told
+module _ {S : Type 0} (told : S → Option Told) where
+  -- Each connection that is open is in the middle of the conversation that its acts make, among all that was done.
+  abbrev pub AreTalking : (first : ℕ → Option Told) → List Deed → (ℕ → Option (Kept S)) → Type 0
+  AreTalking first deeds places = (key : ℕ) (kept : Kept S) → places key ≡ Some kept
+      → IsTalking told (first kept.turn.number) (acts_of kept.turn.number deeds) kept
+
+-- no two connections have one number
+abbrev pub AreApart : {S : Type 0} → (ℕ → Option (Kept S)) → Type 0
+AreApart {S} places = (key other : ℕ) (kept neighbour : Kept S) → places key ≡ Some kept → places other ≡ Some neighbour
+    → kept.turn.number ≡ neighbour.turn.number → key ≡ other
+
+-- the connection at a key is this one, and the others are the same
+pub record Puts {S : Type 0} (old : ℕ → Option (Kept S)) (key : ℕ) (kept : Kept S) (new : ℕ → Option (Kept S)) : Type 0 where
+  pub here : new key ≡ Some kept
+  pub others : (other : ℕ) → other ≢ key → new other ≡ old other

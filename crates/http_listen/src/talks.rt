@@ -1,0 +1,44 @@
+//! Streams that tell what they gave and took.
+ghost use Rattle.std.specs.Prelude.{[], take, None, Option, MatchResult};
+ghost use Rattle.std.specs.Io.{ReadsAtMost, WritesAtMost};
+ghost use Rattle.http_listen.specs.Talks.{Told, Grows};
+
+use std::io::{self, Read, Write};
+use std::net::TcpStream;
+
+/// A stream of bytes in both directions. What is proved of a connection is said in what its stream told: that of every stream, also of one
+/// that tells nothing, since what serves them can't see which it is.
+pub trait Talks {
+    /// The bytes that its reads gave and that its writes took, up to now, if this is known.
+    ghost told: { Self → Option Told } = { λ _. None };
+
+    /// Makes one read, which takes nothing.
+    ///
+    /// # Errors
+    ///
+    /// That of the system. Nothing was read.
+    fn receive(&mut self, buf: &mut [u8]) -> io::Result<usize>
+        ensures bound { ReadsAtMost result buf.new }
+        ensures told { MatchResult result (λ n. Grows (told self.old) (take n buf.new) [] (told self.new))
+            (λ _. Grows (told self.old) [] [] (told self.new)) };
+
+    /// Makes one write, which gives nothing.
+    ///
+    /// # Errors
+    ///
+    /// That of the system. Nothing was written.
+    fn send(&mut self, buf: &[u8]) -> io::Result<usize>
+        ensures bound { WritesAtMost result buf.now }
+        ensures told { MatchResult result (λ n. Grows (told self.old) [] (take n buf.now) (told self.new))
+            (λ _. Grows (told self.old) [] [] (told self.new)) };
+}
+
+impl Talks for TcpStream {
+    fn receive(&mut self, buf: &mut [u8]) -> io::Result<usize> {
+        self.read(buf)
+    }
+
+    fn send(&mut self, buf: &[u8]) -> io::Result<usize> {
+        self.write(buf)
+    }
+}
