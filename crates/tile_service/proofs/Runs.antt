@@ -4,6 +4,7 @@ pub mod DeviceFaults
 pub mod DiskAfter
 pub mod EventAnswers
 pub mod Headlines
+pub mod KeptEdits
 pub mod OneEvent
 pub mod Progress
 pub mod States

@@ -3,6 +3,7 @@ use Rattle.std.specs.Prelude.{◌≡◌, ◌≤◌, ℕ, List, length, take, Opt
 use Rattle.sector_disk.specs.Disk.{History, moment, LeftSince, seen}
 use Rattle.edit_text.specs.Recorded.{RecordedEdit}
 use Rattle.tile_service.specs.After.{after}
+use Rattle.tile_service.specs.KeptEdits.{HasListed}
 use Rattle.tile_service.specs.Machine.{Happening}
 use Rattle.tile_service.specs.Runs.{Way, all_edits, AreEditsOf, starts, IsPublished, TakesStates}
 use Rattle.tile_service.specs.Service.{ServiceView, IsUp, ShowsArchive}
@@ -19,8 +20,8 @@ pub record HasFirst {D : Type 0} (sectors : ℕ) (history : History) (start : St
   pub shows : ShowsArchive history service archive
   pub is_archive : IsMapArchive (after start.snapshot_map (take j edits)) archive
 
--- The service has the map after some first edits of the run up to these happenings, all that were acknowledged by the first k of them among
--- them, and the archive of a publication that was current since then, or of one that is in doubt.
+-- The service has the map after some first edits of the run up to these happenings, all that were acknowledged by the first k of them and all that
+-- these listed among them, and the archive of a publication that was current since then, or of one that is in doubt.
 pub record HasSomeFirst {D : Type 0} (sectors : ℕ) (history : History) (start : Stored) (way : Option Way) (happenings : List Happening) (k : ℕ)
     (service : ServiceView D) : Type 0 where
   pub edits : List RecordedEdit
@@ -31,6 +32,8 @@ pub record HasSomeFirst {D : Type 0} (sectors : ℕ) (history : History) (start 
   pub order : j ≤ i
   pub acknowledged_then : length (all_edits start (take k happenings)) ≤ i
   pub published : IsPublished (starts start way) happenings k j
+  -- each edit that was listed by then is one of them
+  pub listed : HasListed start way happenings k (take i edits)
   pub has : HasFirst sectors history start edits i j service
 
 -- A run on a disk was stopped at some moment after the first k of its calls had returned and before the first m had, and this disk is one

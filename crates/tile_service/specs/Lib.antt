@@ -2,6 +2,7 @@ pub mod After
 pub mod Events
 pub mod Headline
 pub mod Inside
+pub mod KeptEdits
 pub mod Limits
 pub mod Listing
 pub mod Machine

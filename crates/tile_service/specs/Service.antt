@@ -204,6 +204,7 @@ pub record IsUp {D : Type 0} (sectors : ℕ) (history : History) (stored : Store
   pub place_is : service.journal.place ≡ stored.journal_at
   pub edits_are : service.journal.edits ≡ stored.edits
   pub used_is : service.journal.used ≡ places_of (stored_records stored)
+  pub ring_is : ring_of service.journal ≡ journal_ring service.size
   pub last_is : service.journal.last ≡ last_of stored
   pub publication : IfSome service.publication (Publishes service.size stored history)
   -- it knows the map after any prefix of the edits since, for the tiles that no later edit can have changed

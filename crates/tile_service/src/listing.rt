@@ -1,11 +1,14 @@
 //! The edits since the last publication, as the journal has them.
-ghost use Rattle.std.specs.Prelude.{◌≡◌, ◌≤◌, ◌<◌, ◌+◌, List, length, true, IfOk};
+ghost use Rattle.std.specs.Prelude.{◌≡◌, ◌≤◌, ◌<◌, ◌+◌, ℕ, List, length, take, true, IfOk};
 ghost use Rattle.sector_disk.specs.Asked.{OnlyReads};
+ghost use Rattle.sector_disk.specs.Disk.{Image, moment, LeftSince};
+ghost use Rattle.edit_journal.specs.Records.{RecordData};
 ghost use Rattle.edit_journal.specs.Recovers.{TellsRecoverFault};
 ghost use Rattle.edit_text.specs.Recorded.{RecordedEdit};
+ghost use Rattle.tile_service.specs.KeptEdits.{AreNumbered, IsListed, KeepsListed};
 ghost use Rattle.tile_service.specs.Listing.{ShowsEdits, AreListed, listed_from, listed_records};
 ghost use Rattle.tile_service.specs.Machine.{Happening, list_edits};
-ghost use Rattle.tile_service.specs.Runs.{Takes};
+ghost use Rattle.tile_service.specs.Runs.{Takes, TakesStates, all_edits, way_of};
 ghost use Rattle.tile_service.specs.Service.{ServiceView, IsUp};
 ghost use Rattle.tile_service.specs.Stored.{Stored};
 
@@ -49,4 +52,18 @@ impl<D: Sectors + Drop> Service<D> {
 pub fn broken_still_shows_its_edits<D: Sectors>()
     ensures { (old new : ServiceView D) (happening : Happening) (edits : List RecordedEdit) → Takes D.sectors D.honest D.history old happening new
         → new.broken ≡ true → ShowsEdits (D.history old.disk) old edits → D.honest new.disk → ShowsEdits (D.history new.disk) new edits }
+{}
+
+/// What was listed stays: each edit that a list had was acknowledged before, and every image that a crash leaves from the list on has it, under its number.
+/// So a follower never has an edit that the service loses.
+pub fn listed_edits_are_kept<D: Sectors>()
+    ensures acknowledged { (start : Stored) (old new : ServiceView D) (happenings : List Happening)
+        → TakesStates D.sectors D.honest D.history old happenings new → D.honest new.disk → IsUp (D.sectors old.disk) (D.history old.disk) start old
+        → (index number : ℕ) (records : List RecordData) → index < length happenings
+        → IsListed start (way_of start.edits old.publication) happenings index number records
+        → AreNumbered start number records (all_edits start (take index happenings)) }
+    ensures kept { (start : Stored) (old new : ServiceView D) (happenings : List Happening)
+        (run : TakesStates D.sectors D.honest D.history old happenings new) → D.honest new.disk → IsUp (D.sectors old.disk) (D.history old.disk) start old
+        → (k m : ℕ) → k ≤ m → m ≤ length happenings → (image : Image) → LeftSince (D.history (run.at m).disk) (moment (D.history (run.at k).disk)) image
+        → KeepsListed (D.sectors old.disk) old.size start (way_of start.edits old.publication) (take m happenings) k image }
 {}

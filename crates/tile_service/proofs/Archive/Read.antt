@@ -67,6 +67,7 @@ module _ {D : Type 0} (count : ℕ) (history : History) (stored : Stored) (servi
     place_is = up.place_is;
     edits_are = up.edits_are;
     used_is = up.used_is;
+    ring_is = up.ring_is;
     last_is = up.last_is;
     publication = publishes;
     were = up.were;

@@ -61,7 +61,7 @@ installs_unbroken trusted old new (way, inr w) broken = clash new.broken (ap (λ
 
 module _ {D : Type 0} (sectors : D → ℕ) (honest : D → Type 0) (history : D → History) (old new : ServiceView D) (h : Happening)
     (takes : Takes sectors honest history old h new) (broken : new.broken ≡ true) where
-  not_installed : h ≡ step (Ok 0) → ⊥
+  pub not_installed : h ≡ step (Ok 0) → ⊥
   not_installed is = installs_unbroken (IsTrusted sectors honest history old new) (state_of no_known old)
       (state_of (known_after no_known old (step (Ok 0))) new)
       (subst (λ (x : Happening). Happens (IsTrusted sectors honest history old new) (state_of no_known old) x

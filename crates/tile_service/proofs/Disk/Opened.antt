@@ -20,7 +20,7 @@ use Rattle.generations.specs.declared.fault.StoreFault.TheVariants.{NotFormatted
 use Rattle.generations.specs.declared.fault.What.TheVariants.{Size, RootSector, Snapshot, Journal, Text}
 use Rattle.generations.specs.declared.root.Root.{Root}
 use Rattle.generations.proofs.Laws.{one_live, live_no_fault}
-use Rattle.edit_journal.specs.Appends.{start_of}
+use Rattle.edit_journal.specs.Appends.{ring_of, start_of}
 use Rattle.edit_journal.specs.Records.{RecordData, AreUpTo, parts_of}
 use Rattle.edit_journal.specs.Recovers.{IsRecoverFault}
 use Rattle.edit_journal.specs.Ring.{places_of}
@@ -270,7 +270,7 @@ module _ (sectors n : ℕ) (stored : Stored) (image : Image) (holds : Holds sect
       (same_image : seen old ≡ image) (same_count : count ≡ sectors) (after_sync : history ≡ synced old)
       (unbroken : service.broken ≡ false) (generation : service.generation ≡ root.generation)
       (snapshot_len : service.snapshot_len ≡ root.snapshot_len) (archive_len : service.archive_len ≡ root.archive_len)
-      (publication : service.publication ≡ None)
+      (publication : service.publication ≡ None) (ring : ring_of service.journal ≡ journal_ring service.size)
       (is : IsRead sectors service.size service.version image root service.journal service.features service.touched)
       (nothing : (place : ArchivePlace) (bytes : List ℕ) → ArePublished service.published place bytes)
       (reads : AreReadRight service.features service.touched service.journal.last service.kept) where
@@ -328,6 +328,7 @@ module _ (sectors n : ℕ) (stored : Stored) (image : Image) (holds : Holds sect
         place_is = replayed.place_is;
         edits_are = replayed.edits_are;
         used_is = replayed.used_is ∙ ap places_of records_are;
+        ring_is = ring;
         last_is = omega (arith, replayed.last_is, ap length records_are, length-map stored.since record_for);
         publication = subst (λ (o : Option PublicationView). IfSome o (Publishes service.size stored history)) (sym publication) tt;
         were = were;

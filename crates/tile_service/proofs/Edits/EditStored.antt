@@ -218,6 +218,7 @@ module _ {D : Type 0} (sectors : D → ℕ) (history : D → History) (stored : 
           place_is = ap (λ (s : RecordStart). s.place) same.1 ∙ up.place_is;
           edits_are = edits;
           used_is = now.uses;
+          ring_is = same.0 ∙ ring ∙ sym (ap journal_ring size);
           last_is = omega (arith, now.counts, edits, length-map (stored.since ++ e ∷ []) record_for);
           publication = subst (λ (k : ℕ). IfSome after.publication (Publishes k (with_edit stored e) (history new))) (sym size)
               (subst (λ (o : Option PublicationView). IfSome o (Publishes service.size (with_edit stored e) (history new))) (sym publication)

@@ -16,7 +16,7 @@ use Rattle.generations.specs.Areas.{journal_sectors, area_sectors, area_start, s
 use Rattle.generations.specs.Installs.{root_at, WithRoot, Installs}
 use Rattle.generations.specs.Sectors.{root_sector, AreNumbers, IsFormat, IsRootOf, version_from}
 use Rattle.generations.proofs.Installs.{installed_image}
-use Rattle.edit_journal.specs.Appends.{Keeps as KeepsRecords}
+use Rattle.edit_journal.specs.Appends.{ring_of, Keeps as KeepsRecords}
 use Rattle.edit_journal.specs.Records.{RecordData}
 use Rattle.edit_journal.specs.Releases.{MayTake}
 use Rattle.edit_journal.specs.Ring.{Ring, AreRecords, places_of, HoldsOnly}
@@ -239,14 +239,14 @@ module _ (n : ℕ) (stored : Stored) (taken : ℕ) (archive : List ℕ) (within 
   pub up_published : {D : Type 0} (count : ℕ) (h : History) (service : ServiceView D) → service.size ≡ n
       → Keeps count n (published n stored taken archive) h → service.broken ≡ false → service.version ≡ stored.version
       → service.generation ≡ suc stored.generation → service.features ≡ map_of stored → service.journal.place ≡ (published n stored taken archive).journal_at
-      → service.journal.edits ≡ stored.edits + taken
+      → service.journal.edits ≡ stored.edits + taken → ring_of service.journal ≡ journal_ring service.size
       → service.journal.used + places_of (take taken (stored_records stored)) ≡ places_of (stored_records stored)
       → service.journal.last ≡ last_of stored → service.snapshot_len ≡ length (snapshot (map_at stored taken))
       → service.archive_len ≡ length archive → service.publication ≡ None
       → WereMaps service.features service.touched service.journal.last (stored.edits + taken) (map_at stored taken) (drop taken stored.since)
       → ArePublished service.published (archive_of service) archive → AreReadRight service.features service.touched service.journal.last service.kept
       → IsUp count h (published n stored taken archive) service
-  up_published count h service size keeps unbroken version generation features place edits used last snapshot_ archive_ publication were archived
+  up_published count h service size keeps unbroken version generation features place edits ring used last snapshot_ archive_ publication were archived
       reads = record {
         keeps = subst (λ (k : ℕ). Keeps count k (published n stored taken archive) h) (sym size) keeps;
         unbroken = unbroken;
@@ -256,6 +256,7 @@ module _ (n : ℕ) (stored : Stored) (taken : ℕ) (archive : List ℕ) (within 
         place_is = place;
         edits_are = edits;
         used_is = left ∙ ap places_of (drop-map record_for taken stored.since);
+        ring_is = ring;
         last_is = last ∙ sym same_last;
         snapshot_len_is = snapshot_;
         archive_len_is = archive_;

@@ -269,17 +269,18 @@ module _ {D : Type 0} (sectors : ℕ) (old : History) (stored : Stored) (service
     pub up_installed : (count : ℕ) (after : ServiceView D) → count ≡ sectors
         → new ≡ synced (wrote (root_at root.generation) (root_sector root) (synced old)) → after.size ≡ service.size
         → after.broken ≡ service.broken → after.version ≡ service.version → after.generation ≡ service.generation + 1 → after.features ≡ service.features
-        → after.journal.place ≡ p.start.place → after.journal.edits ≡ p.start.edits
+        → after.journal.place ≡ p.start.place → after.journal.edits ≡ p.start.edits → ring_of after.journal ≡ ring_of service.journal
         → after.journal.used + p.places ≡ service.journal.used → after.journal.last ≡ service.journal.last
         → after.snapshot_len ≡ length p.content.snapshot → after.archive_len ≡ length p.content.archive → after.publication ≡ None
         → after.touched ≡ service.touched → after.published ≡ service.published → after.kept ≡ service.kept → IsUp count new next after
-    up_installed count after same is size broken version generation features place edits freed last text archive none touched published_is kept =
+    up_installed count after same is size broken version generation features place edits ring freed last text archive none touched published_is kept =
         subst (λ (k : ℕ). IsUp k new next after) (sym same)
         (up_published service.size stored (count_at stored p) p.content.archive going.under_way.can.within sectors new after size
         (installed_keeps sectors service.size stored (count_at stored p) p.content.archive going.under_way.can old new up.keeps area_stands
         (subst (λ (r : Root). new ≡ synced (wrote (root_at r.generation) (root_sector r) (synced old))) root_is is))
         (broken ∙ up.unbroken) (version ∙ up.version_is) (omega (arith, generation, up.generation_is)) (features ∙ up.map_is) (place ∙ going.place_is)
-        (omega (arith, edits, going.later)) (omega (arith, freed, going.places_are, up.used_is)) (last ∙ up.last_is)
+        (omega (arith, edits, going.later)) (ring ∙ up.ring_is ∙ sym (ap journal_ring size))
+        (omega (arith, freed, going.places_are, up.used_is)) (last ∙ up.last_is)
         (text ∙ ap length going.snapshot_is) archive none were archived reads)
       where
         map : FeatureMap

@@ -6,6 +6,7 @@ use Rattle.edit_text.specs.Recorded.{RecordedEdit}
 use Rattle.feature_store.specs.Store.{FeatureMap}
 use Rattle.tile_service.specs.After.{made, after}
 use Rattle.tile_service.specs.Headline.{HasSomeFirst, WasStopped}
+use Rattle.tile_service.specs.KeptEdits.{HasListed}
 use Rattle.tile_service.specs.Machine.{Happening}
 use Rattle.tile_service.specs.Runs.{Way, way_of, fitting, ImageFits}
 use Rattle.tile_service.specs.Service.{ServiceView, IsUp}
@@ -31,10 +32,10 @@ module _ {D : Type 0} (sectors : D → ℕ) (honest : D → Type 0) (history : D
 
   -- and a service that is opened to that state has some first edits
   pub opens_to_first : (start : Stored) (way : Option Way) (happenings : List Happening) (k count n : ℕ) (disk : D) (service : ServiceView D)
-      (fits : ImageFits count n start way happenings k (seen (history disk)))
+      (fits : ImageFits count n start way happenings k (seen (history disk))) → HasListed start way happenings k (take fits.i fits.edits)
       → IsUp (sectors service.disk) (history service.disk) (fitting start fits.edits fits.i fits.j fits.fits.0 fits.fits.1 fits.fits.2) service
       → HasSomeFirst (sectors service.disk) (history service.disk) start way happenings k service
-  opens_to_first start way happenings k count n disk service fits up =
+  opens_to_first start way happenings k count n disk service fits listed up =
       let stored = fitting start fits.edits fits.i fits.j fits.fits.0 fits.fits.1 fits.fits.2 in record {
         edits = fits.edits;
         are_edits = fits.are_edits;
@@ -44,6 +45,7 @@ module _ {D : Type 0} (sectors : D → ℕ) (honest : D → Type 0) (history : D
         order = fits.order;
         acknowledged_then = fits.acknowledged_then;
         published = fits.published;
+        listed = listed;
         has = record {
           stored = stored;
           is_up = up;

@@ -43,7 +43,7 @@ returns-in-Ok-clause-after g c = rw (← c.self.view_is) (λ stored honest up.
     (subst (λ (j : Journal). IsBehind j c.args.publication.start c.args.publication.places) (sym (ap (λ s. s.journal) c.self.view_is))
     c.requires.going.2.behind) in
     up_installed _ _ stored service c.args.publication up c.requires.written root is _ _ _ c.install.ensures.disk.same_count (c.in-Ok.ensures.installed honest)
-    refl refl refl refl refl (c.release.ensures.start.0 ∙ place) (c.release.ensures.start.1 ∙ edits)
+    refl refl refl refl refl (c.release.ensures.start.0 ∙ place) (c.release.ensures.start.1 ∙ edits) c.release.ensures.same.0
     (c.release.ensures.freed c.args.publication.places behind) c.release.ensures.same.1 text archive
     (ap (λ s. s.publication) c.self.view_is ∙ c.requires.none) refl refl refl)
 

@@ -3,6 +3,7 @@ use Rattle.sector_disk.specs.Disk.{seen}
 use Rattle.tile_service.specs.Runs.{fitting}
 use Rattle.tile_service.proofs.Disk.Opened.{opens, no_other_fault, read_sound}
 use Rattle.tile_service.proofs.Runs.Headlines.{was_left, opens_to_first}
+use Rattle.tile_service.proofs.Runs.KeptEdits.{listed_stays}
 use Rattle.tile_service.proofs.service.Service.open.Goals as goal
 
 pub returns-in-Ok-clause-opened : goal.returns-in-Ok-clause-opened
@@ -24,7 +25,8 @@ returns-in-Ok-clause-opened g c n stored holds honest =
       published = c.in-Ok.found.published;
       broken = false;
     })
-    c.in-Ok.found.root refl c.load.ensures.disk.same_count (c.in-Ok.ensures.synced honest) refl refl refl refl refl (c.in-Ok.ensures.found honest)
+    c.in-Ok.found.root refl c.load.ensures.disk.same_count (c.in-Ok.ensures.synced honest) refl refl refl refl refl c.in-Ok.ensures.ring
+    (c.in-Ok.ensures.found honest)
     c.in-Ok.ensures.published c.in-Ok.ensures.reads
 
 pub returns-in-Err-clause-refused : goal.returns-in-Err-clause-refused
@@ -94,6 +96,8 @@ returns-in-Ok-clause-headline g c start old new happenings k m was honest =
     let d = g.D.Sectors in
     let fits = was_left d.sectors d.honest d.history start old new happenings k m c.args.disk was in
     opens_to_first d.sectors d.honest d.history start _ (take m happenings) k (d.sectors c.args.disk) old.size c.args.disk _ fits
+    (listed_stays d.sectors d.honest d.history old new start happenings was.run was.honest_to_its_end was.begins k m was.order was.within
+    (d.sectors c.args.disk) (seen (d.history c.args.disk)) fits)
     (returns-in-Ok-clause-opened g c old.size
     (fitting start fits.edits fits.i fits.j fits.fits.0 fits.fits.1 fits.fits.2) fits.fits.3 honest).1
 
