@@ -1,5 +1,6 @@
 //! Disks in files, and disks whose calls fail, by worked examples.
 mod calls;
+mod copies;
 mod fakes;
 mod faulty;
 mod paths;

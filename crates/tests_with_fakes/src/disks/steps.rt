@@ -42,12 +42,12 @@ pub(crate) fn sector_from(start: u8) -> [u8; 512] {
 }
 
 /// Whether the sector exists and is written.
-fn writes<D: Sectors>(disk: &mut D, at: u64, bytes: &[u8; 512]) -> bool {
+pub(crate) fn writes<D: Sectors>(disk: &mut D, at: u64, bytes: &[u8; 512]) -> bool {
     at < disk.count() && disk.write(at, bytes).is_ok()
 }
 
 /// The bytes of a sector, if it exists and can be read.
-fn read<D: Sectors>(disk: &mut D, at: u64) -> Option<[u8; 512]> {
+pub(crate) fn read<D: Sectors>(disk: &mut D, at: u64) -> Option<[u8; 512]> {
     let mut bytes = [9; 512];
     if at < disk.count() && disk.read(at, &mut bytes).is_ok() {
         Some(bytes)
