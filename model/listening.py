@@ -8,6 +8,7 @@ from reply_stand import told_of
 
 TENTH = 100
 END, FLOOD = object(), object()
+NO_MEMORY = b"HTTP/1.1 503 Service Unavailable\r\ncontent-type: text/plain\r\ncontent-length: 7\r\nconnection: close\r\n\r\nMemory\n"
 
 
 def sent_by(quick, rate, now):
@@ -38,15 +39,15 @@ def pace(size, quick, rate):
 
 class Peer:
     """What a peer does, and what it gets: the requests of it that are answered, how many bytes of the replies, all if that isn't said, the time of
-    the last byte, and how many of its bytes without end are dropped."""
+    the last byte, whether the reply for want of memory comes last, and how many of its bytes without end are dropped."""
 
-    def __init__(self, *acts, answered=(), comes=0, takes=None, more=0, words=(), size=None, last=0, dropped=0):
+    def __init__(self, *acts, answered=(), comes=0, takes=None, more=0, words=(), size=None, last=0, dropped=0, refused=False):
         self.acts, self.answered, self.comes, self.takes, self.more, self.words = acts, list(answered), comes, takes, more, words
-        self.size, self.last, self.dropped = size, last, dropped
+        self.size, self.last, self.dropped, self.refused = size, last, dropped, refused
 
     def told(self, replies):
         """What is told of it that gets these replies."""
-        held = replies if self.size is None else replies[: self.size]
+        held = (replies if self.size is None else replies[: self.size]) + (NO_MEMORY if self.refused else b"")
         dropped = f", {self.dropped} dropped" if self.dropped else ""
         return f"{self.last}{dropped}: {told_of(held)}"
 

@@ -77,6 +77,17 @@ def so_many_are_open(script):
     script.note("While each of those that are open has begun a request, none is ended for another one, which waits until their time is over.")
     log = logged(*((number, 0, "read") for number in range(1, MAX_OPEN + 2)))
     listen(script, Peer((0, FRONT), more=MAX_OPEN), log=log, time=120_010)
+    script.note("At that limit as many are closed as come, and no more while another one may come.")
+    log = logged(*((number, 1, "closed") for number in [1, 2, *range(4, MAX_OPEN + 3), 3, MAX_OPEN + 3]))
+    listen(
+        script,
+        Peer((0, A), answered=[A], more=1),
+        Peer((0, A), (6000, END), answered=[A]),
+        Peer((0, A), (5000, END), answered=[A], more=MAX_OPEN - 4),
+        Peer((2000, A), (5000, END), answered=[A], comes=2000, last=2000, more=1),
+        Peer((9000, A), (9001, END), answered=[A], comes=9000, last=9000),
+        log=log, time=9001,
+    )
     script.note("A connection is ended whose stream can't be watched, and no other one.")
     unwatched = Peer((5, A), (6, END), words=["unwatched"])
     listen(script, unwatched, Peer((5, A), (6, END), answered=[A], last=5), log=logged((1, 0, "closed"), (2, 1, "closed")), time=6)
@@ -162,6 +173,51 @@ def slow_readers(script):
         Peer(comes=90),
         word="until 50", log=logged((3, 0, "closed"), (2, 1, "closed"), (1, 0, "write")), failed=True, time=1090,
     )
+
+
+# ---- a bound on the bytes of all connections
+
+PUT_HALF = request("PUT", "/features/8", b"x" * 9_000)[:5_000]
+
+
+def all_hold_too_much(script):
+    script.say("Once all connections hold more than they may, the one is ended that has waited longest for its peer, and no other one.")
+    with_points(script)
+    size = reply_size(script, A)
+    deaf = {"answered": [A], "takes": (1000, 0), "size": 1000}
+    listen(
+        script,
+        Peer((0, A), **deaf),
+        Peer((100, A), comes=100, last=100, **deaf),
+        Peer((200, A), comes=200, last=200, **deaf),
+        Peer((300, A), (400, END), answered=[A], comes=300, last=300),
+        word=f"held {size * 5 // 2}", log=logged((1, 0, "write"), (4, 1, "closed"), (2, 0, "write"), (3, 0, "write")), time=60_200,
+    )
+    script.note("One whose peer reads goes on.")
+    rate = 10_000
+    last = time_for(size, 1000, rate)
+    listen(
+        script,
+        Peer((0, A), (last + 1, END), answered=[A], takes=(1000, rate), last=last),
+        Peer((50, A), comes=50, last=50, **deaf),
+        Peer((250, A), comes=250, last=250, **deaf),
+        word=f"held {size * 5 // 2}", log=logged((2, 0, "write"), (1, 1, "closed"), (3, 0, "write")), time=60_250,
+    )
+    script.note("One that has sent a part of a request gets a reply, as its last one.")
+    listen(
+        script,
+        Peer((0, PUT_HALF), (300, b"x"), refused=True, last=200),
+        Peer((100, PUT_HALF), (300, END), answered=[PUT_HALF], comes=100, last=300),
+        Peer((200, PUT_HALF), (300, END), answered=[PUT_HALF], comes=200, last=300),
+        word="held 12000", log=logged((1, 0, "memory"), (2, 1, "refused"), (3, 1, "refused")), time=2300,
+    )
+
+
+def so_many_reads(script):
+    script.say("A connection may make so many reads: what it has asked by then is answered, and it ends once more comes.")
+    with_point(script)
+    listen(script, Peer((0, FRONT), (1, BACK), (2, A), (3, END), answered=[A], last=1), word="reads 2", log=logged((1, 1, "turns")), time=3)
+    listen(script, Peer((0, FRONT), (1, A), (2, END)), word="reads 1", log=logged((1, 0, "turns")), time=2)
 
 
 # At which times two peers send their halves: all orders.
@@ -290,4 +346,4 @@ def listen_second(script, slow, other, last):
     listen(script, slow, other, second, log=log, time=last)
 
 
-BLOCKS = [no_descriptor, accepts_that_fail, so_many_are_open, turns, slow_readers, cut_anywhere, byte_by_byte, stages, paces, downloads]
+BLOCKS = [no_descriptor, accepts_that_fail, so_many_are_open, turns, slow_readers, all_hold_too_much, so_many_reads, cut_anywhere, byte_by_byte, stages, paces, downloads]

@@ -21,6 +21,7 @@ from command_files import loses, opens, refuses_unusual_files, small_file_system
 from command_ports import serves, slow_peers
 from command_upgrades import stopped_upgrades, upgrades
 from command_words import foreign_paths, told_more, words
+from deaf_peers import deaf_peers
 
 
 def main():
@@ -50,6 +51,7 @@ def main():
         stopped_upgrades(cases, folder)
         serves(cases, folder)
         slow_peers(cases, folder)
+        deaf_peers(cases, folder)
         words(cases, folder, disk)
         told_more(cases, folder, published(folder, "told")[0])
         small_file_systems(cases, folder)

@@ -4,9 +4,9 @@ use Rattle.http_listen.specs.declared.accepting.TheConstants.{QUEUE_MILLISECONDS
 use Rattle.http_listen.specs.declared.deadlines.TheConstants.{LOOK_NANOSECONDS}
 use Rattle.http_listen.specs.declared.kept.TheConstants.{LAST_WAIT_SECONDS, LEAST_WAIT_SECONDS, MAX_DROPPED, PIECE}
 use Rattle.http_listen.specs.declared.paces.TheConstants.{WAIT_SECONDS, BYTES_A_SECOND}
-use Rattle.http_listen.specs.declared.rooms.TheConstants.{MAX_OUTPUT, MAX_LARGE_OUTPUT, MAX_LARGE, MAX_HELD, LONG_ANSWER_SECONDS}
+use Rattle.http_listen.specs.declared.rooms.TheConstants.{LONG_ANSWER_SECONDS}
 use Rattle.http_listen.specs.declared.waiting.TheConstants.{STOP_SECONDS, MAX_ACCEPTS}
-use Rattle.http_listen.specs.declared.waits.TheConstants.{MAX_KEPT}
+use Rattle.http_listen.specs.declared.waits.TheConstants.{MAX_HELD, MAX_KEPT}
 
 wait_seconds_are : WAIT_SECONDS ≡ 60
 wait_seconds_are = refl
@@ -40,15 +40,6 @@ max_dropped_is = refl
 
 piece_is : PIECE ≡ 8192
 piece_is = refl
-
-max_output_is : MAX_OUTPUT ≡ 1048576
-max_output_is = refl
-
-max_large_output_is : MAX_LARGE_OUTPUT ≡ 33554432
-max_large_output_is = refl
-
-max_large_is : MAX_LARGE ≡ 4
-max_large_is = refl
 
 max_held_is : MAX_HELD ≡ 268435456
 max_held_is = refl

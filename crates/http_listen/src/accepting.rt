@@ -7,17 +7,26 @@ ghost use Rattle.http_listen.specs.Found.{IsReady};
 ghost use Rattle.http_listen.specs.Goes.{Goes};
 ghost use Rattle.http_listen.specs.Places.{kept_at};
 
+use crate::kept::GivenUp;
 use crate::places::List;
 use crate::refusals::{Refusal, refusal_of};
 use crate::rooms::{Found, Room, fails_too_often};
 use crate::talks::Talks;
 use crate::waits::{MAX_KEPT, Waits};
-use std::io::Write;
+use std::io::{self, Write};
 use std::net::OpenStream;
 use std::time::Duration;
 
-/// How many milliseconds a new connection is left in the listener's queue while there is no room for it.
+/// How many milliseconds a new connection waits until it is looked again whether there is room for it.
 const QUEUE_MILLISECONDS: u64 = 10;
+
+/// The connection that was accepted before, if there was no room for it, or the next one.
+fn next_stream<L: Waits>(came: &mut Option<L::Stream>, listener: &L) -> io::Result<L::Stream> {
+    match came.take() {
+        Some(stream) => Ok(stream),
+        None => listener.accept(),
+    }
+}
 
 impl<S: Talks + OpenStream + Drop> Room<S> {
     /// The connection that is closed for one that comes: one that has ended, or else the one that has waited longest for a request, if it
@@ -33,7 +42,7 @@ impl<S: Talks + OpenStream + Drop> Room<S> {
         }
     }
 
-    /// Closes a connection for one that comes, if one may be closed. Otherwise the new one stays in the listener's queue until `crowded`.
+    /// Closes a connection for one that has come, if one may be closed. Otherwise the new one waits until `crowded`.
     fn give_way<L: Waits<Stream = S>, W: Write>(
         &mut self,
         now: Duration,
@@ -48,7 +57,7 @@ impl<S: Talks + OpenStream + Drop> Room<S> {
             return;
         }
         if let Some(key) = self.giving_way(now) {
-            self.end_at(now, key, log);
+            self.end_at(now, key, GivenUp::Late, log);
             self.crowded = now;
         }
     }
@@ -78,7 +87,7 @@ impl<S: Talks + OpenStream + Drop> Room<S> {
         }
     }
 
-    /// Accepts a connection, if there is room for it.
+    /// Accepts a connection. If there is no room for it, it waits until there is, and one that is open may be ended for it.
     pub(crate) fn accept<L: Waits<Stream = S>, W: Write>(
         &mut self,
         now: Duration,
@@ -91,14 +100,15 @@ impl<S: Talks + OpenStream + Drop> Room<S> {
         ensures no_rest { (kept : Kept S) (unsent : Unsent) → result ≢ Reads kept unsent }
     {
         self.accepts = self.accepts.saturating_sub(1);
-        if self.places.count() >= listener.max_open().min(MAX_KEPT) {
-            self.give_way(now, listener, log);
-            return Found::Nothing;
-        }
-        let refusal = match listener.accept() {
+        let refusal = match next_stream(&mut self.came, listener) {
             Ok(stream) => {
                 self.failed_accepts = 0;
-                return Found::New(stream);
+                if self.places.count() < listener.max_open().min(MAX_KEPT) {
+                    return Found::New(stream);
+                }
+                self.came = Some(stream);
+                self.give_way(now, listener, log);
+                return Found::Nothing;
             }
             Err(error) => refusal_of(&error),
         };

@@ -49,15 +49,9 @@ struct Past<S> {
     kept: Kept<S>,
 }
 
-/// Answers the first `end` bytes of a connection's input. The replies are added to its output, but for those that would make it larger
-/// than `limit` bytes: these are sent at once. The rest of a content is left, and read later.
-fn serve_front<S, H>(
-    buffers: &mut Buffers,
-    limit: usize,
-    kept: Kept<S>,
-    end: usize,
-    handler: &mut H,
-) -> Past<S>
+/// Answers the first `end` bytes of a connection's input. Of the replies its output has what the stream doesn't take at once. The rest of a
+/// content is left, and read later.
+fn serve_front<S, H>(buffers: &mut Buffers, kept: Kept<S>, end: usize, handler: &mut H) -> Past<S>
 where
     S: Talks + OpenStream + Drop,
     H: Downloads,
@@ -77,7 +71,7 @@ where
         output,
         pace,
     } = kept;
-    let mut writer = ReplyWriter::new(stream, pace, output, limit);
+    let mut writer = ReplyWriter::new(stream, pace, output);
     let mut reader = input.front(end);
     let outcome = serve_fronts(buffers, &mut reader, &mut writer, handler, MAX_READS);
     let (stream, pace, output) = writer.into_parts();
@@ -109,7 +103,7 @@ where
     ensures acted { (act : Act) × Does H.replies H.fails H.reads H.ticket_of handler.old act handler.new
         × Acts S.told (kept_at room.old.places) kept act (kept_at room.new.places) }
 {
-    let past = serve_front(buffers, 0, kept, 0, handler);
+    let past = serve_front(buffers, kept, 0, handler);
     room.opened(past.kept, past.outcome, log);
 }
 
@@ -142,9 +136,8 @@ where
     ensures acts { (act : Act) × Does H.replies H.fails H.reads H.ticket_of handler.old act handler.new
         × Steps S.told kept (act ∷ []) (result.ending ≡ None) result.kept }
 {
-    let limit = room.output_limit();
     let start = time_of(clock);
-    let Past { outcome, mut kept } = serve_front(buffers, limit, kept, end, handler);
+    let Past { outcome, mut kept } = serve_front(buffers, kept, end, handler);
     room.spend(clock, start);
     let now = room.now(clock);
     kept.answered(now, end, outcome);
@@ -243,16 +236,20 @@ where
 /// before; other requests are answered between two parts. While replies wait, or the rest of one, no further request of the connection is
 /// read or answered.
 ///
-/// Between two requests a connection holds no buffers. Otherwise it has at most `http_requests::MAX_REQUEST` bytes of input, and replies of
-/// at most 1 MiB, on four connections 32 MiB; a buffer takes at most twice as much as it has. Of a content that is read in parts one
-/// part is in memory. A larger reply that the handler holds whole is sent at once, up to its end: for that time its peer is waited for, and
-/// all others with it. Once all connections hold 256 MiB, so is each reply, and a connection that has begun a request and sends more of it
-/// ends with `memory`.
+/// Between two requests a connection holds no buffers. Otherwise it has at most `http_requests::MAX_REQUEST` bytes of input, and of its replies
+/// what its peer hasn't taken yet; a buffer takes at most twice as much as it has. Of a content that is read in parts one part is in memory.
+///
+/// All connections hold at most `Waits::max_held` bytes of requests and replies. Once a step exceeds that, connections are ended before the next
+/// one until it is met, first the one that has waited longest for its peer: if it has sent a part of a request, with the reply 503 `Memory` and
+/// logged as `memory`, otherwise as one whose write failed. If no connection waits for its peer, one that has sent a part of a request and is to
+/// be read gets that reply. So does each connection for whose input or buffers memory runs out before its request is answered.
 ///
 /// At most `Waits::max_open` connections are open, and never more than `MAX_KEPT`. At that limit, or when one can't be accepted for
 /// want of descriptors or memory, room is made for it: a connection that has ended is closed, or else the one that waits longest for a
-/// request is ended and logged as `closed`, if it has waited for a second and has sent nothing. If there is none, the new one waits in
-/// the listener's queue, and is accepted once it can be.
+/// request is ended and logged as `closed`, if it has waited for a second and has sent nothing. If there is none, the new one waits, and is
+/// served once it can be. At the limit none is ended before another one was accepted.
+///
+/// A connection makes at most `Waits::max_reads` reads that return bytes. If it has, and bytes come, it ends with `turns`.
 ///
 /// A connection's fault ends that connection alone. An accept that fails for the one that it accepts is tried again, and a call that a
 /// signal interrupts. A line that can't be written is left out.
@@ -296,7 +293,7 @@ where
     // is left, and what is read of that is its next bytes, by that reply's ticket.
     ensures named { (deeds : List Deed) × Runs H.replies H.fails H.reads H.ticket_of handler.old deeds handler.new × AreInOrder connections deeds }
 {
-    let mut room = Room::new(alloc);
+    let mut room = Room::new(alloc, listener.max_held(), listener.max_reads());
     let mut buffers = Buffers::new(alloc);
     let mut begun = 0;
     'turns: for _turn in 0..MAX_TURNS {

@@ -7,11 +7,11 @@ ghost use Rattle.http_listen.specs.Talks.{Moves};
 
 use crate::inputs::Input;
 use crate::lines::write_line;
+use crate::no_memory::memory_reply;
 use crate::outputs::Output;
-use crate::paced::{is_passing, nanoseconds_of};
-use crate::paces::{Pace, Stage};
+use crate::paces::{Pace, Stage, nanoseconds_of};
 use crate::places::List;
-use crate::readiness::Readiness;
+use crate::readiness::{Readiness, is_passing};
 use crate::rests::{Unsent, once_sent};
 use crate::talks::Talks;
 use crate::turns::Next;
@@ -29,7 +29,7 @@ const LAST_WAIT_SECONDS: u64 = 2;
 const MAX_DROPPED: usize = 16_777_216;
 
 /// The maximum size of one read in bytes.
-const PIECE: usize = 8_192;
+pub(crate) const PIECE: usize = 8_192;
 
 /// How many seconds a connection has waited at least before it is closed for another one.
 const LEAST_WAIT_SECONDS: u64 = 1;
@@ -38,6 +38,21 @@ const LEAST_WAIT_SECONDS: u64 = 1;
 const NOTHING: Result<Served, ServeFault> = Ok(Served {
     requests: 0,
     end: End::Closed,
+});
+
+/// Why a connection is given up.
+#[derive(Clone, Copy)]
+pub(crate) enum GivenUp {
+    /// It has taken too long, or the server stops, or it can't be watched.
+    Late,
+    /// All connections hold more bytes than they may.
+    Held,
+}
+
+/// What a connection came to that has made as many reads as it may.
+const TURNS: Result<Served, ServeFault> = Ok(Served {
+    requests: 0,
+    end: End::Turns,
 });
 
 /// What a connection came to, if it ends.
@@ -50,6 +65,8 @@ pub(crate) struct Turn {
     pub(crate) number: u64,
     /// How many of its requests got a whole reply.
     pub(crate) requests: u64,
+    /// How many of its reads returned bytes.
+    pub(crate) reads: u64,
     /// Whether the end of the input was read.
     pub(crate) ended: bool,
     /// Whether the input is searched for a request before more is read.
@@ -94,6 +111,7 @@ impl<S> Kept<S> {
         let turn = Turn {
             number,
             requests: 0,
+            reads: 0,
             ended: false,
             searches: false,
             outcome: NOTHING,
@@ -177,10 +195,17 @@ impl<S> Kept<S> {
         passed >= Duration::from_secs(LEAST_WAIT_SECONDS)
     }
 
+    /// How many bytes of requests and replies it holds.
+    pub(crate) fn held(&self) -> usize {
+        self.output.held().saturating_add(self.input.len())
+    }
+
     /// What it comes to if its peer is waited for no longer.
-    pub(crate) fn given_up(&self) -> Result<Served, ServeFault> {
+    pub(crate) fn given_up(&self, why: GivenUp) -> Result<Served, ServeFault> {
         if self.sends() {
             Err(ServeFault::Write { requests: 0 })
+        } else if matches!(why, GivenUp::Held) {
+            Err(ServeFault::Memory)
         } else if self.input.len() > 0 {
             Err(ServeFault::Read { requests: 0 })
         } else {
@@ -253,7 +278,38 @@ impl<S> Kept<S> {
     }
 }
 
-impl<S: OpenStream> Kept<S> {
+impl<S: Talks> Kept<S> {
+    /// Sends the reply for want of memory, unless another reply is being sent. Whether it was.
+    pub(crate) fn refuse_memory(&mut self) -> bool
+        ensures { self.new.turn ≡ self.old.turn }
+    {
+        if self.sends() {
+            return false;
+        }
+        let reply = memory_reply();
+        let outcome = match self.stream.send(reply) {
+            Err(e) if e.kind() == ErrorKind::Interrupted => self.stream.send(reply),
+            outcome => outcome,
+        };
+        match outcome {
+            Ok(count) => count == reply.len(),
+            Err(_) => false,
+        }
+    }
+}
+
+impl<S: Talks + OpenStream> Kept<S> {
+    /// Whether the peer of a connection that came to this may read a last reply. One whose request there was no memory for gets that reply now.
+    fn has_last_reply(&mut self, outcome: Result<Served, ServeFault>) -> bool
+        ensures { self.new.turn ≡ self.old.turn }
+    {
+        match outcome {
+            Ok(_) => true,
+            Err(ServeFault::Memory) => self.refuse_memory(),
+            Err(_) => false,
+        }
+    }
+
     /// Ends the connection, and writes its line to the log. Unless its peer reads no last reply, or sends no more, what it still sends is
     /// dropped for a while, so that it reads its last reply, and not that the connection was reset (RFC 9112, 9.6). Returns whether that is
     /// so: otherwise the stream is closed.
@@ -267,7 +323,10 @@ impl<S: OpenStream> Kept<S> {
         ensures ended { result ≡ true → IsSome self.new.turn.drops }
     {
         let _ = self.log_end(outcome, log);
-        if outcome.is_err() || self.turn.ended || self.stream.shutdown(Shutdown::Write).is_err() {
+        if !self.has_last_reply(outcome)
+            || self.turn.ended
+            || self.stream.shutdown(Shutdown::Write).is_err()
+        {
             return false;
         }
         self.turn.drops = Some(MAX_DROPPED);
@@ -292,17 +351,27 @@ impl<S: Talks> Kept<S> {
         is_passing(error)
     }
 
-    /// Makes one read, and searches the input for a request, if bytes or its end came. If all connections hold too much, one that has begun
-    /// a request is ended.
-    pub(crate) fn receive(&mut self, now: Duration, is_full: bool) -> Next
+    /// Makes one read into `piece`, and searches the input for a request, if bytes or its end came. If all connections hold too much, one that has begun
+    /// a request is ended, and if memory runs out.
+    pub(crate) fn receive(
+        &mut self,
+        now: Duration,
+        is_full: bool,
+        max_reads: u64,
+        piece: &mut [u8],
+    ) -> Next
         ensures read { IsRead S.told self.old result self.new }
         ensures searched { IsSearched self.new.input self.new.turn.ended result }
     {
+        if self.turn.reads >= max_reads {
+            return Next::Rests(Some(TURNS));
+        }
         if is_full && self.input.len() > 0 {
             return Next::Rests(Some(Err(ServeFault::Memory)));
         }
-        let mut piece = [0; PIECE];
-        let space = MAX_REQUEST.saturating_sub(self.input.len()).min(PIECE);
+        let space = MAX_REQUEST
+            .saturating_sub(self.input.len())
+            .min(piece.len());
         let count = match self.stream.receive(&mut piece[..space]) {
             Ok(count) => count,
             Err(e) if self.may_read_again(&e) => return Next::Rests(None),
@@ -311,6 +380,7 @@ impl<S: Talks> Kept<S> {
         if count == 0 {
             self.turn.ended = true;
         } else {
+            self.turn.reads = self.turn.reads.saturating_add(1);
             self.turn.ready = self.turn.ready.read(count >= space);
             if self.input.add(&piece[..count]).is_err() {
                 return Next::Rests(Some(Err(ServeFault::Memory)));
@@ -321,15 +391,14 @@ impl<S: Talks> Kept<S> {
         self.search(now)
     }
 
-    /// Makes one read, and drops what it gives. Whether more may come.
-    pub(crate) fn drop_piece(&mut self, now: Duration, left: usize) -> bool
+    /// Makes one read into `piece`, and drops what it gives. Whether more may come.
+    pub(crate) fn drop_piece(&mut self, now: Duration, left: usize, piece: &mut [u8]) -> bool
         requires { IsSome self.old.turn.drops }
         ensures { Steps S.told self.old [] ⊥ self.new }
     {
-        let mut piece = [0; PIECE];
-        match self.stream.receive(&mut piece) {
+        match self.stream.receive(piece) {
             Ok(count) => {
-                self.turn.ready = self.turn.ready.read(count >= PIECE);
+                self.turn.ready = self.turn.ready.read(count >= piece.len());
                 self.turn.drops = Some(left.saturating_sub(count));
                 self.pace = self.pace_at(now);
                 self.turn.since = now;

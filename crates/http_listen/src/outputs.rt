@@ -1,10 +1,10 @@
 //! The replies of a connection that wait to be sent.
-ghost use Rattle.std.specs.Prelude.{◌≡◌, ◌≤◌, ◌++◌, [], true, false, length, drop, IfOk, OnOk};
+ghost use Rattle.std.specs.Prelude.{◌≡◌, ◌≤◌, ◌++◌, [], true, false, length, drop, IfOk};
 ghost use Rattle.http_listen.specs.Talks.{Moves};
 
 use crate::talks::Talks;
 use std::alloc::Global;
-use std::io::{self, ErrorKind};
+use std::io;
 use std::marker::Model;
 
 /// Bytes that wait to be sent. Without bytes it holds no memory.
@@ -52,19 +52,11 @@ impl Output {
         self.bytes.len()
     }
 
-    /// Adds bytes, unless it would hold more than `limit` then, or memory runs out. Whether it did.
-    pub(crate) fn add(&mut self, more: &[u8], limit: usize) -> bool
+    /// Adds bytes, unless memory runs out. Whether it did.
+    pub(crate) fn add(&mut self, more: &[u8]) -> bool
         ensures added { result ≡ true → self.new ≡ self.old ++ more.now }
         ensures same { result ≡ false → self.new ≡ self.old }
-        ensures bound { result ≡ true → length self.new ≤ limit }
     {
-        let held = self.bytes.len();
-        if held > limit {
-            return false;
-        }
-        if more.len() > limit - held {
-            return false;
-        }
         self.bytes.extend_from_slice(more).is_ok()
     }
 
@@ -84,19 +76,5 @@ impl Output {
         let count = stream.send(self.waiting())?;
         self.sent += count;
         Ok(count)
-    }
-
-    /// Makes writes of the bytes that wait until none do, or one fails or takes none.
-    pub(crate) fn send_all<S: Talks>(&mut self, stream: &mut S) -> io::Result<()>
-        ensures moves { Moves (S.told stream.old) self.old [] [] (S.told stream.new) self.new }
-        ensures none { OnOk result (self.new ≡ []) }
-    {
-        'writes: while !self.waiting().is_empty() {
-            if self.send(stream)? == 0 {
-                return Err(ErrorKind::WriteZero.into());
-            }
-        }
-        self.clear();
-        Ok(())
     }
 }

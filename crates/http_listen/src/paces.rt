@@ -3,14 +3,21 @@ ghost use Rattle.std.specs.Prelude.{◌≡◌, ◌≢◌, ◌↔◌, if◌then�
 ghost use Rattle.http_listen.specs.Paces.{begun, less_time, earned};
 ghost use Rattle.http_listen.specs.declared.paces.Stage.TheVariants.{Idle, Request, Reply};
 
+use std::time::Duration;
+
 /// The time that a peer has for each stage, in seconds.
-pub(crate) const WAIT_SECONDS: u64 = 60;
+const WAIT_SECONDS: u64 = 60;
 
 /// How many bytes of a reply earn its peer a second more.
 const BYTES_A_SECOND: u64 = 16_384;
 
 /// A second in nanoseconds.
 const SECOND: u64 = 1_000_000_000;
+
+/// A duration in nanoseconds, saturating at `u64::MAX`.
+pub(crate) fn nanoseconds_of(duration: Duration) -> u64 {
+    u64::try_from(duration.as_nanos()).unwrap_or(u64::MAX)
+}
 
 /// What a connection does.
 #[derive(Clone, Copy)]

@@ -5,7 +5,6 @@ ghost use Rattle.http_listen.specs.Stays.{AllStand};
 ghost use Rattle.http_listen.specs.Places.{kept_at, next_key, KeepsAll, Reports};
 
 use crate::kept::Kept;
-use crate::rooms::MAX_OUTPUT;
 use crate::waits::{Change, Waits};
 use slab::Slab;
 use std::alloc::Global;
@@ -46,9 +45,8 @@ struct Place<S> {
     list: List,
     before: Option<usize>,
     after: Option<usize>,
-    /// How many bytes it holds, and whether its replies take more than `MAX_OUTPUT` of them.
+    /// How many bytes it holds.
     held: usize,
-    is_large: bool,
 }
 
 /// The open connections, each at a key, and each in one list. What is done with one of them takes as long whether there are many or few.
@@ -62,8 +60,6 @@ pub struct Places<S> {
     ended: Ends,
     /// How many bytes of requests and replies they hold.
     pub(crate) held: usize,
-    /// On how many the replies take more than `MAX_OUTPUT` bytes.
-    pub(crate) large: usize,
 }
 
 impl<S> Places<S> {
@@ -79,7 +75,6 @@ impl<S> Places<S> {
             busy: EMPTY,
             ended: EMPTY,
             held: 0,
-            large: 0,
         }
     }
 
@@ -271,16 +266,13 @@ impl<S> Places<S> {
         ensures back { IfErr result (λ back. back ≡ kept) }
         ensures same { OnErr result (KeepsAll self.old self.new) }
     {
-        let output = kept.output.held();
-        let held = output.saturating_add(kept.input.len());
-        let is_large = output > MAX_OUTPUT;
+        let held = kept.held();
         let place = Place {
             kept,
             list: List::Ready,
             before: None,
             after: None,
             held,
-            is_large,
         };
         let key = match self.places.insert(place) {
             Ok(key) => key,
@@ -290,7 +282,6 @@ impl<S> Places<S> {
             }
         };
         self.held = self.held.saturating_add(held);
-        self.large = self.large.saturating_add(usize::from(is_large));
         self.link_last(key);
         Ok(key)
     }
@@ -303,14 +294,8 @@ impl<S> Places<S> {
         ensures others { (other : ℕ) → other ≢ key → kept_at self.new other ≡ kept_at self.old other }
     {
         self.unlink(key);
-        let Place {
-            kept,
-            held,
-            is_large,
-            ..
-        } = self.places.try_remove(key)?;
+        let Place { kept, held, .. } = self.places.try_remove(key)?;
         self.held = self.held.saturating_sub(held);
-        self.large = self.large.saturating_sub(usize::from(is_large));
         Some(kept)
     }
 

@@ -2,6 +2,15 @@
 ghost use Rattle.std.specs.Prelude.{◌≡◌, ◌||◌, true, false};
 
 use crate::waits::Change;
+use std::io::{self, ErrorKind};
+
+/// Whether a call may succeed when it is repeated: nothing moved, or a signal interrupted it.
+pub(crate) fn is_passing(error: &io::Error) -> bool {
+    match error.kind() {
+        ErrorKind::Interrupted | ErrorKind::WouldBlock => true,
+        _ => false,
+    }
+}
 
 /// What a stream may be ready for: a call that finds it otherwise returns `WouldBlock`.
 #[derive(Clone, Copy)]

@@ -89,7 +89,7 @@ fn add_bytes<H: Downloads>(
         Ok(()) => {}
         Err(_) => return Err(ServeFault::Content { requests: 0 }),
     }
-    if output.add(part, PART_SIZE) {
+    if output.add(part) {
         return Ok(unsent.less(part.len()));
     }
     Err(ServeFault::Memory)

@@ -8,7 +8,7 @@ ghost use Rattle.http_listen.specs.Places.{kept_at, next_key};
 ghost use Rattle.http_listen.specs.declared.kept.Kept.{Kept};
 
 use crate::deadlines::Deadlines;
-use crate::kept::{Ending, Kept};
+use crate::kept::{Ending, GivenUp, Kept, PIECE};
 use crate::places::{List, Places};
 use crate::rests::Unsent;
 use crate::talks::Talks;
@@ -19,18 +19,6 @@ use std::alloc::Global;
 use std::io::Write;
 use std::net::OpenStream;
 use std::time::{Clock, Duration};
-
-/// The maximum number of bytes of replies that wait on a connection: 1 MiB.
-pub(crate) const MAX_OUTPUT: usize = 1_048_576;
-
-/// The same on each of `MAX_LARGE` connections: 32 MiB.
-const MAX_LARGE_OUTPUT: usize = 33_554_432;
-
-/// On how many connections more than `MAX_OUTPUT` bytes wait at most.
-const MAX_LARGE: usize = 4;
-
-/// The number of bytes of requests and replies of all connections up to which more are taken: 256 MiB.
-const MAX_HELD: usize = 268_435_456;
 
 /// An answer that takes at least as many seconds takes nothing off the time of other peers.
 const LONG_ANSWER_SECONDS: u64 = 1;
@@ -68,13 +56,21 @@ pub(crate) enum Found<S> {
 #[derive(Drop)]
 pub(crate) struct Room<S> {
     pub(crate) places: Places<S>,
+    /// How many bytes they may hold.
+    max_held: usize,
+    /// How many reads each of them may make.
+    max_reads: u64,
+    /// What each read is made into. It has nothing of an earlier one that anybody reads.
+    piece: [u8; PIECE],
     /// How many of those that may have their turn have it before the next wait.
     pub(crate) round: usize,
     /// How many connections are accepted at most before the next wait.
     pub(crate) accepts: usize,
     /// Whether a connection may have come.
     pub(crate) comes: bool,
-    /// Until when it stays in the listener's queue, since there was no room for it.
+    /// One that was accepted, and for which there is no room yet.
+    pub(crate) came: Option<S>,
+    /// Until when there is no room for another one.
     pub(crate) crowded: Duration,
     pub(crate) deadlines: Deadlines,
     /// How many accepts in a row have failed for a cause that passes, and how many waits.
@@ -89,15 +85,19 @@ pub(crate) struct Room<S> {
 }
 
 impl<S> Room<S> {
-    /// No connection is open.
-    pub(crate) fn new(alloc: Global) -> Self
+    /// No connection is open. All together may hold this many bytes, and each may make this many reads.
+    pub(crate) fn new(alloc: Global, max_held: usize, max_reads: u64) -> Self
         ensures { (key : ℕ) → kept_at result.places key ≡ None }
     {
         Room {
             places: Places::new(alloc),
+            max_held,
+            max_reads,
+            piece: [0; PIECE],
             round: 0,
             accepts: 0,
             comes: false,
+            came: None,
             crowded: Duration::ZERO,
             deadlines: Deadlines::new(),
             failed_accepts: 0,
@@ -123,20 +123,9 @@ impl<S> Room<S> {
         }
     }
 
-    /// Whether the connections hold so much that no more is taken.
-    fn is_full(&self) -> bool {
-        self.places.held >= MAX_HELD
-    }
-
-    /// How many bytes of replies may wait on the connection that is answered next.
-    pub(crate) fn output_limit(&self) -> usize {
-        if self.is_full() {
-            0
-        } else if self.places.large < MAX_LARGE {
-            MAX_LARGE_OUTPUT
-        } else {
-            MAX_OUTPUT
-        }
+    /// Whether the connections hold more than they may.
+    pub(crate) fn is_full(&self) -> bool {
+        self.places.held > self.max_held
     }
 }
 
@@ -151,9 +140,10 @@ impl<S: Talks + OpenStream + Drop> Room<S> {
         }
         match self.places.put(kept) {
             Ok(key) => Some(key),
-            Err(kept) => {
+            Err(mut kept) => {
                 if kept.turn.drops.is_none() {
-                    let _ = kept.log_end(kept.given_up(), log);
+                    let _ = kept.log_end(kept.given_up(GivenUp::Held), log);
+                    kept.refuse_memory();
                 }
                 None
             }
@@ -200,14 +190,14 @@ impl<S: Talks + OpenStream + Drop> Room<S> {
     }
 
     /// Ends the connection at a key, whose peer is waited for no longer.
-    pub(crate) fn end_at<W: Write>(&mut self, now: Duration, key: usize, log: &mut W)
+    pub(crate) fn end_at<W: Write>(&mut self, now: Duration, key: usize, why: GivenUp, log: &mut W)
         ensures { Goes S.told (kept_at self.old.places) (kept_at self.new.places) }
     {
         let Some(kept) = self.places.take(key) else {
             return;
         };
         if kept.turn.drops.is_none() {
-            let ending = Some(kept.given_up());
+            let ending = Some(kept.given_up(why));
             self.keep_or_end(now, kept, ending, log);
         }
     }
@@ -224,7 +214,8 @@ impl<S: Talks + OpenStream + Drop> Room<S> {
         self.round = self.round.checked_sub(1)?;
         let key = self.places.ends(List::Ready).first?;
         let mut kept = self.places.take(key)?;
-        match kept.take_turn(now, self.is_full()) {
+        let is_full = self.is_full();
+        match kept.take_turn(now, is_full, self.max_reads, &mut self.piece) {
             Next::Asks(end) => return Some(Found::Asks(kept, end)),
             Next::Reads(unsent) => return Some(Found::Reads(kept, unsent)),
             Next::Rests(ending) => self.keep_or_end(now, kept, ending, log),
@@ -247,6 +238,7 @@ impl<S: Talks + OpenStream + Drop> Room<S> {
         ensures goes { Finds S.told (kept_at self.old.places) result (kept_at self.new.places) }
     {
         let now = self.now(clock);
+        self.give_space(now, listener, log);
         let stops = listener.stops();
         if stops {
             self.end_stopped(now, log);

@@ -97,15 +97,21 @@ impl<S> Kept<S> {
 }
 
 impl<S: Talks> Kept<S> {
-    /// Has its turn: a read, or a write. No request is looked for while replies wait, or the rest of one.
-    pub(crate) fn take_turn(&mut self, now: Duration, is_full: bool) -> Next
+    /// Has its turn: a read into `piece`, or a write. No request is looked for while replies wait, or the rest of one.
+    pub(crate) fn take_turn(
+        &mut self,
+        now: Duration,
+        is_full: bool,
+        max_reads: u64,
+        piece: &mut [u8],
+    ) -> Next
         ensures { Turned S.told self.old result self.new }
     {
         if self.has_output() {
             return Next::Rests(self.send_replies(now));
         }
         if let Some(left) = self.turn.drops {
-            return if self.drop_piece(now, left) {
+            return if self.drop_piece(now, left, piece) {
                 Next::Rests(None)
             } else {
                 Next::Closes
@@ -117,6 +123,6 @@ impl<S: Talks> Kept<S> {
         if self.turn.searches {
             return self.search(now);
         }
-        self.receive(now, is_full)
+        self.receive(now, is_full, max_reads, piece)
     }
 }

@@ -2,7 +2,8 @@
 ghost use Rattle.http_listen.specs.Goes.{Goes};
 ghost use Rattle.http_listen.specs.Places.{kept_at};
 
-use crate::paced::nanoseconds_of;
+use crate::kept::GivenUp;
+use crate::paces::nanoseconds_of;
 use crate::places::List;
 use crate::rooms::{Room, fails_too_often};
 use crate::talks::Talks;
@@ -21,9 +22,14 @@ const STOP_SECONDS: u64 = 1;
 const MAX_ACCEPTS: usize = 64;
 
 impl<S> Room<S> {
+    /// Whether a connection has come, or may have.
+    fn may_come(&self) -> bool {
+        self.comes || self.came.is_some()
+    }
+
     /// Whether a connection is to be accepted, if one is wanted.
     pub(crate) fn may_accept(&self, now: Duration) -> bool {
-        self.comes && self.accepts > 0 && self.crowded <= now
+        self.may_come() && self.accepts > 0 && self.crowded <= now
     }
 
     /// How long the connections are waited for at most.
@@ -33,7 +39,7 @@ impl<S> Room<S> {
         }
         let look = Duration::from_nanos(self.deadlines.left(nanoseconds_of(now)));
         let mut longest = Duration::from_secs(MAX_WAIT_SECONDS).min(look);
-        if accepts && self.comes {
+        if accepts && self.may_come() {
             longest = longest.min(self.crowded.saturating_sub(now));
         }
         if let Some(since) = self.stops {
@@ -51,7 +57,7 @@ impl<S: Talks + OpenStream + Drop> Room<S> {
     {
         match self.places.any() {
             Some(key) => {
-                self.end_at(now, key, log);
+                self.end_at(now, key, GivenUp::Late, log);
                 true
             }
             None => false,
@@ -70,7 +76,7 @@ impl<S: Talks + OpenStream + Drop> Room<S> {
                 _ => continue,
             };
             if deadline <= time {
-                self.end_at(now, key, log);
+                self.end_at(now, key, GivenUp::Late, log);
             } else {
                 self.deadlines.note(deadline);
             }
@@ -93,8 +99,8 @@ impl<S: Talks + OpenStream + Drop> Room<S> {
                 Some(kept) if over || !kept.sends() => {}
                 _ => continue,
             }
-            self.end_at(now, key, log);
-            self.end_at(now, key, log);
+            self.end_at(now, key, GivenUp::Late, log);
+            self.end_at(now, key, GivenUp::Late, log);
         }
     }
 
@@ -112,8 +118,34 @@ impl<S: Talks + OpenStream + Drop> Room<S> {
                 return;
             };
             if !self.places.watch(key, listener) {
-                self.end_at(now, key, log);
+                self.end_at(now, key, GivenUp::Late, log);
             }
+        }
+    }
+
+    /// Ends connections while all hold more bytes than they may: each time the one that has waited longest for its peer. If none waits, nothing
+    /// is done.
+    pub(crate) fn give_space<L: Waits<Stream = S>, W: Write>(
+        &mut self,
+        now: Duration,
+        listener: &mut L,
+        log: &mut W,
+    )
+        ensures goes { Goes S.told (kept_at self.old.places) (kept_at self.new.places) }
+    {
+        if !self.is_full() {
+            return;
+        }
+        // Those that wait are in the list of those that do, in this order.
+        self.watch_all(now, listener, log);
+        'ends: for _ in 0..self.places.ends(List::Busy).count {
+            let Some(key) = self.places.ends(List::Busy).first else {
+                return;
+            };
+            if !self.is_full() {
+                return;
+            }
+            self.end_at(now, key, GivenUp::Held, log);
         }
     }
 

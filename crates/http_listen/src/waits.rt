@@ -3,11 +3,15 @@ ghost use Rattle.http_listen.specs.Places.{kept_at};
 ghost use Rattle.http_listen.specs.Stays.{AllStand};
 
 use crate::places::Places;
+use http_serve::MAX_READS;
 use std::io;
 use std::time::Duration;
 
 /// The maximum number of open connections.
 pub const MAX_KEPT: usize = 16_384;
+
+/// How many bytes of requests and replies all connections hold at most: 256 MiB.
+pub const MAX_HELD: usize = 268_435_456;
 
 /// What a stream has become ready for.
 #[derive(Clone, Copy, Debug)]
@@ -32,9 +36,19 @@ pub trait Waits {
     /// `WouldBlock` if no connection is there; that of the system.
     fn accept(&self) -> io::Result<Self::Stream>;
 
-    /// How many connections may be open at once. More than `MAX_KEPT` never are.
+    /// How many connections may be open at once. More than `MAX_KEPT` never are. One more is accepted, and waits until another one has ended.
     fn max_open(&self) -> usize {
         MAX_KEPT
+    }
+
+    /// How many bytes of requests and replies all connections may hold.
+    fn max_held(&self) -> usize {
+        MAX_HELD
+    }
+
+    /// How many reads of a connection may return bytes.
+    fn max_reads(&self) -> u64 {
+        MAX_READS
     }
 
     /// Reports from now on when the stream of the connection at this key can be read, and if `sends`, when it takes bytes. What it is

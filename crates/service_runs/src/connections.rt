@@ -26,6 +26,7 @@
 //! | `accepts N ERROR` | the next N accepts of that listener fail with this error of Linux: 0 if they don't, -1 for none of Linux |
 //! | `serve` | serves these peers by a listener and its clock, as the program does |
 //! | `serve log N`, `serve until AT` | the same with a log that takes N bytes, and with a listener that stops after AT milliseconds |
+//! | `serve held N`, `serve reads N` | the same with connections that hold N bytes together at most, and with N reads of each |
 //!
 //! SIZES are the most bytes that a read gives, such as `4096,1`: the connection is served once for each. `texts::add_bytes` says how a TEXT spells
 //! bytes. The answer has the result, how many bytes were read, how many reads failed, and all that was written; `same` if another size gives the

@@ -17,9 +17,9 @@ returns-clause-comes g c = (
 
 pub returns-clause-answers : goal.returns-clause-answers
 returns-clause-answers g c =
-    let before = g.S.Talks.told c.new-writer.result.paced.stream in
+    let before = g.S.Talks.told c.new-writer.result.stream in
     let waiting = c.new-writer.result.output in
-    let after = g.S.Talks.told c.serve_fronts-outcome.new.writer.paced.stream in
+    let after = g.S.Talks.told c.serve_fronts-outcome.new.writer.stream in
     let waits = c.serve_fronts-outcome.new.writer.output in
     let out = came_out g.H.Handler.replies g.H.Handler.fails c.args.handler.now c.serve_fronts-outcome.new.handler (Some c.front-reader.result.now)
     (notes before waiting) _ (notes after waits) c.serve_fronts-outcome.result c.serve_fronts-outcome.ensures.serves.served

@@ -12,6 +12,10 @@ pub(crate) struct Room {
     pub(crate) log: usize,
     /// When it stops.
     pub(crate) stops: u64,
+    /// How many bytes all connections may hold.
+    pub(crate) held: usize,
+    /// How many reads a connection may make.
+    pub(crate) reads: u64,
 }
 
 /// Peers, with what they do and send, and how the first accepts end.

@@ -3,6 +3,8 @@ use super::{Does, Gathered, Plan, Room};
 use crate::commands::{ANY, asked, pair_in};
 use crate::connections::lines::{Line, number_in};
 use crate::connections::texts::add_bytes;
+use http_listen::MAX_HELD;
+use http_serve::MAX_READS;
 use script_bytes::{Answer, parted};
 use std::alloc::Global;
 
@@ -23,13 +25,17 @@ enum Bound {
     None,
     Log,
     Time,
+    Held,
+    Reads,
 }
 
 /// The words for it.
-static BOUNDS: [(&str, usize, Bound); 3] = [
+static BOUNDS: [(&str, usize, Bound); 5] = [
     ("", ANY, Bound::None),
     ("log", 1, Bound::Log),
     ("until", 1, Bound::Time),
+    ("held", 1, Bound::Held),
+    ("reads", 1, Bound::Reads),
 ];
 
 /// What bounds a listener, by a text.
@@ -38,11 +44,15 @@ pub(crate) fn room_in(text: &str) -> Option<Room> {
     let mut room = Room {
         log: usize::MAX,
         stops: u64::MAX,
+        held: MAX_HELD,
+        reads: MAX_READS,
     };
     match asked(&BOUNDS, line.word, line.count)? {
         Bound::None => {}
         Bound::Log => room.log = line.number as usize,
         Bound::Time => room.stops = line.number,
+        Bound::Held => room.held = line.number as usize,
+        Bound::Reads => room.reads = line.number,
     }
     Some(room)
 }

@@ -2,7 +2,7 @@
 ghost use Rattle.http_listen.specs.Places.{kept_at};
 ghost use Rattle.http_listen.specs.Stays.{AllStand};
 
-use super::{Peer, Stream, Watch, is_interrupted};
+use super::{Peer, Room, Stream, Watch, is_interrupted};
 use http_listen::{Change, Places, Waits};
 use std::cell::Cell;
 use std::io::{self, ErrorKind};
@@ -32,8 +32,8 @@ pub(super) struct Listener<'a> {
     reported: Cell<usize>,
     /// How many more waits a signal interrupts.
     signals: Cell<u64>,
-    /// When it stops.
-    stops: u64,
+    /// When it stops, how many bytes all connections may hold, and how many reads each may make.
+    room: Room,
     watch: Watch<'a>,
 }
 
@@ -54,7 +54,7 @@ impl<'a> Listener<'a> {
     pub(super) fn new(
         peers: &'a [Peer<'a>],
         accepts: &'a [Accepts],
-        stops: u64,
+        room: Room,
         watch: Watch<'a>,
     ) -> Self {
         Listener {
@@ -64,7 +64,7 @@ impl<'a> Listener<'a> {
             tried: Cell::new(0),
             reported: Cell::new(0),
             signals: Cell::new(2),
-            stops,
+            room,
             watch,
         }
     }
@@ -149,6 +149,14 @@ impl<'a> Waits for Listener<'a> {
         MAX_OPEN
     }
 
+    fn max_held(&self) -> usize {
+        self.room.held
+    }
+
+    fn max_reads(&self) -> u64 {
+        self.room.reads
+    }
+
     fn watch(&mut self, stream: &Self::Stream, key: usize, sends: bool) -> io::Result<()> {
         let peer = stream.peer;
         if peer.plan.is_unwatched {
@@ -185,6 +193,6 @@ impl<'a> Waits for Listener<'a> {
     }
 
     fn stops(&self) -> bool {
-        self.watch.now.get() >= self.stops
+        self.watch.now.get() >= self.room.stops
     }
 }

@@ -15,12 +15,12 @@ fn serve<'a>(
     map: &mut Map,
     peers: &'a [Peer<'a>],
     accepts: &'a [Accepts],
-    stops: u64,
+    room: Room,
     log: &mut Narrow,
 ) -> (bool, u64) {
     let now = Cell::new(0);
     let watch = Watch { now: &now };
-    let mut listener = Listener::new(peers, accepts, stops, watch);
+    let mut listener = Listener::new(peers, accepts, room, watch);
     let count = peers.len() as u64;
     let ended = serve_map_on(&watch, alloc, &mut listener, count, map, log);
     (ended.is_err(), now.get())
@@ -80,7 +80,7 @@ fn tell_served<'a>(
         ..WIDE
     };
     let mut log = Narrow::new(alloc, narrowness);
-    let (fails, time) = serve(alloc, map, peers, accepts, room.stops, &mut log);
+    let (fails, time) = serve(alloc, map, peers, accepts, room, &mut log);
     let ended = if fails { "failed" } else { "served" };
     write!(answer, "{ended}, {time}: ");
     tell_bytes(&log.taken, answer);

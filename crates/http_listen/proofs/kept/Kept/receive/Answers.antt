@@ -6,11 +6,11 @@ use Rattle.http_listen.proofs.StepLemmas.{none_read}
 use Rattle.http_listen.proofs.kept.Kept.receive.Goals.{then-count-eq0, else-count-eq0+else-is_err}
 use Rattle.http_listen.proofs.kept.Kept.receive.Goals as goal
 
-pub slice_bounds-piece-end : goal.slice_bounds-piece-end
-slice_bounds-piece-end g c = grind (arith, common_steps)
-
 pub slice_bounds-add-end : goal.slice_bounds-add-end
 slice_bounds-add-end g c = grind (arith, common_steps)
+
+pub returns-then-self-max_reads-clause-read : goal.returns-then-self-max_reads-clause-read
+returns-then-self-max_reads-clause-read g c = none_read g.S.Talks.told c.args.self.now _
 
 pub returns-then-len-gt0-clause-read : goal.returns-then-len-gt0-clause-read
 returns-then-len-gt0-clause-read g c = none_read g.S.Talks.told c.args.self.now _

@@ -4,6 +4,3 @@ use Rattle.http_listen.proofs.outputs.Output.add.Goals as goal
 
 pub returns-clause-added : goal.returns-clause-added
 returns-clause-added c = grind (arith, common_steps)
-
-pub returns-clause-bound : goal.returns-clause-bound
-returns-clause-bound c = grind (arith, common_steps)

@@ -11,8 +11,10 @@ returns-in-Some-clause-goes g c =
     let old = kept_at c.args.self.now.places in
     let before : Goes told old (kept_at c.if-stops.self.places) =
     elim c.if-stops.branch [
-      | then-stops w ↦ rw w.self-is w.end_stopped.ensures.goes
-      | else-stops w ↦ rw w.self-is (goes_none told old)
+      | then-stops w ↦ rw w.self-is (
+          goes_both told old (kept_at c.give_space.new.self.places) (kept_at w.end_stopped.new.self.places) c.give_space.ensures.goes w.end_stopped.ensures.goes
+          )
+      | else-stops w ↦ rw w.self-is c.give_space.ensures.goes
     ] in
     record { mid = kept_at c.if-stops.self.places; before = before; turn = c.in-Some.ensures.goes }
 
@@ -24,8 +26,10 @@ returns-then-may_accept-clause-goes g c =
     let turned = kept_at c.give_turn.new.self.places in
     let before : Goes told old stopped =
     elim c.if-stops.branch [
-      | then-stops w ↦ rw w.self-is w.end_stopped.ensures.goes
-      | else-stops w ↦ rw w.self-is (goes_none told old)
+      | then-stops w ↦ rw w.self-is (
+          goes_both told old (kept_at c.give_space.new.self.places) (kept_at w.end_stopped.new.self.places) c.give_space.ensures.goes w.end_stopped.ensures.goes
+          )
+      | else-stops w ↦ rw w.self-is c.give_space.ensures.goes
     ] in
     let none : c.give_turn.result ≡ None = none_of_not c.give_turn.result c.in_default.not-Some in
     let turn : GoesTo told stopped None turned = rw none at c.give_turn.ensures.goes in
@@ -41,8 +45,10 @@ returns-then-wait-clause-goes g c =
     let turned = kept_at c.give_turn.new.self.places in
     let before : Goes told old stopped =
     elim c.if-stops.branch [
-      | then-stops w ↦ rw w.self-is w.end_stopped.ensures.goes
-      | else-stops w ↦ rw w.self-is (goes_none told old)
+      | then-stops w ↦ rw w.self-is (
+          goes_both told old (kept_at c.give_space.new.self.places) (kept_at w.end_stopped.new.self.places) c.give_space.ensures.goes w.end_stopped.ensures.goes
+          )
+      | else-stops w ↦ rw w.self-is c.give_space.ensures.goes
     ] in
     let none : c.give_turn.result ≡ None = none_of_not c.give_turn.result c.in_default.not-Some in
     let turn : GoesTo told stopped None turned = rw none at c.give_turn.ensures.goes in
@@ -61,8 +67,10 @@ returns-else-count-gt0-clause-goes g c =
     let turned = kept_at c.give_turn.new.self.places in
     let before : Goes told old stopped =
     elim c.if-stops.branch [
-      | then-stops w ↦ rw w.self-is w.end_stopped.ensures.goes
-      | else-stops w ↦ rw w.self-is (goes_none told old)
+      | then-stops w ↦ rw w.self-is (
+          goes_both told old (kept_at c.give_space.new.self.places) (kept_at w.end_stopped.new.self.places) c.give_space.ensures.goes w.end_stopped.ensures.goes
+          )
+      | else-stops w ↦ rw w.self-is c.give_space.ensures.goes
     ] in
     let none : c.give_turn.result ≡ None = none_of_not c.give_turn.result c.in_default.not-Some in
     let turn : GoesTo told stopped None turned = rw none at c.give_turn.ensures.goes in
