@@ -11,6 +11,7 @@ use Rattle.tile_service.specs.declared.fault.ServiceFault.TheVariants.{Broken, B
 use Rattle.tile_service.specs.declared.fault.ServiceFault.TheVariants.{TooManyTiles, AreaFull, JournalFull, Device}
 use Rattle.tile_service.specs.Machine.{ServiceState, Publication, Happening, Happens, AnswersEdit, AnswersCheck, OrMemory, got, no_memory, IfTold, Call}
 use Rattle.tile_service.specs.Machine.{edit, begin, step, cancel, check, tile, tile_number, look, look_from, metadata, read, list_edits}
+use Rattle.tile_service.specs.Drafted.{DraftedView, IsDrafted}
 use Rattle.tile_service.specs.Listing.{ShowsEdits}
 use Rattle.tile_service.specs.Publishing.{map_at}
 use Rattle.tile_service.specs.Runs.{Takes, TakesAll, IsTrusted, ChangesOnly, CachesOnly}
@@ -18,11 +19,11 @@ use Rattle.tile_service.specs.Service.{PublicationView, ServiceView, Known, IsUp
 use Rattle.tile_service.specs.Service.{state_of, known_after, stored_after, going_of, count_at, with_publication}
 use Rattle.tile_service.specs.Stored.{Stored, with_edit}
 use Rattle.tile_service.specs.Tags.{IsNumbered}
+use Rattle.tile_service.proofs.Edits.EditStored.{drafted_on}
+use Rattle.tile_service.proofs.Publications.Drafts.{drafted_publishes}
 use Rattle.tile_service.proofs.Publications.Steps.{up_with}
 use Rattle.begin_law.specs.Beside.{IsBeside, AreBeside, publishing}
-use Rattle.begin_law.specs.Drafted.{DraftedView, IsDrafted}
 use Rattle.begin_law.proofs.Beginnings.{edit_beside, check_beside}
-use Rattle.begin_law.proofs.Drafts.{drafted_on, drafted_publishes}
 
 -- ---- what doesn't depend on a publication
 
@@ -252,6 +253,7 @@ module _ {D : Type 0} (sectors : D → ℕ) (honest : D → Type 0) (history : D
     version = t.version;
     asked = t.asked;
     changes = changes_beside happening b old new t.changes;
+    drafting = t.drafting;
     knows = t.knows;
     numbered = numbered_beside happening old t.numbered;
     untouched = t.untouched;

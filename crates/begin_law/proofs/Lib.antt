@@ -1,4 +1,4 @@
 mod Beginnings
 mod Begun
-mod Drafts
 mod Late
+mod Prepared

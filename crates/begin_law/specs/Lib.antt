@@ -1,3 +1,3 @@
 pub mod Begun
 pub mod Beside
-pub mod Drafted
+pub mod Prepared

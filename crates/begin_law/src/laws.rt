@@ -1,5 +1,5 @@
 //! The laws of a late answer: of the machine, and of the disk.
-ghost use Rattle.std.specs.Prelude.{◌≡◌, ◌≤◌, ◌<◌, ◌+◌, ◌^◌, ℕ, Bool, true, List, ◌∷◌, None, Ok, ◌-◌, false, Err};
+ghost use Rattle.std.specs.Prelude.{◌≡◌, ◌≤◌, ◌<◌, ◌+◌, ◌^◌, ℕ, Bool, true, List, ◌∷◌, Option, None, Some, Ok, ◌-◌, false, Err};
 ghost use Rattle.std.proofs.Common.{suc};
 ghost use Rattle.sector_disk.specs.Disk.{History};
 ghost use Rattle.generations.specs.Areas.{area_sectors};
@@ -10,11 +10,12 @@ ghost use Rattle.tile_service.specs.Machine.{ServiceState, Happening, begin, Ans
 ghost use Rattle.tile_service.specs.Publishing.{HasNoContent};
 ghost use Rattle.tile_service.specs.declared.fault.ServiceFault.{ServiceFault};
 ghost use Rattle.tile_service.specs.Runs.{Takes, TakesAll};
-ghost use Rattle.tile_service.specs.Service.{PublicationView, ServiceView, Publishes, with_publication};
+ghost use Rattle.tile_service.specs.Drafted.{DraftedView, IsDrafted};
+ghost use Rattle.tile_service.specs.Service.{PublicationView, ServiceView, Publishes, BeginsDrafted, publication_of, with_publication};
 ghost use Rattle.tile_service.specs.Stored.{Stored, IsMapArchive, with_edit};
 ghost use Rattle.begin_law.specs.Begun.{IsBegunAt};
 ghost use Rattle.begin_law.specs.Beside.{AreBeside, publishing};
-ghost use Rattle.begin_law.specs.Drafted.{DraftedView, IsDrafted, publication_of};
+ghost use Rattle.begin_law.specs.Prepared.{CanPrepare, prepared};
 
 use sector_disk::Sectors;
 
@@ -63,4 +64,18 @@ pub fn refused_as_it_was<D: Sectors>()
         → then.generation < 2 ^ 64 - 1 → HasNoContent then.features (area_sectors then.size) fault
         → TakesAll D.sectors D.honest D.history then happenings now
         → TakesAll D.sectors D.honest D.history then (begin (Err fault) ∷ happenings) now }
+{}
+
+/// What `Service::publish_prepare` and `Service::publish_drafted` do together: where a publication was prepared, whatever happened meanwhile, its
+/// beginning is one of the service as it was when its map was fixed, before all that happened since. So the archive has every edit
+/// that was acknowledged before the preparation began, and none that was requested later.
+pub fn begins_as_prepared<D: Sectors>()
+    ensures begun { (then now : ServiceView D) (happenings : List Happening) (d : DraftedView) (left : ℕ) (publication : Option PublicationView)
+        → CanPrepare then → AreBeside happenings → TakesAll D.sectors D.honest D.history (prepared then) happenings now → now.drafting ≡ Some d
+        → BeginsDrafted now.size d (Ok left) publication
+        → TakesAll D.sectors D.honest D.history (prepared then) (begin (Ok left) ∷ happenings) (record now { publication = publication }) }
+    ensures refused { (then now : ServiceView D) (happenings : List Happening) (d : DraftedView) (fault : ServiceFault) (publication : Option PublicationView)
+        → CanPrepare then → AreBeside happenings → TakesAll D.sectors D.honest D.history (prepared then) happenings now → now.drafting ≡ Some d
+        → BeginsDrafted now.size d (Err fault) publication
+        → TakesAll D.sectors D.honest D.history (prepared then) (begin (Err fault) ∷ happenings) now }
 {}

@@ -1,5 +1,5 @@
 -- What contracts see of a publication and of a service.
-use Rattle.tile_service.specs.Service.{PublicationView, ServiceView}
+use Rattle.tile_service.specs.Service.{PublicationView, ServiceView, drafted_by}
 use Rattle.tile_service.specs.declared.publishing.Publication.TheInside.{Inside as PublicationInside}
 use Rattle.tile_service.specs.declared.service.Service.TheInside.{Inside}
 
@@ -20,6 +20,7 @@ module _ {D : Type 0} where
     snapshot_len = s.root.snapshot_len;
     archive_len = s.root.archive_len;
     publication = s.publication;
+    drafting = drafted_by s.moment s.draft;
     published = s.published;
     broken = s.broken;
   }

@@ -1,4 +1,5 @@
 pub mod After
+pub mod Drafted
 pub mod Events
 pub mod Headline
 pub mod Inside

@@ -17,7 +17,7 @@ use Rattle.tile_service.specs.Machine.{no_memory, Happening, Call, edit, begin, 
 use Rattle.tile_service.specs.Machine.{read, list_edits}
 use Rattle.tile_service.specs.Machine.{places_for, Happens, Runs}
 use Rattle.tile_service.specs.Service.{PublicationView, ServiceView, Known, IsUp, state_of, known_after, left_of}
-use Rattle.tile_service.specs.Service.{ShowsArchive, KeepsArchive, KeepsArea, ReadsFrom, EventLeaves, TellsDevice, stored_after}
+use Rattle.tile_service.specs.Service.{KeepsDraft, ShowsArchive, KeepsArchive, KeepsArea, ReadsFrom, EventLeaves, TellsDevice, stored_after}
 use Rattle.tile_service.specs.Listing.{ShowsEdits, ListsFrom}
 use Rattle.tile_service.specs.Stored.{Stored, Holds, with_edit}
 use Rattle.tile_service.specs.Tags.{StillKnows, IsNumbered, KeepsLayers}
@@ -240,6 +240,8 @@ module _ {D : Type 0} (sectors : D → ℕ) (honest : D → Type 0) (history : D
     pub version : new.version ≡ old.version
     pub asked : MayWrite sectors honest old.disk new.disk
     pub changes : ChangesOnly happening old new
+    -- a draft is as it was, or gone
+    pub drafting : KeepsDraft old.drafting new.drafting
     -- each map that it knew is still known
     pub knows : StillKnows old new
     -- the number of a tile is that of its cells
@@ -255,8 +257,9 @@ module _ {D : Type 0} (sectors : D → ℕ) (honest : D → Type 0) (history : D
   pub record TakesEdit (failures : D → ℕ) (old : ServiceView D) (call : Call) (e : RecordedEdit) (outcome : Result ℕ ServiceFault)
       (new : ServiceView D) : Type 0 where
     pub size : new.size ≡ old.size
-    -- a publication under way continues after an edit
+    -- a publication under way continues after an edit, and one in the making stays one of the same map
     pub publication : OnOk outcome (new.publication ≡ old.publication)
+    pub drafting : new.drafting ≡ old.drafting
     pub asked : MayWrite sectors honest old.disk new.disk
     -- no call of the disk has failed, unless the fault is Device
     pub failed : TellsDevice outcome (failures old.disk) (failures new.disk)

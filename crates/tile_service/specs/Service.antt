@@ -1,5 +1,5 @@
 -- A service, apart from its place in memory, and its disk.
-use Rattle.std.specs.Prelude.{◌≡◌, ◌≢◌, ◌⊎◌, ◌<◌, ◌≤◌, ◌+◌, ◌-◌, ◌*◌, ◌^◌, ℕ, zero, List, Bool, false, length, take, slice_range}
+use Rattle.std.specs.Prelude.{◌≡◌, ◌≢◌, ◌⊎◌, ◌<◌, ◌≤◌, ◌+◌, ◌-◌, ◌*◌, ◌^◌, ◌%◌, ℕ, zero, List, [], Bool, false, length, take, slice_range}
 use Rattle.std.specs.Prelude.{Option, Some, None, IfSome, option_map, Result, Ok, Err, MatchResult, Vec}
 use Rattle.std.proofs.Common.{Global}
 use Rattle.std.specs.declared.rc.RcSlice.{RcSlice}
@@ -21,6 +21,9 @@ use Rattle.edit_journal.specs.declared.journal.JournalPosition.{JournalPosition}
 use Rattle.edit_journal.specs.declared.sizes.TheConstants.{PART_BYTES}
 use Rattle.cached_map.specs.Cached.{CachedView, AreReadRight, shared_bytes}
 use Rattle.area_content.specs.Content.{ContentView, sectors_taken}
+use Rattle.area_content.specs.Drafts.{DraftView}
+use Rattle.area_content.specs.declared.draft.Stage.TheVariants as stages
+use Rattle.feature_store.specs.Moments.{MomentView, IsMomentOf, moment_map}
 use Rattle.feature_store.specs.Store.{FeatureMap, greatest_id, snapshot}
 use Rattle.map_metadata.specs.Metadata.{IsMetadataOf}
 use Rattle.pm_archive.specs.declared.fault.ArchiveFault.{ArchiveFault}
@@ -30,12 +33,17 @@ use Rattle.tile_cache.specs.Cells.{stale_cells}
 use Rattle.tile_cache.specs.Kept.{CacheView}
 use Rattle.tile_cache.specs.declared.touch_grid.TheConstants.{LEVEL_CELLS}
 use Rattle.published_tiles.specs.declared.place.ArchivePlace.{ArchivePlace}
+use Rattle.tile_service.specs.Drafted.{DraftedView, IsDrafted}
+use Rattle.tile_service.specs.declared.drafting.Draft.{Draft}
+use Rattle.tile_service.specs.declared.drafting.DraftStage.{DraftStage}
+use Rattle.tile_service.specs.declared.drafting.DraftStage.TheVariants.{Going, Found, Refused}
 use Rattle.tile_service.specs.declared.fault.ServiceFault.{ServiceFault}
 use Rattle.tile_service.specs.declared.fault.ServiceFault.TheVariants.{NumbersSpent, Memory, JournalFull, Device}
 use Rattle.tile_service.specs.declared.publishing.TheConstants.{STEP_SECTORS}
 use Rattle.tile_service.specs.declared.status.Status.{Status}
 use Rattle.tile_service.specs.Machine.{ArchiveState, Publication, ServiceState, OrMemory, got, no_memory, Happening, edit, begin, step, read}
-use Rattle.tile_service.specs.Publishing.{map_at, published, IsInArea, IsUnderWay}
+use Rattle.tile_service.specs.Machine.{IsPublishable}
+use Rattle.tile_service.specs.Publishing.{map_at, published, IsInArea, IsUnderWay, HasNoContent}
 use Rattle.tile_service.specs.Stored.{Stored, Holds, Keeps, map_of, last_of, stored_records, with_edit, journal_ring}
 use Rattle.tile_service.specs.Tiles.{WereMaps, archive_place}
 
@@ -72,6 +80,8 @@ pub record ServiceView (D : Type 0) : Type 0 where
   pub snapshot_len : ℕ
   pub archive_len : ℕ
   pub publication : Option PublicationView
+  -- the publication in the making
+  pub drafting : Option DraftedView
   -- the look-up that is cached of the archive that was read last
   pub published : PublishedView
   pub broken : Bool
@@ -87,9 +97,53 @@ pub record IsGoing (size : ℕ) (root : Root) (journal : Journal) (features : Fe
   -- the texts of the features came from an area and from the records after those
   pub texts : length (snapshot features) ≤ SECTOR_BYTES * area_sectors size + PART_BYTES * (journal.used - p.places)
 
+-- ---- a publication in the making
+
+-- the map of a moment, if there is one
+abbrev pub map_then : Option FeatureMap → FeatureMap
+map_then None = []
+map_then (Some m) = m
+
+-- what contracts see of a draft, whose map is that of the moment
+abbrev pub drafted_by : Option MomentView → Option Draft → Option DraftedView
+drafted_by moment draft = option_map (λ d. record { start = d.start; places = d.places; features = map_then (moment_map moment) }) draft
+
+-- the content is the snapshot of a map and an archive that is built of it, and fits in an area of this many sectors
+pub record IsContentOf (area : ℕ) (m : FeatureMap) (content : ContentView) : Type 0 where
+  pub is_archive : IsPublishable m content.archive
+  pub text : content.snapshot ≡ snapshot m
+  pub fits : sectors_taken content ≤ area
+
+-- the content of a map in the making, for an area of this many sectors
+pub record IsMaking (area : ℕ) (m : FeatureMap) (content : DraftView) : Type 0 where
+  pub map_is : content.features ≡ m
+  pub area_is : content.area ≡ area
+  pub metadata : IsMetadataOf m content.metadata
+  pub going : content.stage ≡ stages.Going
+
+-- how far the content of a map is: it is in the making, or made, or the map has none
+abbrev pub IsStage : (area : ℕ) → FeatureMap → DraftStage → Type 0
+IsStage area m (Going content) = IsMaking area m content
+IsStage area m (Found content) = IsContentOf area m content
+IsStage area m (Refused fault) = HasNoContent m area fault
+
+-- the same of what is in the making, for whatever area
+abbrev pub IsOwn : FeatureMap → DraftStage → Type 0
+IsOwn m (Going content) = IsMaking content.area m content
+IsOwn m stage = Unit {0}
+
+-- the invariants of a draft
+pub record IsGoingDraft (size : ℕ) (root : Root) (journal : Journal) (features m : FeatureMap) (d : Draft) : Type 0 where
+  -- the records that were in use when it began are the first of those in use
+  pub behind : IsBehind journal d.start d.places
+  pub generation : root.generation < 2 ^ 64 - 1
+  -- the texts of the features came from those of its map and from the records after those
+  pub texts : length (snapshot features) ≤ SECTOR_BYTES * sectors_of (length (snapshot m)) + PART_BYTES * (journal.used - d.places)
+  pub stage : IsStage (area_sectors size) m d.stage
+
 -- the invariants of a service whose disk has this many sectors, and that keeps this text of its map's metadata, if any
 pub record IsService (sectors size version : ℕ) (root : Root) (journal : Journal) (map : CachedView) (publication : Option PublicationView)
-    (text : Option (List ℕ)) : Type 0 where
+    (text : Option (List ℕ)) (moment : Option MomentView) (draft : Option Draft) : Type 0 where
   pub within : size ≤ sectors
   pub version_is : IsVersion version
   pub ring : ring_of journal ≡ journal_ring size
@@ -103,10 +157,37 @@ pub record IsService (sectors size version : ℕ) (root : Root) (journal : Journ
   pub last_is : map.last ≡ journal.last
   pub going : IfSome publication (IsGoing size root journal map.features)
   pub told : IfSome text (IsMetadataOf map.features)
+  -- a moment that is still asked for is one of the map, and a draft is of the map of the moment
+  pub as_of : IsMomentOf moment map.features
+  pub drafts : IfSome draft (λ d. (moment_map moment ≡ Some (map_then (moment_map moment)))
+      × IsGoingDraft size root journal map.features (map_then (moment_map moment)) d)
 
 -- the service with this publication under way
 abbrev pub with_publication : {D : Type 0} → ServiceView D → PublicationView → ServiceView D
 with_publication service p = record service { publication = Some p }
+
+-- the publication of this content, of which nothing is written
+abbrev pub publication_of : DraftedView → ContentView → PublicationView
+publication_of d content = record { content = content; start = d.start; places = d.places; written = 0 }
+
+-- a publication of the map of now, in the making
+abbrev pub drafted_now : {D : Type 0} → ServiceView D → DraftedView
+drafted_now service = record {
+  start = record { place = (service.journal.place + service.journal.used) % service.journal.places; edits = service.journal.last };
+  places = service.journal.used;
+  features = service.features;
+}
+
+-- The publication of a draft begins with the content of its map, and what is left is returned; or its map has no content, for this reason.
+abbrev pub BeginsDrafted : (size : ℕ) → DraftedView → Result ℕ ServiceFault → Option PublicationView → Type 0
+BeginsDrafted size d (Ok left) publication =
+    (content : ContentView) × IsContentOf (area_sectors size) d.features content × (publication ≡ Some (publication_of d content))
+    × (left ≡ sectors_taken content + 1)
+BeginsDrafted size d (Err fault) publication = (publication ≡ None) × HasNoContent d.features (area_sectors size) fault
+
+-- a draft is as it was, or gone
+abbrev pub KeepsDraft : (old new : Option DraftedView) → Type 0
+KeepsDraft old new = (new ≡ old) ⊎ (new ≡ None)
 
 -- ---- the state
 
@@ -207,6 +288,7 @@ pub record IsUp {D : Type 0} (sectors : ℕ) (history : History) (stored : Store
   pub ring_is : ring_of service.journal ≡ journal_ring service.size
   pub last_is : service.journal.last ≡ last_of stored
   pub publication : IfSome service.publication (Publishes service.size stored history)
+  pub drafting : IfSome service.drafting (IsDrafted service.size stored)
   -- it knows the map after any prefix of the edits since, for the tiles that no later edit can have changed
   pub were : WereMaps service.features service.touched service.journal.last stored.edits stored.snapshot_map stored.since
   -- the look-up that it caches is of this archive, and tiles that it read and cached are tiles of its map

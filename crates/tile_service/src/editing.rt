@@ -196,7 +196,7 @@ impl<D: Sectors + Drop> Service<D> {
         };
         match self.journal.append(&mut self.disk, self.version, &text) {
             Ok(number) => {
-                self.map.make_edit(changes, number, &mut None);
+                self.map.make_edit(changes, number, &mut self.moment);
                 self.metadata = None;
                 Ok(number)
             }
@@ -286,7 +286,7 @@ impl<D: Sectors + Drop> Service<D> {
         let text = deletion_text(self.version, &text);
         match self.journal.append(&mut self.disk, self.version, text) {
             Ok(last) => {
-                self.map.remove(id, last, &mut None);
+                self.map.remove(id, last, &mut self.moment);
                 self.metadata = None;
                 Ok(last)
             }

@@ -4,6 +4,7 @@
 
 mod checking;
 mod comparing;
+mod drafting;
 mod editing;
 mod event;
 mod fault;
@@ -20,6 +21,7 @@ mod showing;
 mod snapshot_reading;
 mod status;
 
+pub use drafting::Drafting;
 pub use event::{Answer, Event};
 pub use fault::ServiceFault;
 pub use listing::{broken_still_shows_its_edits, listed_edits_are_kept};

@@ -206,6 +206,7 @@ impl<D: Sectors + Drop> Service<D> {
         ensures failed { MatchResult result (λ service. D.faults service.disk ≡ D.faults disk) (λ e. CountsDevice e.1 (D.faults disk) (D.faults e.0)) }
         ensures unbroken { IfOk result (λ service. service.broken ≡ false) }
         ensures idle { IfOk result (λ service. service.publication ≡ None) }
+        ensures undrafted { IfOk result (λ service. service.drafting ≡ None) }
 
         // A disk opens only without a fault, to what it holds.
         ensures read { IfOk result (λ service. D.honest service.disk → IsOpened (D.sectors disk) (seen (D.history disk)) service) }
@@ -243,6 +244,8 @@ impl<D: Sectors + Drop> Service<D> {
                 metadata: None,
                 root: found.root,
                 publication: None,
+                draft: None,
+                moment: None,
                 published: found.published,
                 broken: false,
             }),

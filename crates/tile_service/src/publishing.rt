@@ -8,7 +8,7 @@ ghost use Rattle.feature_store.specs.Store.{IsMap, snapshot};
 ghost use Rattle.area_content.specs.Content.{sectors_taken};
 ghost use Rattle.tile_service.specs.Publishing.{HasFirst, HasNoContent, IsBeside, told_content};
 ghost use Rattle.tile_service.specs.Machine.{begin, step, IsPublishable, AnswersBegin, AnswersStep, AnswersCancel, after_install};
-ghost use Rattle.tile_service.specs.Service.{IsGoing, with_publication, going_of, known_installed, installed, KeepsArchive, KeepsArea};
+ghost use Rattle.tile_service.specs.Service.{IsGoing, with_publication, going_of, known_installed, installed, KeepsDraft, KeepsArchive, KeepsArea};
 ghost use Rattle.tile_service.specs.Service.{Known, IsUp, state_of, known_after, EventLeaves, stored_after, TellsDevice};
 ghost use Rattle.tile_service.specs.Stored.{Stored, Holds, Keeps};
 ghost use Rattle.tile_service.specs.declared.fault.ServiceFault.TheVariants.{Device};
@@ -53,7 +53,7 @@ impl Model for Publication {
 }
 
 /// Converts the fault of `content_of`.
-fn to_service_fault(fault: ContentFault) -> ServiceFault
+pub(crate) fn to_service_fault(fault: ContentFault) -> ServiceFault
     ensures { result ≡ told_content fault }
 {
     match fault {
@@ -143,6 +143,7 @@ impl<D: Sectors + Drop> Service<D> {
         ensures broken { OnErr result (self.new ≡ record self.old { disk = self.new.disk; broken = true }) }
         ensures size { self.new.size ≡ self.old.size }
         ensures touched { self.new.touched ≡ self.old.touched }
+        ensures drafting { KeepsDraft self.old.drafting self.new.drafting }
         ensures state { (known : Known) → OnOk result (state_of (known_installed known (Some publication)) self.new
             ≡ after_install (state_of known (with_publication self.old publication)) (going_of known.publishing publication)) }
         ensures disk { MayWrite D.sectors D.honest self.old.disk self.new.disk }
@@ -170,6 +171,8 @@ impl<D: Sectors + Drop> Service<D> {
             Ok(()) => {
                 self.journal.release(publication.start);
                 self.root = root;
+                self.draft = None;
+                self.moment = None;
                 Ok(0)
             }
             Err(DiskFault) => {
@@ -190,6 +193,7 @@ impl<D: Sectors + Drop> Service<D> {
         ensures fault { IfErr result (λ fault. fault ≡ Device) }
         ensures size { self.new.size ≡ self.old.size }
         ensures touched { self.new.touched ≡ self.old.touched }
+        ensures drafting { KeepsDraft self.old.drafting self.new.drafting }
         ensures disk { MayWrite D.sectors D.honest self.old.disk self.new.disk }
         ensures failed { TellsFailure result (D.faults self.old.disk) (D.faults self.new.disk) }
         ensures archive { (result ≡ Ok 0 → ⊥) → KeepsArchive D.honest D.history self.old self.new }
@@ -291,6 +295,7 @@ impl<D: Sectors + Drop> Service<D> {
             (state_of (known_after known self.old (step result)) self.new) }
         ensures size { self.new.size ≡ self.old.size }
         ensures touched { self.new.touched ≡ self.old.touched }
+        ensures drafting { KeepsDraft self.old.drafting self.new.drafting }
         ensures disk { MayWrite D.sectors D.honest self.old.disk self.new.disk }
         ensures failed { TellsDevice result (D.faults self.old.disk) (D.faults self.new.disk) }
         ensures refused { IfErr result (λ fault. fault ≢ Device → self.new ≡ self.old) }

@@ -2,9 +2,11 @@
 ghost use Rattle.std.specs.Prelude.{◌≡◌};
 ghost use Rattle.generations.specs.Sectors.{IsVersion};
 
+use crate::drafting::Draft;
 use crate::publishing::Publication;
 use cached_map::CachedMap;
 use edit_journal::Journal;
+use feature_store::Moment;
 use generations::{Layout, Root};
 use published_tiles::PublishedTiles;
 use sector_disk::Sectors;
@@ -25,6 +27,10 @@ pub struct Service<D: Sectors + Drop> {
     pub(crate) metadata: Option<RcSlice<u8>>,
     pub(crate) root: Root,
     pub(crate) publication: Option<Publication>,
+    /// The publication in the making.
+    pub(crate) draft: Option<Draft>,
+    /// The moment whose map it is of.
+    pub(crate) moment: Option<Moment>,
     pub(crate) published: PublishedTiles,
     pub(crate) broken: bool,
 }
@@ -39,7 +45,8 @@ impl<D: Sectors + Drop> Model for Service<D> {
 
     ghost view = { service_view };
 
-    ghost invariant = { λ s. IsService (D.sectors s.disk) s.layout.sectors s.version s.root s.journal s.map s.publication (shared_bytes s.metadata) };
+    ghost invariant = { λ s. IsService (D.sectors s.disk) s.layout.sectors s.version s.root s.journal s.map s.publication (shared_bytes s.metadata) s.moment
+        s.draft };
 }
 
 impl<D: Sectors + Drop> Service<D> {
@@ -72,6 +79,8 @@ impl<D: Sectors + Drop> Service<D> {
             metadata: _,
             root: _,
             publication: _,
+            draft: _,
+            moment: _,
             published: _,
             broken: _,
         } = self;

@@ -70,6 +70,7 @@ module _ {D : Type 0} (count : ℕ) (history : History) (stored : Stored) (servi
     ring_is = up.ring_is;
     last_is = up.last_is;
     publication = publishes;
+    drafting = up.drafting;
     were = up.were;
     archived = archived;
     reads = reads;

@@ -33,6 +33,7 @@ use Rattle.cached_map.specs.Cached.{AreReadRight}
 use Rattle.edit_text.specs.Recorded.{RecordedEdit}
 use Rattle.feature_store.specs.Snapshots.{IsNoSnapshot}
 use Rattle.feature_store.specs.Store.{FeatureMap, snapshot}
+use Rattle.tile_service.specs.Drafted.{DraftedView, IsDrafted}
 use Rattle.tile_service.specs.After.{made, after}
 use Rattle.feature_store.specs.declared.limit.TheConstants.{TEXTS_END}
 use Rattle.feature_store.proofs.Laws.{snapshot_of_one_map}
@@ -270,7 +271,7 @@ module _ (sectors n : ℕ) (stored : Stored) (image : Image) (holds : Holds sect
       (same_image : seen old ≡ image) (same_count : count ≡ sectors) (after_sync : history ≡ synced old)
       (unbroken : service.broken ≡ false) (generation : service.generation ≡ root.generation)
       (snapshot_len : service.snapshot_len ≡ root.snapshot_len) (archive_len : service.archive_len ≡ root.archive_len)
-      (publication : service.publication ≡ None) (ring : ring_of service.journal ≡ journal_ring service.size)
+      (publication : service.publication ≡ None) (undrafted : service.drafting ≡ None) (ring : ring_of service.journal ≡ journal_ring service.size)
       (is : IsRead sectors service.size service.version image root service.journal service.features service.touched)
       (nothing : (place : ArchivePlace) (bytes : List ℕ) → ArePublished service.published place bytes)
       (reads : AreReadRight service.features service.touched service.journal.last service.kept) where
@@ -331,6 +332,7 @@ module _ (sectors n : ℕ) (stored : Stored) (image : Image) (holds : Holds sect
         ring_is = ring;
         last_is = omega (arith, replayed.last_is, ap length records_are, length-map stored.since record_for);
         publication = subst (λ (o : Option PublicationView). IfSome o (Publishes service.size stored history)) (sym publication) tt;
+        drafting = subst (λ (o : Option DraftedView). IfSome o (IsDrafted service.size stored)) (sym undrafted) tt;
         were = were;
         archived = nothing (archive_of service) stored.archive;
         reads = reads;

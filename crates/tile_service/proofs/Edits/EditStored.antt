@@ -1,11 +1,12 @@
 -- What an edit leaves of what a disk holds, and the service that it leaves.
 use Rattle.std.specs.Prelude.{Option, None, Some, IfSome, Result, Err}
-use Rattle.std.proofs.Common.{◌≡◌, ◌≢◌, ◌⊎◌, inl, inr, ⊎_elim, ℕ, suc, List, [], ◌∷◌, ◌++◌, refl, sym, ◌∙◌, ap, subst, arith, length-append}
+use Rattle.std.proofs.Common.{◌≡◌, ◌≢◌, ◌⊎◌, ◌+◌, ◌%◌, inl, inr, ⊎_elim, ℕ, suc, List, [], ◌∷◌, ◌++◌, refl, sym, ◌∙◌, ap, subst, arith, length-append}
 use Rattle.std.proofs.lemmas.List.{length-map}
 use Rattle.sector_disk.specs.Disk.{Image, History, seen, moment}
 use Rattle.sector_disk.specs.Moments.{LeavesOnly}
 use Rattle.sector_disk.proofs.History.{started}
 use Rattle.sector_disk.proofs.Moments.{since_now, is_later}
+use Rattle.generations.specs.Areas.{journal_sectors}
 use Rattle.edit_journal.specs.Records.{RecordData}
 use Rattle.edit_journal.specs.Ring.{Ring, RecordStart, HoldsOnly, places_of}
 use Rattle.edit_journal.specs.Appends.{ring_of, start_of, IsAt, IsAppendFault, AsBefore, ReadsAsBefore, HoldsOneMore}
@@ -17,6 +18,7 @@ use Rattle.edit_text.specs.Recorded.{RecordedEdit, IsRecorded}
 use Rattle.feature_store.specs.Store.{FeatureMap, snapshot}
 use Rattle.published_tiles.specs.Published.{PublishedView, ArePublished}
 use Rattle.published_tiles.specs.declared.place.ArchivePlace.{ArchivePlace}
+use Rattle.tile_service.specs.Drafted.{DraftedView, count_of, IsDrafted}
 use Rattle.tile_service.specs.After.{made}
 use Rattle.tile_service.specs.Inside.{service_view}
 use Rattle.tile_service.specs.Machine.{Call, edit}
@@ -52,6 +54,23 @@ module _ (n : ℕ) (stored : Stored) (e : RecordedEdit) (place used : ℕ) (old 
   all_on None was = tt
   all_on (Some p) was = publishes_on p was
 
+-- A publication in the making is one of the same with the edit, too.
+pub drafted_on : (n : ℕ) (stored : Stored) (e : RecordedEdit) (d : DraftedView) → IsDrafted n stored d → IsDrafted n (with_edit stored e) d
+drafted_on n stored e d was =
+    let records = records_stay n stored (count_of stored d) [] e was.within in
+    record {
+      later = was.later;
+      within = omega (arith, was.within, length-append stored.since (e ∷ []));
+      map_is = was.map_is ∙ sym (map_stays n stored (count_of stored d) [] e was.within);
+      place_is = was.place_is ∙ ap (λ rs. (stored.journal_at + places_of rs) % journal_sectors n) (sym records);
+      places_are = was.places_are ∙ ap places_of (sym records);
+    }
+
+drafts_on : (n : ℕ) (stored : Stored) (e : RecordedEdit) (d : Option DraftedView) → IfSome d (IsDrafted n stored)
+    → IfSome d (IsDrafted n (with_edit stored e))
+drafts_on n stored e None was = tt
+drafts_on n stored e (Some d) was = drafted_on n stored e d was
+
 -- A call that refuses an edit, for a fault that isn't the disk's, changes nothing.
 pub refuses_edit : {D : Type 0} (sectors : D → ℕ) (honest : D → Type 0) (history : D → History) (failures : D → ℕ) (old new : ServiceView D)
     (call : Call) (e : RecordedEdit) (fault : ServiceFault) → new ≡ old → fault ≢ Device
@@ -60,6 +79,7 @@ refuses_edit sectors honest history failures old new call e fault same other =
     subst (TakesEdit sectors honest history failures old call e (Err fault)) (sym same) (record {
       size = refl;
       publication = tt;
+      drafting = refl;
       asked = record { same_count = refl; was_honest = λ is_honest. is_honest };
       failed = inr (other, refl);
       unwritten = λ not. refl;
@@ -201,11 +221,11 @@ module _ {D : Type 0} (sectors : D → ℕ) (history : D → History) (stored : 
         → (AreReadRight service.features service.touched service.journal.last service.kept
         → AreReadRight after.features after.touched after.journal.last after.kept)
         → after.version ≡ service.version → after.generation ≡ service.generation → after.snapshot_len ≡ service.snapshot_len
-        → after.archive_len ≡ service.archive_len → after.publication ≡ service.publication → after.published ≡ service.published
-        → after.broken ≡ service.broken
+        → after.archive_len ≡ service.archive_len → after.publication ≡ service.publication → after.drafting ≡ service.drafting
+        → after.published ≡ service.published → after.broken ≡ service.broken
         → ReadsAsBefore (ring_of service.journal) service.journal.place service.journal.used (seen (history service.disk)) (seen (history new))
         → IsUp (sectors new) (history new) (with_edit stored e) after
-    up_with_edit after disk count size same is features since now_is right version generation snapshot_len archive_len publication cached broken
+    up_with_edit after disk count size same is features since now_is right version generation snapshot_len archive_len publication drafting cached broken
         reads = record {
           keeps = subst (λ (c : ℕ). Keeps c after.size (with_edit stored e) (history new)) (sym count)
               (subst (λ (n : ℕ). Keeps (sectors service.disk) n (with_edit stored e) (history new)) (sym size) (keeps_edit after.journal same.0 same.1 is));
@@ -225,6 +245,9 @@ module _ {D : Type 0} (sectors : D → ℕ) (history : D → History) (stored : 
               (all_on service.size stored e service.journal.place service.journal.used (history service.disk) (history new)
               (subst (λ (r : Ring). ReadsAsBefore r service.journal.place service.journal.used (seen (history service.disk)) (seen (history new))) ring reads)
               service.publication up.publication));
+          drafting = subst (λ (k : ℕ). IfSome after.drafting (IsDrafted k (with_edit stored e))) (sym size)
+              (subst (λ (o : Option DraftedView). IfSome o (IsDrafted service.size (with_edit stored e))) (sym drafting)
+              (drafts_on service.size stored e service.drafting up.drafting));
           were = were_one service.features service.touched service.journal.last after.features after.touched after.journal.last since now_is stored.edits
               stored.snapshot_map stored.since e
               (omega (arith, now.counts, edits, length-map (stored.since ++ e ∷ []) record_for, length-append stored.since (e ∷ []))) map_is up.were;

@@ -1,8 +1,8 @@
 -- The invariants of a service are preserved when its journal gets one more record, and when it gets none.
-use Rattle.std.specs.Prelude.{Option, None, Some, IfSome}
+use Rattle.std.specs.Prelude.{Option, None, Some, IfSome, option_map}
 use Rattle.std.proofs.Common.{◌≡◌, ◌≢◌, Bool, true, false, Err, refl, ap, ℕ, ◌<◌, ◌≤◌, ◌+◌, ◌-◌, ◌*◌, List, length, ◌∙◌, sym, subst, arith}
 use Rattle.sector_disk.specs.declared.disk.TheConstants.{SECTOR_BYTES}
-use Rattle.generations.specs.Areas.{area_sectors}
+use Rattle.generations.specs.Areas.{area_sectors, sectors_of}
 use Rattle.generations.specs.declared.root.Root.{Root}
 use Rattle.edit_journal.specs.Appends.{ring_of, start_of}
 use Rattle.edit_journal.specs.Records.{IsRecordLength, parts_of}
@@ -10,6 +10,7 @@ use Rattle.edit_journal.specs.declared.journal.Journal.{Journal}
 use Rattle.edit_journal.specs.declared.sizes.TheConstants.{PART_BYTES}
 use Rattle.edit_journal.proofs.Releases.{append_is_behind, append_counted}
 use Rattle.cached_map.specs.Cached.{CachedView}
+use Rattle.feature_store.specs.Moments.{MomentView, IsMomentOf, moment_map}
 use Rattle.feature_store.specs.Store.{FeatureMap, snapshot}
 use Rattle.edit_journal.specs.Appends.{IsAppendFault}
 use Rattle.edit_journal.specs.declared.fault.JournalFault.{JournalFault}
@@ -18,7 +19,8 @@ use Rattle.edit_text.specs.Recorded.{RecordedEdit}
 use Rattle.std.proofs.lemmas.Bool.{false≢true}
 use Rattle.tile_service.specs.Inside.{service_view}
 use Rattle.tile_service.specs.Machine.{ServiceState, Call, Accepts, IsWanted, AnswersEdit, places_for, after_fault}
-use Rattle.tile_service.specs.Service.{PublicationView, IsGoing, IsService, Known, state_of, told_as}
+use Rattle.tile_service.specs.Service.{PublicationView, IsGoing, IsGoingDraft, IsService, Known, map_then, drafted_by, state_of, told_as}
+use Rattle.tile_service.specs.declared.drafting.Draft.{Draft}
 use Rattle.tile_service.specs.declared.fault.ServiceFault.TheVariants.{Device}
 use Rattle.tile_service.specs.declared.service.Service.TheInside.{Inside}
 
@@ -32,9 +34,12 @@ module _ (size version : ℕ) (root : Root) (old new : Journal) (ring : ring_of 
     (used : new.used ≡ old.used + parts_of bytes) (last : new.last ≡ old.last + 1)
     (map later : CachedView) (numbered : later.last ≡ new.last)
     (longer : (area places : ℕ) → AreShort map.features area places → AreShort later.features area (places + parts_of bytes)) where
+  texts_in : (area some next : ℕ) → some + parts_of bytes ≡ next → AreShort map.features area some → AreShort later.features area next
+  texts_in area some next is was = subst (AreShort later.features area) is (longer area some was)
+
   texts_on : (some next : ℕ) → some + parts_of bytes ≡ next → AreShort map.features (SECTOR_BYTES * area_sectors size) some
       → AreShort later.features (SECTOR_BYTES * area_sectors size) next
-  texts_on some next is was = subst (AreShort later.features (SECTOR_BYTES * area_sectors size)) is (longer (SECTOR_BYTES * area_sectors size) some was)
+  texts_on some next is was = texts_in (SECTOR_BYTES * area_sectors size) some next is was
 
   going_on : (publication : Option PublicationView) → IfSome publication (IsGoing size root old map.features)
       → IfSome publication (IsGoing size root new later.features)
@@ -47,9 +52,28 @@ module _ (size version : ℕ) (root : Root) (old new : Journal) (ring : ring_of 
     texts = texts_on (old.used - p.places) (new.used - p.places) (omega (arith, used, was.behind.in_use)) was.texts;
   }
 
-  pub service_on : (sectors now : ℕ) (publication : Option PublicationView) (text : Option (List ℕ)) → now ≡ sectors
-      → IsService sectors size version root old map publication text → IsService now size version root new later publication None
-  service_on sectors now publication text same was = record {
+  drafts_on : (moment then : Option FeatureMap) (draft : Option Draft) → then ≡ moment
+      → IfSome draft (λ d. (moment ≡ Some (map_then moment)) × IsGoingDraft size root old map.features (map_then moment) d)
+      → IfSome draft (λ d. (then ≡ Some (map_then then)) × IsGoingDraft size root new later.features (map_then then) d)
+  drafts_on moment then None same was = tt
+  drafts_on moment then (Some d) same was =
+      subst (λ (o : Option FeatureMap). (o ≡ Some (map_then o)) × IsGoingDraft size root new later.features (map_then o) d) (sym same) (
+        was.0,
+        record {
+          behind = append_is_behind old new ring from bytes version fits used last d.start d.places was.1.behind;
+          generation = was.1.generation;
+          texts = texts_in (SECTOR_BYTES * sectors_of (length (snapshot (map_then moment)))) (old.used - d.places) (new.used - d.places)
+              (omega (arith, used, was.1.behind.in_use)) was.1.texts;
+          stage = was.1.stage;
+        },
+      )
+
+  -- A moment that is still asked for is one of the map after the edit, too.
+  pub service_on : (sectors now : ℕ) (publication : Option PublicationView) (text : Option (List ℕ)) (moment then : Option MomentView)
+      (draft : Option Draft) → now ≡ sectors → moment_map then ≡ moment_map moment
+      → (IsMomentOf moment map.features → IsMomentOf then later.features)
+      → IsService sectors size version root old map publication text moment draft → IsService now size version root new later publication None then draft
+  service_on sectors now publication text moment then draft same same_moment as_of was = record {
     within = omega (arith, was.within, same);
     version_is = was.version_is;
     ring = ring ∙ was.ring;
@@ -59,16 +83,24 @@ module _ (size version : ℕ) (root : Root) (old new : Journal) (ring : ring_of 
     last_is = numbered;
     going = going_on publication was.going;
     told = tt;
+    as_of = as_of was.as_of;
+    drafts = drafts_on (moment_map moment) (moment_map then) draft same_moment was.drafts;
   }
+
+-- A draft is of the map of its moment, whatever the moment kept.
+pub same_drafted : (old new : Option MomentView) (draft : Option Draft) → moment_map new ≡ moment_map old → drafted_by new draft ≡ drafted_by old draft
+same_drafted old new draft same =
+    ap (λ (o : Option FeatureMap). option_map (λ (d : Draft). record { start = d.start; places = d.places; features = map_then o }) draft) same
 
 -- After an edit that is refused the invariants hold as before, with more memory for features.
 pub refused_service : {sectors now size version : ℕ} {root : Root} {old : Journal} {publication : Option PublicationView} {text : Option (List ℕ)}
-    (new : Journal) (map later : CachedView) → now ≡ sectors → new ≡ old → later ≡ record map { spare = later.spare }
-    → IsService sectors size version root old map publication text → IsService now size version root new later publication text
-refused_service {sectors} {now} {size} {version} {root} {old} {publication} {text} new map later count kept same is =
-    subst (λ (n : ℕ). IsService n size version root new later publication text) (sym count)
-    (subst (λ (j : Journal). IsService sectors size version root j later publication text) (sym kept)
-    (subst (λ (m : CachedView). IsService sectors size version root old m publication text) (sym same) (record {
+    {moment : Option MomentView} {draft : Option Draft} (new : Journal) (map later : CachedView) → now ≡ sectors → new ≡ old
+    → later ≡ record map { spare = later.spare } → IsService sectors size version root old map publication text moment draft
+    → IsService now size version root new later publication text moment draft
+refused_service {sectors} {now} {size} {version} {root} {old} {publication} {text} {moment} {draft} new map later count kept same is =
+    subst (λ (n : ℕ). IsService n size version root new later publication text moment draft) (sym count)
+    (subst (λ (j : Journal). IsService sectors size version root j later publication text moment draft) (sym kept)
+    (subst (λ (m : CachedView). IsService sectors size version root old m publication text moment draft) (sym same) (record {
       within = is.within;
       version_is = is.version_is;
       ring = is.ring;
@@ -78,6 +110,8 @@ refused_service {sectors} {now} {size} {version} {root} {old} {publication} {tex
       last_is = is.last_is;
       going = is.going;
       told = is.told;
+      as_of = is.as_of;
+      drafts = is.drafts;
     })))
 
 -- ---- the numbers of an append

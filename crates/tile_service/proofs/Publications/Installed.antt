@@ -23,6 +23,7 @@ use Rattle.edit_journal.specs.Ring.{Ring, AreRecords, places_of, HoldsOnly}
 use Rattle.edit_journal.proofs.Releases.{records_take, keeps_behind}
 use Rattle.edit_text.specs.Recorded.{RecordedEdit}
 use Rattle.feature_store.specs.Store.{FeatureMap, IsMap, snapshot}
+use Rattle.tile_service.specs.Drafted.{DraftedView, IsDrafted}
 use Rattle.tile_service.specs.After.{after, made}
 use Rattle.cached_map.specs.Cached.{AreReadRight}
 use Rattle.published_tiles.specs.Published.{ArePublished}
@@ -242,11 +243,11 @@ module _ (n : ℕ) (stored : Stored) (taken : ℕ) (archive : List ℕ) (within 
       → service.journal.edits ≡ stored.edits + taken → ring_of service.journal ≡ journal_ring service.size
       → service.journal.used + places_of (take taken (stored_records stored)) ≡ places_of (stored_records stored)
       → service.journal.last ≡ last_of stored → service.snapshot_len ≡ length (snapshot (map_at stored taken))
-      → service.archive_len ≡ length archive → service.publication ≡ None
+      → service.archive_len ≡ length archive → service.publication ≡ None → service.drafting ≡ None
       → WereMaps service.features service.touched service.journal.last (stored.edits + taken) (map_at stored taken) (drop taken stored.since)
       → ArePublished service.published (archive_of service) archive → AreReadRight service.features service.touched service.journal.last service.kept
       → IsUp count h (published n stored taken archive) service
-  up_published count h service size keeps unbroken version generation features place edits ring used last snapshot_ archive_ publication were archived
+  up_published count h service size keeps unbroken version generation features place edits ring used last snapshot_ archive_ publication undrafted were archived
       reads = record {
         keeps = subst (λ (k : ℕ). Keeps count k (published n stored taken archive) h) (sym size) keeps;
         unbroken = unbroken;
@@ -261,6 +262,7 @@ module _ (n : ℕ) (stored : Stored) (taken : ℕ) (archive : List ℕ) (within 
         snapshot_len_is = snapshot_;
         archive_len_is = archive_;
         publication = subst (λ (o : Option PublicationView). IfSome o (Publishes service.size (published n stored taken archive) h)) (sym publication) tt;
+        drafting = subst (λ (o : Option DraftedView). IfSome o (IsDrafted service.size (published n stored taken archive))) (sym undrafted) tt;
         were = were;
         archived = archived;
         reads = reads;

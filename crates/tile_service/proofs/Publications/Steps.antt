@@ -24,6 +24,7 @@ use Rattle.area_content.specs.Content.{sectors_taken}
 use Rattle.area_content.specs.Faults.{IsBuiltFor}
 use Rattle.cached_map.specs.Cached.{CachedView, AreReadRight}
 use Rattle.edit_text.specs.Recorded.{RecordedEdit}
+use Rattle.feature_store.specs.Moments.{MomentView}
 use Rattle.feature_store.specs.Store.{FeatureMap, IsMap, snapshot}
 use Rattle.map_metadata.specs.Metadata.{IsMetadataOf}
 use Rattle.pm_metadata.specs.Archive.{IsMetadata as IsMetadataText}
@@ -39,6 +40,7 @@ use Rattle.tile_service.specs.Service.{PublicationView, ServiceView, Known, Publ
 use Rattle.tile_service.specs.Service.{going_of, state_of, known_after, known_installed, installed, stored_after, with_publication}
 use Rattle.tile_service.specs.Stored.{Stored, Holds, IsMapArchive, Keeps, root_of, journal_ring, record_for, stored_records}
 use Rattle.tile_service.specs.Tiles.{WereMaps}
+use Rattle.tile_service.specs.declared.drafting.Draft.{Draft}
 use Rattle.tile_service.specs.declared.fault.ServiceFault.{ServiceFault}
 use Rattle.tile_service.specs.declared.fault.ServiceFault.TheVariants.{Memory, TooManyTiles, AreaFull, Device}
 use Rattle.tile_service.specs.declared.publishing.TheConstants.{STEP_SECTORS}
@@ -51,15 +53,18 @@ use Rattle.tile_service.proofs.Publications.DuringEdits.{begins, all_written}
 
 -- A service on another disk with as many sectors has the invariants as before,
 pub service_on_disk : {sectors now size version : ℕ} {root : Root} {journal : Journal} {map : CachedView} {publication : Option PublicationView}
-    {text : Option (List ℕ)} → now ≡ sectors → IsService sectors size version root journal map publication text
-    → IsService now size version root journal map publication text
-service_on_disk {size = size} {version} {root} {journal} {map} {publication} {text} same is =
-    subst (λ (n : ℕ). IsService n size version root journal map publication text) (sym same) is
+    {text : Option (List ℕ)} {moment : Option MomentView} {draft : Option Draft} → now ≡ sectors
+    → IsService sectors size version root journal map publication text moment draft
+    → IsService now size version root journal map publication text moment draft
+service_on_disk {size = size} {version} {root} {journal} {map} {publication} {text} {moment} {draft} same is =
+    subst (λ (n : ℕ). IsService n size version root journal map publication text moment draft) (sym same) is
 
 -- and one with another publication under way if that is going,
 pub service_with : {sectors size version : ℕ} {root : Root} {journal : Journal} {map : CachedView} {publication : Option PublicationView}
-    {text : Option (List ℕ)} (later : Option PublicationView) → IfSome later (IsGoing size root journal map.features)
-    → IsService sectors size version root journal map publication text → IsService sectors size version root journal map later text
+    {text : Option (List ℕ)} {moment : Option MomentView} {draft : Option Draft} (later : Option PublicationView)
+    → IfSome later (IsGoing size root journal map.features)
+    → IsService sectors size version root journal map publication text moment draft
+    → IsService sectors size version root journal map later text moment draft
 service_with later going is = record {
   within = is.within;
   version_is = is.version_is;
@@ -70,12 +75,15 @@ service_with later going is = record {
   last_is = is.last_is;
   going = going;
   told = is.told;
+  as_of = is.as_of;
+  drafts = is.drafts;
 }
 
 -- or without one.
 pub service_idle : {sectors size version : ℕ} {root : Root} {journal : Journal} {map : CachedView} {publication : Option PublicationView}
-    {text : Option (List ℕ)} (later : Option PublicationView) → later ≡ None
-    → IsService sectors size version root journal map publication text → IsService sectors size version root journal map later text
+    {text : Option (List ℕ)} {moment : Option MomentView} {draft : Option Draft} (later : Option PublicationView) → later ≡ None
+    → IsService sectors size version root journal map publication text moment draft
+    → IsService sectors size version root journal map later text moment draft
 service_idle {size = size} {root = root} {journal} {map} later none is =
     service_with later (subst (λ (o : Option PublicationView). IfSome o (IsGoing size root journal map.features)) (sym none) tt) is
 
@@ -271,9 +279,9 @@ module _ {D : Type 0} (sectors : ℕ) (old : History) (stored : Stored) (service
         → after.broken ≡ service.broken → after.version ≡ service.version → after.generation ≡ service.generation + 1 → after.features ≡ service.features
         → after.journal.place ≡ p.start.place → after.journal.edits ≡ p.start.edits → ring_of after.journal ≡ ring_of service.journal
         → after.journal.used + p.places ≡ service.journal.used → after.journal.last ≡ service.journal.last
-        → after.snapshot_len ≡ length p.content.snapshot → after.archive_len ≡ length p.content.archive → after.publication ≡ None
+        → after.snapshot_len ≡ length p.content.snapshot → after.archive_len ≡ length p.content.archive → after.publication ≡ None → after.drafting ≡ None
         → after.touched ≡ service.touched → after.published ≡ service.published → after.kept ≡ service.kept → IsUp count new next after
-    up_installed count after same is size broken version generation features place edits ring freed last text archive none touched published_is kept =
+    up_installed count after same is size broken version generation features place edits ring freed last text archive none undrafted touched published_is kept =
         subst (λ (k : ℕ). IsUp k new next after) (sym same)
         (up_published service.size stored (count_at stored p) p.content.archive going.under_way.can.within sectors new after size
         (installed_keeps sectors service.size stored (count_at stored p) p.content.archive going.under_way.can old new up.keeps area_stands
@@ -281,7 +289,7 @@ module _ {D : Type 0} (sectors : ℕ) (old : History) (stored : Stored) (service
         (broken ∙ up.unbroken) (version ∙ up.version_is) (omega (arith, generation, up.generation_is)) (features ∙ up.map_is) (place ∙ going.place_is)
         (omega (arith, edits, going.later)) (ring ∙ up.ring_is ∙ sym (ap journal_ring size))
         (omega (arith, freed, going.places_are, up.used_is)) (last ∙ up.last_is)
-        (text ∙ ap length going.snapshot_is) archive none were archived reads)
+        (text ∙ ap length going.snapshot_is) archive none undrafted were archived reads)
       where
         map : FeatureMap
         map = map_at stored (count_at stored p)

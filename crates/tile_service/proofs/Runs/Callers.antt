@@ -1,5 +1,5 @@
 -- A run as any caller of a service makes it, call by call.
-use Rattle.std.proofs.Common.{◌≡◌, ◌≢◌, ℕ, ◌<◌, ◌+◌, ◌-◌, List, [], ◌∷◌, ◌++◌, length, Option, Some, None, Result, Ok, true, false, refl, sym, ◌∙◌}
+use Rattle.std.proofs.Common.{◌≡◌, ◌≢◌, inl, ℕ, ◌<◌, ◌+◌, ◌-◌, List, [], ◌∷◌, ◌++◌, length, Option, Some, None, Result, Ok, true, false, refl, sym, ◌∙◌}
 use Rattle.std.proofs.Common.{ap, subst, arith, append_assoc}
 use Rattle.std.proofs.lemmas.List.{append-nil}
 use Rattle.std.proofs.lemmas.List.Elements.{Contains-append_left, Contains-append_right}
@@ -24,7 +24,7 @@ use Rattle.tile_service.specs.Machine.{IfTold, AnswersEdit, AnswersBegin, Answer
 use Rattle.tile_service.specs.Runs.{IsDoubtful, happening_at, all_edits, way_of, Way, Progress, starts, progress_of, NoneInDoubt, Reaches}
 use Rattle.tile_service.specs.Runs.{begin_and_steps, IsTrusted, ChangesOnly, Takes, TakesEdit, TakesAll, TakesRun}
 use Rattle.tile_service.specs.Service.{PublicationView, ServiceView, Known, Publishes, IsUp, state_of, known_after}
-use Rattle.tile_service.specs.Service.{ShowsArchive, KeepsArchive, ReadsFrom, EventLeaves, shown_archive, stored_after}
+use Rattle.tile_service.specs.Service.{KeepsDraft, ShowsArchive, KeepsArchive, ReadsFrom, EventLeaves, shown_archive, stored_after}
 use Rattle.tile_service.specs.Listing.{ShowsEdits, ListsFrom}
 use Rattle.tile_service.specs.Stored.{Stored, Holds, Keeps, last_of}
 use Rattle.tile_service.specs.Tags.{StillKnows, TellsNumber, IsNumbered}
@@ -178,6 +178,7 @@ module _ {D : Type 0} (sectors : D → ℕ) (honest : D → Type 0) (history : D
       asked = reads_may reads;
       changes = record { same = same; unwritten = reads.same_history };
       knows = knows_read;
+      drafting = inl (ap (λ (s : ServiceView D). s.drafting) same);
       numbered = tt;
       untouched = λ broken is. untouched broken;
       any_moment = λ stored is_honest up. writes_nothing (sectors old.disk) old.size stored old.publication (tile z x y outcome)
@@ -202,6 +203,7 @@ module _ {D : Type 0} (sectors : D → ℕ) (honest : D → Type 0) (history : D
       asked = reads_may reads;
       changes = record { same = same; unwritten = reads.same_history };
       knows = knows_read;
+      drafting = inl (ap (λ (s : ServiceView D). s.drafting) same);
       numbered = tt;
       untouched = λ broken not. absurd (not tt);
       any_moment = λ stored is_honest up. writes_nothing (sectors old.disk) old.size stored old.publication (read at outcome)
@@ -227,6 +229,7 @@ module _ {D : Type 0} (sectors : D → ℕ) (honest : D → Type 0) (history : D
       asked = reads_may reads;
       changes = record { same = same; unwritten = reads.same_history };
       knows = knows_read;
+      drafting = inl (ap (λ (s : ServiceView D). s.drafting) same);
       numbered = tt;
       untouched = λ broken not. absurd (not tt);
       any_moment = λ stored is_honest up. writes_nothing (sectors old.disk) old.size stored old.publication (list_edits number bytes outcome)
@@ -247,6 +250,7 @@ module _ {D : Type 0} (sectors : D → ℕ) (honest : D → Type 0) (history : D
     asked = record { same_count = refl; was_honest = λ is_honest. is_honest };
     changes = refl;
     knows = λ n was known. known;
+    drafting = inl refl;
     numbered = told;
     untouched = λ broken is. refl;
     any_moment = λ stored is_honest up.
@@ -268,6 +272,7 @@ module _ {D : Type 0} (sectors : D → ℕ) (honest : D → Type 0) (history : D
     asked = record { same_count = refl; was_honest = λ is_honest. is_honest };
     changes = refl;
     knows = λ n was known. known;
+    drafting = inl refl;
     numbered = tt;
     untouched = λ broken is. refl;
     any_moment = λ stored is_honest up.
@@ -289,6 +294,7 @@ module _ {D : Type 0} (sectors : D → ℕ) (honest : D → Type 0) (history : D
     asked = record { same_count = refl; was_honest = λ is_honest. is_honest };
     changes = refl;
     knows = λ n was known. known;
+    drafting = inl refl;
     numbered = tt;
     untouched = λ broken is. refl;
     any_moment = λ stored is_honest up.
@@ -310,6 +316,7 @@ module _ {D : Type 0} (sectors : D → ℕ) (honest : D → Type 0) (history : D
     asked = record { same_count = refl; was_honest = λ is_honest. is_honest };
     changes = refl;
     knows = λ n was known. known;
+    drafting = inl refl;
     numbered = tt;
     untouched = λ broken is. refl;
     any_moment = λ stored is_honest up.
@@ -332,6 +339,7 @@ module _ {D : Type 0} (sectors : D → ℕ) (honest : D → Type 0) (history : D
     asked = takes.asked;
     changes = tt;
     knows = takes.knows;
+    drafting = inl takes.drafting;
     numbered = tt;
     untouched = λ broken is. broken_refuses (state_of no_known old) (state_of no_known new) call e outcome (machine no_known) takes.unwritten broken;
     any_moment = takes.any_moment;
@@ -362,6 +370,7 @@ module _ {D : Type 0} (sectors : D → ℕ) (honest : D → Type 0) (history : D
     changes = changes;
     knows = knows_same old new (ap (λ (s : ServiceView D). s.features) same) (ap (λ (s : ServiceView D). s.touched) same)
         (ap (λ (s : ServiceView D). s.journal.last) same);
+    drafting = inl (ap (λ (s : ServiceView D). s.drafting) same);
     numbered = numbered;
     untouched = λ broken is. ap (λ (s : ServiceView D). s.disk) same;
     any_moment = λ stored is_honest up. writes_nothing (sectors old.disk) old.size stored old.publication happening
@@ -391,7 +400,7 @@ module _ {D : Type 0} (sectors : D → ℕ) (honest : D → Type 0) (history : D
   -- what a step of it does
   pub step_step : (old new : ServiceView D) (outcome : Result ℕ ServiceFault)
       → ((known : Known) → AnswersStep (state_of known old) outcome (state_of (known_after known old (step outcome)) new))
-      → new.size ≡ old.size → new.touched ≡ old.touched → MayWrite sectors honest old.disk new.disk
+      → new.size ≡ old.size → new.touched ≡ old.touched → KeepsDraft old.drafting new.drafting → MayWrite sectors honest old.disk new.disk
       → IfErr outcome (λ fault. fault ≢ Device → new ≡ old)
       → ((stored : Stored) → honest new.disk → IsUp (sectors old.disk) (history old.disk) stored old
       → LeavesOnly (history old.disk) (history new.disk) (EventLeaves (sectors old.disk) old.size stored old.publication (step outcome)))
@@ -399,7 +408,7 @@ module _ {D : Type 0} (sectors : D → ℕ) (honest : D → Type 0) (history : D
       → OnOk outcome (IsUp (sectors new.disk) (history new.disk) (stored_after old.size stored old.publication (step outcome)) new))
       → ((outcome ≡ Ok 0 → ⊥) → KeepsArchive honest history old new)
       → Takes sectors honest history old (step outcome) new
-  step_step old new outcome machine size touched asked same leaves up_after shows = record {
+  step_step old new outcome machine size touched drafting asked same leaves up_after shows = record {
     machine = machine;
     archive = λ archive shown honest. tt;
     listed = λ edits shows honest. tt;
@@ -412,6 +421,7 @@ module _ {D : Type 0} (sectors : D → ℕ) (honest : D → Type 0) (history : D
     knows =
         let is = step_map (state_of no_known old) (state_of (known_after no_known old (step outcome)) new) outcome (machine no_known) in
         knows_same old new is.0 touched is.1;
+    drafting = drafting;
     numbered = tt;
     untouched = λ broken is. broken_halts (state_of no_known old) (state_of (known_after no_known old (step outcome)) new) outcome (machine no_known)
         (kept_for (λ (s : ServiceView D). s.disk ≡ old.disk) old new outcome same refl) broken;
@@ -424,7 +434,7 @@ module _ {D : Type 0} (sectors : D → ℕ) (honest : D → Type 0) (history : D
   -- a check of the disk, by what the call says
   pub check_step : (old new : ServiceView D) (outcome : Result (Unit {0}) ServiceFault)
       → ((known : Known) → AnswersCheck (state_of known old) outcome (state_of known new))
-      → new.size ≡ old.size → new.touched ≡ old.touched → MayWrite sectors honest old.disk new.disk
+      → new.size ≡ old.size → new.touched ≡ old.touched → KeepsDraft old.drafting new.drafting → MayWrite sectors honest old.disk new.disk
       → IfErr outcome (λ fault. fault ≢ Device → new ≡ old)
       → ((stored : Stored) → honest new.disk → IsUp (sectors old.disk) (history old.disk) stored old
       → LeavesOnly (history old.disk) (history new.disk) (Holds (sectors old.disk) old.size stored))
@@ -432,7 +442,7 @@ module _ {D : Type 0} (sectors : D → ℕ) (honest : D → Type 0) (history : D
       → OnOk outcome (IsUp (sectors new.disk) (history new.disk) stored new))
       → KeepsArchive honest history old new
       → Takes sectors honest history old (check outcome) new
-  check_step old new outcome machine size touched asked same leaves up_after shows = record {
+  check_step old new outcome machine size touched drafting asked same leaves up_after shows = record {
     machine = machine;
     archive = λ archive shown honest. tt;
     listed = λ edits shows honest. tt;
@@ -445,6 +455,7 @@ module _ {D : Type 0} (sectors : D → ℕ) (honest : D → Type 0) (history : D
     knows =
         let is = check_map (state_of no_known old) (state_of no_known new) outcome (machine no_known) in
         knows_same old new is.0 touched is.1;
+    drafting = drafting;
     numbered = tt;
     untouched = λ broken is. broken_unchecked (state_of no_known old) (state_of no_known new) outcome (machine no_known)
         (kept_for (λ (s : ServiceView D). s.disk ≡ old.disk) old new outcome same refl) broken;

@@ -7,6 +7,8 @@ use Rattle.feature_store.specs.Layers.{layers}
 use Rattle.feature_store.specs.Store.{FeatureMap}
 use Rattle.edit_journal.specs.declared.journal.Journal.{Journal}
 use Rattle.generations.specs.declared.root.Root.{Root}
+use Rattle.feature_store.specs.Moments.{MomentView}
+use Rattle.tile_service.specs.declared.drafting.Draft.{Draft}
 use Rattle.tile_service.specs.Inside.{service_view}
 use Rattle.tile_service.specs.Service.{PublicationView, ServiceView, IsService, IsUp}
 use Rattle.tile_service.specs.Stored.{Stored}
@@ -88,10 +90,11 @@ nothing_given bytes is = cc
 
 -- With other tiles cached the invariants of a service hold as before.
 pub service_cached : {sectors size version : ℕ} {root : Root} {journal : Journal} {publication : Option PublicationView} {text : Option (List ℕ)}
-    (map later : CachedView) → later ≡ record map { kept = later.kept } → IsService sectors size version root journal map publication text
-    → IsService sectors size version root journal later publication text
-service_cached {sectors} {size} {version} {root} {journal} {publication} {text} map later same is =
-    subst (λ (m : CachedView). IsService sectors size version root journal m publication text) (sym same) (record {
+    {moment : Option MomentView} {draft : Option Draft} (map later : CachedView) → later ≡ record map { kept = later.kept }
+    → IsService sectors size version root journal map publication text moment draft
+    → IsService sectors size version root journal later publication text moment draft
+service_cached {sectors} {size} {version} {root} {journal} {publication} {text} {moment} {draft} map later same is =
+    subst (λ (m : CachedView). IsService sectors size version root journal m publication text moment draft) (sym same) (record {
       within = is.within;
       version_is = is.version_is;
       ring = is.ring;
@@ -101,6 +104,8 @@ service_cached {sectors} {size} {version} {root} {journal} {publication} {text} 
       last_is = is.last_is;
       going = is.going;
       told = is.told;
+      as_of = is.as_of;
+      drafts = is.drafts;
     })
 
 module _ {D : Type 0} where

@@ -1,4 +1,4 @@
-use Rattle.begin_law.proofs.Drafts.{drafted_on}
+use Rattle.tile_service.proofs.Edits.EditStored.{drafted_on}
 use Rattle.begin_law.proofs.laws.stays_drafted.Goals as goal
 
 pub returns : goal.returns

@@ -5,7 +5,7 @@ use Rattle.map_replies.specs.Words.{status_reply}
 use Rattle.map_replies.proofs.Answering.{changed_first}
 use Rattle.tile_service.proofs.Archive.Tickets.{held_check}
 use Rattle.map_replies.proofs.calls.Calls.status.Goals as goal
-use Rattle.std.proofs.Common.{ap, ◌∙◌}
+use Rattle.std.proofs.Common.{inl, ap, ◌∙◌}
 
 pub returns-clause-answered : goal.returns-clause-answered
 returns-clause-answered g c =
@@ -13,8 +13,8 @@ returns-clause-answered g c =
     let call = c.check.ensures in
     changed_first d.sectors d.honest d.history _ _ check (λ outcome. status_reply (status_of c.check.new.self)) _ _ c.check.result _
     (c.told.ensures.reply ∙ ap status_reply c.status.ensures) call.failed
-    (check_step d.sectors d.honest d.history _ _ c.check.result call.machine (ap (λ s. s.size) call.same) (ap (λ s. s.touched) call.same) call.disk
-    call.refused call.any_moment call.after call.archive)
+    (check_step d.sectors d.honest d.history _ _ c.check.result call.machine (ap (λ s. s.size) call.same) (ap (λ s. s.touched) call.same)
+    (inl (ap (λ s. s.drafting) call.same)) call.disk call.refused call.any_moment call.after call.archive)
 
 pub returns-clause-held : goal.returns-clause-held
 returns-clause-held g c =

@@ -1,7 +1,7 @@
-use Rattle.std.proofs.Common.{true, Ok, Err, ◌+◌, ◌-◌, ◌≤◌, min, refl, sym, ◌∙◌, ap, subst, arith, ℕ, suc, ◌≡◌, Some}
+use Rattle.std.proofs.Common.{inl, true, Ok, Err, ◌+◌, ◌-◌, ◌≤◌, min, refl, sym, ◌∙◌, ap, subst, arith, ℕ, suc, ◌≡◌, Some}
 use Rattle.area_content.specs.Content.{sectors_taken}
 use Rattle.tile_service.specs.Inside.{publication_view, service_view}
-use Rattle.tile_service.specs.Service.{ServiceView, PublicationView, IsUp, with_publication}
+use Rattle.tile_service.specs.Service.{ServiceView, PublicationView, IsUp, KeepsDraft, with_publication}
 use Rattle.tile_service.specs.declared.fault.ServiceFault.TheVariants.{Device}
 use Rattle.tile_service.proofs.Archive.Unchanged.{beside_keeps, install_keeps, beside_area}
 use Rattle.tile_service.proofs.Publications.Steps.{up_further, step_leaves, last_step_leaves, up_after_step, up_after_last, step_told, last_step_told}
@@ -260,3 +260,13 @@ returns-then-left-le-STEP_SECTORS-clause-touched g c = c.install_now.ensures.tou
 
 pub returns-clause-touched : goal.returns-clause-touched
 returns-clause-touched g c = ap (λ s. s.touched) c.self.view_is
+
+pub returns-in-Err-clause-drafting : goal.returns-in-Err-clause-drafting
+returns-in-Err-clause-drafting g c = inl (ap (λ s. s.drafting) c.self.view_is)
+
+pub returns-then-left-le-STEP_SECTORS-clause-drafting : goal.returns-then-left-le-STEP_SECTORS-clause-drafting
+returns-then-left-le-STEP_SECTORS-clause-drafting g c =
+    subst (λ o. KeepsDraft o c.install_now.new.self.drafting) (ap (λ s. s.drafting) c.self.view_is) c.install_now.ensures.drafting
+
+pub returns-clause-drafting : goal.returns-clause-drafting
+returns-clause-drafting g c = inl (ap (λ s. s.drafting) c.self.view_is)

@@ -18,7 +18,7 @@ use Rattle.tile_service.proofs.Tiles.EarlierMaps.{since_on, now_on, right_on}
 use Rattle.tile_service.proofs.Tiles.Tags.{same_known}
 use Rattle.edit_journal.specs.declared.journal.Journal.{Journal}
 use Rattle.tile_service.proofs.Edits.EditStored.{up_is_at, refuses_edit, append_counts, refused_unchanged, append_any_moment, refused_any_moment, up_with_edit}
-use Rattle.tile_service.proofs.Edits.ServiceAfter.{service_on, refused_service, append_later, append_room, append_free, append_refuses}
+use Rattle.tile_service.proofs.Edits.ServiceAfter.{service_on, refused_service, same_drafted, append_later, append_room, append_free, append_refuses}
 use Rattle.tile_service.proofs.Archive.Unchanged.{append_keeps, append_area, more_stays, same_stays}
 use Rattle.edit_journal.proofs.ReadAgain.{in_use_taken}
 use Rattle.tile_service.proofs.Edits.Limits.{delete_recorded, text_length, short_after_edit}
@@ -58,12 +58,14 @@ invariant_of-self g c =
       ap (λ (t : List ℕ). parts_of (length t)) text,
       short_after_edit version c.self.inside.map.features (delete c.args.id ∷ []) area places c.self.invariant.version_is was,
     ))
-    _ _ _ _ c.append.ensures.disk.same_count c.self.invariant
+    _ _ _ _ _ _ _ c.append.ensures.disk.same_count c.remove.ensures.moment
+    c.remove.ensures.as_of c.self.invariant
 
 pub returns-in-Ok-clause-takes : goal.returns-in-Ok-clause-takes
 returns-in-Ok-clause-takes g c = rw (← c.self.view_is) (record {
   size = refl;
   publication = refl;
+  drafting = same_drafted c.self.inside.moment c.remove.new.moment c.self.inside.draft c.remove.ensures.moment;
   asked = c.append.ensures.disk;
   failed = c.in-Ok.ensures.faults;
   unwritten = tt;
@@ -103,7 +105,8 @@ returns-in-Ok-clause-takes g c = rw (← c.self.view_is) (record {
       c.remove.ensures.since)
       (now_on c.remove.new.self c.append.new.self.last last c.remove.ensures.now)
       (right_on c.self.inside.map c.self.inside.map c.remove.new.self c.self.inside.journal.last c.append.new.self.last c.self.invariant.last_is refl last
-      c.remove.ensures.reads) refl refl refl refl refl refl refl (c.append.ensures.reads honest));
+      c.remove.ensures.reads) refl refl refl refl refl
+      (same_drafted c.self.inside.moment c.remove.new.moment c.self.inside.draft c.remove.ensures.moment) refl refl (c.append.ensures.reads honest));
   refused = λ stored honest up. tt;
   steps = λ honest. subst (λ (t : List ℕ). TakesSteps (parts_of (length t)) (g.D.Sectors.history c.self.inside.disk) (g.D.Sectors.history c.append.new.disk))
       (c.deletion_text-text.ensures c.args.id c.delete_edit_text-text.ensures) (c.in-Ok.ensures.steps honest);
@@ -118,6 +121,7 @@ pub returns-in-Err-clause-takes : goal.returns-in-Err-clause-takes
 returns-in-Err-clause-takes g c = rw (← c.self.view_is) (record {
   size = ap (λ s. s.size) c.fail.ensures.same;
   publication = tt;
+  drafting = ap (λ s. s.drafting) c.fail.ensures.same;
   asked = subst (λ d. MayWrite g.D.Sectors.sectors g.D.Sectors.honest c.self.inside.disk d) (sym (ap (λ s. s.disk) c.fail.ensures.same))
       c.append.ensures.disk;
   failed = subst (λ d. CountsDevice c.fail.result (g.D.Sectors.faults c.self.inside.disk) (g.D.Sectors.faults d))

@@ -1,4 +1,4 @@
-use Rattle.std.proofs.Common.{◌+◌, ◌%◌, length, refl, sym, ◌∙◌, ap, subst, arith}
+use Rattle.std.proofs.Common.{inl, inr, ◌+◌, ◌%◌, length, refl, sym, ◌∙◌, ap, subst, arith}
 use Rattle.edit_journal.specs.Releases.{IsBehind}
 use Rattle.edit_journal.specs.declared.journal.Journal.{Journal}
 use Rattle.generations.specs.declared.root.Root.{Root}
@@ -45,7 +45,7 @@ returns-in-Ok-clause-after g c = rw (← c.self.view_is) (λ stored honest up.
     up_installed _ _ stored service c.args.publication up c.requires.written root is _ _ _ c.install.ensures.disk.same_count (c.in-Ok.ensures.installed honest)
     refl refl refl refl refl (c.release.ensures.start.0 ∙ place) (c.release.ensures.start.1 ∙ edits) c.release.ensures.same.0
     (c.release.ensures.freed c.args.publication.places behind) c.release.ensures.same.1 text archive
-    (ap (λ s. s.publication) c.self.view_is ∙ c.requires.none) refl refl refl)
+    (ap (λ s. s.publication) c.self.view_is ∙ c.requires.none) refl refl refl refl)
 
 pub returns-clause-any_moment : goal.returns-clause-any_moment
 returns-clause-any_moment g c = rw (← c.self.view_is) (λ stored honest up.
@@ -117,6 +117,12 @@ returns-clause-archive g c = rw (← c.self.view_is) (root_keeps g.D.Sectors.hon
 
 pub returns-clause-steps : goal.returns-clause-steps
 returns-clause-steps g c = rw (← c.self.view_is) c.install.ensures.steps
+
+pub returns-in-Ok-clause-drafting : goal.returns-in-Ok-clause-drafting
+returns-in-Ok-clause-drafting g c = inr refl
+
+pub returns-clause-drafting : goal.returns-clause-drafting
+returns-clause-drafting g c = inl (ap (λ s. s.drafting) c.self.view_is)
 
 pub returns-in-Ok-clause-touched : goal.returns-in-Ok-clause-touched
 returns-in-Ok-clause-touched g c = ap (λ s. s.touched) c.self.view_is

@@ -22,10 +22,11 @@ returns-in-Ok-clause-opened g c n stored holds honest =
       snapshot_len = c.in-Ok.found.root.snapshot_len;
       archive_len = c.in-Ok.found.root.archive_len;
       publication = None;
+      drafting = None;
       published = c.in-Ok.found.published;
       broken = false;
     })
-    c.in-Ok.found.root refl c.load.ensures.disk.same_count (c.in-Ok.ensures.synced honest) refl refl refl refl refl c.in-Ok.ensures.ring
+    c.in-Ok.found.root refl c.load.ensures.disk.same_count (c.in-Ok.ensures.synced honest) refl refl refl refl refl refl c.in-Ok.ensures.ring
     (c.in-Ok.ensures.found honest)
     c.in-Ok.ensures.published c.in-Ok.ensures.reads
 
@@ -63,6 +64,9 @@ returns-in-Ok-clause-unbroken g c = refl
 pub returns-in-Ok-clause-idle : goal.returns-in-Ok-clause-idle
 returns-in-Ok-clause-idle g c = refl
 
+pub returns-in-Ok-clause-undrafted : goal.returns-in-Ok-clause-undrafted
+returns-in-Ok-clause-undrafted g c = refl
+
 pub returns-in-Err-clause-disk : goal.returns-in-Err-clause-disk
 returns-in-Err-clause-disk g c = c.load.ensures.disk
 
@@ -89,6 +93,8 @@ invariant_of-result g c = record {
   last_is = c.in-Ok.ensures.last;
   going = tt;
   told = tt;
+  as_of = tt;
+  drafts = tt;
 }
 
 pub returns-in-Ok-clause-headline : goal.returns-in-Ok-clause-headline

@@ -46,7 +46,7 @@ loop-rest-preserved g c =
     let outcome : Result ℕ ServiceFault = Ok c.in-Ok-publish_step.told in
     let goes : Takes g.D.Sectors.sectors g.D.Sectors.honest g.D.Sectors.history old (step outcome) new =
     step_step g.D.Sectors.sectors g.D.Sectors.honest g.D.Sectors.history old new outcome
-    call.machine call.size call.touched call.disk call.refused call.any_moment call.after call.archive in
+    call.machine call.size call.touched call.drafting call.disk call.refused call.any_moment call.after call.archive in
     let more = one_step_more g.D.Sectors.sectors g.D.Sectors.honest g.D.Sectors.history c.args.self.now old new inv.run.0 (Ok rest) outcome
     inv.run.1 inv.run.2 goes in
     let known = inv.stands.0 in
@@ -136,7 +136,7 @@ returns-in-Err-publish_step-clause-run g c =
     let outcome : Result ℕ ServiceFault = Err c.in-Err-publish_step.fault in
     let goes : Takes g.D.Sectors.sectors g.D.Sectors.honest g.D.Sectors.history old (step outcome) new =
     step_step g.D.Sectors.sectors g.D.Sectors.honest g.D.Sectors.history old new outcome
-    call.machine call.size call.touched call.disk call.refused call.any_moment call.after call.archive in
+    call.machine call.size call.touched call.drafting call.disk call.refused call.any_moment call.after call.archive in
     let more = one_step_more g.D.Sectors.sectors g.D.Sectors.honest g.D.Sectors.history c.args.self.now old new inv.run.0 (Ok rest) outcome
     inv.run.1 inv.run.2 goes in
     record {

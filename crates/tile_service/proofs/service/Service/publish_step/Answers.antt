@@ -4,7 +4,8 @@ use Rattle.std.specs.Prelude.{IfSome, option_map}
 use Rattle.sector_disk.specs.Moments.{LeavesOnly}
 use Rattle.tile_service.specs.Inside.{service_view}
 use Rattle.tile_service.specs.Machine.{AnswersStep, step}
-use Rattle.tile_service.specs.Service.{PublicationView, IsGoing, IsUp, EventLeaves, going_of, known_stepped, state_of, stored_after, with_publication}
+use Rattle.tile_service.specs.Service.{PublicationView, IsGoing, IsUp, KeepsDraft, EventLeaves}
+use Rattle.tile_service.specs.Service.{going_of, known_stepped, state_of, stored_after, with_publication}
 use Rattle.tile_service.specs.declared.fault.ServiceFault.TheVariants.{Broken, Idle}
 use Rattle.tile_service.proofs.Runs.DeviceFaults.{other_fault}
 use Rattle.tile_service.proofs.Archive.Unchanged.{keeps_on, shows_the_same}
@@ -153,3 +154,13 @@ returns-in-None-clause-touched g c = ap (λ s. s.touched) c.self.view_is
 
 pub returns-in-Some-clause-touched : goal.returns-in-Some-clause-touched
 returns-in-Some-clause-touched g c = c.advance.ensures.touched ∙ ap (λ s. s.touched) c.self.view_is
+
+pub returns-then-self-clause-drafting : goal.returns-then-self-clause-drafting
+returns-then-self-clause-drafting g c = inl refl
+
+pub returns-in-None-clause-drafting : goal.returns-in-None-clause-drafting
+returns-in-None-clause-drafting g c = inl (ap (λ s. s.drafting) c.self.view_is)
+
+pub returns-in-Some-clause-drafting : goal.returns-in-Some-clause-drafting
+returns-in-Some-clause-drafting g c =
+    subst (λ o. KeepsDraft o c.advance.new.self.drafting) (ap (λ s. s.drafting) c.self.view_is) c.advance.ensures.drafting

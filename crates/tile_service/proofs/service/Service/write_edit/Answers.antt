@@ -6,6 +6,7 @@ use Rattle.edit_journal.specs.Records.{IsRecordLength, parts_of, record_of}
 use Rattle.edit_journal.specs.Ring.{Ring, sector_at}
 use Rattle.edit_text.specs.Recorded.{IsRecorded, text_in, FitsVersion}
 use Rattle.feature_model.specs.Data.{ChangeData, edit_data}
+use Rattle.feature_store.specs.Moments.{IsMomentOf}
 use Rattle.feature_store.specs.Store.{edited, snapshot}
 use Rattle.tile_cache.specs.Touched.{StaysElsewhere}
 use Rattle.tile_service.specs.Machine.{recorded_in, AnswersEdit}
@@ -19,7 +20,7 @@ use Rattle.tile_service.proofs.Tiles.EarlierMaps.{since_on, now_on, right_on}
 use Rattle.tile_service.proofs.Tiles.Tags.{same_known}
 use Rattle.edit_journal.specs.declared.journal.Journal.{Journal}
 use Rattle.tile_service.proofs.Edits.EditStored.{up_is_at, refuses_edit, append_counts, refused_unchanged, append_any_moment, refused_any_moment, up_with_edit}
-use Rattle.tile_service.proofs.Edits.ServiceAfter.{service_on, refused_service, append_later, append_room, append_free, append_refuses}
+use Rattle.tile_service.proofs.Edits.ServiceAfter.{service_on, refused_service, same_drafted, append_later, append_room, append_free, append_refuses}
 use Rattle.tile_service.proofs.Archive.Unchanged.{append_keeps, append_area, more_stays, same_stays}
 use Rattle.edit_journal.proofs.ReadAgain.{in_use_taken}
 use Rattle.tile_service.proofs.Edits.Limits.{text_length, short_after_edit, short_enough}
@@ -59,12 +60,14 @@ invariant_of-self-in-Ok-append g c =
       ap (λ (t : List ℕ). parts_of (length t)) text,
       short_after_edit version c.self.inside.map.features (edit_data c.args.requested) area places c.self.invariant.version_is was,
     ))
-    _ _ _ _ c.append.ensures.disk.same_count c.self.invariant
+    _ _ _ _ _ _ _ c.append.ensures.disk.same_count c.make_edit.ensures.moment
+    (λ was. c.make_edit.ensures.as_of (subst (IsMomentOf c.self.inside.moment) (sym (ap (λ m. m.features) c.prepare.ensures.same)) was)) c.self.invariant
 
 pub returns-in-Ok-append-clause-takes : goal.returns-in-Ok-append-clause-takes
 returns-in-Ok-append-clause-takes g c = rw (← c.self.view_is) (λ call. record {
   size = refl;
   publication = refl;
+  drafting = same_drafted c.self.inside.moment c.make_edit.new.moment c.self.inside.draft c.make_edit.ensures.moment;
   asked = c.append.ensures.disk;
   failed = c.in-Ok-append.ensures.faults;
   unwritten = tt;
@@ -112,7 +115,8 @@ returns-in-Ok-append-clause-takes g c = rw (← c.self.view_is) (λ call. record
       c.prepare.ensures.same last c.make_edit.ensures.since)
       (now_on c.make_edit.new.self c.append.new.self.last last c.make_edit.ensures.now)
       (right_on c.self.inside.map c.prepare.new.cached c.make_edit.new.self c.self.inside.journal.last c.append.new.self.last c.self.invariant.last_is
-      c.prepare.ensures.same last c.make_edit.ensures.reads) refl refl refl refl refl refl refl (c.append.ensures.reads honest));
+      c.prepare.ensures.same last c.make_edit.ensures.reads) refl refl refl refl refl
+      (same_drafted c.self.inside.moment c.make_edit.new.moment c.self.inside.draft c.make_edit.ensures.moment) refl refl (c.append.ensures.reads honest));
   refused = λ stored honest up. tt;
   steps = λ honest. subst (λ (t : List ℕ). TakesSteps (parts_of (length t)) (g.D.Sectors.history c.self.inside.disk) (g.D.Sectors.history c.append.new.disk))
       (c.deref.ensures.value ∙ c.in-Ok.ensures.text) (c.in-Ok-append.ensures.steps honest);
@@ -127,6 +131,7 @@ pub returns-clause-takes : goal.returns-clause-takes
 returns-clause-takes g c = rw (← c.self.view_is) (λ call. record {
   size = ap (λ s. s.size) c.fail.ensures.same;
   publication = tt;
+  drafting = ap (λ s. s.drafting) c.fail.ensures.same;
   asked = subst (λ d. MayWrite g.D.Sectors.sectors g.D.Sectors.honest c.self.inside.disk d) (sym (ap (λ s. s.disk) c.fail.ensures.same))
       c.append.ensures.disk;
   failed = subst (λ d. CountsDevice c.fail.result (g.D.Sectors.faults c.self.inside.disk) (g.D.Sectors.faults d))

@@ -3,10 +3,8 @@ use Rattle.std.specs.Prelude.{◌≡◌, ◌≤◌, ◌+◌, ◌-◌, ◌%◌, �
 use Rattle.generations.specs.Areas.{journal_sectors}
 use Rattle.edit_journal.specs.Ring.{places_of}
 use Rattle.edit_journal.specs.declared.journal.JournalPosition.{JournalPosition}
-use Rattle.area_content.specs.Content.{ContentView}
 use Rattle.feature_store.specs.Store.{FeatureMap}
 use Rattle.tile_service.specs.Publishing.{map_at}
-use Rattle.tile_service.specs.Service.{PublicationView}
 use Rattle.tile_service.specs.Stored.{Stored, stored_records}
 
 -- where the journal continued when it began, how many of its places were in use then, and the map then
@@ -26,7 +24,3 @@ pub record IsDrafted (n : ℕ) (stored : Stored) (d : DraftedView) : Type 0 wher
   pub map_is : d.features ≡ map_at stored (count_of stored d)
   pub place_is : d.start.place ≡ (stored.journal_at + places_of (take (count_of stored d) (stored_records stored))) % journal_sectors n
   pub places_are : d.places ≡ places_of (take (count_of stored d) (stored_records stored))
-
--- the publication of this content, of which nothing is written
-abbrev pub publication_of : DraftedView → ContentView → PublicationView
-publication_of d content = record { content = content; start = d.start; places = d.places; written = 0 }
