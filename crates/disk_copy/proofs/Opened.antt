@@ -12,7 +12,8 @@ use Rattle.edit_journal.specs.Appends.{start_of}
 use Rattle.edit_journal.specs.Records.{RecordData, parts_of, IsPart, IsHeadOf}
 use Rattle.edit_journal.specs.Ring.{Ring, RecordStart, sector_at, start_behind, IsInRing, places_of, StandsAt, HoldsOnly}
 use Rattle.edit_journal.proofs.Laws.{zeros_no_head, first_is_head, body_no_head, one_number}
-use Rattle.disk_copy.specs.Copies.{ring_in, IsJournalOf, Copies, IsNamed, IsEmpty, IsCopyOf, IsCopied, HasRecords}
+use Rattle.disk_copy.specs.Copies.{ring_in, IsJournalOf, IsNamed, IsEmpty, IsCopyOf, IsCopied, HasRecords}
+use Rattle.disk_copy.specs.Walks.{IsCopiedFrom}
 
 -- ---- records
 
@@ -182,24 +183,15 @@ copied sectors n root used last source history live records copies = record {
   );
 }
 
--- the same by calls: what they read, and what a sync leaves of what they wrote
-pub copied_by_calls : (sectors n version : ℕ) (root : Root) (used last : ℕ) (h read first before after : History) → LiveRoot sectors (seen h) n root
-    → version ≡ version_from (seen h 0) → read ≡ h → HasRecords n version root used last (seen read)
-    → Copies (IsNamed n root used) (seen read) (seen first) (seen before) → IsEmpty (seen first) → after ≡ synced before
-    → IsCopied sectors (seen h) last after
-copied_by_calls sectors n version root used last h read first before after live version_is read_is records copies empty settled =
-    copied sectors n root used last (seen h) after live
-    (subst (λ (v : ℕ). HasRecords n v root used last (seen h)) version_is
-    (subst (λ (x : History). HasRecords n version root used last (seen x)) read_is records))
-    copy_of
-  where
-    there : Copies (IsNamed n root used) (seen h) (seen first) (seen before)
-    there = subst (λ (x : History). Copies (IsNamed n root used) (seen x) (seen first) (seen before)) read_is copies
-
-    copy_of : (image : Image) → MayLeave after image → IsCopyOf n root used (seen h) image
-    copy_of image may at =
-        let is : image at ≡ seen before at = subst (λ (x : History). MayHold x at (image at)) settled (may at) in
-        ⊎_elim
-        (λ (named : IsNamed n root used at × (seen before at ≡ seen h at)). inl (named.0, is ∙ named.1))
-        (λ (other : (IsNamed n root used at → ⊥) × (seen before at ≡ seen first at)). inr (other.0, is ∙ other.1 ∙ empty at))
-        (there at)
+-- the same of a copy that was made of an image, and then synced
+pub copied_from : (count n version : ℕ) (root : Root) (source old : Image) (last : ℕ) (before after : History)
+    → IsCopiedFrom count n version root source old (seen before) last → IsEmpty old → after ≡ synced before → IsCopied count source last after
+copied_from count n version root source old last before after from empty settled =
+    copied count n root (places_of from.records) last source after from.lives
+    (from.records, subst (λ (v : ℕ). IsJournalOf n v root from.records source) from.version_is from.journal, refl, from.copies.0)
+    (λ image may at.
+    let is : image at ≡ seen before at = subst (λ (x : History). MayHold x at (image at)) settled (may at) in
+    ⊎_elim
+    (λ (named : IsNamed n root (places_of from.records) at × (seen before at ≡ source at)). inl (named.0, is ∙ named.1))
+    (λ (other : (IsNamed n root (places_of from.records) at → ⊥) × (seen before at ≡ old at)). inr (other.0, is ∙ other.1 ∙ empty at))
+    (from.copies.1 at))

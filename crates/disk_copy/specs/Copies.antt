@@ -28,16 +28,22 @@ IsIn first count at = (first ≤ at) × (at < first + count)
 abbrev pub IsUsed : Ring → (place used at : ℕ) → Type 0
 IsUsed ring place used at = (offset : ℕ) × (offset < used) × (at ≡ sector_at ring (place + offset))
 
--- what was copied: each of these sectors is that of the source, and each other one is as it was
-abbrev pub Copies : (ℕ → Type 0) → (source old new : Image) → Type 0
-Copies range source old new = (at : ℕ) → (range at × (new at ≡ source at)) ⊎ ((range at → ⊥) × (new at ≡ old at))
+-- what was copied: each of these sectors is as this says, and each other one is as it was
+abbrev pub CopiesAs : (ℕ → List ℕ → Type 0) → (ℕ → Type 0) → (old new : Image) → Type 0
+CopiesAs is range old new = (at : ℕ) → (range at × is at (new at)) ⊎ ((range at → ⊥) × (new at ≡ old at))
 
--- The root of a disk of n sectors names the sector: it is the format's, the root's own, one of the area that its snapshot and archive take, or that
--- of one of the first `used` places of the journal.
+-- the same where each of these sectors is that of the source
+abbrev pub Copies : (ℕ → Type 0) → (source old new : Image) → Type 0
+Copies range source old new = CopiesAs (λ at bytes. bytes ≡ source at) range old new
+
+-- the sector is the format's, the root's own, or one of the area that its snapshot and archive take
+abbrev pub IsFront : (n : ℕ) → Root → (at : ℕ) → Type 0
+IsFront n root at = (IsIn 0 1 at ⊎ IsIn (root_at root.generation) 1 at)
+    ⊎ IsIn (area_start n root.generation) (sectors_of root.snapshot_len + sectors_of root.archive_len) at
+
+-- The root of a disk of n sectors names the sector: it is one of these, or that of one of the first `used` places of the journal.
 abbrev pub IsNamed : (n : ℕ) → Root → (used at : ℕ) → Type 0
-IsNamed n root used at = ((IsIn 0 1 at ⊎ IsIn (root_at root.generation) 1 at)
-    ⊎ IsIn (area_start n root.generation) (sectors_of root.snapshot_len + sectors_of root.archive_len) at)
-    ⊎ IsUsed (ring_in n) root.journal_at used at
+IsNamed n root used at = IsFront n root at ⊎ IsUsed (ring_in n) root.journal_at used at
 
 -- each sector is empty
 abbrev pub IsEmpty : Image → Type 0

@@ -34,6 +34,14 @@ told_as journals.Device = Store stores.Device
 told_as journals.Damaged = Store (stores.Damaged parts.Journal)
 told_as journals.Memory = Store stores.Memory
 
+-- the fault of a disk in memory, where no call fails
+abbrev pub in_memory : StoreFault → CopyFault
+in_memory stores.Device = Store stores.Memory
+in_memory stores.NotFormatted = Store stores.NotFormatted
+in_memory stores.TooSmall = Store stores.TooSmall
+in_memory (stores.Damaged what) = Store (stores.Damaged what)
+in_memory stores.Memory = Store stores.Memory
+
 -- why the records that a root names aren't found
 abbrev pub IsRecordsFault : (n version : ℕ) → Root → Image → CopyFault → Type 0
 IsRecordsFault n version root image fault = (fault ≡ Store stores.Device) ⊎ (fault ≡ Store stores.Memory)

@@ -3,9 +3,15 @@
 
 mod copying;
 mod fault;
+mod first;
 mod moments;
+mod records;
 mod sectors;
+mod shared;
+mod watched;
 
 pub use copying::copy_disk;
 pub use fault::CopyFault;
 pub use moments::read_shows_one_moment;
+pub use shared::SharedSectors;
+pub use watched::{AnyMoments, Moments, Reads, SharedDisk};

@@ -1,17 +1,19 @@
 //! Sectors of one disk, copied to another.
-ghost use Rattle.std.specs.Prelude.{◌≡◌, ◌≤◌, ◌<◌, ◌+◌, OnOk, IfErr};
-ghost use Rattle.disk_copy.specs.Copies.{Copies, IsIn, IsUsed, ring_in};
+ghost use Rattle.std.specs.Prelude.{◌≡◌, ◌≤◌, ◌<◌, ◌+◌, ◌*◌, List, ℕ, OnOk, IfErr};
+ghost use Rattle.disk_copy.specs.Copies.{Copies, CopiesAs, IsIn, IsUsed, ring_in};
 ghost use Rattle.disk_copy.specs.Faults.{TellsCopy, IsOutside};
+ghost use Rattle.disk_copy.specs.Shared.{GoesOn, IsOf};
 ghost use Rattle.sector_disk.specs.Asked.{MayWrite, OnlyReads};
 ghost use Rattle.sector_disk.specs.Disk.{seen};
 ghost use Rattle.sector_disk.specs.Disk.History.{wrote};
 
 use crate::fault::CopyFault;
+use crate::shared::SharedSectors;
 use generations::{JOURNAL_START, Layout, StoreFault};
 use sector_disk::{DiskFault, SECTOR_BYTES, Sectors};
 
 /// Copies a sector to the same place of the other disk.
-pub(crate) fn copy_sector<D: Sectors, E: Sectors>(
+pub(crate) fn copy_sector<D: SharedSectors, E: Sectors>(
     disk: &mut D,
     at: u64,
     into: &mut E,
@@ -24,9 +26,12 @@ pub(crate) fn copy_sector<D: Sectors, E: Sectors>(
     ensures outside { IfErr result IsOutside }
     ensures copied { D.honest disk.new → E.honest into.new
         → OnOk result (E.history into.new ≡ wrote at (seen (D.history disk.old) at) (E.history into.old)) }
+    ensures later { GoesOn D.shared D.now disk.old disk.new }
+    ensures shared { D.shared disk.new → E.honest into.new → OnOk result ((bytes : List ℕ)
+        × IsOf D.images (D.now disk.old) (D.now disk.new) at bytes × (E.history into.new ≡ wrote at bytes (E.history into.old))) }
 {
     let mut sector = [0; SECTOR_BYTES];
-    match disk.read(at, &mut sector) {
+    match disk.read_anew(at, &mut sector) {
         Ok(()) => {}
         Err(DiskFault) => return Err(CopyFault::Store(StoreFault::Device)),
     }
@@ -37,7 +42,7 @@ pub(crate) fn copy_sector<D: Sectors, E: Sectors>(
 }
 
 /// Copies `count` sectors from sector `first` on.
-pub(crate) fn copy_sectors<D: Sectors, E: Sectors>(
+pub(crate) fn copy_sectors<D: SharedSectors, E: Sectors>(
     disk: &mut D,
     first: u64,
     count: u64,
@@ -51,6 +56,9 @@ pub(crate) fn copy_sectors<D: Sectors, E: Sectors>(
     ensures outside { IfErr result IsOutside }
     ensures copied { D.honest disk.new → E.honest into.new → OnOk result
         (Copies (IsIn first count) (seen (D.history disk.old)) (seen (E.history into.old)) (seen (E.history into.new))) }
+    ensures later { GoesOn D.shared D.now disk.old disk.new }
+    ensures shared { D.shared disk.new → E.honest into.new → OnOk result
+        (CopiesAs (IsOf D.images (D.now disk.old) (D.now disk.new)) (IsIn first count) (seen (E.history into.old)) (seen (E.history into.new))) }
 {
     let _sectors = disk.count();
     let mut done = 0;
@@ -61,15 +69,16 @@ pub(crate) fn copy_sectors<D: Sectors, E: Sectors>(
     Ok(())
 }
 
-/// Copies the sectors of `used` places of the journal, from a place on.
-pub(crate) fn copy_places<D: Sectors, E: Sectors>(
+/// Copies the sectors of `used` places of the journal, from a place on, where place 0 comes after the last one.
+pub(crate) fn copy_places<D: SharedSectors, E: Sectors>(
     disk: &mut D,
     layout: Layout,
     place: u64,
     used: u64,
     into: &mut E,
 ) -> Result<(), CopyFault>
-    requires place { place < layout.journal }
+    requires some { 0 < layout.journal }
+    requires place { place < 2 * layout.journal }
     requires used { used ≤ layout.journal }
     requires on_disk { layout.sectors ≤ D.sectors disk.old }
     requires fits { layout.sectors ≤ E.sectors into.old }
@@ -80,6 +89,10 @@ pub(crate) fn copy_places<D: Sectors, E: Sectors>(
     ensures copied { D.honest disk.new → E.honest into.new → OnOk result
         (Copies (IsUsed (ring_in layout.sectors) place used)
         (seen (D.history disk.old)) (seen (E.history into.old)) (seen (E.history into.new))) }
+    ensures later { GoesOn D.shared D.now disk.old disk.new }
+    ensures shared { D.shared disk.new → E.honest into.new → OnOk result
+        (CopiesAs (IsOf D.images (D.now disk.old) (D.now disk.new)) (IsUsed (ring_in layout.sectors) place used)
+        (seen (E.history into.old)) (seen (E.history into.new))) }
 {
     let mut done = 0;
     while done < used {

@@ -4,10 +4,10 @@ use crate::exporting::settle_name;
 use crate::fault::{Cause, CommandFault};
 use crate::noted::Noted;
 use crate::printing::print_number;
-use disk_copy::{CopyFault, copy_disk};
+use disk_copy::{CopyFault, SharedSectors, copy_disk};
 use file_disk::{FileDisk, SystemFile, Zeros};
 use generations::{StoreFault, read_root};
-use sector_disk::{SECTOR_BYTES, Sectors};
+use sector_disk::SECTOR_BYTES;
 use std::cell::Cell;
 use std::fs::{self, File, OpenOptions};
 use std::io::{self, ErrorKind};
@@ -17,7 +17,7 @@ use std::os::unix::fs::OpenOptionsExt;
 const MAX_TRIES: u64 = 16;
 
 /// Copies a disk into a new file, and syncs it. The number of the last edit.
-fn copy_into<D: Sectors>(
+fn copy_into<D: SharedSectors>(
     rt: &HostRuntime,
     disk: &mut D,
     file: File,
@@ -40,7 +40,7 @@ fn copy_into<D: Sectors>(
 }
 
 /// Copies a disk into a new file at a path, with these permissions. If it isn't copied, the file is removed.
-fn copy_once<D: Sectors>(
+fn copy_once<D: SharedSectors>(
     rt: &HostRuntime,
     disk: &mut D,
     part: &str,
@@ -67,7 +67,7 @@ fn copy_once<D: Sectors>(
 }
 
 /// The same, begun anew while publications pass it by: what is read meanwhile may be damaged.
-fn copy_anew<D: Sectors>(
+fn copy_anew<D: SharedSectors>(
     rt: &HostRuntime,
     disk: &mut D,
     part: &str,
@@ -107,7 +107,7 @@ fn move_to_absent(rt: &HostRuntime, part: &str, goal: &str) -> io::Result<()> {
 }
 
 /// Copies a disk into a new file beside FILE, moves it to FILE, and says how many edits it has. A crash leaves no FILE or the whole copy.
-pub(crate) fn copy_beside<D: Sectors>(
+pub(crate) fn copy_beside<D: SharedSectors>(
     rt: &HostRuntime,
     disk: &mut D,
     goal: &str,

@@ -6,6 +6,7 @@ use crate::fault::{Cause, CommandFault, Paths, with_cause};
 use crate::files::{OpenedFile, opened_file, shared_disk};
 use crate::noted::Noted;
 use crate::printing::print_number;
+use disk_copy::{AnyMoments, SharedDisk};
 use file_disk::{FileDisk, Start};
 use generations::LAST_VERSION;
 use sector_disk::Sectors;
@@ -57,7 +58,8 @@ pub(crate) fn copy_file<S: Start>(
     let (file, mode) = shared_disk(rt, paths.path)?;
     let bytes = file.bytes;
     let cause: Cell<Cause> = Cell::new(None);
-    let mut disk = FileDisk::new(Noted::unwatched(file, &cause), bytes, start);
+    let file = FileDisk::new(Noted::unwatched(file, &cause), bytes, start);
+    let mut disk: SharedDisk<_, AnyMoments> = SharedDisk::new(file);
     let outcome = copy_beside(rt, &mut disk, paths.goal, mode);
     drop(disk);
     with_cause(outcome, &cause)

@@ -4,7 +4,7 @@ ghost use Rattle.sector_disk.specs.Disk.History.{begun};
 
 use super::steps::{read, writes};
 use crate::wanted::same;
-use disk_copy::{CopyFault, copy_disk};
+use disk_copy::{AnyMoments, CopyFault, SharedDisk, copy_disk};
 use edit_journal::part_sector;
 use generations::{Root, format, install};
 use sector_disk::{DiskFault, Faults, MemoryDisk, Sectors};
@@ -138,13 +138,15 @@ fn outcome_after(alloc: Global, reads: u64) -> Outcome {
     ) else {
         return Outcome::Other;
     };
-    let mut disk = MovingDisk {
+    let moving = MovingDisk {
         before,
         after,
         left: reads,
         faults: Faults::none(),
     };
-    let copied = copy_disk(alloc, &mut disk, &mut into);
+    let mut shared: SharedDisk<MovingDisk, AnyMoments> = SharedDisk::new(moving);
+    let copied = copy_disk(alloc, &mut shared, &mut into);
+    let mut disk = shared.into_disk();
     let outcome = match copied {
         Ok(2) if has_only(&mut into, &mut disk.before, &[0, 2, 41, 4]) => Outcome::Before,
         Ok(3) if has_only(&mut into, &mut disk.after, &[0, 1, 19, 5]) => Outcome::After,
@@ -156,34 +158,27 @@ fn outcome_after(alloc: Global, reads: u64) -> Outcome {
     outcome
 }
 
-/// The outcomes for 0 reads before the publication, for 1 and so on. Where the first read of the newer root's sector comes after it, the copy is
-/// of the disk after it. Where the last one comes before it, it is of the disk before.
-const OUTCOMES: [Outcome; 13] = [
-    Outcome::After,
-    Outcome::After,
-    Outcome::Moved,
-    Outcome::Moved,
-    Outcome::Moved,
-    Outcome::Moved,
-    Outcome::Moved,
-    Outcome::Moved,
-    Outcome::Moved,
-    Outcome::Moved,
-    Outcome::Moved,
-    Outcome::Before,
-    Outcome::Before,
-];
-
-/// The outcomes that a copy has.
-fn outcomes(alloc: Global) -> [Outcome; 13] {
-    let mut seen = [Outcome::Other; 13];
-    for (slot, reads) in seen.iter_mut().zip(0..13) {
-        *slot = outcome_after(alloc, reads);
+/// What it is to come to. The newer root's sector is the second one that is read: if that is after the publication, the copy is of the disk
+/// after it. If the last look at that sector, the sixteenth read, is before it, the copy is of the disk before. Else it is refused.
+fn wanted_after(reads: u64) -> Outcome {
+    match reads {
+        0..=1 => Outcome::After,
+        2..=15 => Outcome::Moved,
+        _ => Outcome::Before,
     }
-    seen
+}
+
+/// The first count of reads with another outcome, if there is one.
+fn other_count(alloc: Global) -> Option<u64> {
+    for reads in 0..20 {
+        if outcome_after(alloc, reads) != wanted_after(reads) {
+            return Some(reads);
+        }
+    }
+    None
 }
 
 #[test]
 fn a_copy_is_of_one_moment(rt: HostRuntime) {
-    same(&rt, &outcomes(rt.alloc()), &OUTCOMES);
+    same(&rt, &other_count(rt.alloc()), &None);
 }

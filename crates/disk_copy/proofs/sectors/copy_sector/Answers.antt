@@ -11,11 +11,11 @@ counted old new is = ⊎_elim
     (λ (ge : 2 ^ 64 - 1 ≤ old). inr (omega (arith, ge, is)))
     (cases_lt old (2 ^ 64 - 1))
 
-pub read-requires : goal.read-requires
-read-requires g c = c.requires.on_disk
+pub read_anew-requires : goal.read_anew-requires
+read_anew-requires g c = c.requires.on_disk
 
 pub returns-in-Err-clause-disk : goal.returns-in-Err-clause-disk
-returns-in-Err-clause-disk g c = c.read.ensures.disk
+returns-in-Err-clause-disk g c = c.read_anew.ensures.disk
 
 pub returns-in-Err-clause-into : goal.returns-in-Err-clause-into
 returns-in-Err-clause-into g c = reads_may (reads_none {history = g.E.Sectors.history} _)
@@ -30,7 +30,7 @@ pub write-requires : goal.write-requires
 write-requires g c = c.requires.fits
 
 pub returns-in-Ok-write-clause-disk : goal.returns-in-Ok-write-clause-disk
-returns-in-Ok-write-clause-disk g c = c.read.ensures.disk
+returns-in-Ok-write-clause-disk g c = c.read_anew.ensures.disk
 
 pub returns-in-Ok-write-clause-into : goal.returns-in-Ok-write-clause-into
 returns-in-Ok-write-clause-into g c = c.write.ensures.disk
@@ -39,7 +39,7 @@ pub returns-in-Ok-write-clause-failed : goal.returns-in-Ok-write-clause-failed
 returns-in-Ok-write-clause-failed g c = (c.in-Ok.ensures.faults, c.in-Ok-write.ensures.faults)
 
 pub returns-in-Err-write-clause-disk : goal.returns-in-Err-write-clause-disk
-returns-in-Err-write-clause-disk g c = c.read.ensures.disk
+returns-in-Err-write-clause-disk g c = c.read_anew.ensures.disk
 
 pub returns-in-Err-write-clause-into : goal.returns-in-Err-write-clause-into
 returns-in-Err-write-clause-into g c = c.write.ensures.disk
@@ -49,3 +49,12 @@ returns-in-Err-write-clause-failed g c = (c.in-Ok.ensures.faults, counted _ _ c.
 
 pub returns-in-Err-write-clause-outside : goal.returns-in-Err-write-clause-outside
 returns-in-Err-write-clause-outside g c = inr (inr refl)
+
+pub returns-in-Err-clause-later : goal.returns-in-Err-clause-later
+returns-in-Err-clause-later g c = c.read_anew.ensures.later
+
+pub returns-in-Ok-write-clause-later : goal.returns-in-Ok-write-clause-later
+returns-in-Ok-write-clause-later g c = c.read_anew.ensures.later
+
+pub returns-in-Err-write-clause-later : goal.returns-in-Err-write-clause-later
+returns-in-Err-write-clause-later g c = c.read_anew.ensures.later

@@ -1,7 +1,8 @@
 use Rattle.std.proofs.Common.{◌≡◌, ◌≤◌, ◌-◌}
 use Rattle.sector_disk.specs.Asked.{MayWrite, OnlyReads}
 use Rattle.sector_disk.specs.Disk.{seen}
-use Rattle.disk_copy.specs.Copies.{Copies, IsIn}
+use Rattle.disk_copy.specs.Copies.{Copies, CopiesAs, IsIn}
+use Rattle.disk_copy.specs.Shared.{GoesOn, IsOf}
 use Rattle.disk_copy.proofs.sectors.copy_sectors.Given as goal
 
 abbrev pub invariant-loop-done : goal.invariant-loop-done
@@ -13,6 +14,10 @@ invariant-loop-done g l = record {
   other_faults : g.E.Sectors.faults l.into ≡ g.E.Sectors.faults l.fn.into;
   copied : g.D.Sectors.honest l.disk → g.E.Sectors.honest l.into → Copies (IsIn l.first l.done)
       (seen (g.D.Sectors.history l.fn.disk)) (seen (g.E.Sectors.history l.fn.into)) (seen (g.E.Sectors.history l.into));
+  later : GoesOn g.D.SharedSectors.shared g.D.SharedSectors.now l.fn.disk l.disk;
+  shared : g.D.SharedSectors.shared l.disk → g.E.Sectors.honest l.into
+      → CopiesAs (IsOf g.D.SharedSectors.images (g.D.SharedSectors.now l.fn.disk) (g.D.SharedSectors.now l.disk)) (IsIn l.first l.done)
+      (seen (g.E.Sectors.history l.fn.into)) (seen (g.E.Sectors.history l.into));
 }
 
 abbrev pub decreases-loop-done : goal.decreases-loop-done
