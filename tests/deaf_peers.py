@@ -3,18 +3,19 @@ import os
 import random
 import re
 import resource
+import select
 import socket
 import time
 
 from command_cases import Serving, vtserve
 from command_streams import BODY, TEXT, reply
-from slow_peers import GET_NOTHING
 
 # How many bytes all connections may hold.
 MAX_HELD = 2**28
 # Features of which each takes some 21,000 bytes of the tile of zoom 0, as digits.
 FEATURES, POINTS = 390, 2_700
 GET_LARGE = b"GET /map/0/0/0.hex HTTP/1.1\r\nhost: x\r\n\r\n"
+GET_NONE = b"GET /features/999 HTTP/1.1\r\nhost: x\r\n\r\n"
 NO_MEMORY = b"HTTP/1.1 503 Service Unavailable\r\ncontent-type: text/plain\r\ncontent-length: 7\r\nconnection: close\r\n\r\nMemory\n"
 HALF = b"PUT /features/9 HTTP/1.1\r\nhost: x\r\ncontent-length: 65536\r\n\r\n" + b" " * 65_500
 
@@ -38,7 +39,7 @@ def connected(port, space=None):
     peer = socket.socket()
     if space:
         peer.setsockopt(socket.SOL_SOCKET, socket.SO_RCVBUF, space)
-    peer.settimeout(30)
+    peer.settimeout(60)
     peer.connect(("127.0.0.1", port))
     return peer
 
@@ -52,6 +53,13 @@ def all_of(peer):
     except ConnectionResetError:
         return read, True
     return read, False
+
+
+def is_readable(peer):
+    """Whether a peer has got something."""
+    poll = select.poll()
+    poll.register(peer, select.POLLIN)
+    return bool(poll.poll(0))
 
 
 def asks(port, requests):
@@ -85,13 +93,15 @@ def edit_of(reply):
 
 def deaf_readers(cases, disk, count):
     """So many peers ask for a large tile and read nothing. Others are served meanwhile."""
-    serving = Serving(disk, count + 1)
+    serving = Serving(disk, count + 2)
     peers = [connected(serving.port, 4_096) for _ in range(count)]
     for peer in peers:
         peer.sendall(GET_LARGE)
-    replies, longest = asks(serving.port, [GET_NOTHING, put_small(1_000), GET_NOTHING] * 5)
+    # (the tile is cut for the first one, and spelled for each)
+    asks(serving.port, [GET_NONE])
+    replies, longest = asks(serving.port, [GET_NONE, put_small(1_000), GET_NONE] * 5)
     statuses = [reply[9:12] for reply in replies]
-    cases.show(f"others are served beside {count} peers that read nothing of 8 MB", statuses, [b"204", b"200", b"204"] * 5)
+    cases.show(f"others are served beside {count} peers that read nothing of 8 MB", statuses, [b"404", b"200", b"404"] * 5)
     cases.show("each within two seconds", longest < 2 or longest, True)
     memory = most_memory(serving)
     for peer in peers:
@@ -111,10 +121,11 @@ def half_senders(cases, disk, count):
     cases.show(f"an edit in two reads beside {count} begun ones of 64 KB", edit_of(replies[0]) or replies, True)
     cases.show("within two seconds", longest < 2 or longest, True)
     memory = most_memory(serving)
-    for peer in peers:
-        peer.shutdown(socket.SHUT_WR)
     seen = {}
     for peer in peers:
+        # One that has got a last reply reads it first.
+        if not is_readable(peer):
+            peer.shutdown(socket.SHUT_WR)
         what = all_of(peer)
         seen[what] = seen.get(what, 0) + 1
         peer.close()
