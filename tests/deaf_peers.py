@@ -5,6 +5,7 @@ import re
 import resource
 import select
 import socket
+import threading
 import time
 
 from command_cases import Serving, vtserve
@@ -18,6 +19,24 @@ GET_LARGE = b"GET /map/0/0/0.hex HTTP/1.1\r\nhost: x\r\n\r\n"
 GET_NONE = b"GET /features/999 HTTP/1.1\r\nhost: x\r\n\r\n"
 NO_MEMORY = b"HTTP/1.1 503 Service Unavailable\r\ncontent-type: text/plain\r\ncontent-length: 7\r\nconnection: close\r\n\r\nMemory\n"
 HALF = b"PUT /features/9 HTTP/1.1\r\nhost: x\r\ncontent-length: 65536\r\n\r\n" + b" " * 65_500
+
+
+class Logged(Serving):
+    """The same, whose log is read as it comes: it is longer than a pipe holds, and a process whose log isn't read waits."""
+
+    def __init__(self, disk, connections):
+        super().__init__(disk, connections)
+        self.log = b""
+        self.reader = threading.Thread(target=self.read_log)
+        self.reader.start()
+
+    def read_log(self):
+        self.log = self.child.stderr.read()
+
+    def end(self):
+        status = self.child.wait(timeout=120)
+        self.reader.join()
+        return status, self.child.stdout.read(), self.log
 
 
 def large_map(folder, name):
@@ -93,7 +112,7 @@ def edit_of(reply):
 
 def deaf_readers(cases, disk, count):
     """So many peers ask for a large tile and read nothing. Others are served meanwhile."""
-    serving = Serving(disk, count + 2)
+    serving = Logged(disk, count + 2)
     peers = [connected(serving.port, 4_096) for _ in range(count)]
     for peer in peers:
         peer.sendall(GET_LARGE)
@@ -112,7 +131,7 @@ def deaf_readers(cases, disk, count):
 
 def half_senders(cases, disk, count):
     """So many peers send half of a request."""
-    serving = Serving(disk, count + 1)
+    serving = Logged(disk, count + 1)
     peers = []
     for _ in range(count):
         peers.append(connected(serving.port))
@@ -120,6 +139,8 @@ def half_senders(cases, disk, count):
     replies, longest = asks(serving.port, [put_small(1_000)])
     cases.show(f"an edit in two reads beside {count} begun ones of 64 KB", edit_of(replies[0]) or replies, True)
     cases.show("within two seconds", longest < 2 or longest, True)
+    # (the server reads all that was sent)
+    time.sleep(3)
     memory = most_memory(serving)
     seen = {}
     for peer in peers:

@@ -3,8 +3,8 @@
 A refused allocation must have one of three effects. The process ends with `vtserve: Memory` before it reads, and the disk is as before. One request
 is answered `503 Memory`, and all other replies and the bytes of the disk are those of a run without this request: so each request is sent twice. Or
 the tile is served all the same: it wasn't cached, or it was cut because the archive couldn't be read. A connection of `serve` that lacks memory
-before its request is answered gets `503 Memory` as its last reply, and the log says so; `serve` itself may lack it for what it asks of the system to
-listen, which is `Listen`. Any reply of `serve` may be as with memory: what can't be collected is sent at once.
+before its request is answered gets `503 Memory` as its last reply, and the log says so; one that can't even be kept is closed, and the reset that
+follows may overtake that reply. `serve` itself may lack memory for what it asks of the system to listen, which is `Listen`. Any reply of `serve` may be as with memory: what can't be collected is sent at once.
 """
 import collections
 import json
@@ -21,10 +21,11 @@ import disk
 import tiles
 
 MEMORY = (1, b"", b"vtserve: Memory\n")
-# What a connection of `serve` is without memory for its input or its buffers, or to keep it in.
+# What a connection of `serve` is without memory for its input or its buffers.
 LAST = b"HTTP/1.1 503 Service Unavailable\r\ncontent-type: text/plain\r\ncontent-length: 7\r\nconnection: close\r\n\r\nMemory\n"
 NO_BUFFERS = (0, LAST, b"connection 1: 0 requests, memory\n")
-# What `serve` is without memory for what watches its sockets.
+# The same without memory to keep it in, and what `serve` is without memory for what watches its sockets.
+NOT_KEPT = (0, b"", b"connection 1: 0 requests, memory\n")
 NO_LISTENER = (1, b"", b"vtserve: Listen\n")
 REFUSED = b"Memory\n"
 # What may answer as with memory: a tile, which is cut where the archive can't be read or the cache can't keep it; and a publication, since a list that
@@ -262,7 +263,7 @@ class Connection(Stream):
     def effect(self, number, outcome):
         """What a refused allocation did, or None if that is none of the effects that it may have."""
         _, ended, replies, held = outcome
-        if ended == NO_LISTENER:
+        if ended in (NOT_KEPT, NO_LISTENER):
             with open(self.first, "rb") as file:
                 return "start" if file.read() == held else None
         if ended[0] == 0 and (replies, held) == self.without(-1):
