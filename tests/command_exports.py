@@ -1,9 +1,30 @@
 """Cases of `commands.py` about `export`."""
 import os
 import shutil
+import subprocess
 
-from command_cases import ARCHIVE, content, disks, failing, killed_at_each_call, published, refusal, remove, vtserve, write
+from command_cases import ARCHIVE, PROGRAM, content, disks, failing, killed_at_each_call, published, refusal, remove, vtserve, write
 from command_streams import GET, TEXT, TILE, reply
+
+
+def exports_unwritable(cases, folder, disk, archive):
+    """The archive of a disk that may only be read, by a user who isn't root."""
+    open_to_all = os.path.join(folder, "readable")
+    os.mkdir(open_to_all)
+    os.chmod(open_to_all, 0o777)
+    path, goal = os.path.join(open_to_all, "disk"), os.path.join(open_to_all, "map.pmtiles")
+    shutil.copy(disk, path)
+    os.chmod(path, 0o444)
+    program = os.path.join(open_to_all, "vtserve")
+    shutil.copy(PROGRAM, program)
+    os.chmod(program, 0o755)
+    os.chmod(folder, 0o755)
+    other = {"user": 65534} if os.geteuid() == 0 else {}
+    found = subprocess.run([program, "export", path, goal], capture_output=True, **other)
+    cases.show("export of a disk that may only be read", (found.returncode, found.stdout, found.stderr), (0, b"%d bytes\n" % ARCHIVE, b""))
+    cases.show("it is the archive", content(goal)[0] == archive, True)
+    found = subprocess.run([program, "pipe", path], input=GET, capture_output=True, **other)
+    cases.show("pipe of it", (found.returncode, found.stdout, found.stderr), refusal(b"File"))
 
 
 def exports(cases, folder):
@@ -35,8 +56,14 @@ def exports(cases, folder):
     with open(goal + ".part", "wb") as file:
         file.write(b"mine")
     cases.show("export where a file has the name of its part", vtserve(["export", disk, goal]), refusal(b"File"))
+    in_the_way = refusal(b"File: %s.part: File exists (os error 17)" % goal.encode())
+    cases.show("export -v where it has", vtserve(["export", disk, goal, "-v"]), in_the_way)
     cases.show("that file is left as it is", content(goal + ".part")[0], b"mine")
     os.remove(goal + ".part")
+    with open("/dev/full", "wb") as full:
+        found = subprocess.run([PROGRAM, "export", disk, goal], stdout=full, stderr=subprocess.PIPE)
+    cases.show("export where standard output is full", (found.returncode, found.stderr, content(goal)[0] == archive), (1, b"vtserve: Write\n", True))
+    exports_unwritable(cases, folder, disk, archive)
     cases.show("export where standard output is closed", vtserve(["export", disk, goal], preexec_fn=lambda: os.close(1)), (0, b"", b""))
     if shutil.which("strace"):
         words = ["export", disk, goal]

@@ -80,6 +80,8 @@ def refuses_unusual_files(cases, folder):
         served = ["serve", path, "--port", "1", "--connections", "1"]
         for words in [["pipe", path], served, ["export", path, disk + "x"], ["show", path], ["verify", path]]:
             cases.show(f"{words[0]} of {name}", vtserve(words), refusal(b"File"))
+            told = refusal(b"File: %s: not a regular file" % path.encode())
+            cases.show(f"{words[0]} -v of {name}", vtserve([*words, "-v"]), told)
     for words in [["pipe", "/dev/zero"], ["show", "/dev/zero"], ["verify", "/dev/zero"], ["show", "/dev/null"]]:
         cases.show(" ".join(words), vtserve(words), refusal(b"File"))
     target = os.path.join(folder, "target")
@@ -122,7 +124,7 @@ def small_file_systems(cases, folder):
 
     cases.show("format -v of a folder", vtserve(["format", small, "--sectors", "64", "-v"]), told(b"File", small, b"File exists (os error 17)"))
     for words in (["pipe", small], ["upgrade", small], ["export", small, other]):
-        cases.show(f"{words[0]} -v of a folder", vtserve([*words, "-v"]), told(b"File", small, b"invalid input parameter"))
+        cases.show(f"{words[0]} -v of a folder", vtserve([*words, "-v"]), told(b"File", small, b"not a regular file"))
     try:
         system("mount", "-t", "tmpfs", "-o", "size=256k", "tmpfs", small)
     except (OSError, subprocess.CalledProcessError):

@@ -16,12 +16,13 @@ import os
 import re
 import shutil
 import stat
+import subprocess
 import sys
 import tempfile
 import threading
 import time
 
-from command_cases import Cases, Serving, content, failed_at_each_call, killed_at_each_call, published, refusal, vtserve, write
+from command_cases import PROGRAM, Cases, Serving, content, disks, failed_at_each_call, killed_at_each_call, published, refusal, vtserve, write
 from command_streams import GET, put
 
 SECTORS = 4096
@@ -195,6 +196,8 @@ def refuses(cases, folder):
         cases.show(f"copy onto {name}", vtserve(["copy", disk, path]), refusal(b"File"))
     write(goal + ".part", b"mine")
     cases.show("copy where a file has the name of its part", vtserve(["copy", disk, goal]), refusal(b"File"))
+    in_the_way = refusal(b"File: %s.part: File exists (os error 17)" % goal.encode())
+    cases.show("copy -v where it has", vtserve(["copy", disk, goal, "-v"]), in_the_way)
     cases.show("that file is left as it is", content(goal + ".part")[0], b"mine")
     os.remove(goal + ".part")
     cases.show("-v tells which", vtserve(["copy", disk, disk, "-v"])[2].startswith(b"vtserve: File: " + disk.encode() + b": "), True)
@@ -210,6 +213,43 @@ def refuses(cases, folder):
         cases.show("nothing is made", [os.path.exists(goal), os.path.exists(goal + ".part")], [False, False])
     cases.show("copy of a FIFO", vtserve(["copy", os.path.join(folder, "fifo"), goal]), refusal(b"File"))
     cases.show("the disk is left as it is", content(disk)[0] == held, True)
+
+
+class Roots(threading.Thread):
+    """Gives a disk one root after the other, of ever later generations, until it is told to end."""
+
+    def __init__(self, path):
+        super().__init__()
+        self.path, self.ended = path, threading.Event()
+
+    def run(self):
+        with open(self.path, "r+b", buffering=0) as file:
+            generation = 2
+            while not self.ended.is_set():
+                os.pwrite(file.fileno(), disks.root_sector(disks.Root(generation, 1, 1, 0, 0)), disks.SECTOR * (1 + generation % 2))
+                generation += 1
+                time.sleep(0.001)
+
+
+def overtaken(cases, folder):
+    """A copy that publications overtake each time is busy, also where what it read meanwhile isn't sound."""
+    if not shutil.which("strace"):
+        print("        no strace: no copy is overtaken")
+        return
+    disk, _ = published(folder, "overtaken")
+    goal, held = os.path.join(folder, "goal"), bytearray(content(disk)[0])
+    disks.put_at(held, disks.Layout(64).place(1), disks.front(0, 2, 0, disks.LAST_VERSION))
+    write(disk, held)
+    cases.show("copy of a disk with a damaged record", vtserve(["copy", disk, goal]), refusal(b"Damaged"))
+    roots = Roots(disk)
+    roots.start()
+    # Each read takes 10 ms, so that there is another root after it.
+    slowly = ["strace", "-f", "-o", "/dev/null", "-e", "trace=pread64", "-e", "inject=pread64:delay_enter=10000"]
+    found = subprocess.run([*slowly, PROGRAM, "copy", disk, goal], capture_output=True)
+    roots.ended.set()
+    roots.join()
+    cases.show("copy of it while its root changes", (found.returncode, found.stdout, found.stderr), refusal(b"Busy"))
+    cases.show("nothing is made", [os.path.exists(goal), os.path.exists(goal + ".part")], [False, False])
 
 
 def stopped(cases, folder):
@@ -250,7 +290,7 @@ def main():
     copies = int(sys.argv[sys.argv.index("--copies") + 1]) if "--copies" in sys.argv else 100
     with tempfile.TemporaryDirectory() as scratch:
         folder = os.path.realpath(scratch)
-        for act in (alone, refuses, stopped):
+        for act in (alone, refuses, overtaken, stopped):
             below = os.path.join(folder, act.__name__)
             os.mkdir(below)
             act(cases, below)

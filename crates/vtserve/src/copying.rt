@@ -6,7 +6,7 @@ use crate::noted::Noted;
 use crate::printing::print_number;
 use disk_copy::{CopyFault, SharedSectors, copy_disk};
 use file_disk::{FileDisk, SystemFile, Zeros};
-use generations::{StoreFault, read_root};
+use generations::{Root, StoreFault, read_root};
 use sector_disk::SECTOR_BYTES;
 use std::cell::Cell;
 use std::fs::{self, File, OpenOptions};
@@ -39,6 +39,14 @@ fn copy_into<D: SharedSectors>(
     }
 }
 
+/// Whether a disk has another root by now: then what was read of the journal since may be of two generations, and damaged only as such.
+fn has_moved<D: SharedSectors>(disk: &mut D, root: Root) -> bool {
+    match read_root(disk) {
+        Ok(found) => found.root != root,
+        Err(_) => false,
+    }
+}
+
 /// Copies a disk into a new file at a path, with these permissions. If it isn't copied, the file is removed.
 fn copy_once<D: SharedSectors>(
     rt: &HostRuntime,
@@ -46,10 +54,11 @@ fn copy_once<D: SharedSectors>(
     part: &str,
     mode: u32,
 ) -> Result<u64, CommandFault> {
-    let bytes = match read_root(disk) {
-        Ok(found) => found.layout.sectors.saturating_mul(SECTOR_BYTES as u64),
+    let found = match read_root(disk) {
+        Ok(found) => found,
         Err(fault) => return Err(CommandFault::Store(fault)),
     };
+    let bytes = found.layout.sectors.saturating_mul(SECTOR_BYTES as u64);
     let mut how = OpenOptions::new();
     how.read(true)
         .write(true)
@@ -57,16 +66,21 @@ fn copy_once<D: SharedSectors>(
         .mode(mode & 0o777);
     let file = match how.open(rt, part) {
         Ok(file) => file,
-        Err(error) => return Err(CommandFault::Output(Some(error))),
+        Err(error) => return Err(CommandFault::Part(Some(error))),
     };
     let copied = copy_into(rt, disk, file, bytes);
     if copied.is_err() {
         let _ = fs::remove_file(rt, part);
     }
-    copied
+    match copied {
+        Err(CommandFault::Store(StoreFault::Damaged(_))) if has_moved(disk, found.root) => {
+            Err(CommandFault::Busy)
+        }
+        outcome => outcome,
+    }
 }
 
-/// The same, begun anew while publications pass it by: what is read meanwhile may be damaged.
+/// The same, begun anew while publications pass it by.
 fn copy_anew<D: SharedSectors>(
     rt: &HostRuntime,
     disk: &mut D,

@@ -113,7 +113,7 @@ fn write_beside<D: Sectors>(
     };
     let mut file = match new_file(rt, part.as_str(), permissions) {
         Ok(file) => file,
-        Err(error) => return Err(CommandFault::Output(Some(error))),
+        Err(error) => return Err(CommandFault::Part(Some(error))),
     };
     let copied = copy_into(disk, archive, &mut file);
     drop(file);

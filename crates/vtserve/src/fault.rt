@@ -17,6 +17,8 @@ pub(crate) enum CommandFault {
     File(Cause),
     /// The file that a command writes isn't a regular one, can't be written, synced or renamed, or is the disk.
     Output(Cause),
+    /// FILE.part, which a command writes before it is FILE, is in the way or can't be made.
+    Part(Cause),
     /// No archive was published.
     NoArchive,
     /// Publications passed by each copy that was begun.
@@ -68,7 +70,7 @@ impl CommandFault {
     /// Its name, as standard error shows it.
     pub(crate) fn name(&self) -> &'static str {
         match self {
-            CommandFault::File(_) | CommandFault::Output(_) => "File",
+            CommandFault::File(_) | CommandFault::Output(_) | CommandFault::Part(_) => "File",
             CommandFault::NoArchive => "NoArchive",
             CommandFault::Busy => "Busy",
             CommandFault::Store(StoreFault::NotFormatted) => "NotFormatted",
@@ -92,6 +94,7 @@ impl CommandFault {
         match self {
             CommandFault::File(cause)
             | CommandFault::Output(cause)
+            | CommandFault::Part(cause)
             | CommandFault::Device(cause)
             | CommandFault::Listen { cause, .. }
             | CommandFault::Write(cause) => *cause,
@@ -131,11 +134,12 @@ impl fmt::Display for Report<'_> {
     fn fmt<W: fmt::Write>(&self, f: &mut fmt::Formatter<W>) -> fmt::Result {
         let name = self.fault.name();
         let path = match self.fault {
-            CommandFault::Output(_) => self.paths.goal,
+            CommandFault::Output(_) | CommandFault::Part(_) => self.paths.goal,
             _ => self.paths.path,
         };
         let written = match self.fault {
             CommandFault::Listen { port, .. } => write!(f, "{name}: 127.0.0.1:{port}"),
+            CommandFault::Part(_) => write!(f, "{name}: {path}.part"),
             // `demo` has no path.
             _ if path.is_empty() => f.write_str(name),
             _ => write!(f, "{name}: {path}"),

@@ -99,14 +99,15 @@ pub(crate) struct OpenedFile<'a> {
     pub(crate) place: OpenPath<'a>,
 }
 
-/// Opens the file of a disk to read and to write it, unless another process uses it, and has it read from its medium. It is opened once,
-/// so that the file that is locked is the one that is used.
+/// Opens the file of a disk to read it, and to write it where it `writes`, unless another process uses it, and has it read from its medium. It
+/// is opened once, so that the file that is locked is the one that is used.
 pub(crate) fn opened_file<'a>(
     rt: &'a HostRuntime,
     path: &'a str,
+    writes: bool,
 ) -> Result<OpenedFile<'a>, CommandFault> {
     let mut how = OpenOptions::new();
-    how.read(true).write(true);
+    how.read(true).write(writes);
     let file = match open_disk(rt, path, &how) {
         Ok((file, _)) => file,
         Err(error) => return Err(CommandFault::File(Some(error))),
@@ -167,7 +168,7 @@ pub(crate) fn serve_file<S: Start>(
     peers: Peers,
     start: S,
 ) -> Result<(), CommandFault> {
-    let OpenedFile { file, place } = opened_file(rt, path)?;
+    let OpenedFile { file, place } = opened_file(rt, path, true)?;
     let cause: Cell<Cause> = Cell::new(None);
     let watch = Cell::new(Watch::Off);
     let watched = Some(Watched {

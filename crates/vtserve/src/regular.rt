@@ -6,6 +6,11 @@ use std::fs::{self, File, Metadata, OpenOptions};
 use std::io::{self, ErrorKind};
 use std::os::unix::fs::FileExt;
 
+/// Why a path that leads to something else is refused.
+fn not_regular() -> io::Error {
+    io::Error::new(ErrorKind::InvalidInput, "not a regular file")
+}
+
 /// Opens the regular file at a path, or at the end of its links. A device, a FIFO, a socket and a folder are refused, and not opened:
 /// opening a FIFO may wait for another process without end, and a device may act on it.
 pub(crate) fn open_regular(
@@ -14,13 +19,13 @@ pub(crate) fn open_regular(
     how: &OpenOptions,
 ) -> io::Result<(File, Metadata)> {
     if !fs::metadata(rt, path)?.is_file() {
-        return Err(ErrorKind::InvalidInput.into());
+        return Err(not_regular());
     }
     let file = how.open(rt, path)?;
     match file.metadata() {
         Ok(metadata) if metadata.is_file() => Ok((file, metadata)),
         // Another file was given the name meanwhile.
-        Ok(_) => Err(ErrorKind::InvalidInput.into()),
+        Ok(_) => Err(not_regular()),
         Err(error) => Err(error),
     }
 }

@@ -23,6 +23,16 @@ pub(crate) enum Task {
     Upgrade,
 }
 
+impl Task {
+    /// Whether it writes to the disk.
+    fn writes(self) -> bool {
+        match self {
+            Task::Export => false,
+            Task::Upgrade => true,
+        }
+    }
+}
+
 /// Upgrades a disk.
 fn upgrade<D: Sectors + Drop>(rt: &HostRuntime, disk: &mut D) -> Result<(), CommandFault> {
     match Service::upgrade(disk) {
@@ -38,7 +48,7 @@ pub(crate) fn done_with_file<S: Start>(
     task: Task,
     start: S,
 ) -> Result<(), CommandFault> {
-    let OpenedFile { file, place } = opened_file(rt, paths.path)?;
+    let OpenedFile { file, place } = opened_file(rt, paths.path, task.writes())?;
     let cause: Cell<Cause> = Cell::new(None);
     let mut disk = FileDisk::new(Noted::unwatched(file, &cause), place.bytes, start);
     let outcome = match task {
