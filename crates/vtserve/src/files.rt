@@ -175,11 +175,7 @@ pub(crate) fn serve_file<S: Start>(
         place,
         watch: &watch,
     });
-    let file = Noted {
-        file,
-        cause: &cause,
-        watched,
-    };
+    let file = Noted::new(file, &cause, watched);
     match BoxedDisk::new(rt.alloc(), FileDisk::new(file, place.bytes, start)) {
         Ok(disk) => with_cause(
             serve_disk(rt, disk, settings, peers, &Looks::new(watched)),

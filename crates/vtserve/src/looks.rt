@@ -35,7 +35,7 @@ impl<'a> Looks<'a> {
     /// Whether a write or a sync has failed, or the file was lost.
     pub(crate) fn has_failed(&self) -> bool {
         match self.watched {
-            Some(watched) => matches!(watched.watch.get(), Watch::Failed),
+            Some(watched) => watched.has_failed(),
             None => false,
         }
     }

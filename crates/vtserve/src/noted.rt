@@ -22,21 +22,34 @@ pub(crate) fn note<T>(cause: &Cell<Cause>, outcome: io::Result<T>) -> io::Result
 }
 
 /// A file that notes what the system said as a call of it failed, for the command that tells of it. While it is watched, its first write
-/// or sync that fails is told of, and nothing is written to it once it was lost: such a write or sync fails.
+/// or sync that fails is told of, and nothing is written to it once it was lost: such a write or sync fails. Its path is looked at before
+/// each write, and before a sync that doesn't follow a write.
 #[derive(Drop)]
 pub(crate) struct Noted<'a, F> {
-    pub(crate) file: F,
-    pub(crate) cause: &'a Cell<Cause>,
-    pub(crate) watched: Option<Watched<'a>>,
+    file: F,
+    cause: &'a Cell<Cause>,
+    watched: Option<Watched<'a>>,
+    /// Whether it was written to since the last sync, and so looked at.
+    is_written: bool,
 }
 
 impl<'a, F> Noted<'a, F> {
     /// A file that isn't watched.
     pub(crate) fn unwatched(file: F, cause: &'a Cell<Cause>) -> Noted<'a, F> {
+        Noted::new(file, cause, None)
+    }
+
+    /// A file that may be watched.
+    pub(crate) fn new(
+        file: F,
+        cause: &'a Cell<Cause>,
+        watched: Option<Watched<'a>>,
+    ) -> Noted<'a, F> {
         Noted {
             file,
             cause,
-            watched: None,
+            watched,
+            is_written: false,
         }
     }
 
@@ -52,6 +65,14 @@ impl<'a, F> Noted<'a, F> {
     fn is_lost(&self) -> bool {
         match self.watched {
             Some(watched) => watched.is_lost(),
+            None => false,
+        }
+    }
+
+    /// Whether it has failed while it is watched, or was lost by the last look.
+    fn has_failed(&self) -> bool {
+        match self.watched {
+            Some(watched) => watched.has_failed(),
             None => false,
         }
     }
@@ -72,11 +93,19 @@ impl<F: SectorFile> SectorFile for Noted<'_, F> {
         } else {
             self.file.write_at(from, offset)
         };
+        self.is_written = true;
         self.told("write", outcome)
     }
 
     fn sync_data(&mut self) -> io::Result<()> {
-        let outcome = if self.is_lost() {
+        // A sync right after a write can't make a file that was removed since any worse.
+        let is_lost = if self.is_written {
+            self.has_failed()
+        } else {
+            self.is_lost()
+        };
+        self.is_written = false;
+        let outcome = if is_lost {
             Err(ErrorKind::NotFound.into())
         } else {
             self.file.sync_data()

@@ -38,10 +38,15 @@ impl Watched<'_> {
         }
     }
 
+    /// Whether a write or a sync has failed, or the file was lost.
+    pub(crate) fn has_failed(&self) -> bool {
+        matches!(self.watch.get(), Watch::Failed)
+    }
+
     /// Whether the file has failed, or was removed, replaced or cut since it was opened. The first time that is told of. A file that
     /// was put back remains lost.
     pub(crate) fn is_lost(&self) -> bool {
-        if matches!(self.watch.get(), Watch::Failed) {
+        if self.has_failed() {
             return true;
         }
         let Some(loss) = self.place.loss() else {
