@@ -135,12 +135,13 @@ def has_was(path):
     """Whether each change of a log has what it replaced: a replay of the log from an empty map finds it."""
     there = {}
     with open(path, encoding="utf-8") as file:
-        for change in (change for row in map(json.loads, file) for change in row["changes"]):
-            number = change.get("put", change.get("delete"))
-            if change["was"] != there.get(number):
-                return False
-            there[number] = change.get("feature")
-    return True
+        rows = list(map(json.loads, file))
+    for change in (change for row in rows for change in row.get("changes", ())):
+        number = change.get("put", change.get("delete"))
+        if change["was"] != there.get(number):
+            return False
+        there[number] = change.get("feature")
+    return all("missed" not in row for row in rows)
 
 
 def basics(cases, folder):
@@ -243,6 +244,7 @@ def behind(cases, folder):
             cases.show("standby: three publications with a pause leave nobody behind", seen, (True, True, len(editor.acknowledged)))
             cases.show("standby: and nothing out of the log", waited(lambda: len(log_of(log)) == len(editor.acknowledged) - 1), True)
             waits(cases, leader, standby, editor)
+            waits_for_logs(cases, leader, log, editor)
             cases.show("standby: --publish publishes it too", waited(lambda: known(standby)["generation"] > 0), True)
             child.terminate()
             child.communicate()
@@ -273,6 +275,24 @@ def waits(cases, leader, standby, editor):
     Client(leader.url).publish()
     del os.environ["VTSERVE_PAUSE"]
     cases.show("standby: VTSERVE_PAUSE", time.monotonic() - began >= 1.5, True)
+
+
+def waits_for_logs(cases, leader, log, editor):
+    """A publication waits for a log too, and `vtmap watch` looks at it."""
+    def asked(path, *words):
+        child = subprocess.run([*VTMAP, *words, "--url", leader.url, "--log", path], capture_output=True, text=True)
+        return child.returncode, child.stdout.splitlines(), child.stderr
+
+    code, lines, said = asked(log, "publish")
+    cases.show("standby: publish --log", (code, lines[1], said), (0, f"waiting at most 60 s for {log}", ""))
+    other = log + ".other"
+    with open(other + ".at", "w", encoding="ascii") as file:
+        file.write(f"{len(editor.acknowledged) - 1}\n")
+    code, _, said = asked(other, "publish", "--pause", "1")
+    late = f"{other} lacks edits that this publication takes out of the list: they will be missing in it\n"
+    cases.show("standby: publish --log, which lacks an edit", (code, said), (0, late))
+    seen = [asked(path, "watch", "--wait", "0.2")[::2] for path in (log, other, log + ".none")]
+    cases.show("standby: vtmap watch --log", [code for code, _ in seen], [0, 2, 3])
 
 
 def anew(cases, folder, leader, standby, editor):
@@ -348,7 +368,7 @@ def long_follow(cases, folder):
     kinds, kills, began = ["leader", "standby", "follower"], 0, time.monotonic()
 
     def publish():
-        words = [*VTMAP, "publish", "--url", stage.leader.url, "--standby", stage.standby.url]
+        words = [*VTMAP, "publish", "--url", stage.leader.url, "--standby", stage.standby.url, "--log", stage.log]
         publications.append(subprocess.run(words, capture_output=True, text=True).returncode)
 
     publishing = None

@@ -209,8 +209,8 @@ class Client:
 
     def wait(self):
         """Waits for who follows the edits, as the environment says."""
-        length, standbys = followers.said()
-        wait = followers.Wait(length, [Client(url) for url in standbys])
+        length, standbys, logs = followers.said()
+        wait = followers.Wait(length, [Client(url) for url in standbys], logs)
         if wait.length:
             status = self.status()
             wait.wait(status["edits"] if status else 0)

@@ -1,15 +1,17 @@
 """How a publication waits for who follows the edits: its last step takes the edits up to its beginning out of their list. Needs no package.
 
-VTSERVE_PAUSE has the seconds that each command that publishes waits after the beginning, and VTSERVE_STANDBYS the addresses of standbys, with blanks
-between them: with those it waits until each of them has the edits, VTSERVE_PAUSE seconds at most.
+VTSERVE_PAUSE has the seconds that each command that publishes waits after the beginning, VTSERVE_STANDBYS the addresses of standbys, and VTSERVE_LOGS
+the paths of logs, with blanks between them: with those it waits until each of them has the edits, VTSERVE_PAUSE seconds at most.
 """
 import os
 import time
 
 from ..faults import Fault, Wrong
 
-# The most seconds that are waited for standbys, if nothing else is said, and the seconds between two looks at them.
+# The most seconds that are waited for standbys and logs, if nothing else is said, and the seconds between two looks at them.
 LONGEST, EACH = 60, 0.1
+# The file beside a log that has the number of its last edit.
+NUMBER = ".at"
 
 
 def seconds(text):
@@ -21,39 +23,60 @@ def seconds(text):
 
 
 def said():
-    """What the environment says: the seconds, or None, and the addresses of standbys."""
+    """What the environment says: the seconds, or None, the addresses of standbys, and the paths of logs."""
     text = os.environ.get("VTSERVE_PAUSE")
     try:
-        return seconds(text) if text else None, os.environ.get("VTSERVE_STANDBYS", "").split()
+        return seconds(text) if text else None, *(os.environ.get(name, "").split() for name in ("VTSERVE_STANDBYS", "VTSERVE_LOGS"))
     except ValueError as fault:
         raise Wrong(f"VTSERVE_PAUSE: {text!r} is no number of seconds") from fault
 
 
-class Wait:
-    """How long a publication waits: for standbys until they have its edits, and otherwise the whole time."""
+class Log:
+    """A log that `vtmap follow --log` writes, as one who follows the edits."""
 
-    def __init__(self, length, standbys):
-        self.standbys = standbys
-        self.length = length if length is not None else LONGEST if standbys else 0
+    def __init__(self, path):
+        self.address = path
+
+    def status(self):
+        """The number of its last edit, as a server tells it, or None if that can't be read."""
+        try:
+            with open(self.address + NUMBER, encoding="ascii") as file:
+                return {"edits": int(file.read())}
+        except (OSError, ValueError):
+            return None
+
+
+class Wait:
+    """How long a publication waits: for standbys and logs until they have its edits, and otherwise the whole time."""
+
+    def __init__(self, length, standbys, logs):
+        self.followers = [*standbys, *map(Log, logs)]
+        self.length = length if length is not None else LONGEST if self.followers else 0
 
     def __str__(self):
-        return f"waiting at most {self.length:g} s for {' and '.join(one.address for one in self.standbys)}" if self.standbys else (
+        return f"waiting at most {self.length:g} s for {' and '.join(one.address for one in self.followers)}" if self.followers else (
             f"waiting {self.length:g} s for who follows the edits")
 
     def wait(self, edits, is_over=lambda: False):
         """Waits. `edits`: the number of the last edit of the publication's beginning, or a later one. Returns who lacks some of them."""
-        end, late = time.monotonic() + self.length, self.standbys
-        while not is_over() and (late or not self.standbys) and time.monotonic() < end:
+        end, late = time.monotonic() + self.length, self.followers
+        while not is_over() and (late or not self.followers) and time.monotonic() < end:
             late = [one for one in late if lacks(one, edits)]
-            if late or not self.standbys:
+            if late or not self.followers:
                 time.sleep(min(EACH, self.length))
         return late
 
 
-def lacks(standby, edits):
-    """Whether a standby lacks an edit, or doesn't say."""
+def lacks(follower, edits):
+    """Whether a standby or a log lacks an edit, or doesn't say."""
     try:
-        status = standby.status()
+        status = follower.status()
     except Fault:
         return True
     return status is None or status["edits"] < edits
+
+
+def told_late(follower):
+    """What a publication does to who lacks some of its edits."""
+    then = "they will be missing in it" if isinstance(follower, Log) else "it may have to begin anew"
+    return f"{follower.address} lacks edits that this publication takes out of the list: {then}"

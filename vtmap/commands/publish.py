@@ -9,7 +9,7 @@ import tempfile
 import time
 
 from ..client.client import Client, word
-from ..client.followers import Wait, said, seconds
+from ..client.followers import Wait, said, seconds, told_late
 from ..client.refusals import STATUSES, WORDS, told
 from ..ending import regular, replaced
 from ..faults import Fault, NoAnswer
@@ -27,8 +27,9 @@ restarted. --record keeps the outcome in a file, for `vtmap watch`.
 they know. With --to also if the last archive isn't known to be in its place, by what --record kept.
 
 --pause SECONDS waits so long after the beginning, while edits go on. The last step takes the edits up to the beginning out of the list that a
-standby or a log is made of (`vtmap follow`): 5 seconds are enough for one that keeps up. --standby URL waits until that standby has these edits, --pause
-seconds at most, or 60. VTSERVE_PAUSE and VTSERVE_STANDBYS say so for each command that publishes, `vtmap import --publish` for instance.
+standby or a log is made of (`vtmap follow`): 5 seconds are enough for one that keeps up. --standby URL waits until that standby has these edits, and
+--log FILE until that log has them, --pause seconds at most, or 60. VTSERVE_PAUSE, VTSERVE_STANDBYS and VTSERVE_LOGS say so for each command that
+publishes, `vtmap import --publish` for instance.
 
 --to PLACE puts the archive into an object store, under a name of its own, and then the file newest.json, which names it: readers of an older
 one aren't disturbed. PLACE is s3://BUCKET/FOLDER (by `aws s3 cp`) or REMOTE:BUCKET/FOLDER (by `rclone`)."""}
@@ -42,6 +43,7 @@ def options(parser, _):
     parser.add_argument("--record", metavar="FILE", help="keep the outcome in this file, for `vtmap watch`")
     parser.add_argument("--pause", type=seconds, metavar="SECONDS", help="wait after the beginning for who follows the edits (VTSERVE_PAUSE)")
     parser.add_argument("--standby", metavar="URL", action="append", help="wait until this standby has the edits; several times (VTSERVE_STANDBYS)")
+    parser.add_argument("--log", metavar="FILE", action="append", help="wait until this log of `vtmap follow` has the edits; several times (VTSERVE_LOGS)")
     parser.add_argument("--to", metavar="PLACE", help="put the archive into an object store")
 
 
@@ -89,14 +91,15 @@ class Publication:
 
     def wait(self):
         """Waits for who follows the edits, unless it is interrupted."""
-        length, standbys = said()
-        wait = Wait(self.words.pause if self.words.pause is not None else length, [Client(url) for url in self.words.standby or standbys])
+        length, standbys, logs = said()
+        length = length if self.words.pause is None else self.words.pause
+        wait = Wait(length, [Client(url) for url in self.words.standby or standbys], self.words.log or logs)
         if not wait.length:
             return
         print(wait, flush=True)
         status = self.client.status()
         for one in wait.wait(status["edits"] if status else 0, lambda: self.is_interrupted):
-            print(f"{one.address} lacks edits that this publication takes out of the list: it may have to begin anew", file=sys.stderr, flush=True)
+            print(told_late(one), file=sys.stderr, flush=True)
 
     def begin(self):
         """Begins a publication; one that is under way is cancelled or finished before. Returns the sectors that are left."""

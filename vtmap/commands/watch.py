@@ -5,6 +5,7 @@ import os
 import time
 
 from ..client.client import Client, word
+from ..client.followers import NUMBER, Log
 from ..client.refusals import STATUSES, WORDS, told
 from ..ending import regular, replaced
 from ..faults import Fault, NoAnswer
@@ -26,8 +27,8 @@ It always sees a full journal, an area that is nearly full or that the next publ
 failed disk, and a server that doesn't answer. --state FILE keeps what was seen, for the next look: whether the journal fills before the next
 publication. --record FILE is what `vtmap publish --record` keeps: whether the last publication was refused, and when it was. --backups FOLDER
 is where vtserve-backup.service saves the map (map-2026-11-29.jsonl): whether the newest backup is older than --backup-hours. --standby URL is
-a server that `vtmap follow` keeps as this one: whether it lacks edits. --metrics FILE is written for Prometheus, by the textfile collector of
-node_exporter."""}
+a server that `vtmap follow` keeps as this one, and --log FILE a log that it writes: whether they lack edits. --metrics FILE is written for
+Prometheus, by the textfile collector of node_exporter."""}
 # How docs/vtserve-backup.service names its files. A backup that isn't finished has another name.
 BACKUP = "map-*.jsonl"
 # Edits of less than this share of the journal say nothing of how fast it fills.
@@ -218,6 +219,21 @@ def behind(urls, status, wait):
                         "`vtmap follow` running, and what does it say (journalctl -u vtserve-standby)?")
 
 
+def behind_in_logs(paths, status, wait):
+    """Whether a log lacks edits that the server had a while ago."""
+    for path in paths:
+        log = Log(path)
+        has = log.status()
+        if has is not None and has["edits"] < status["edits"]:
+            time.sleep(wait)
+            has = log.status()
+        if has is None:
+            yield UNKNOWN, f"{path + NUMBER}, which `vtmap follow --log` writes, can't be read"
+        elif has["edits"] < status["edits"]:
+            yield NOW, (f"the log {path} has edits up to {has['edits']:,}, and the server had {status['edits']:,} of them {wait:g} seconds ago: is "
+                        "`vtmap follow` running, and what does it say (journalctl -u vtserve-log)?")
+
+
 def metrics(path, status, result):
     """Writes the metrics; without a status those that are known."""
     values = {"up": int(status is not None), "watch_result": result}
@@ -253,6 +269,7 @@ def tasks(words, client, now):
         found += [*fullness(status, words.at), *left(status, client, words.wait)]
         found += speed(status, words.state, now, words.every) if words.state else []
         found += behind(words.standby, status, words.wait)
+        found += behind_in_logs(words.log, status, words.wait)
     except Unseen as fault:
         return None, [*found, fault.args]
     return status, found
@@ -262,12 +279,13 @@ def options(parser, _):
     """The words of the command."""
     parser.add_argument("--at", type=int, default=80, metavar="PERCENT", help="how full the journal and an area may be (80)")
     parser.add_argument("--every", type=float, metavar="HOURS", help="how often the map is to be published (as often as was seen)")
-    parser.add_argument("--wait", type=float, default=5, metavar="SECONDS", help="how long a publication was left, or a standby lacks edits (5)")
+    parser.add_argument("--wait", type=float, default=5, metavar="SECONDS", help="how long a publication was left, or a standby or a log lacks edits (5)")
     parser.add_argument("--state", metavar="FILE", help="keep what was seen for the next look")
     parser.add_argument("--record", metavar="FILE", help="what `vtmap publish --record` keeps")
     parser.add_argument("--backups", metavar="FOLDER", help="where backups of the map are, map-*.jsonl")
     parser.add_argument("--backup-hours", type=float, default=26, metavar="HOURS", help="how old the newest of them may be (26)")
     parser.add_argument("--standby", metavar="URL", action="append", default=[], help="a standby that is to have each edit; may be given several times")
+    parser.add_argument("--log", metavar="FILE", action="append", default=[], help="a log of `vtmap follow`; may be given several times")
     parser.add_argument("--metrics", metavar="FILE", help="write metrics for Prometheus")
 
 

@@ -5,7 +5,8 @@
 
 A change is as the feed lists it, and `was` is what the map had of the feature before, `null` if nothing: as a checked edit has it. It is left
 out where that isn't known. `time` is when the edit was seen. For `was` the features of the map are kept in a second file (SQLite, FILE.map),
-which is made anew from the list of features where it is missing or too old.
+which is made anew from the list of features where it is missing or too old. FILE.at has the number of the last edit, for a publication that
+waits for the log.
 """
 import gzip
 import json
@@ -15,6 +16,8 @@ from contextlib import contextmanager
 from datetime import datetime, timezone
 
 from ..client.edits import encoded
+from ..client.followers import NUMBER
+from ..ending import replaced
 from ..faults import Stopped
 
 SCHEMA = """
@@ -99,9 +102,9 @@ class EditLog:
             self.logged = self.last_number()
         if self.map.at is None:
             self.map.list(source, self.logged)
-        self.at = self.map.at
         if self.logged is None:
-            self.logged = self.at
+            self.logged = self.map.at
+        self.keep_number()
 
     def last_number(self):
         """The number of the last line, None if there is none. What a crash left of a line behind it is cut off."""
@@ -128,8 +131,8 @@ class EditLog:
             rows = [{"edit": edit["edit"], "changes": [self.map.with_was(edit["edit"], change) for change in edit["changes"]]} for edit in edits]
             self.write([row for row in rows if row["edit"] > self.logged])
             self.map.at = edits[-1]["edit"]
-        self.at = self.map.at
-        self.logged = max(self.logged, self.at)
+        self.logged = max(self.logged, self.map.at)
+        self.keep_number()
 
     def miss(self, source, published):
         """Says which edits were published before they were read, and keeps the map of now."""
@@ -139,7 +142,12 @@ class EditLog:
                   "(`vtmap publish --pause` waits for who follows)", flush=True)
             self.logged = published
         self.map.list(source, published)
+        self.keep_number()
+
+    def keep_number(self):
+        """Keeps the number of the last edit that the log and its map have, once they have it: a publication may take it out of the list."""
         self.at = self.map.at
+        replaced(self.path + NUMBER, f"{self.at}\n")
 
     def write(self, rows):
         """Appends lines, and has them outlive a crash. The file may have been renamed since, as logrotate does: then another one begins."""
