@@ -533,7 +533,8 @@ class People:
         self.show("on a narrow screen the feature that is edited is between buttons and panel", (0 < left < 390, nav < top < panel), (True, True))
         made.press("Cancel")
         zoom = made.value("Number(location.hash.slice(1).split('/')[0])")
-        self.touch(made, [("touchStart", [(left - 50, top), (left + 50, top)]), ("touchMove", [(left - 70, top + 20), (left + 130, top + 20)]), ("touchEnd", [])])
+        begin, end = [(left - 50, top), (left + 50, top)], [(left - 70, top + 20), (left + 130, top + 20)]
+        self.touch(made, [("touchStart", begin), ("touchMove", end), ("touchEnd", [])])
         now = made.value(PLACE % (x + 4500, y + 4500))
         self.show("two fingers twice as far apart zoom in by one", round(made.value("Number(location.hash.slice(1).split('/')[0])") - zoom, 1), 1)
         self.show("and the place between them goes with them", [round(now[0] - left), round(now[1] - top)], [30, 20])

@@ -3,6 +3,7 @@ import json
 import os
 import signal
 import socket
+import struct
 import subprocess
 import sys
 import time
@@ -40,6 +41,16 @@ HALF = 20037508.342789244
 def feature(layer="p", first=0, last=2, geometry=None, tags=None):
     """The body of a PUT."""
     return json.dumps({"layer": layer, "minzoom": first, "maxzoom": last, "geometry": geometry or {"points": [[0, 0]]}, "tags": tags or {}})
+
+
+def archive():
+    """The archive of the map with the worked point alone: three tiles of one content, by FORMATS.md and the standard of PMTiles 3."""
+    metadata, tile = METADATA.encode(), bytes.fromhex(TILE)
+    at = [127, 127 + len(ROOT), 127 + len(ROOT) + len(metadata)]
+    places = [at[0], len(ROOT), at[1], len(metadata), at[2], 0, at[2], len(tile)]
+    world = [-1800000000, -850511287, 1800000000, 850511287]
+    head = b"PMTiles\x03" + struct.pack("<11Q6B4iB2i", *places, 3, 2, 1, 1, 1, 1, 1, 0, 2, *world, 0, 0, 0)
+    return head + ROOT + metadata + tile
 
 
 class Cases:

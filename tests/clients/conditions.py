@@ -1,0 +1,95 @@
+"""The part `tags` of run.py: entity tags, and conditions on them, of a server with --etags."""
+import os
+import re
+import shutil
+import subprocess
+
+from stand import BYTES, JSON, Server, archive, curl, feature, field, refusal, same, status_of, wanted
+
+
+def tags(cases, folder):
+    """Entity tags and conditions, with --etags."""
+    with Server(folder, "tags", more=["--admin", "--etags"]) as server:
+        url = server.url
+        reply = curl(url + "/features/7", "-X", "PUT", "-H", "If-Match: *", body=feature())
+        same(cases, "a PUT under if-match: * of what isn't there", reply, refusal(412, "Condition"))
+        reply = curl(url + "/features/7", "-X", "PUT", "-H", "If-None-Match: *", body=feature())
+        same(cases, "a PUT under if-none-match: * of what isn't there", reply, wanted(200, JSON, '{"edit":1}'))
+        reply = curl(url + "/features/7", "-X", "PUT", "-H", "If-None-Match: *", body=feature("q"))
+        same(cases, "and of what is there", reply, refusal(412, "Condition"))
+        tile = curl(url + "/map/0/0/0.mvt")
+        tag = field(tile, "etag")
+        cases.show("a tile has a weak tag", re.fullmatch(r'W/"[1-9][0-9]*-1"', tag) is not None, True)
+        for value, status in ((tag, 304), (tag[2:], 304), (f'"a", {tag}', 304), ('W/"1-1"', 200)):
+            cases.show(f"a tile under if-none-match: {value}", status_of(curl(url + "/map/0/0/0.mvt", "-H", f"If-None-Match: {value}")), status)
+        whole = archive()
+        curl(url + "/publish", "-X", "POST")
+        tag = [("etag", f'"1-1-{len(whole)}"')]
+        same(cases, "the archive, with its tag", curl(url + "/map.pmtiles"), wanted(200, BYTES, whole, more=tag))
+        for value in (tag[0][1], '"1-1-1"'):
+            reply = curl(url + "/map.pmtiles", "-H", "Range: bytes=0-6", "-H", f"If-Range: {value}")
+            same(cases, f"a part under if-range: {value}", reply, wanted(200, BYTES, whole, more=tag))
+        archive_under_conditions(cases, url, whole, tag)
+        curl(url + "/publish", "-X", "POST")
+        before, tag = tag[0][1], [("etag", f'"2-1-{len(whole)}"')]
+        same(cases, "another archive has another tag", curl(url + "/map.pmtiles", "-H", f"If-None-Match: {before}"), wanted(200, BYTES, whole, more=tag))
+        mirror(cases, "", folder, url)
+        for condition in ('If-Match: "x"', 'If-None-Match: "a"'):
+            for path, method in (("/features/7", "PUT"), ("/features/7", "DELETE"), ("/edits", "POST"), ("/publish", "POST"), ("/admin/edits", "POST")):
+                reply = curl(url + path, "-X", method, "-H", condition, body=feature())
+                same(cases, f"{method} {path} under {condition}", reply, refusal(412, "Condition"))
+        same(cases, "a DELETE under if-match: *", curl(url + "/features/7", "-X", "DELETE", "-H", "If-Match: *"), wanted(200, JSON, '{"edit":2}'))
+
+
+def archive_under_conditions(cases, url, whole, tag):
+    """The archive under conditions that name its tag, and under others."""
+    path, text = url + "/map.pmtiles", tag[0][1]
+    sent, known, other = wanted(200, BYTES, whole, more=tag), wanted(304, more=tag), refusal(412, "Condition")
+    part = wanted(206, BYTES, whole[:7], more=[("content-range", f"bytes 0-6/{len(whole)}"), *tag])
+    ranges = ["Range: bytes=0-6"]
+    for fields, expected in [
+        (["If-None-Match: *"], known),
+        ([f"If-None-Match: {text}"], known),
+        ([f"if-none-match: W/{text}"], known),
+        ([f'If-None-Match: "a",\t{text} , "b"'], known),
+        (['If-None-Match: "1-1-1"'], sent),
+        (["If-None-Match;"], sent),
+        ([f"If-None-Match: {text}", "If-None-Match: *"], known),
+        (['If-Match: "1-1-1"', f"If-Match: {text}"], sent),
+        (['If-Match: "1-1-1"', 'If-Match: "1-1-2"', *ranges], other),
+        ([f"If-None-Match: {text}", *ranges], known),
+        ([f"If-None-Match: {text}", "Range: bytes=999-1000"], known),
+        ([f"If-None-Match: {text}", *ranges, f"If-Range: {text}"], known),
+        (['If-None-Match: "1-1-1"', *ranges], part),
+        (["If-Match: *"], sent),
+        ([f"If-Match: {text}", *ranges], part),
+        ([f"If-Match: W/{text}"], other),
+        (['If-Match: "1-1-1"', *ranges], other),
+        (['If-Match: "1-1-1"', f"If-None-Match: {text}"], other),
+        ([f"If-Match: {text}", f"If-None-Match: {text}"], known),
+        ([f"If-None-Match: {text}", "Connection: close"], (304, [*tag, ("connection", "close")], b"")),
+    ]:
+        words = [word for field_of_it in fields for word in ("-H", field_of_it)]
+        same(cases, f"the archive under {', '.join(fields)}", curl(path, *words), expected)
+        if expected in (known, other):
+            same(cases, f"HEAD of it under {', '.join(fields)}", curl(path, "--head", *words), (*expected[:2], b""))
+
+
+MIRROR = """rm -f new.pmtiles
+curl -fsS -o new.pmtiles --etag-compare map.etag --etag-save new.etag -w "%{http_code} %{size_download}" "$0"
+if test -e new.pmtiles; then mv new.pmtiles map.pmtiles && mv new.etag map.etag; fi
+"""
+
+
+def mirror(cases, name, folder, url):
+    """The archive, fetched each night by its entity tag as docs/DEPLOYING.md has it: twice, and twice behind another publication."""
+    place, found = os.path.join(folder, "mirror"), []
+    os.mkdir(place)
+    for night in range(4):
+        if night == 2:
+            curl(url + "/publish", "-X", "POST")
+        told = subprocess.run(["sh", "-c", MIRROR, url + "/map.pmtiles"], cwd=place, capture_output=True, text=True, timeout=100).stdout
+        with open(os.path.join(place, "map.pmtiles"), "rb") as file:
+            found.append((told, file.read() == archive()))
+    cases.show(name + "curl fetches the archive by its tag only if it is another one", found, [("200 223", True), ("304 0", True)] * 2)
+    shutil.rmtree(place)
