@@ -110,13 +110,15 @@ function tellSeen({ features, edits }) {
     tell(refused ? `view only: ${why}` : `${features} features, edit ${edits}`);
 }
 
-/** Looks whether somebody else has edited the map, and shows it. Who may not edit isn't told of edits, and asks for the tiles again. */
+/** Looks whether somebody else has edited the map, and shows it. Who may not edit isn't told of edits, and looks at the tags of tiles. */
 async function look() {
-    const status = refused ? { edits: view.edit + 1 } : await server.status(true), isNew = status.edits > view.edit;
+    const tags = refused ? await view.tagsAbove() : null;
+    const status = refused ? { edits: view.edit + (view.hasSeen(tags) ? 0 : 1) } : await server.status(true), isNew = status.edits > view.edit;
     if (status.refused) {
         throw new Error("this machine may not edit the map any more");
     }
     isNew && await showEdit(status.edits);
+    view.tags = tags ?? view.tags;
     (isAway || isNew && !refused) && tellSeen(status);
     isAway = false;
     isNew && await editor.isOvertaken() && tell("somebody else has just changed what you edit: when you save, you see both", true);

@@ -83,6 +83,16 @@ export class Server {
         return { tag, bytes: status === 304 ? null : new Uint8Array(content) };
     }
 
+    /** The tag of a tile that had the tag `known`; null without `--etags`. The tile itself isn't sent. */
+    async tagOf(name, known) {
+        const headers = known ? { "If-None-Match": known } : {};
+        const { status, tag } = await this.ask(`map/${name}.mvt`, { method: "HEAD", headers });
+        if (status !== 200 && status !== 204 && status !== 304) {
+            throw refusal(status, "");
+        }
+        return tag;
+    }
+
     /** The changes of the edits after one, up to another; null if the server doesn't list them, or they are many. */
     async changesAfter(edit, last) {
         const found = [];

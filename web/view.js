@@ -5,13 +5,15 @@ import { pointsOf } from "./shape.js";
 import { decode } from "./tile.js";
 import { WORLD, bounds, fromDegrees, toDegrees } from "./world.js";
 
-// Pixels of a tile at its own zoom, the greatest zoom of the view, tiles that are kept, and how many zooms up a substitute is sought.
-const SIDE = 512, MAX_ZOOM = 21, MAX_TILES = 300, MAX_UP = 5;
+// Pixels of a tile at its own zoom, the greatest zoom of the view, tiles that are kept, how many zooms up a substitute is sought, and how many
+// zooms up the tiles are whose tags are looked at: four have all that a screen shows.
+const SIDE = 512, MAX_ZOOM = 21, MAX_TILES = 300, MAX_UP = 5, TAGS_UP = 2;
 // Seconds after which no cache has a tile from before an edit: ten in that of nginx, and no more in the browser's.
 const CACHED = 12;
 // The part of a tile's side by which the box of a feature is taken larger: a tile has what reaches into it.
 const MARGIN = 1 / 16;
 const clamped = (value, least, greatest) => Math.min(Math.max(value, least), greatest);
+const nameOf = ({ z, column, row }) => `${z}/${column}/${row}`;
 
 /** Whether changes may have changed a tile: they are of features that it has, or that lie in it now. */
 function isTouched(name, { layers }, changes) {
@@ -28,8 +30,8 @@ export class View {
     constructor(canvas, server, style, hooks) {
         Object.assign(this, { canvas, server, style, hooks, context: canvas.getContext("2d"), centre: [WORLD / 2, WORLD / 2], zoom: 1 });
         // The tiles by their names: the `edit` of which each is, its `tag`, its `layers`, what is `drawn` of them, when it was `asked` for, and the
-        // request that `loads` it.
-        Object.assign(this, { tiles: new Map(), edit: 0, maxzoom: 0, isSelected: () => false });
+        // request that `loads` it. `tags`: those of the tiles above, as they were when the tiles in view were asked for.
+        Object.assign(this, { tiles: new Map(), tags: new Map(), edit: 0, maxzoom: 0, isSelected: () => false });
         this.backdrop = style.backdrop && new Backdrop(style.backdrop, () => this.redraw());
         this.toScreen = point => point.map((part, axis) => (part - this.centre[axis]) * this.scale + this.middle[axis]);
         this.listen();
@@ -110,8 +112,27 @@ export class View {
         });
     }
 
+    /** The zoom of the tiles on the screen. */
+    get tileZoom() {
+        return Math.min(Math.floor(this.zoom), this.maxzoom);
+    }
+
+    /**
+     * The tags of the tiles of smaller zooms that those on the screen lie in. An edit counts for a tile by its place, whatever the zooms of its
+     * features: while none of these tags changes, no tile on the screen does.
+     */
+    async tagsAbove() {
+        const names = this.squares(Math.max(this.tileZoom - TAGS_UP, 0)).map(nameOf);
+        return new Map(await Promise.all(names.map(async name => [name, await this.server.tagOf(name, this.tags.get(name))])));
+    }
+
+    /** Whether these tags are known, so that the tiles on the screen are as they were. */
+    hasSeen(tags) {
+        return [...tags].every(([name, tag]) => tag !== null && tag === this.tags.get(name));
+    }
+
     /** The tiles on the screen, those of the map or of another zoom: each with the square that it has there. */
-    squares(z = Math.min(Math.floor(this.zoom), this.maxzoom)) {
+    squares(z = this.tileZoom) {
         const side = SIDE * 2 ** (this.zoom - z), corner = this.toScreen([0, 0]), found = [];
         const [west, north] = corner.map(at => Math.max(Math.floor(-at / side), 0));
         const [east, south] = corner.map((at, axis) => Math.min(Math.floor((2 * this.middle[axis] - at) / side), 2 ** z - 1));
@@ -140,7 +161,7 @@ export class View {
         context.fillStyle = style.background;
         context.fillRect(0, 0, canvas.width, canvas.height);
         this.isPlaced && this.backdrop?.draw(context, this, ratio);
-        this.load(squares.map(({ z, column, row }) => `${z}/${column}/${row}`));
+        this.load(squares.map(nameOf));
         for (const square of squares) {
             const content = this.contentOf(square);
             if (content) {

@@ -15,15 +15,18 @@ import time
 
 HERE = os.path.dirname(os.path.abspath(__file__))
 TOP = os.path.join(HERE, "..", "..")
-sys.path[:0] = [HERE, os.path.join(TOP, "tests", "clients")]
+sys.path[:0] = [HERE, os.path.join(TOP, "tests", "clients"), TOP]
 import city_features  # noqa: E402
 from stand import Server  # noqa: E402
+from vtmap.command_line import collect_rarely  # noqa: E402
 
 FEATURES, POINTS_FROM = 40449, city_features.FEATURES
 TICK = os.sysconf("SC_CLK_TCK")
 HOUR = 3600
 # The tiles of a screen of 1,600 by 900 pixels, each of them 256 wide, at a zoom where the city has most in them; how often a viewer asks for them.
 ZOOM, COLUMNS, ROWS, EVERY = 14, 8, 5, 10
+# How many zooms above the tiles are whose tags the page looks at, and how often (web/view.js, page.js).
+TAGS_UP, EVERY_LOOK = 2, 30
 
 
 class Kept:
@@ -50,6 +53,14 @@ def feature(number):
     place = city_features.corner_of(number - POINTS_FROM)
     tags = {"name": f"tree {number}", "kind": "oak", "height": number % 30}
     return {"layer": "tree", "minzoom": 10, "maxzoom": 16, "geometry": {"points": [[place[0] + 99, place[1] + 77]]}, "tags": tags}
+
+
+def fill(kept):
+    """Puts the features into an empty map."""
+    for first in range(0, FEATURES, 32):
+        changes = [{"put": number, "feature": feature(number)} for number in range(first, min(first + 32, FEATURES))]
+        status, _, content = kept.ask("POST", "/edits", json.dumps({"changes": changes}))
+        assert status == 200, content
 
 
 def processor(server):
@@ -118,27 +129,29 @@ def at_rest(kept):
     paths = [f"/map/{ZOOM}/{corner[0] + column}/{corner[1] + line}.mvt" for column in range(COLUMNS) for line in range(ROWS)]
     rounds = HOUR // EVERY
 
-    def hour(name, requests, times):
+    def hour(name, requests, times, method="GET"):
         kept.bytes = 0
-        statuses = {kept.ask("GET", path, None, fields)[0] for path, fields in requests}
+        statuses = {kept.ask(method, path, None, fields)[0] for path, fields in requests}
         print(f"an hour at rest, {name}: {kept.bytes * times / 1e6:.2f} MB (replies {sorted(statuses)})", flush=True)
 
     tags = {path: kept.ask("GET", path)[1] for path in paths}
     hour(f"{len(paths)} tiles every {EVERY} s without tags", [(path, {}) for path in paths], rounds)
     hour(f"{len(paths)} tiles every {EVERY} s with If-None-Match", [(path, {"If-None-Match": tags[path]}) for path in paths], rounds)
+    places = {(corner[0] + column >> TAGS_UP, corner[1] + line >> TAGS_UP) for column in range(COLUMNS) for line in range(ROWS)}
+    above = [f"/map/{ZOOM - TAGS_UP}/{column}/{line}.mvt" for column, line in sorted(places)]
+    known = [(path, {"If-None-Match": kept.ask("HEAD", path)[1]}) for path in above]
+    hour(f"the tags of the {len(above)} tiles above them every {EVERY_LOOK} s, as the page of who only looks", known, HOUR // EVERY_LOOK, "HEAD")
     last = json.loads(kept.ask("GET", "/admin/status")[2])["edits"]
     hour("the feed every second, and tiles only if it has an edit", [(f"/admin/edits/from/{last + 1}", {})], HOUR)
-    hour(f"the status every {EVERY} s, as the page of viewers asks", [("/admin/status", {})], rounds)
+    hour(f"the status every {EVERY} s", [("/admin/status", {})], rounds)
     return paths, tags
 
 
 def main():
     with tempfile.TemporaryDirectory() as folder, Server(folder, "followed", 262144, more=("--admin", "--etags")) as server:
+        collect_rarely()
         kept = Kept(server)
-        for first in range(0, FEATURES, 32):
-            changes = [{"put": number, "feature": feature(number)} for number in range(first, min(first + 32, FEATURES))]
-            status, _, content = kept.ask("POST", "/edits", json.dumps({"changes": changes}))
-            assert status == 200, content
+        fill(kept)
         print(f"{FEATURES:,} features, load {os.getloadavg()[0]:.0f} on {os.cpu_count()} processors")
         feed(server, kept)
         same = listed(server, kept, "/admin/features/page", page) == listed(server, kept, "/admin/features/from", single)

@@ -330,7 +330,7 @@ class Tools(People):
         self.show("after a publication the edits before it are no longer listed, and all are asked for", len(self.tiles_asked(since)) >= 4, True)
 
     def unchanged_tiles(self, nginx):
-        """Who may not edit asks for all tiles each half minute; those that are as they were aren't sent again."""
+        """Who may not edit asks each half minute whether the tags above the tiles in view have changed, and for the tiles only if one has."""
         folder = os.path.join(self.folder, "viewer")
         os.mkdir(folder)
         with Nginx(nginx, folder, self.server, [("allow 127.0.0.1;", "")]) as front:
@@ -341,12 +341,26 @@ class Tools(People):
             self.show("who may not edit finds what is in view", [self.find(text, made) for text in ("1", "21")], ["parcel 1", 'nothing in view has "21"'])
             asked = made.value("performance.getEntriesByType('resource').filter(({name}) => name.includes('/features/')).length")
             self.show("and isn't asked for a password", asked, 0)
-            time.sleep(32)
-            with open(os.path.join(front.folder, "access.log"), encoding="utf-8") as file:
-                rows = re.findall(r'"GET /map/17/\S+ HTTP/1.1" (\d+) (\d+)', file.read())
-            again = [status for status, _ in rows if status == "304"]
-            sent = [status for status, _ in rows if status == "200"]
-            self.show("who may not edit is sent no tile twice that is as it was", (len(again) >= 4 or rows, len(sent) <= 3 or rows), (True, True))
+
+            def replies():
+                """The status of each reply for tiles in view, and for tags."""
+                with open(os.path.join(front.folder, "access.log"), encoding="utf-8") as file:
+                    rows = re.findall(r'"(GET|HEAD) /map/1[57]/\S+ HTTP/1.1" (\d+) ', file.read())
+                return [[status for name, status in rows if name == method] for method in ("GET", "HEAD")]
+
+            # The first look, whose tags aren't known yet, and the tiles once more when the cache is over.
+            time.sleep(45)
+            before, tags = replies()
+            seen = before.count("304") >= 4 or before, before.count("200") <= 3 or before, len(tags) in range(1, 5) or tags
+            self.show("who may not edit is sent no tile twice that is as it was", seen, (True, True, True))
+            time.sleep(20)
+            tiles, again = replies()
+            self.show("and asks for none while no tag changes", (tiles[len(before):], again[len(tags):]), ([], ["304"] * len(tags)))
+            before = self.get(12)
+            curl(f"{self.server.url}/features/12", "-X", "PUT", body=json.dumps({**before, "tags": {**before["tags"], "name": "Main valve"}}))
+            time.sleep(42)
+            self.show("what somebody else changes is seen at the next look", self.find("main valve", made), "valve 12")
+            curl(f"{self.server.url}/features/12", "-X", "PUT", body=json.dumps(before))
 
     def shot(self, made, x, y):
         """The colour of a pixel of the screen: a page mayn't read a map with images of others."""

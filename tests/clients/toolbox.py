@@ -10,7 +10,7 @@ from between import Between
 from imports import has_gdal, row, written
 from stand import EXAMPLES, TOP, VTMAP, Nginx, Server, curl, feature
 
-NAMES = ["import", "update", "checkout", "checkin", "save", "load", "publish", "watch", "delete-layer", "qgis", "follow", "log", "undo", "draw"]
+NAMES = ["import", "update", "checkout", "checkin", "wfs", "save", "load", "publish", "watch", "delete-layer", "qgis", "follow", "log", "undo", "draw"]
 OLD = {
     "import_features.py": "vtmap import",
     "gis.py": "vtmap checkout and vtmap checkin",
