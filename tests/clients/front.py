@@ -35,12 +35,13 @@ def in_front(cases, folder):
         old = tile()
         if time.monotonic() - began < 5:
             cases.show("nginx: behind an edit the kept tile is the old one", old, (200, TILE, "HIT"))
-        for name in os.listdir(os.path.join(front.folder, "cache")):
-            shutil.rmtree(os.path.join(front.folder, "cache", name))
+        empty_cache(front)
         cases.show("nginx: with what is in its cache taken away, the new one", tile(), (204, "", "MISS"))
         curl(url + "/features/7", "-X", "PUT", body=feature())
         time.sleep(12)
         cases.show("nginx: the new one behind ten seconds", tile()[:2], (200, TILE))
+        time.sleep(12)
+        cases.show("nginx: later it asks whether that one has changed", tile(), (200, TILE, "REVALIDATED"))
         reply = curl(url + "/map/0/0/0.mvt")
         fields = [field(reply, name) for name in ("content-type", "access-control-allow-origin", "cache-control")]
         cases.show("nginx: the fields of a tile", fields, [MVT, "*", "max-age=10"])
@@ -189,6 +190,12 @@ def passwords(cases, folder):
     shutil.rmtree(front.folder)
 
 
+def empty_cache(front):
+    """Takes away what nginx has in its cache."""
+    for name in os.listdir(os.path.join(front.folder, "cache")):
+        shutil.rmtree(os.path.join(front.folder, "cache", name))
+
+
 def asked_of(server):
     """How many requests the ended connections had. In these cases nginx ends one that is idle for a second."""
     return sum(int(line.split()[2]) for line in server.lines())
@@ -203,6 +210,8 @@ def crowd(cases, front, server):
     ends = {line.rpartition(", ")[2] for line in server.lines()}
     cases.show("serve's lines: nginx ended each connection", ends, {"closed"})
     before, passed = len(front.errors()), asked_of(server)
+    # A tile that isn't in the cache is asked for once; one whose time is over is by each client that comes until the reply is there.
+    empty_cache(front)
     for name, path in [("a kept tile", "/map/0/0/0.mvt"), ("a feature, which is never kept", "/features/7")]:
         told = subprocess.run(["wrk", "-t", "2", "-c", "50", "-d", "3s", "--timeout", "10s", front.url + path], capture_output=True, text=True).stdout
         faults = [line.strip() for line in told.splitlines() if "Socket errors" in line or "Non-2xx" in line]

@@ -128,7 +128,7 @@ def tables(cases, folder):
         with open(source, "w", encoding="utf-8") as file:
             file.write("name,owner\na,b\n")
         code, lines = imported(source, server.url)
-        said = f"{source} has no geometry: name the columns of its points by --x and --y: its columns are name, owner: nothing was sent"
+        said = f"{source} has no geometry: name the columns of its points by --x and --y (it has name, owner): nothing was sent"
         cases.show("round trips: a table without a place", (code, lines[-1]), (1, said))
         subprocess.run(["ogr2ogr", "-f", "GPKG", "-update", alone, source, "-nln", "owners"], check=True, capture_output=True)
         code, lines = imported(alone, server.url)

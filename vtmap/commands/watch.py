@@ -121,7 +121,7 @@ def fullness(status, most):
         (journal["used"], journal["places"], "the journal", "publish (`vtmap publish`)"),
         (area["used"], area["sectors"], "an area", LARGER),
     ]:
-        if used * 100 >= whole * most:
+        if used * 100 >= whole * most and (name, used) != ("the journal", whole):
             yield SOON, f"{used:,} of the {whole:,} sectors of {name} are used: {what}"
     if status["generation"] == 0 and FIRST * journal["used"] > area["sectors"]:
         yield SOON, "nothing was published yet: whether a publication fits isn't known before the first one. Publish (`vtmap publish`)"

@@ -106,7 +106,7 @@ class Reader:
         names = {layer.GetFieldDefn(at).GetName().lower(): layer.GetFieldDefn(at).GetName() for at in range(layer.GetFieldCount())}
         x, y = columns or next((pair for pair in COLUMNS if set(pair) <= set(names)), (None, None))
         if x is None or not {x.lower(), y.lower()} <= set(names):
-            raise Unreadable(f"{self.path} has no geometry: name the columns of its points by --x and --y: its columns are {', '.join(names.values())}")
+            raise Unreadable(f"{self.path} has no geometry: name the columns of its points by --x and --y (it has {', '.join(names.values())})")
         x, y = names[x.lower()], names[y.lower()]
         if self.crs is None and (x.lower(), y.lower()) in DEGREES:
             self.crs = "EPSG:4326"
