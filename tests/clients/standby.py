@@ -170,6 +170,7 @@ def basics(cases, folder):
             watched(cases, leader, one, editor)
             lost(cases, leader, one, editor)
             foreign(cases, leader, two, editor)
+        stopped(cases, leader, editor, os.path.join(folder, "stopped.jsonl"))
 
 
 def watched(cases, leader, standby, editor):
@@ -224,6 +225,22 @@ def foreign(cases, leader, standby, editor):
     with Server(os.path.dirname(leader.disk), "plain", more=()) as plain:
         code, lines = once(plain.url, "--to", leader.url)
         cases.show("standby: a server without --admin", (code, "it runs without --admin" in lines[-1]), (1, True))
+
+
+def stopped(cases, leader, editor, log):
+    """A publication waits for a log whose follower has stopped for a while."""
+    child = follow(leader.url, "--log", log)
+    child.stdout.readline()
+    child.send_signal(signal.SIGSTOP)
+    editor.edit()
+    publishing = subprocess.Popen([*VTMAP, "publish", "--url", leader.url, "--log", log], stdout=subprocess.DEVNULL)
+    time.sleep(2)
+    is_waiting = publishing.poll() is None
+    child.send_signal(signal.SIGCONT)
+    seen = is_waiting, publishing.wait(100), log_of(log) == {len(editor.acknowledged): editor.acknowledged[len(editor.acknowledged)]}
+    child.terminate()
+    child.communicate()
+    cases.show("standby: publish --log waits for a log whose follower has stopped, which misses nothing", seen, (True, 0, True))
 
 
 def behind(cases, folder):
