@@ -39,6 +39,9 @@ def tags(cases, folder):
                 reply = curl(url + path, "-X", method, "-H", condition, body=feature())
                 same(cases, f"{method} {path} under {condition}", reply, refusal(412, "Condition"))
         same(cases, "a DELETE under if-match: *", curl(url + "/features/7", "-X", "DELETE", "-H", "If-Match: *"), wanted(200, JSON, '{"edit":2}'))
+        curl(url + "/features/8", "-X", "PUT", body=feature("deep", 10, 12, {"points": [[2 ** 31, 2 ** 31]]}))
+        tag = field(curl(url + "/map/0/0/0.mvt", "--head"), "etag")
+        cases.show("an edit counts for the tiles above those that show it", re.fullmatch(r'W/"[1-9][0-9]*-3"', tag) is not None or tag, True)
 
 
 def archive_under_conditions(cases, url, whole, tag):
