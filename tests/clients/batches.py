@@ -10,7 +10,7 @@ import signal
 import subprocess
 import threading
 
-from imports import has_gdal, imported, row, shown, written
+from import_stand import has_gdal, imported, row, shown, written
 from stand import JSON, PROGRAM, TEXT, VTMAP, Nginx, Server, curl, feature, refusal, same, status_of, wanted
 
 DELETE_LAYER = [*VTMAP, "delete-layer"]

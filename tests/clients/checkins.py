@@ -9,7 +9,7 @@ import subprocess
 import sys
 
 from between import Between
-from imports import has_gdal
+from import_stand import has_gdal
 from stand import TOP, VTMAP, Server, curl, feature
 from updates import listed
 

@@ -9,7 +9,7 @@ import shutil
 import subprocess
 
 from between import Between, once
-from imports import has_gdal, row, written
+from import_stand import has_gdal, row, written
 from stand import VTMAP, Server, curl, feature
 from updates import listed
 

@@ -5,7 +5,7 @@ The files are made by ogr2ogr and by hand; wanted texts are those that were writ
 import os
 import subprocess
 
-from imports import has_gdal, imported, row, world, written
+from import_stand import has_gdal, imported, row, world, written
 from stand import Server
 from updates import listed
 

@@ -9,7 +9,7 @@ import stat
 import subprocess
 import time
 
-from imports import has_gdal
+from import_stand import has_gdal
 from stand import EXAMPLES, SYSTEM_PYTHON, VTMAP, Server, curl, feature, free_port
 
 SURVEY = os.path.join(EXAMPLES, "survey.geojson")

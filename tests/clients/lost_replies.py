@@ -6,7 +6,7 @@ import sys
 
 from batches import edit_count
 from between import Between, once
-from imports import has_gdal, imported, row, written
+from import_stand import has_gdal, imported, row, written
 from stand import TOP, Server, curl
 from updates import listed, status
 

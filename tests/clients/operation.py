@@ -13,7 +13,7 @@ import sys
 import threading
 import time
 
-from imports import area_of, has_gdal, imported, lists_of, round_ring, row, world, written
+from import_stand import area_of, has_gdal, imported, lists_of, round_ring, row, world, written
 from stand import HERE, PROGRAM, TOP, VTMAP, Nginx, Server, curl, feature, free_port, status_of
 
 sys.path += [os.path.join(HERE, "..", "..", "model"), TOP]

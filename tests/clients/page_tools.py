@@ -14,7 +14,7 @@ import time
 import zlib
 
 from browser import Browser
-from imports import world
+from import_stand import world
 from pages import HIGH, PAGE, PLACE, WIDE, People
 from stand import SYSTEM_PYTHON, VTMAP, Nginx, Server, curl, feature, field, status_of
 

@@ -15,7 +15,7 @@ import sys
 import time
 
 from browser import Browser
-from imports import world
+from import_stand import world
 from screens import PLOTLY, Share, water_differs
 from stand import EXAMPLES, HERE, SYSTEM_PYTHON, TOP, VTMAP, Nginx, Server, curl, feature, field, status_of
 

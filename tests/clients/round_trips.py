@@ -11,7 +11,7 @@ import statistics
 import subprocess
 
 from checkins import gis
-from imports import has_gdal, imported
+from import_stand import has_gdal, imported
 from stand import SYSTEM_PYTHON, Server
 from updates import listed
 

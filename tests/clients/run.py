@@ -25,7 +25,10 @@ from editors import editors
 from encodings_of_files import encodings
 from endings import endings
 from front import in_front
-from imports import disk_full, imports, kills, large
+from full_disks import disk_full
+from imports import imports
+from killed_servers import kills
+from large_imports import large
 from lost_replies import lost_replies
 from ogc import ogc
 from operation import operation

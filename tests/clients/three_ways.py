@@ -5,7 +5,7 @@ import os
 import shutil
 import subprocess
 
-from imports import has_gdal, imported, row, square, written
+from import_stand import has_gdal, imported, row, square, written
 from stand import SYSTEM_PYTHON, VTMAP, Server, curl, feature
 from updates import listed, status
 

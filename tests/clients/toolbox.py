@@ -7,7 +7,7 @@ import subprocess
 import sys
 
 from between import Between
-from imports import has_gdal, row, written
+from import_stand import has_gdal, row, written
 from stand import EXAMPLES, TOP, VTMAP, Nginx, Server, curl, feature
 
 NAMES = ["import", "update", "checkout", "checkin", "wfs", "save", "load", "publish", "watch", "delete-layer", "qgis", "follow", "log", "undo", "draw"]

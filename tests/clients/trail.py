@@ -7,7 +7,7 @@ import shutil
 import subprocess
 import time
 
-from imports import has_gdal, imported, row, written
+from import_stand import has_gdal, imported, row, written
 from standby import features, follow, known, waited
 from stand import VTMAP, Nginx, Server, curl, status_of
 
