@@ -9,6 +9,10 @@ import subprocess
 import time
 
 
+# The size of its window in pixels.
+WIDE, HIGH = 1000, 640
+
+
 class Broken(Exception):
     """Why the browser doesn't do what it is asked."""
 
@@ -16,7 +20,7 @@ class Broken(Exception):
 class Browser:
     """A Chromium with a profile of its own in a folder."""
 
-    def __init__(self, folder, wide=1000, high=640, more=()):
+    def __init__(self, folder, wide=WIDE, high=HIGH, more=()):
         to_browser, self.send = os.pipe()
         self.read, from_browser = os.pipe()
         # The browser reads its descriptor 3 and writes its descriptor 4.

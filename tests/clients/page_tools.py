@@ -13,9 +13,9 @@ import threading
 import time
 import zlib
 
-from browser import Browser
+from browser import HIGH, WIDE, Browser
 from import_stand import world
-from pages import HIGH, PAGE, PLACE, WIDE, People
+from pages import PAGE, PLACE, People
 from stand import SYSTEM_PYTHON, VTMAP, Nginx, Server, curl, feature, field, status_of
 
 # Where the map is: longitude and latitude, and the same in the world. A side of a parcel is 120 pixels of zoom 17.

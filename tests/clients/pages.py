@@ -2,24 +2,23 @@
 
 Two people edit one feature, a new feature's id is taken by somebody else, saves are refused and replies are lost, the server is away when
 somebody saves or opens the page, a large feature is one, a telephone shows the page, a machine that may not edit sees the map, and people log
-in. nginx limits downloads of the archive. Pictures are kept in the folder that PICTURES names, if it does. What MapLibre would draw is drawn by
-Mapbox GL JS 1.10.1, which Debian has within plotly.js (`python3-plotly`).
+in. Pictures are kept in the folder that PICTURES names, if it does.
 """
 import json
 import os
 import re
 import shutil
-import socket
 import subprocess
 import sys
 import time
 
-from browser import Browser
+from browser import HIGH, WIDE, Browser
+from downloads import downloads
 from import_stand import world
-from screens import PLOTLY, Share, water_differs
-from stand import EXAMPLES, HERE, SYSTEM_PYTHON, TOP, VTMAP, Nginx, Server, curl, feature, field, status_of
+from maplibre import draw_truth, maplibre
+from screens import Share, water_differs
+from stand import EXAMPLES, SYSTEM_PYTHON, TOP, VTMAP, Nginx, Server, curl, feature, field, status_of
 
-WIDE, HIGH = 1000, 640
 PAGE = os.path.join(TOP, "web")
 WORLD = 2 ** 32
 # Where a point of the world is on the screen of a page.
@@ -49,16 +48,6 @@ UNKNOWN = "the server doesn't answer: the edit may be made or not. Save again: i
 # Ids of pieces after the first one, and a place without other features.
 PIECE, SEA = 2 ** 40, (54.6, 7.6)
 HIDE = "document.head.append(Object.assign(document.createElement('style'), {textContent: 'nav, details, aside, footer { visibility: hidden }'}))"
-# A stand-in for MapLibre: it keeps what it is given.
-STAND_IN = """
-globalThis.maplibregl = {setWorkerUrl: url => globalThis.worker = url, NavigationControl: class {}, Popup: class {},
-    Map: class { constructor(words) { globalThis.given = words; } addControl() {} on() {} }};
-"""
-DRAWN = """<!DOCTYPE html><meta charset="utf-8"><style>html, body { margin: 0; }</style><body><div id="map"></div><script src="file://%s"></script><script>
-Plotly.newPlot("map", [{type: "scattermapbox", lat: [], lon: []}], {
-    width: %d, height: %d, margin: {l: 0, r: 0, t: 0, b: 0}, mapbox: {center: {lon: 7.5, lat: 54.5}, zoom: 14, style: %s},
-}, {displayModeBar: false}).then(() => setTimeout(() => document.title = "drawn", 1000));
-</script></body>"""
 
 
 def page(cases, folder):
@@ -669,97 +658,3 @@ class People:
         """What the browser complained of, but for refusals that it should get."""
         told = [fault for made in (self.one, self.two) for fault in made.faults() if not fault.startswith("Failed to load resource")]
         self.show("the browser complains of nothing", told, [])
-
-
-def slow(front, address, more=""):
-    """A download of the archive by a client that reads no more than the status. Gives its connection and the status."""
-    peer = socket.socket()
-    peer.setsockopt(socket.SOL_SOCKET, socket.SO_RCVBUF, 4096)
-    peer.settimeout(30)
-    peer.bind((address, 0))
-    peer.connect(("127.0.0.1", front.port))
-    peer.sendall(f"GET /map.pmtiles HTTP/1.1\r\nhost: localhost\r\n{more}\r\n".encode())
-    return peer, peer.recv(12).decode()
-
-
-def in_files(front):
-    """The bytes that nginx keeps of replies in files of its folder `proxy`, which have no names any more."""
-    time.sleep(1)
-    workers = subprocess.run(["pgrep", "-P", str(front.child.pid)], capture_output=True, text=True, check=True).stdout.split()
-    opened = [f"/proc/{worker}/fd/{number}" for worker in workers for number in os.listdir(f"/proc/{worker}/fd")]
-    return sum(os.stat(path).st_size for path in opened if os.readlink(path).startswith(os.path.join(front.folder, "proxy")))
-
-
-def downloads(cases, folder, nginx):
-    """Downloads of the archive at once: three from an address and eight together, while readers of its parts are served as ever."""
-    folder = os.path.join(folder, "downloads")
-    os.mkdir(folder)
-    with Server(folder, "long", 131072) as server, Nginx(nginx, folder, server) as front:
-        # Four tiles of 3 MB: more than the system keeps of a connection.
-        for number in range(100):
-            tags = {f"k{at}": f"{number} {at} " + "x" * 1000 for at in range(30)}
-            curl(f"{server.url}/features/{number}", "-X", "PUT", body=feature(last=3, geometry={"points": [[number * 1000000, 0]]}, tags=tags))
-        curl(server.url + "/publish", "-X", "POST")
-        archive = front.url + "/map.pmtiles"
-        length = len(curl(archive)[2])
-        cases.show("downloads: the archive has over 10 MB", length > 10 ** 7 or length, True)
-
-        def status(address):
-            return status_of(curl(archive, "--interface", address))
-
-        peers = [slow(front, "127.0.0.1") for _ in range(3)]
-        cases.show("downloads: three from an address", [told for _, told in peers], ["HTTP/1.1 200"] * 3)
-        cases.show("downloads: a fourth one, and one from another address", [status("127.0.0.1"), status("127.0.0.2")], [429, 200])
-        kept = in_files(front)
-        parts = [slow(front, "127.0.0.1", f"range: bytes=0-{length}\r\n") for _ in range(6)]
-        cases.show("downloads: six parts at once from it, however long", [told for _, told in parts], ["HTTP/1.1 206"] * 6)
-        cases.show("downloads: of which nginx keeps nothing in a file", (kept > 0, in_files(front) - kept), (True, 0))
-        reader = [sys.executable, os.path.join(HERE, "read_range.py"), archive, "0/0/0"]
-        tile = subprocess.run(reader, capture_output=True, text=True).stdout.strip()
-        cases.show("downloads: a reader of PMTiles gets its tile", tile == curl(server.url + "/map/0/0/0.hex")[2].decode(), True)
-        peers += [slow(front, address) for address in ["127.0.0.2"] * 3 + ["127.0.0.3"] * 2]
-        cases.show("downloads: eight together", [told for _, told in peers], ["HTTP/1.1 200"] * 8)
-        cases.show("downloads: a ninth one, from a further address", status("127.0.0.4"), 429)
-        for peer, _ in peers + parts:
-            peer.close()
-        end = time.monotonic() + 10
-        while status("127.0.0.1") != 200 and time.monotonic() < end:
-            time.sleep(0.2)
-        cases.show("downloads: when they have ended, the next one", status("127.0.0.1"), 200)
-
-
-def maplibre(cases, folder, front):
-    """What map.html gives MapLibre, and how Mapbox GL draws it."""
-    # Until then nginx has the metadata of the map before the import.
-    time.sleep(11)
-    pages = os.path.join(front.folder, "pages")
-    for name, text in [("maplibre-gl-csp.js", STAND_IN), ("maplibre-gl.css", "")]:
-        with open(os.path.join(pages, name), "w", encoding="utf-8") as file:
-            file.write(text)
-    subprocess.run([*VTMAP, "publish", "--url", front.url], check=True, capture_output=True)
-    drawing = ["--use-gl=angle", "--use-angle=swiftshader", "--enable-unsafe-swiftshader"]
-    with Browser(os.path.join(folder, "maplibre"), WIDE, HIGH, drawing) as browser:
-        made = browser.open(f"{front.url}/pages/map.html")
-        given = made.wait("globalThis.given", 10) or {"style": {"sources": {}, "layers": []}, "bounds": [[0, 0], [0, 0]]}
-        (west, south), (east, north) = given["bounds"]
-        cases.show("page: map.html opens where the published map is", 7.4 < west < 7.49 and 7.51 < east < 7.6 and 54.4 < south < 54.5 < north < 54.6, True)
-        tiles = {"type": "vector", "tiles": [f"{front.url}/map/{{z}}/{{x}}/{{y}}.mvt"], "minzoom": 0, "maxzoom": 16}
-        cases.show("page: with the map's tiles and its greatest zoom", given["style"]["sources"].get("map"), tiles)
-        cases.show("page: and the browser refuses nothing", made.faults(), [])
-        if not os.path.exists(PLOTLY):
-            cases.say("no plotly.js: the style of map.html isn't drawn")
-            return
-        with open(os.path.join(folder, "drawn.html"), "w", encoding="utf-8") as file:
-            file.write(DRAWN % (PLOTLY, WIDE, HIGH, json.dumps(given["style"])))
-        made = browser.open("file://" + os.path.join(folder, "drawn.html"))
-        made.wait("document.title === 'drawn'", 60)
-        truth, drawn = os.path.join(folder, "truth-map.png"), os.path.join(folder, "mapbox.png")
-        made.picture(drawn)
-        draw_truth(front.url, truth)
-        cases.show("page: Mapbox GL takes its style, and draws land where the reader of examples does", water_differs(truth, drawn), Share(0.02))
-
-
-def draw_truth(url, path):
-    """The picture of a reader of tiles that shares no code with the page."""
-    words = ["--url", url, "--zoom", "15", "--centre", "7.5,54.5", "--size", f"{WIDE}x{HIGH}"]
-    subprocess.run([*VTMAP, "draw", path, *words], check=True, capture_output=True)
