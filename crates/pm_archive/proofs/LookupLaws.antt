@@ -8,10 +8,10 @@ use Rattle.pm_directory.specs.declared.entry.DirectoryEntry.{DirectoryEntry}
 use Rattle.pm_directory.specs.Directory.{IsDirectory}
 use Rattle.pm_archive.specs.declared.limits.TheConstants.{MAX_LEAF_LEVELS}
 use Rattle.pm_archive.specs.Sections.{HasSections, section_bytes}
-use Rattle.pm_archive.specs.Entries.{HasEntries, LiesIn, entry_of}
+use Rattle.pm_archive.specs.Entries.{HasEntries, entry_of}
 use Rattle.pm_archive.specs.Archive.{HasContents, content_of}
 use Rattle.pm_archive.specs.Looked.{leading_of, reached_at, content_at, looked_at}
-use Rattle.pm_archive.specs.Lookup.{LeafView, IsLeafOf, AreCachedOf, AreInside}
+use Rattle.pm_archive.specs.Lookup.{LeafView, IsLeafOf, AreCachedOf}
 use Rattle.pm_archive.proofs.ListedClauses.{has_each}
 use Rattle.pm_archive.proofs.LookedLaws.{reaches, content_found}
 use Rattle.pm_archive.proofs.OpenedLaws.{one_header}
@@ -35,7 +35,3 @@ looked_content bytes h root content id has dir archive =
 -- if no leaf directory is cached, each cached one is the one that its entry names
 pub none_cached : (bytes : List ℕ) (h : Header) (leaves : List LeafView) → leaves ≡ [] → AreCachedOf bytes h leaves
 none_cached bytes h leaves none = subst (λ (ls : List LeafView). AreCachedOf bytes h ls) (sym none) (All-nil (IsLeafOf bytes h))
-
--- and each is inside its section
-pub none_inside : (h : Header) (leaves : List LeafView) → leaves ≡ [] → AreInside h leaves
-none_inside h leaves none = subst (λ (ls : List LeafView). AreInside h ls) (sym none) (All-nil (λ (leaf : LeafView). LiesIn h.leaves leaf.entry))

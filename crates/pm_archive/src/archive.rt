@@ -13,6 +13,7 @@ ghost use Rattle.pm_archive.specs.Entries.{HasEntries, LiesIn, LiesInside};
 ghost use Rattle.pm_archive.specs.Archive.{content_of};
 ghost use Rattle.pm_archive.specs.Reading.{ArePlaced, OpeningHas, content_of_tile, list_at};
 ghost use Rattle.pm_archive.specs.Looked.{leading_of, looked_at};
+ghost use Rattle.pm_archive.specs.Lookup.{AreCachedOf, AreInside};
 ghost use Rattle.pm_archive.specs.Answers.{IsOutside, UnlessOutside};
 
 use crate::fault::ArchiveFault;
@@ -27,12 +28,14 @@ use pm_header::Header;
 use std::alloc::Global;
 use std::marker::Model;
 
-/// An open archive: its source, its header and its root directory.
+/// An open archive: its source, its header, its root directory and cached leaf directories. `tile` caches those that it reads, under the
+/// limits of `Lookup`.
 #[derive(Drop)]
 pub struct Archive<B: Bytes + Drop> {
     source: B,
     header: Header,
     root: Vec<DirectoryEntry>,
+    leaves: Leaves,
 }
 
 impl<B: Bytes + Drop> Model for Archive<B> {
@@ -42,7 +45,8 @@ impl<B: Bytes + Drop> Model for Archive<B> {
 
     ghost invariant = { λ a. ArePlaced (B.count a.source) a.header × IsAscending a.root.items
         × ((bytes : List ℕ) → B.holds a.source bytes → HasSections bytes a.header × IsDirectory (section_bytes a.header.root bytes) a.root.items)
-        × AllByRecursion IsEntry a.root.items };
+        × AllByRecursion IsEntry a.root.items × AreInside a.header a.leaves
+        × ((bytes : List ℕ) → B.holds a.source bytes → AreCachedOf bytes a.header a.leaves) };
 }
 
 impl<B: Bytes + Drop> Archive<B> {
@@ -69,6 +73,7 @@ impl<B: Bytes + Drop> Archive<B> {
                 source,
                 header,
                 root,
+                leaves: Leaves::none(alloc),
             }),
             Err(fault) => Err((source, fault)),
         }
@@ -132,7 +137,8 @@ impl<B: Bytes + Drop> Archive<B> {
         entries_below(alloc, &mut self.source, &self.header, &self.root)
     }
 
-    /// The content of a tile id, or `None` if no entry has it. Reads the directories on the way to its entry, and the content.
+    /// The content of a tile id, or `None` if no entry has it. Reads the content, and those directories on the way to its entry that
+    /// aren't cached.
     ///
     /// # Errors
     ///
@@ -150,13 +156,12 @@ impl<B: Bytes + Drop> Archive<B> {
         ensures memory { result ≡ Err ArchiveFault.Memory → LiesInside self.old.header (leading_of id self.old.root) }
     {
         let alloc = *self.root.allocator();
-        let mut cached = Leaves::none(alloc);
         content_below(
             alloc,
             &mut self.source,
             &self.header,
             &self.root,
-            &mut cached,
+            &mut self.leaves,
             id,
         )
     }

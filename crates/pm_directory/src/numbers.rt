@@ -33,11 +33,11 @@ pub(crate) fn numbers(
     ensures exact { Gives DirectoryFault.Memory (λ x. (x.0.items, x.1.now)) result (numbers_at count bytes.now) }
     ensures memory { IfErr result (λ fault. fault ≡ DirectoryFault.Memory → 0 < count) }
 {
-    let mut numbers = Vec::new(alloc);
+    let mut numbers = Vec::with_capacity(alloc, count)?;
     let mut rest = bytes;
     for i in 0..count {
         let (number, after) = number(rest)?;
-        numbers.push(number)?;
+        numbers.push_reserved(number);
         rest = after;
     }
     Ok((numbers, rest))

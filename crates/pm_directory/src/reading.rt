@@ -97,11 +97,11 @@ fn entries_of(
     ensures exact { Gives DirectoryFault.Memory (λ v. v.items) result (entries_at None [] deltas.now runs.now lengths.now offsets.now) }
     ensures memory { IfErr result (λ fault. fault ≡ DirectoryFault.Memory → 0 < length deltas.now) }
 {
-    let mut entries = Vec::new(alloc);
+    let mut entries = Vec::with_capacity(alloc, deltas.len())?;
     let mut before = None;
     for i in 0..deltas.len() {
         let entry = entry_behind(before, deltas[i], runs[i], lengths[i], offsets[i])?;
-        entries.push(entry)?;
+        entries.push_reserved(entry);
         before = Some(entry);
     }
     Ok(entries)
@@ -163,8 +163,8 @@ fn entries_in(alloc: Global, bytes: &[u8]) -> Result<Vec<DirectoryEntry>, Direct
 ///
 /// # Errors
 ///
-/// The first fault of the bytes. `Memory` if an allocation fails. Memory is allocated for numbers that are there, not for the count
-/// that the bytes begin with: a count of more entries than there are bytes for is `Cut`, and never `Memory`.
+/// The first fault of the bytes. `Memory` if an allocation fails. Memory is reserved for at most as many numbers as there are bytes,
+/// whatever the count that they begin with: a count of more entries than there are bytes for is `Cut`, and never `Memory`.
 pub fn read_directory(alloc: Global, bytes: &[u8]) -> Result<Vec<DirectoryEntry>, DirectoryFault>
     ensures found { IfOk result (λ entries. IsDirectory bytes.now entries.items) }
 

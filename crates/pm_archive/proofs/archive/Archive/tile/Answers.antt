@@ -9,7 +9,7 @@ use Rattle.pm_archive.specs.Answers.{IsOutside}
 use Rattle.pm_archive.specs.declared.fault.ArchiveFault.TheVariants.{Memory}
 use Rattle.pm_archive.specs.Looked.{leading_of, looked_at}
 use Rattle.pm_archive.proofs.ListedSteps.{inside_or_outside}
-use Rattle.pm_archive.proofs.LookupLaws.{looked_below, none_cached, none_inside}
+use Rattle.pm_archive.proofs.LookupLaws.{looked_below}
 use Rattle.pm_archive.proofs.archive.Archive.tile.Goals as goal
 
 pub returns-clause-content : goal.returns-clause-content
@@ -24,7 +24,7 @@ returns-clause-content g c =
     (looked_at bytes h c.deref.result.now c.args.id) (content_of bytes h tiles c.args.id)
     (subst (λ (es : List DirectoryEntry). looked_at bytes h es c.args.id ≡ Ok (content_of bytes h tiles c.args.id)) (sym c.deref.ensures.value)
     (looked_below bytes h c.self.inside.root.items tiles c.args.id dir has))
-    (c.content_below.ensures.first bytes holds (none_cached bytes h c.none-cached.result c.none-cached.ensures)))
+    (c.content_below.ensures.first bytes holds (c.self.invariant.5 bytes (c.content_below.ensures.source.no_others bytes holds))))
 
 pub returns-clause-first : goal.returns-clause-first
 returns-clause-first g c =
@@ -34,10 +34,10 @@ returns-clause-first g c =
     let h = c.self.inside.header in
     subst (λ (root : List DirectoryEntry). GivesUnless IsOutside (option_map (λ v. v.items)) c.content_below.result
     (looked_at bytes h root c.args.id)) c.deref.ensures.value
-    (c.content_below.ensures.first bytes holds (none_cached bytes h c.none-cached.result c.none-cached.ensures)))
+    (c.content_below.ensures.first bytes holds (c.self.invariant.5 bytes (c.content_below.ensures.source.no_others bytes holds))))
 
 pub returns-clause-memory : goal.returns-clause-memory
 returns-clause-memory g c =
     subst (λ (a : ArchiveView g.row.B.Denot). c.content_below.result ≡ Err Memory → LiesInside a.header (leading_of c.args.id a.root)) c.self.view_is
     (λ e. subst (λ (root : List DirectoryEntry). LiesInside c.self.inside.header (leading_of c.args.id root)) c.deref.ensures.value
-    (c.content_below.ensures.memory (none_inside c.self.inside.header c.none-cached.result c.none-cached.ensures) e))
+    (c.content_below.ensures.memory c.self.invariant.4 e))
