@@ -2,6 +2,7 @@ pub mod FaultyLaws
 pub mod Laws
 pub mod LimitNumbers
 pub mod Packing
+pub mod Past
 pub mod Shaped
 pub mod Spelled
 pub mod Stepwise

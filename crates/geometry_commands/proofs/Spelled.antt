@@ -1,13 +1,13 @@
 -- What is read is spelled so, and what is spelled so is read.
 use Rattle.std.proofs.Common.{◌≡◌, ℕ, ℤ, pos, negsuc, zero, suc, ◌+◌, ◌-◌, ◌*◌, ◌/◌, ◌%◌, ◌<◌, ◌≤◌, ◌+ℤ◌, ◌-ℤ◌, Bool, true, false, cond, eqb, ltb, ne_eqb, List}
-use Rattle.std.proofs.Common.{[], ◌∷◌, ◌++◌, length, Ok, Err, refl, sym, ap, subst, ◌∙◌, append_assoc, arith}
+use Rattle.std.proofs.Common.{[], ◌∷◌, ◌++◌, length, Result, Ok, Err, refl, sym, ap, subst, ◌∙◌, append_assoc, arith}
 use Rattle.std.specs.List.{AllByRecursion}
 use Rattle.std.proofs.lemmas.Bool.{eq-eqb, eqb-true, eqb-false, ltb-false, le-ltb}
 use Rattle.std.proofs.lemmas.Int.{ints}
 use Rattle.std.proofs.lemmas.List.{append-nil, length-append}
 use Rattle.pb_wire.specs.Zigzag.{zigzagged}
-use Rattle.reader.specs.Reading.{Read, ◌>>=◌, repeated}
-use Rattle.reader.proofs.Steps.{done, same_value, then_ok, then_on, then_same, guard_ok, pass_ok}
+use Rattle.reader.specs.Reading.{Read, ◌>>=◌, repeated, Reads}
+use Rattle.reader.proofs.Steps.{done, same_value, then_ok, then_on, then_stop, then_same, guard_ok, pass_ok}
 use Rattle.geometry_commands.specs.declared.point.Pt.{Pt}
 use Rattle.geometry_commands.specs.declared.decoding.GeometryFault.{GeometryFault}
 use Rattle.geometry_commands.specs.declared.decoding.GeometryFault.TheVariants.{Command, Count, Cursor}
@@ -126,6 +126,13 @@ walk_first n before from ints = go (step_at from ints)
         ≡ (read >>= λ s. walk_at n (before ++ s.0 ∷ []) s.0 s.1)
     go (Ok s) = refl
     go (Err d) = refl
+
+-- the first point alone
+pub walk_one : {X : Type 0} (view : X → Pt × List ℕ) (r : Result X GeometryFault) (from : Pt) (ints : List ℕ) → Reads view r (step_at from ints)
+    → Reads (λ x. ((view x).0 ∷ [], (view x).0, (view x).1)) r (walk_at 1 [] from ints)
+unfolding repeated
+walk_one view (Ok x) from ints e = walk_first 0 [] from ints ∙ then_on (step_at from ints) (λ s. walk_at 0 (s.0 ∷ []) s.0 s.1) (view x) e
+walk_one view (Err d) from ints e = walk_first 0 [] from ints ∙ then_stop (step_at from ints) (λ s. walk_at 0 (s.0 ∷ []) s.0 s.1) d e
 
 pub walk_found : (n : ℕ) (before : List Pt) (from : Pt) (ints : List ℕ) (w : Walk) → walk_at n before from ints ≡ Ok w → Walked n before from ints w
 unfolding repeated

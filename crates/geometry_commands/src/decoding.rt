@@ -1,6 +1,6 @@
 //! Decodes shapes.
 
-ghost use Rattle.std.specs.Prelude.{◌≡◌, ◌≢◌, ◌+◌, ◌*◌, ◌/◌, ◌<◌, ◌≤◌, ◌⊎◌, Bool, List, length, map, vec_len, vec_capacity, Ok, Err, IfOk, IfErr, OnOk};
+ghost use Rattle.std.specs.Prelude.{◌≡◌, ◌≢◌, ◌+◌, ◌*◌, ◌/◌, ◌<◌, ◌≤◌, ◌⊎◌, Bool, List, [], ◌∷◌, length, map, min, vec_len, vec_capacity, Ok, Err, IfOk, IfErr, OnOk};
 ghost use Rattle.reader.specs.Reading.{Reads, Gives};
 ghost use Rattle.geometry_commands.specs.Faulty.{ShapeHas};
 ghost use Rattle.geometry_commands.specs.Shapes.{shape_view, ShapeView, IsShape, least};
@@ -97,7 +97,7 @@ fn command_of(id: CommandId, ints: &[u32]) -> Result<(u32, &[u32]), GeometryFaul
 
 /// The point after the step of the first two integers, and the integers after them.
 #[tactic(auto, unfolding(crate::specs::Decoding::step_at))]
-fn step_of(from: Pt, ints: &[u32]) -> Result<(Pt, &[u32]), GeometryFault>
+pub(crate) fn step_of(from: Pt, ints: &[u32]) -> Result<(Pt, &[u32]), GeometryFault>
     ensures exact { Reads (λ x. (x.0, x.1.now)) result (step_at from ints.now) }
     ensures behind { IfOk result (λ x. length x.1.now + 2 ≡ length ints.now) }
     ensures memory { result ≢ Err GeometryFault.Memory }
@@ -139,7 +139,7 @@ fn walk<'a>(
 
 /// The integers after the command that closes a ring.
 #[tactic(auto, unfolding(crate::specs::Decoding::close_at))]
-fn close_of(closed: bool, ints: &[u32]) -> Result<&[u32], GeometryFault>
+pub(crate) fn close_of(closed: bool, ints: &[u32]) -> Result<&[u32], GeometryFault>
     ensures exact { Reads (λ x. x.now) result (close_at closed ints.now) }
     ensures memory { result ≢ Err GeometryFault.Memory }
 {
@@ -157,7 +157,7 @@ fn close_of(closed: bool, ints: &[u32]) -> Result<&[u32], GeometryFault>
 
 /// The integers after the MoveTo to the first point of a line, whose count is 1.
 #[tactic(auto, unfolding(crate::specs::Decoding::line_at))]
-fn start_of(ints: &[u32]) -> Result<&[u32], GeometryFault>
+pub(crate) fn start_of(ints: &[u32]) -> Result<&[u32], GeometryFault>
     ensures found { IfOk result (λ rest. command_at move_to ints.now ≡ Ok (1, rest.now)) }
     ensures behind { IfOk result (λ rest. length rest.now + 1 ≡ length ints.now) }
     ensures fault { IfErr result (λ fault. (closed : Bool) (from : Pt) → line_at closed from ints.now ≡ Err fault) }
@@ -170,9 +170,30 @@ fn start_of(ints: &[u32]) -> Result<&[u32], GeometryFault>
     Ok(rest)
 }
 
+/// The first point of a line, and the integers after it.
+pub(crate) fn first_of(from: Pt, ints: &[u32]) -> Result<(Pt, &[u32]), GeometryFault>
+    ensures exact { Reads (λ x. (x.0 ∷ [], x.0, x.1.now)) result (walk_at 1 [] from ints.now) }
+    ensures behind { IfOk result (λ x. length x.1.now + 2 ≡ length ints.now) }
+    ensures memory { result ≢ Err GeometryFault.Memory }
+{
+    step_of(from, ints)
+}
+
+/// The first point of a line, in a vector with room for `count` more, or for as many as the integers hold.
+fn first_in(alloc: Global, first: Pt, count: u32, ints: &[u32]) -> Result<Vec<Pt>, GeometryFault>
+    ensures first { IfOk result (λ points. points.items ≡ first ∷ []) }
+    ensures room { IfOk result (λ points. 1 + min count (length ints.now / 2) ≤ vec_capacity points) }
+    ensures memory { IfErr result (λ fault. fault ≡ GeometryFault.Memory) }
+{
+    let most = (count as usize).min(ints.len() / 2);
+    let mut points = Vec::with_capacity(alloc, 1 + most)?;
+    points.push_reserved(first);
+    Ok(points)
+}
+
 /// The count of points of a line after its first one, and the integers after this command.
 #[tactic(auto, unfolding(crate::specs::Decoding::line_second, crate::specs::Decoding::line_others))]
-fn count_of(closed: bool, ints: &[u32]) -> Result<(u32, &[u32]), GeometryFault>
+pub(crate) fn count_of(closed: bool, ints: &[u32]) -> Result<(u32, &[u32]), GeometryFault>
     ensures found { IfOk result (λ x. (command_at line_to ints.now ≡ Ok (x.0, x.1.now)) × (least closed ≤ x.0)) }
     ensures fault { IfErr result (λ fault. (points : List Pt) (at : Pt) → line_second closed (points, at, ints.now) ≡ Err fault) }
     ensures memory { result ≢ Err GeometryFault.Memory }
@@ -198,9 +219,10 @@ fn line_of(
     ensures memory { IfErr result (λ fault. fault ≡ GeometryFault.Memory → 3 ≤ length ints.now) }
 {
     let rest = start_of(ints)?;
-    let (points, at, rest) = walk(Vec::new(alloc), from, 1, rest)?;
+    let (first, rest) = first_of(from, rest)?;
     let (count, rest) = count_of(closed, rest)?;
-    let (points, at, rest) = walk(points, at, count, rest)?;
+    let begun = first_in(alloc, first, count, rest)?;
+    let (points, at, rest) = walk(begun, first, count, rest)?;
     let rest = close_of(closed, rest)?;
     Ok((points, at, rest))
 }
@@ -224,7 +246,7 @@ fn lines_of(alloc: Global, closed: bool, ints: &[u32]) -> Result<Vec<Vec<Pt>>, G
 
 /// The count of points, at least one, and the integers after this command.
 #[tactic(auto, unfolding(crate::specs::Decoding::points_at, crate::specs::Decoding::points_behind))]
-fn points_count(ints: &[u32]) -> Result<(u32, &[u32]), GeometryFault>
+pub(crate) fn points_count(ints: &[u32]) -> Result<(u32, &[u32]), GeometryFault>
     requires { 0 < length ints.now }
     ensures found { IfOk result (λ x. (command_at move_to ints.now ≡ Ok (x.0, x.1.now)) × (0 < x.0)) }
     ensures behind { IfOk result (λ x. length x.1.now + 1 ≡ length ints.now) }
