@@ -1,7 +1,5 @@
 mod Exits
-mod Growing
 mod Opened
-mod Outside
 mod Served
 mod Steps
 mod Stretch

@@ -1,18 +1,15 @@
 -- Sectors that are copied one after the other.
-use Rattle.std.proofs.Common.{◌≡◌, ◌⊎◌, inl, inr, ⊎_elim, ℕ, zero, suc, ◌≤◌, ◌<◌, ◌+◌, ◌-◌, ◌*◌, ◌%◌, List, refl, sym, ◌∙◌, ap, subst, arith}
+use Rattle.std.proofs.Common.{◌≡◌, ◌⊎◌, inl, inr, ⊎_elim, ℕ, ◌≤◌, ◌<◌, ◌+◌, ◌-◌, ◌%◌, List, refl, sym, ◌∙◌, ap, subst, arith}
 use Rattle.std.proofs.Common.{Result, Ok, Err}
-use Rattle.std.specs.Prelude.{OnOk, IfOk}
+use Rattle.std.specs.Prelude.{IfOk}
+use Rattle.std.proofs.Math.Nat.{mod-eq_of_lt}
 use Rattle.std.proofs.lemmas.Bool.{cases_eq, cases_lt}
 use Rattle.sector_disk.specs.Disk.{History, Image, seen}
 use Rattle.sector_disk.specs.Disk.History.{wrote}
 use Rattle.sector_disk.proofs.History.{seen_same, seen_other}
 use Rattle.edit_journal.specs.Ring.{Ring, sector_at}
-use Rattle.generations.specs.Areas.{area_start, area_sectors, journal_sectors, sectors_of}
-use Rattle.generations.specs.Sectors.{CanStand}
-use Rattle.generations.specs.Installs.{root_at}
-use Rattle.generations.specs.declared.sizes.TheConstants.{JOURNAL_START}
 use Rattle.generations.specs.declared.root.Root.{Root}
-use Rattle.disk_copy.specs.Copies.{IsIn, IsUsed, Copies, CopiesAs, IsFront, IsNamed, ring_in}
+use Rattle.disk_copy.specs.Copies.{IsIn, ring_from, IsUsed, CopiesAs, IsFront, IsNamed, ring_in}
 use Rattle.disk_copy.specs.Shared.{GoesOn, IsOf}
 
 -- no sector is copied
@@ -71,17 +68,20 @@ of_longer images from to first last at bytes early late is = (is.0, omega (arith
 
 -- ---- consecutive sectors
 
-pub in_none : (is : ℕ → List ℕ → Type 0) (first : ℕ) (old : Image) → CopiesAs is (IsIn first 0) old old
-in_none is first old = copies_none is (IsIn first 0) old (λ at there. omega (arith, there.0, there.1))
+-- they are the places of a ring that has no others
+pub ring_in_range : (first count at : ℕ) → IsUsed (ring_from first count) 0 count at → IsIn first count at
+ring_in_range first count at is =
+    let same : is.0 % count ≡ is.0 = mod-eq_of_lt is.1 in
+    (omega (arith, is.2), omega (arith, is.1, is.2, same))
 
-pub in_more : (is : ℕ → List ℕ → Type 0) (first done : ℕ) (bytes : List ℕ) (old : Image) (before after : History) → is (first + done) bytes
-    → after ≡ wrote (first + done) bytes before → CopiesAs is (IsIn first done) old (seen before) → CopiesAs is (IsIn first (done + 1)) old (seen after)
-in_more is first done bytes old before after = one_more is (IsIn first done) (IsIn first (done + 1)) old before after (first + done) bytes
-    (λ at is. (is.0, omega (arith, is.1)))
-    (omega arith, omega arith)
-    (λ at is. ⊎_elim (λ (lt : at < first + done). inl (is.0, lt)) (λ (ge : first + done ≤ at). inr (omega (arith, ge, is.1))) (cases_lt at (first + done)))
+pub in_ring : (first count at : ℕ) → IsIn first count at → IsUsed (ring_from first count) 0 count at
+in_ring first count at is =
+    let small : at - first < count = omega (arith, is.0, is.1) in
+    let from : 0 + (at - first) ≡ at - first = omega arith in
+    let same : (0 + (at - first)) % count ≡ at - first = ap (λ (k : ℕ). k % count) from ∙ mod-eq_of_lt small in
+    let back : first + (at - first) ≡ at = omega (arith, is.0) in (at - first, small, sym (ap (λ (k : ℕ). first + k) same ∙ back))
 
--- ---- places of a journal
+-- ---- places of a ring
 
 pub used_none : (is : ℕ → List ℕ → Type 0) (ring : Ring) (place : ℕ) (old : Image) → CopiesAs is (IsUsed ring place 0) old old
 used_none is ring place old = copies_none is (IsUsed ring place 0) old (λ at there. omega (arith, there.1))
@@ -123,64 +123,9 @@ used_then is ring place used parts old middle new first second =
 
 -- ---- all that a root names
 
-pub all_front : (is : ℕ → List ℕ → Type 0) (n : ℕ) (root : Root) (a b c d : Image) → CopiesAs is (IsIn 0 1) a b
-    → CopiesAs is (IsIn (root_at root.generation) 1) b c
-    → CopiesAs is (IsIn (area_start n root.generation) (sectors_of root.snapshot_len + sectors_of root.archive_len)) c d
-    → CopiesAs is (IsFront n root) a d
-all_front is n root a b c d format live area =
-    let front = both is (IsIn 0 1) (IsIn (root_at root.generation) 1) a b c format live in
-    both is (λ at. IsIn 0 1 at ⊎ IsIn (root_at root.generation) 1 at)
-    (IsIn (area_start n root.generation) (sectors_of root.snapshot_len + sectors_of root.archive_len)) a c d front area
-
 pub all_named : (is : ℕ → List ℕ → Type 0) (n : ℕ) (root : Root) (used : ℕ) (a b c : Image) → CopiesAs is (IsFront n root) a b
     → CopiesAs is (IsUsed (ring_in n) root.journal_at used) b c → CopiesAs is (IsNamed n root used) a c
 all_named is n root used a b c front journal = both is (IsFront n root) (IsUsed (ring_in n) root.journal_at used) a b c front journal
-
-below : (n journal area taken parity start count : ℕ) → parity < 2 → start ≡ JOURNAL_START + journal + parity * area → taken ≤ area
-    → JOURNAL_START + journal + 2 * area ≤ n → n ≤ count → start + taken ≤ count
-below n journal area taken zero start count lt is small fits on_disk = omega (arith, is, small, fits, on_disk)
-below n journal area taken (suc zero) start count lt is small fits on_disk = omega (arith, is, small, fits, on_disk)
-below n journal area taken (suc (suc k)) start count lt is small fits on_disk = absurd (omega (arith, lt))
-
--- what stands in an area ends within the disk
-pub area_end : (n journal area start snapshot archive count : ℕ) (root : Root) → CanStand n root → journal ≡ journal_sectors n → area ≡ area_sectors n
-    → start ≡ area_start n root.generation → snapshot ≡ sectors_of root.snapshot_len → archive ≡ sectors_of root.archive_len
-    → JOURNAL_START + journal + 2 * area ≤ n → n ≤ count → start + (snapshot + archive) ≤ count
-area_end n journal area start snapshot archive count root can journal_is area_is start_is snapshot_is archive_is =
-    below n journal area (snapshot + archive) (root.generation % 2) start count (omega arith)
-    (rw (area_is, journal_is) start_is) (rw (snapshot_is, archive_is, area_is) can.area)
-
--- the same by three calls, with what each of them read
-pub front_by_calls : (n : ℕ) (root : Root) (h one two : History) (a b c d : Image) (area taken : ℕ)
-    → area ≡ area_start n root.generation → taken ≡ sectors_of root.snapshot_len + sectors_of root.archive_len
-    → one ≡ h → two ≡ h → Copies (IsIn 0 1) (seen h) a b → Copies (IsIn (root_at root.generation) 1) (seen one) b c
-    → Copies (IsIn area taken) (seen two) c d → Copies (IsFront n root) (seen h) a d
-front_by_calls n root h one two a b c d area taken area_is taken_is one_is two_is format live middle =
-    let long : ℕ = sectors_of root.snapshot_len + sectors_of root.archive_len in
-    all_front (λ at bytes. bytes ≡ seen h at) n root a b c d format
-    (subst (λ (x : History). Copies (IsIn (root_at root.generation) 1) (seen x) b c) one_is live)
-    (subst (λ (x : History). Copies (IsIn (area_start n root.generation) long) (seen x) c d) two_is
-    (subst (λ (t : ℕ). Copies (IsIn (area_start n root.generation) t) (seen two) c d) taken_is
-    (subst (λ (f : ℕ). Copies (IsIn f taken) (seen two) c d) area_is middle)))
-
--- and of what is shared: each of them read at moments of its own
-pub front_of_moments : (images : ℕ → Image) (n : ℕ) (root : Root) (m0 m1 m2 m3 : ℕ) (a b c d : Image) (area taken : ℕ)
-    → area ≡ area_start n root.generation → taken ≡ sectors_of root.snapshot_len + sectors_of root.archive_len
-    → m0 ≤ m1 → m1 ≤ m2 → m2 ≤ m3 → CopiesAs (IsOf images m0 m1) (IsIn 0 1) a b
-    → CopiesAs (IsOf images m1 m2) (IsIn (root_at root.generation) 1) b c
-    → CopiesAs (IsOf images m2 m3) (IsIn area taken) c d → CopiesAs (IsOf images m0 m3) (IsFront n root) a d
-front_of_moments images n root m0 m1 m2 m3 a b c d area taken area_is taken_is first second third format live middle =
-    let long : ℕ = sectors_of root.snapshot_len + sectors_of root.archive_len in
-    let place : ℕ = area_start n root.generation in
-    all_front (IsOf images m0 m3) n root a b c d
-    (copies_as (IsOf images m0 m1) (IsOf images m0 m3) (IsIn 0 1) a b
-    (λ at bytes there. of_longer images m0 m1 m0 m3 at bytes (omega arith) (omega (arith, second, third))) format)
-    (copies_as (IsOf images m1 m2) (IsOf images m0 m3) (IsIn (root_at root.generation) 1) b c
-    (λ at bytes there. of_longer images m1 m2 m0 m3 at bytes first third) live)
-    (copies_as (IsOf images m2 m3) (IsOf images m0 m3) (IsIn place long) c d
-    (λ at bytes there. of_longer images m2 m3 m0 m3 at bytes (omega (arith, first, second)) (omega arith))
-    (subst (λ (t : ℕ). CopiesAs (IsOf images m2 m3) (IsIn place t) c d) taken_is
-    (subst (λ (f : ℕ). CopiesAs (IsOf images m2 m3) (IsIn f taken) c d) area_is middle)))
 
 -- ---- time
 
@@ -195,10 +140,6 @@ module _ {S : Type 0} {shared : S → Type 0} {now : S → ℕ} where
   goes_none disk = record { later = omega arith; was_shared = λ is. is }
 
 -- what follows from success, of a call that is the last
-pub on_ok : {T E P Q : Type 0} → (P → Q) → (result : Result T E) → OnOk result P → OnOk result Q
-on_ok f (Ok value) p = f p
-on_ok f (Err fault) p = tt
-
 pub if_ok : {T E : Type 0} {P Q : T → Type 0} → ((value : T) → P value → Q value) → (result : Result T E) → IfOk result P → IfOk result Q
 if_ok f (Ok value) p = f value p
 if_ok f (Err fault) p = tt

@@ -12,9 +12,13 @@ use Rattle.generations.specs.Sectors.{zeros, version_from}
 use Rattle.generations.specs.declared.root.Root.{Root}
 use Rattle.generations.specs.declared.sizes.TheConstants.{JOURNAL_START}
 
+-- the ring of this many sectors, from a first one on
+abbrev pub ring_from : (first places : ℕ) → Ring
+ring_from first places = record { first = first; places = places }
+
 -- the ring of the journal on a disk of n sectors
 abbrev pub ring_in : (n : ℕ) → Ring
-ring_in n = record { first = JOURNAL_START; places = journal_sectors n }
+ring_in n = ring_from JOURNAL_START (journal_sectors n)
 
 -- the records are those of the journal that a root names, on a disk of n sectors and of this version
 abbrev pub IsJournalOf : (n version : ℕ) → Root → List RecordData → Image → Type 0

@@ -4,7 +4,6 @@
 mod copying;
 mod fault;
 mod first;
-mod moments;
 mod records;
 mod sectors;
 mod shared;
@@ -12,6 +11,5 @@ mod watched;
 
 pub use copying::copy_disk;
 pub use fault::CopyFault;
-pub use moments::read_shows_one_moment;
 pub use shared::SharedSectors;
 pub use watched::{AnyMoments, Moments, Reads, SharedDisk};
