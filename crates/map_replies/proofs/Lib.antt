@@ -3,6 +3,7 @@ mod Answering
 mod CheckedEdits
 mod ConditionLemmas
 pub mod Connections
+pub mod Passing
 mod TicketLemmas
 mod PartLemmas
 mod FeedLemmas

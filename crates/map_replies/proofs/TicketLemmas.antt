@@ -4,11 +4,11 @@ use Rattle.std.specs.Prelude.{Result, Ok, Err, IfErr}
 use Rattle.http_requests.specs.Requests.{RequestView}
 use Rattle.http_serve.specs.Reply.{ReplyView}
 use Rattle.sector_disk.specs.Asked.{OnlyReads}
-use Rattle.sector_disk.specs.Disk.{History, seen}
+use Rattle.sector_disk.specs.Disk.{History, moment, seen}
 use Rattle.sector_disk.proofs.AskedLaws.{writes_on, reads_may, reads_none}
 use Rattle.published_tiles.specs.declared.place.ArchivePlace.{ArchivePlace}
 use Rattle.tile_service.specs.Machine.{Happening, Runs}
-use Rattle.tile_service.specs.Runs.{IsTrusted, way_of}
+use Rattle.tile_service.specs.Runs.{IsTrusted, Way, way_of}
 use Rattle.edit_journal.specs.Appends.{ring_of}
 use Rattle.edit_journal.specs.Ring.{sector_at}
 use Rattle.tile_service.specs.Service.{ServiceView, StaysInUse, IsUp, IsPlaceIn, HasArchive, ShowsArchive, state_of, status_of, archive_of}
@@ -28,6 +28,20 @@ use Rattle.map_replies.specs.Parts.{start_of, archive_tag}
 use Rattle.map_replies.specs.State.{asked_service, ServiceSends}
 use Rattle.map_replies.specs.Tickets.{place_of, ticket_for, oldest_after, IsThere, KeepsTickets, ReadsRest}
 use Rattle.map_replies.proofs.SendingLemmas.{content_of, slice_inner, shows_on}
+
+-- what some events left of a history is what they left of the same one
+leaves_same : (count n : ℕ) (start : Stored) (way : Option Way) (events : List Happening) (old h new : History) → new ≡ h
+    → RunLeaves count n start way events old h → RunLeaves count n start way events old new
+leaves_same count n start way events old h new same left = record {
+  within = left.within;
+  by = left.by;
+  begins = left.begins;
+  goes_on = left.goes_on;
+  ends = left.ends ∙ sym same;
+  earlier = λ k le. subst (λ (last : History). moment (left.by k) ≤ moment last) (sym same) (left.earlier k le);
+  settled = left.settled;
+  images = left.images;
+}
 
 module _ {D : Type 0} (sectors : D → ℕ) (honest : D → Type 0) (history : D → History) where
   -- ---- a run goes on over a read
@@ -78,10 +92,16 @@ module _ {D : Type 0} (sectors : D → ℕ) (honest : D → Type 0) (history : D
         reaches = so_far.reaches;
         way_is = ap (λ (s : ServiceView D). way_of stored.edits s.publication) same ∙ so_far.way_is;
       };
-      leaves = λ stored is_honest up. subst
-          (λ (h : History). RunLeaves (sectors first.disk) first.size stored (way_of stored.edits first.publication) events (history first.disk) h)
-          (sym (reads.same_history is_honest)) (so.leaves stored (reads.was_honest is_honest) up);
+      leaves = λ stored is_honest up. leaves_same (sectors first.disk) first.size stored (way_of stored.edits first.publication) events
+          (history first.disk) (history now.disk) (history new.disk) (reads.same_history is_honest)
+          (so.leaves stored (reads.was_honest is_honest) up);
     }
+
+    -- by the same histories
+    pub reads_by : (stored : Stored) (is_honest : honest new.disk) (up : IsUp (sectors first.disk) (history first.disk) stored first) (k : ℕ)
+        → (run_reads.leaves stored is_honest up).by k ≡ (so.leaves stored (reads.was_honest is_honest) up).by k
+    unfolding run_reads leaves_same
+    reads_by stored is_honest up k = refl
 
   -- ---- tickets
 

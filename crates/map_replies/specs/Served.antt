@@ -5,7 +5,7 @@ use Rattle.http_serve.specs.declared.connection.Served.{Served}
 use Rattle.http_serve.specs.Told.{IsServed, IsServedUpTo, HasContent, MeetsTurns, KeepsTurns, AnswersInput}
 use Rattle.sector_disk.specs.Disk.{History}
 use Rattle.tile_service.specs.Machine.{Happening}
-use Rattle.tile_service.specs.Runs.{TakesRun}
+use Rattle.tile_service.specs.Runs.{TakesRun, TakesStates}
 use Rattle.map_replies.specs.declared.service.MapReplies.{MapReplies}
 use Rattle.map_replies.specs.State.{asked_service, sending_size, ServiceReplies, Tells, TellsCut, course}
 
@@ -23,12 +23,14 @@ pub record ServesMap {D R W : Type 0} (sectors : D → ℕ) (honest : D → Type
   pub served : IfOk result (λ outcome. (run : List Happening)
       × IsServed (Tells sectors honest history faults) (course old []) (remaining reader) (contents writer) outcome
       (course new run) (remaining next_reader) (contents next_writer)
-      × TakesRun sectors honest history (asked_service old) run (asked_service new))
+      × TakesRun sectors honest history (asked_service old) run (asked_service new)
+      × TakesStates sectors honest history (asked_service old) run (asked_service new))
   -- the same up to a fault of the connection
   pub fault : IfErr result (λ why. (run : List Happening)
       × IsServedUpTo (Tells sectors honest history faults) (TellsCut sectors honest history faults) (course old []) (remaining reader)
       (contents writer) why (course new run) (remaining next_reader) (contents next_writer)
-      × TakesRun sectors honest history (asked_service old) run (asked_service new))
+      × TakesRun sectors honest history (asked_service old) run (asked_service new)
+      × TakesStates sectors honest history (asked_service old) run (asked_service new))
   -- the fault is the disk's only while the archive is being sent
   pub content : IfErr result (HasContent (sending_size new))
   -- the limit on reads is reached only after that many reads

@@ -11,6 +11,8 @@ use Rattle.sector_disk.specs.Disk.{History}
 use Rattle.tile_service.proofs.Runs.Callers.{takes_run}
 use Rattle.tile_service.specs.Machine.{Happening}
 use Rattle.tile_service.specs.Runs.{TakesRun}
+use Rattle.map_replies.specs.Moments.{TakesBetweenReads}
+use Rattle.map_replies.proofs.Passing.{takes_between}
 
 module _ {D : Type 0} (sectors : D → ℕ) (honest : D → Type 0) (history : D → History) (faults : D → ℕ) where
   -- the events that a service answers, and those that report what happens to it
@@ -65,9 +67,11 @@ module _ {D : Type 0} (sectors : D → ℕ) (honest : D → Type 0) (history : D
   pub stretches_run : (old : MapReplies D) (served : List Event) (new : MapReplies D) → ServiceServes old served new
       → (run : List Happening) × TellsAll (course old []) served (course new run)
       × TakesRun sectors honest history (asked_service old) run (asked_service new)
+      × TakesBetweenReads sectors honest history (asked_service old) run (asked_service new)
   stretches_run old served new is =
       let along = all_along old served old new (course old []) (goes_from sectors honest history faults old) is in (
         along.0.run,
         subst (λ (c : Course D). TellsAll (course old []) served c) along.2.0 along.1,
-        takes_run sectors honest history (asked_service old) along.0.run (asked_service new) along.2.1,
+        takes_run sectors honest history (asked_service old) along.0.run (asked_service new) along.2.1.run,
+        takes_between sectors honest history (asked_service old) along.0.run (asked_service new) along.2.1,
       )

@@ -1,6 +1,7 @@
 //! The connections of a listener to one map.
 ghost use Rattle.std.specs.Prelude.{◌≡◌, ◌<◌, List, [], OnOk, OnErr};
 ghost use Rattle.http_listen.specs.Connections.{AreOverKnown, Event, Serves, begun};
+ghost use Rattle.map_replies.specs.Moments.{TakesBetweenReads};
 ghost use Rattle.map_replies.specs.State.{asked_service, Tells, TellsCut, TellsRead, course};
 ghost use Rattle.tile_service.specs.Machine.{Happening};
 ghost use Rattle.tile_service.specs.Runs.{TakesRun};
@@ -33,16 +34,19 @@ where
     W: Write,
     C: Clock,
     // The replies of all stretches, in order, report one run of the service. A crash at any moment leaves some first edits of it: all
-    // that were acknowledged by then, on whatever connection, and none asked for later. Reads of downloads between them add nothing to it.
+    // that were acknowledged by then, on whatever connection, and none asked for later. Reads of downloads between them add nothing to it,
+    // and what a crash leaves is told by the states that the calls left.
     // The bytes of each stretch are known; that they came from an accepted stream is in no clause.
     ensures all { OnOk result ((served : List Event) × (begun served ≡ connections) × AreOverKnown served × (run : List Happening)
         × Serves (Tells D.sectors D.honest D.history D.faults) (TellsCut D.sectors D.honest D.history D.faults)
         (TellsRead D.sectors D.honest D.history D.faults) (course service.old []) served (course service.new run)
-        × TakesRun D.sectors D.honest D.history (asked_service service.old) run (asked_service service.new)) }
+        × TakesRun D.sectors D.honest D.history (asked_service service.old) run (asked_service service.new)
+        × TakesBetweenReads D.sectors D.honest D.history (asked_service service.old) run (asked_service service.new)) }
     ensures fewer { OnErr result ((served : List Event) × (begun served < connections) × AreOverKnown served × (run : List Happening)
         × Serves (Tells D.sectors D.honest D.history D.faults) (TellsCut D.sectors D.honest D.history D.faults)
         (TellsRead D.sectors D.honest D.history D.faults) (course service.old []) served (course service.new run)
-        × TakesRun D.sectors D.honest D.history (asked_service service.old) run (asked_service service.new)) }
+        × TakesRun D.sectors D.honest D.history (asked_service service.old) run (asked_service service.new)
+        × TakesBetweenReads D.sectors D.honest D.history (asked_service service.old) run (asked_service service.new)) }
 {
     serve_on(clock, alloc, listener, connections, service, log)
 }

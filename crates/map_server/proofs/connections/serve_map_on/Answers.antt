@@ -6,12 +6,12 @@ pub returns-clause-all : goal.returns-clause-all
 returns-clause-all g c = told_ok c.serve_on.result _ _
     (λ is. let d = g.D.Sectors in
     let told = stretches_run d.sectors d.honest d.history d.faults c.args.service.now is.0 c.serve_on.new.handler is.1 in
-    (is.0, is.2, is.3, told.0, told.1, told.2))
+    (is.0, is.2, is.3, told.0, told.1, told.2, told.3))
     c.serve_on.ensures.known
 
 pub returns-clause-fewer : goal.returns-clause-fewer
 returns-clause-fewer g c = told_err c.serve_on.result _ _
     (λ is. let d = g.D.Sectors in
     let told = stretches_run d.sectors d.honest d.history d.faults c.args.service.now is.0 c.serve_on.new.handler is.1 in
-    (is.0, is.2, is.3, told.0, told.1, told.2))
+    (is.0, is.2, is.3, told.0, told.1, told.2, told.3))
     c.serve_on.ensures.fewer_known
