@@ -1,6 +1,7 @@
 -- Going over lists, state by state.
-use Rattle.std.proofs.Common.{◌≡◌, ℕ, zero, suc, ◌+◌, ◌<◌, ◌≤◌, List, [], ◌∷◌, ◌++◌, length, map, drop, get_or, add-one, Result, Ok, Err, refl, sym, ap, ◌∙◌}
+use Rattle.std.proofs.Common.{◌≡◌, ℕ, zero, suc, ◌+◌, ◌*◌, ◌%◌, ◌<◌, ◌≤◌, true, false, ltb, List, [], ◌∷◌, ◌++◌, length, map, drop, get_or, add-one, Result, Ok, Err, refl, sym, ap, ◌∙◌}
 use Rattle.std.proofs.Common.{arith}
+use Rattle.std.proofs.lemmas.Bool.{le-ltb, lt-ltb}
 use Rattle.std.proofs.lemmas.List.{length-drop, drop_all, map-append}
 use Rattle.std.proofs.Math.Seq.{drop-cons}
 use Rattle.std.specs.Borrow.{Bor}
@@ -8,7 +9,7 @@ use Rattle.mvt_layer.specs.Tile.{bytes_of}
 use Rattle.reader.specs.Reading.{Read, ◌>>=◌, folded}
 use Rattle.reader.proofs.Steps.{done, same_value, not_both, then_on, then_stop, then_same, folded_on, folded_stop, folded_done}
 use Rattle.pb_wire.specs.declared.fault.FaultKind.{FaultKind}
-use Rattle.pb_wire.specs.Varint.{varint_at}
+use Rattle.pb_wire.specs.Varint.{behind, read_in, varint_at}
 use Rattle.pb_wire.proofs.Message.{varint_len}
 use Rattle.mvt_layer.specs.declared.fault.TileFault.{TileFault}
 use Rattle.mvt_layer.specs.declared.fault.TileFault.TheVariants as faults
@@ -22,6 +23,17 @@ number_found bytes n = go (varint_at bytes)
     go : (read : Result (ℕ × ℕ) FaultKind) → or_broken read ≡ Ok n → read ≡ Ok n
     go (Ok x) e = ap (done {Fault = FaultKind}) (same_value {Fault = TileFault} x n e)
     go (Err kind) e = absurd (not_both n faults.Wire (sym e))
+
+-- a number of two bytes
+pub two_read : (bytes : List ℕ) → 2 ≤ length bytes → 128 ≤ get_or bytes 0 0 → get_or bytes 1 0 < 128
+    → number_at bytes ≡ Ok (get_or bytes 0 0 % 128 + 128 * get_or bytes 1 0, 2)
+unfolding varint_at read_in behind
+two_read [] two high low = absurd (omega arith)
+two_read (a ∷ []) two high low = absurd (omega arith)
+two_read (a ∷ b ∷ bs) two high low =
+    let first : ltb a 128 ≡ false = le-ltb a 128 high in
+    let second : ltb b 128 ≡ true = lt-ltb b 128 low in
+    rw (first, second) refl
 
 -- so many at most makes no difference where the bytes are no more
 pub packed_same : (m n : ℕ) (before bytes : List ℕ) → length bytes ≤ m → length bytes ≤ n → packed_in m before bytes ≡ packed_in n before bytes

@@ -61,11 +61,11 @@ Holds keys used = (q : ℕ) → uses keys q ≡ has_number used q
 holds_more : (old new : UsedKeys) (used : List ℕ) (k : ℕ) → Holds old used → UsesMore old new k → Holds new (used ++ k ∷ [])
 holds_more old new used k same more = λ q. more q ∙ (ap (cond (eqb k q) true) (same q) ∙ sym (any_push (λ m. eqb m q) used k))
 
-not_added : (b : Bool) → false ≡ not b → b ≡ true
+pub not_added : (b : Bool) → false ≡ not b → b ≡ true
 not_added true e = refl
 not_added false e = absurd cc
 
-added : (b : Bool) → true ≡ not b → b ≡ false
+pub added : (b : Bool) → true ≡ not b → b ≡ false
 added true e = absurd cc
 added false e = refl
 

@@ -18,9 +18,9 @@ use std::alloc::Global;
 /// Lists that one feature after the other fills, so that a layer takes their memory once.
 #[derive(Drop)]
 pub(crate) struct FeatureLists {
-    indices: Vec<u32>,
-    ints: Vec<u32>,
-    used: UsedKeys,
+    pub(crate) indices: Vec<u32>,
+    pub(crate) ints: Vec<u32>,
+    pub(crate) used: UsedKeys,
 }
 
 impl FeatureLists {
@@ -35,7 +35,7 @@ impl FeatureLists {
 }
 
 /// The tag of these two indices.
-fn tag_of<'a>(
+pub(crate) fn tag_of<'a>(
     keys: &[&'a str],
     values: &[TagValue<'a>],
     key: u32,
@@ -81,7 +81,7 @@ fn tags_of<'a>(
 }
 
 /// The kind of a feature; unknown if it has none, or one that the standard does not define.
-fn kind_said(kind: Option<u64>) -> ShapeKind
+pub(crate) fn kind_said(kind: Option<u64>) -> ShapeKind
     ensures { result ≡ kind_of kind }
 {
     match kind {

@@ -42,7 +42,7 @@ fn texts_of<'a>(alloc: Global, raw: &[&'a [u8]]) -> Result<Vec<&'a str>, TileFau
 }
 
 /// The keys of a layer, where its fields could be read.
-fn keys_of<'a>(
+pub(crate) fn keys_of<'a>(
     alloc: Global,
     raw: &Result<Vec<&'a [u8]>, TileFault>,
 ) -> Result<Vec<&'a str>, TileFault>
@@ -67,7 +67,7 @@ fn tag_values_of<'a>(alloc: Global, raw: &[&'a [u8]]) -> Result<Vec<TagValue<'a>
 }
 
 /// The tag values of a layer, where its fields could be read.
-fn values_of<'a>(
+pub(crate) fn values_of<'a>(
     alloc: Global,
     raw: &Result<Vec<&'a [u8]>, TileFault>,
 ) -> Result<Vec<TagValue<'a>>, TileFault>
@@ -118,7 +118,7 @@ fn features_of<'a>(
 }
 
 /// The layer's name.
-fn name_of(last: Result<Option<&[u8]>, TileFault>) -> Result<&str, TileFault>
+pub(crate) fn name_of(last: Result<Option<&[u8]>, TileFault>) -> Result<&str, TileFault>
     ensures { Reads (λ t. t.now) result (onward (option_map (λ b. b.now)) last.entry name_at) }
 {
     match last? {
@@ -145,7 +145,7 @@ fn small(otherwise: u32, last: Option<u64>) -> Result<u32, TileFault>
 
 /// The layer's version, `DEFAULT_VERSION` if it states none.
 #[tactic(auto, unfolding(crate::specs::Reading::version_at))]
-fn version_of(last: Result<Option<u64>, TileFault>) -> Result<u32, TileFault>
+pub(crate) fn version_of(last: Result<Option<u64>, TileFault>) -> Result<u32, TileFault>
     ensures { Reads (λ n. n) result (onward (λ n. n) last version_at) }
 {
     let n = small(DEFAULT_VERSION, last?)?;
@@ -158,7 +158,7 @@ fn version_of(last: Result<Option<u64>, TileFault>) -> Result<u32, TileFault>
 
 /// The layer's extent, `DEFAULT_EXTENT` if it states none.
 #[tactic(auto, unfolding(crate::specs::Reading::extent_at))]
-fn extent_of(last: Result<Option<u64>, TileFault>) -> Result<u32, TileFault>
+pub(crate) fn extent_of(last: Result<Option<u64>, TileFault>) -> Result<u32, TileFault>
     ensures { Reads (λ n. n) result (onward (λ n. n) last extent_at) }
 {
     let n = small(DEFAULT_EXTENT, last?)?;

@@ -1,6 +1,6 @@
 //! What the fields of one number say, one item after the other.
 
-ghost use Rattle.std.specs.Prelude.{◌≡◌, ℕ, ◌<◌, ◌≤◌, length, List, Option, IfOk, IfErr, IsTrue};
+ghost use Rattle.std.specs.Prelude.{◌≡◌, ℕ, ◌+◌, ◌<◌, ◌≤◌, length, List, Option, Ok, IfSome, IfOk, IfErr, OnOk, IsTrue, vec_len, vec_capacity};
 ghost use Rattle.reader.specs.Reading.{Reads, Finds, Gives};
 ghost use Rattle.std.specs.Option.{option_map};
 ghost use Rattle.pb_wire.specs.Items.{item_view};
@@ -134,11 +134,46 @@ fn add_number(numbers: &mut Vec<u32>, n: u64) -> Result<(), TileFault>
     Ok(())
 }
 
-/// The first of packed numbers, and its length in bytes.
+/// One number of 32 bits more, for which there is room.
+fn add_reserved(numbers: &mut Vec<u32>, n: u64) -> Result<(), TileFault>
+    requires { vec_len numbers.old < vec_capacity numbers.old }
+    ensures exact { Reads (λ _. numbers.new.items) result (number_more numbers.old.items n) }
+    ensures len { OnOk result (vec_len numbers.new ≡ vec_len numbers.old + 1) }
+    ensures capacity { vec_capacity numbers.new ≡ vec_capacity numbers.old }
+{
+    if n > 4_294_967_295 {
+        return Err(TileFault::Range);
+    }
+    numbers.push_reserved(n as u32);
+    Ok(())
+}
+
+/// The first number, if it takes two bytes.
+fn two_bytes(bytes: &[u8]) -> Option<u64>
+    ensures { IfSome result (λ n. (2 ≤ length bytes.now) × (number_at bytes.now ≡ Ok (n, 2))) }
+{
+    if bytes.len() < 2 {
+        return None;
+    }
+    let low = bytes[0];
+    let high = bytes[1];
+    if low < 128 {
+        return None;
+    }
+    if high > 127 {
+        return None;
+    }
+    Some((low % 128) as u64 + 128 * high as u64)
+}
+
+/// The first of packed numbers, and its length in bytes. Most numbers take one byte or two.
 fn packed_number(bytes: &[u8]) -> Result<(u64, usize), TileFault>
     ensures within { IfOk result (λ r. (0 < r.1) × (r.1 ≤ length bytes.now)) }
     ensures exact { Reads (λ r. r) result (number_at bytes.now) }
 {
+    if let Some(n) = two_bytes(bytes) {
+        return Ok((n, 2));
+    }
     match get_varint(bytes) {
         Ok(read) => Ok(read),
         Err(_) => Err(TileFault::Wire),
@@ -153,7 +188,7 @@ fn add_packed(numbers: &mut Vec<u32>, bytes: &[u8]) -> Result<(), TileFault>
     let mut rest = bytes;
     while rest.len() > 0 {
         let (n, len) = packed_number(rest)?;
-        add_number(numbers, n)?;
+        add_reserved(numbers, n)?;
         rest = &rest[len..];
     }
     Ok(())
