@@ -330,7 +330,7 @@ def downloads(script):
         size, last = part_of(script, at)
         cut = Peer((0, GET_ARCHIVE), (1, END), answered=[GET_ARCHIVE], takes=SLOW, size=size, last=last)
         other = Peer((at, PUBLISH), (at, BEGIN), (at, STEP), (at, END), answered=[PUBLISH, BEGIN, STEP], last=at)
-        listen(script, cut, other, log=logged((2, 3, "closed"), (1, 0, "device")), time=last)
+        listen(script, cut, other, log=logged((2, 3, "closed"), (1, 0, "gone")), time=last)
     script.note("Two downloads of different archives at once, each of its own to the last byte.")
     published(script)
     last = time_for(reply_size(script, GET_ARCHIVE), *SLOW)

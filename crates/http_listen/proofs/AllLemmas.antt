@@ -1,10 +1,11 @@
 -- All conversations, as one of them goes on.
-use Rattle.std.proofs.Common.{unwrap_or, ◌≡◌, ◌≢◌, ℕ, List, [], ◌∷◌, ◌++◌, Bool, true, false, cond, Some, refl, sym, ap, subst, ◌∙◌}
+use Rattle.std.proofs.Common.{unwrap_or, ◌≡◌, ◌≢◌, ℕ, List, [], ◌∷◌, ◌++◌, Bool, true, false, cond, Some, Result, refl, sym, ap, subst, ◌∙◌}
 use Rattle.std.proofs.lemmas.Bool.{eqb-true, eqb-false, eq-eqb, ne_eqb}
 use Rattle.std.specs.Prelude.{nat_eq}
 use Rattle.std.specs.declared.option.Option.{Option}
 use Rattle.http_requests.specs.Requests.{RequestView}
 use Rattle.http_serve.specs.Reply.{ReplyView}
+use Rattle.http_serve.specs.declared.handlers.RestFault.{RestFault}
 use Rattle.http_serve.specs.declared.handlers.Ticket.{Ticket}
 use Rattle.http_listen.specs.declared.kept.Kept.{Kept}
 use Rattle.http_listen.specs.Conversations.{Act, Deed, acts_of, Does, Runs, Steps, IsTalking, AreTalking, AreApart, Puts}
@@ -36,7 +37,7 @@ acts_of_other number other (deed ∷ deeds) act n =
     cons_same (nat_eq deed.number other) deed.act (acts_of other deeds) (acts_of other (deeds ++ deed_of number act ∷ [])) (acts_of_other number other deeds act n)
 
 module _ {S : Type 0} (replies fails : S → RequestView → ReplyView → S → Type 0)
-    (reads : S → Ticket → ℕ → Option (List ℕ) → S → Type 0) (ticket_of : S → Ticket) where
+    (reads : S → Ticket → (offset count : ℕ) → Result (List ℕ) RestFault → S → Type 0) (ticket_of : S → Ticket) where
   -- One deed more leads on.
   pub runs_on : (old middle new : S) (deeds : List Deed) (deed : Deed) → Runs replies fails reads ticket_of old deeds middle
       → Does replies fails reads ticket_of middle deed.act new → Runs replies fails reads ticket_of old (deeds ++ deed ∷ []) new

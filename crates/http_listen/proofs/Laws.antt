@@ -1,7 +1,8 @@
 -- Laws of events one after the other, for the crates above too.
-use Rattle.std.proofs.Common.{◌≡◌, ◌+◌, ℕ, List, [], ◌∷◌, ◌++◌, Option, length, refl, subst, ap, ◌∙◌, length-append, Bool, true, false, add-zero}
+use Rattle.std.proofs.Common.{◌≡◌, ◌+◌, ℕ, List, [], ◌∷◌, ◌++◌, Result, length, refl, subst, ap, ◌∙◌, length-append, Bool, true, false, add-zero}
 use Rattle.std.proofs.lemmas.List.Elements.{filter-append}
 use Rattle.std.specs.Prelude.{filter, Some}
+use Rattle.http_serve.specs.declared.handlers.RestFault.{RestFault}
 use Rattle.http_serve.specs.declared.handlers.Ticket.{Ticket}
 use Rattle.http_requests.specs.Requests.{RequestView}
 use Rattle.http_serve.specs.Reply.{ReplyView}
@@ -13,7 +14,8 @@ known_both : (front back : List Event) → AreOverKnown front → AreOverKnown b
 known_both [] back known then = then
 known_both (event ∷ front) back known then = (known.0, known_both front back known.1 then)
 
-module _ {S : Type 0} (replies fails : S → RequestView → ReplyView → S → Type 0) (reads : S → Ticket → ℕ → Option (List ℕ) → S → Type 0) where
+module _ {S : Type 0} (replies fails : S → RequestView → ReplyView → S → Type 0)
+    (reads : S → Ticket → (offset count : ℕ) → Result (List ℕ) RestFault → S → Type 0) where
   -- Events, and then other events, are both lists in one.
   pub serves_both : (old : S) (front back : List Event) (middle new : S)
       → Serves replies fails reads old front middle → Serves replies fails reads middle back new → Serves replies fails reads old (front ++ back) new
@@ -64,4 +66,4 @@ module _ {S : Type 0} (replies fails : S → RequestView → ReplyView → S →
   -- One more read of a content.
   pub serves_part : (count : ℕ) (old middle new : S) → ServesCount count old middle → NextPart reads middle new → ServesCount count old new
   serves_part count old middle new before then = subst (λ n. ServesCount n old new) (add-zero count)
-      (next_serves (at_part then.0 then.1 then.2) count old middle new tt before then.3)
+      (next_serves (at_part then.0 then.1 then.2 then.3) count old middle new tt before then.4)

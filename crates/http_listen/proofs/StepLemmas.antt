@@ -1,15 +1,18 @@
 -- Steps of one connection, and its conversation.
 use Rattle.std.proofs.Common.{false, ◌≡◌, ℕ, List, [], ◌∷◌, ◌++◌, None, Some, Result, Ok, Err, refl, sym, ap, subst, ◌∙◌, append_assoc, append-nil, take, drop, take-append-drop, true≢false}
-use Rattle.std.specs.Prelude.{◌≤◌, ◌+◌, length, ⊤, is_some, IsSome, IfOk, OnErr, MatchOption}
+use Rattle.std.specs.Prelude.{◌≤◌, ◌+◌, ◌-◌, length, ⊤, is_some, IfOk, IfErr, OnErr, MatchOption}
 use Rattle.std.specs.declared.option.Option.{Option}
 use Rattle.http_serve.specs.declared.connection.ServeFault.{ServeFault}
 use Rattle.http_serve.specs.declared.connection.Served.{Served}
+use Rattle.http_serve.specs.declared.handlers.RestFault.{RestFault}
 use Rattle.http_serve.specs.declared.handlers.Ticket.{Ticket}
+use Rattle.http_listen.specs.declared.ends.EndFault.{EndFault}
 use Rattle.http_listen.specs.declared.kept.Kept.{Kept}
 use Rattle.http_listen.specs.declared.rests.Unsent.{Unsent}
 use Rattle.http_listen.specs.declared.turns.Next.{Next}
 use Rattle.http_listen.specs.declared.turns.Next.TheVariants.{Asks, Reads, Rests, Closes}
-use Rattle.http_listen.specs.Conversations.{Act, answered, fetched, asked, replied, fetched_bytes, IsLeft, IsNext, Follows, Conversation, Steps, IsTalking, IsSearched, GoesOn, IsRead, Turned, Stands, Beside}
+use Rattle.http_listen.specs.Conversations.{Act, answered, fetched, asked, replied, fetched_bytes, IsEndedBy, IsLeft, IsNext, Follows, Conversation, Steps, IsTalking, IsSearched, GoesOn, IsRead, Turned, Stands, Beside}
+use Rattle.http_listen.specs.Rests.{EndsAt}
 use Rattle.http_listen.specs.Talks.{Told, Grows, Moves}
 use Rattle.http_listen.proofs.TalkLemmas.{grows_none, moves_none, moves_both, moves_read, moves_added}
 
@@ -18,14 +21,14 @@ pub asked_both : (front back : List Act) → asked (front ++ back) ≡ asked fro
 asked_both [] back = refl
 asked_both (answered bytes replies result ticket ∷ front) back =
     ap (λ l. bytes ++ l) (asked_both front back) ∙ sym (append_assoc bytes (asked front) (asked back))
-asked_both (fetched ticket offset outcome ∷ front) back = asked_both front back
+asked_both (fetched ticket offset count outcome ∷ front) back = asked_both front back
 
 pub replied_both : (front back : List Act) → replied (front ++ back) ≡ replied front ++ replied back
 replied_both [] back = refl
 replied_both (answered bytes replies result ticket ∷ front) back =
     ap (λ l. replies ++ l) (replied_both front back) ∙ sym (append_assoc replies (replied front) (replied back))
-replied_both (fetched ticket offset None ∷ front) back = replied_both front back
-replied_both (fetched ticket offset (Some bytes) ∷ front) back =
+replied_both (fetched ticket offset count (Err fault) ∷ front) back = replied_both front back
+replied_both (fetched ticket offset count (Ok bytes) ∷ front) back =
     ap (λ l. bytes ++ l) (replied_both front back) ∙ sym (append_assoc bytes (replied front) (replied back))
 
 pub follows_both : (before between after : Option Unsent) (front back : List Act) → Follows before front between → Follows between back after
@@ -203,11 +206,11 @@ module _ {S : Type 0} (told : S → Option Told) where
   }
 
   -- Bytes of a content were read, and added to the output, of which nothing waited.
-  pub steps_fetched : (old new : Kept S) (unsent : Unsent) (bytes : List ℕ) (whole : Type 0)
+  pub steps_fetched : (old new : Kept S) (unsent : Unsent) (count : ℕ) (bytes : List ℕ) (whole : Type 0)
       → old.turn.unsent ≡ Some unsent → old.output ≡ [] → Moves (told old.stream) bytes [] [] (told new.stream) new.output → Beside old new
-      → IsLeft unsent (Some bytes) new.turn.unsent
-      → Steps told old (fetched unsent.ticket unsent.at (Some bytes) ∷ []) whole new
-  steps_fetched old new unsent bytes whole rest none moves beside left = record {
+      → count ≤ unsent.end - unsent.at → IsLeft unsent (Ok bytes) new.turn.unsent
+      → Steps told old (fetched unsent.ticket unsent.at count (Ok bytes) ∷ []) whole new
+  steps_fetched old new unsent count bytes whole rest none moves beside few left = record {
     number = beside.number;
     drops = ap is_some beside.drops;
     given = [];
@@ -218,20 +221,20 @@ module _ {S : Type 0} (told : S → Option Told) where
         (subst (λ (l : List ℕ). Moves (told old.stream) [] [] (bytes ++ []) (told new.stream) l) (sym (append-nil new.output))
         (moves_both (told old.stream) (told old.stream) (told new.stream) [] bytes new.output [] [] bytes [] (moves_added (told old.stream) [] bytes) moves));
     left = new.turn.unsent;
-    follows = (new.turn.unsent, (unsent, rest, refl, refl, left), refl);
+    follows = (new.turn.unsent, (unsent, rest, refl, refl, few, left), refl);
     kept = λ _. (refl, refl, refl);
   }
 
   -- what may be left once bytes were read, or couldn't be
-  some_left : (unsent : Unsent) (outcome : Option (List ℕ)) → (left : Option Unsent) × IsLeft unsent outcome left
-  some_left unsent None = (None, tt)
-  some_left unsent (Some bytes) = (Some (record unsent { at = unsent.at + length bytes }), refl)
+  some_left : (unsent : Unsent) (outcome : Result (List ℕ) RestFault) → (left : Option Unsent) × IsLeft unsent outcome left
+  some_left unsent (Err fault) = (None, tt)
+  some_left unsent (Ok bytes) = (Some (record unsent { at = unsent.at + length bytes }), refl)
 
   -- They couldn't be read, or weren't added, and the connection ends.
-  pub steps_failed : (old new : Kept S) (unsent : Unsent) (outcome : Option (List ℕ)) (whole : Type 0) → (whole → ⊥)
+  pub steps_failed : (old new : Kept S) (unsent : Unsent) (count : ℕ) (outcome : Result (List ℕ) RestFault) (whole : Type 0) → (whole → ⊥)
       → old.turn.unsent ≡ Some unsent → old.output ≡ [] → Moves (told old.stream) [] [] [] (told new.stream) new.output → Beside old new
-      → Steps told old (fetched unsent.ticket unsent.at outcome ∷ []) whole new
-  steps_failed old new unsent outcome whole never rest none moves beside =
+      → count ≤ unsent.end - unsent.at → Steps told old (fetched unsent.ticket unsent.at count outcome ∷ []) whole new
+  steps_failed old new unsent count outcome whole never rest none moves beside few =
       let bytes = fetched_bytes outcome in
       let left = some_left unsent outcome in
       record {
@@ -245,32 +248,46 @@ module _ {S : Type 0} (told : S → Option Told) where
             (moves_both (told old.stream) (told new.stream) (told new.stream) [] new.output (new.output ++ (bytes ++ [])) [] [] [] (bytes ++ []) moves
             (moves_added (told new.stream) new.output (bytes ++ [])));
         left = left.0;
-        follows = (left.0, (unsent, rest, refl, refl, left.1), refl);
+        follows = (left.0, (unsent, rest, refl, refl, few, left.1), refl);
         kept = λ w. absurd (never w);
       }
 
+  -- the word by which a connection ends, if a part couldn't be added for this cause
+  ended_by : (ticket : Ticket) (offset count : ℕ) (outcome : Result (List ℕ) RestFault) (fault : EndFault) (ending : Option (Result Served EndFault))
+      → EndsAt outcome fault → ending ≡ Some (Err fault) → IsEndedBy (fetched ticket offset count outcome) ending
+  ended_by ticket offset count (Ok bytes) fault ending at ends = tt
+  ended_by ticket offset count (Err cause) fault ending at ends = ends ∙ ap (λ (f : EndFault). Some (Err f)) at
+
   -- The act of a connection of whose content bytes were to be read.
-  pub fetched_act : {H E : Type 0} (reads : H → Ticket → ℕ → Option (List ℕ) → H → Type 0) (h k : H) (old new : Kept S) (unsent : Unsent)
-      (before output : List ℕ) (result : Result (Option Unsent) ServeFault) (ending : Option E)
+  pub fetched_act : {H : Type 0} (reads : H → Ticket → (offset count : ℕ) → Result (List ℕ) RestFault → H → Type 0) (h k : H) (old new : Kept S)
+      (unsent : Unsent) (before output : List ℕ) (result : Result (Option Unsent) EndFault) (ending : Option (Result Served EndFault))
       → old.turn.unsent ≡ Some unsent → old.output ≡ [] → before ≡ []
-      → (outcome : Option (List ℕ)) × reads h unsent.ticket unsent.at outcome k
-      → IfOk result (λ left. (bytes : List ℕ) × reads h unsent.ticket unsent.at (Some bytes) k × (output ≡ before ++ bytes)
+      → (count : ℕ) × (outcome : Result (List ℕ) RestFault) × (count ≤ unsent.end - unsent.at) × reads h unsent.ticket unsent.at count outcome k
+      × IfErr result (EndsAt outcome)
+      → IfOk result (λ left. (count : ℕ) × (bytes : List ℕ) × (count ≤ unsent.end - unsent.at) × reads h unsent.ticket unsent.at count (Ok bytes) k
+      × (output ≡ before ++ bytes)
       × MatchOption left (unsent.end ≤ unsent.at + length bytes) (λ next. next ≡ record unsent { at = unsent.at + length bytes }))
       → OnErr result (output ≡ before) → Moves (told old.stream) output [] [] (told new.stream) new.output → Beside old new
-      → IfOk result (λ left. new.turn.unsent ≡ left) → OnErr result (IsSome ending)
-      → (outcome : Option (List ℕ)) × reads h unsent.ticket unsent.at outcome k
-      × Steps told old (fetched unsent.ticket unsent.at outcome ∷ []) (ending ≡ None) new
+      → IfOk result (λ left. new.turn.unsent ≡ left) → IfErr result (λ fault. ending ≡ Some (Err fault))
+      → (count : ℕ) × (outcome : Result (List ℕ) RestFault) × reads h unsent.ticket unsent.at count outcome k
+      × Steps told old (fetched unsent.ticket unsent.at count outcome ∷ []) (ending ≡ None) new
+      × IsEndedBy (fetched unsent.ticket unsent.at count outcome) ending
   fetched_act reads h k old new unsent before output (Ok left) ending rest none empty read added same moves beside next failed =
-      let bytes = added.0 in
-      let all : output ≡ bytes = added.2 ∙ ap (λ l. l ++ bytes) empty in (
-        Some bytes,
-        added.1,
-        steps_fetched old new unsent bytes (ending ≡ None) rest none (subst (λ (l : List ℕ). Moves (told old.stream) l [] [] (told new.stream) new.output) all moves)
-            beside (subst (λ (u : Option Unsent). IsLeft unsent (Some bytes) u) (sym next) added.3),
+      let bytes = added.1 in
+      let all : output ≡ bytes = added.4 ∙ ap (λ l. l ++ bytes) empty in (
+        added.0,
+        Ok bytes,
+        added.3,
+        steps_fetched old new unsent added.0 bytes (ending ≡ None) rest none
+            (subst (λ (l : List ℕ). Moves (told old.stream) l [] [] (told new.stream) new.output) all moves)
+            beside added.2 (subst (λ (u : Option Unsent). IsLeft unsent (Ok bytes) u) (sym next) added.5),
+        tt,
       )
   fetched_act reads h k old new unsent before output (Err fault) ending rest none empty read added same moves beside next failed = (
     read.0,
     read.1,
-    steps_failed old new unsent read.0 (ending ≡ None) (λ e. true≢false (sym failed ∙ ap is_some e)) rest none
-        (subst (λ (l : List ℕ). Moves (told old.stream) l [] [] (told new.stream) new.output) (same ∙ empty) moves) beside,
+    read.3,
+    steps_failed old new unsent read.0 read.1 (ending ≡ None) (λ e. true≢false (ap is_some (sym failed ∙ e))) rest none
+        (subst (λ (l : List ℕ). Moves (told old.stream) l [] [] (told new.stream) new.output) (same ∙ empty) moves) beside read.2,
+    ended_by unsent.ticket unsent.at read.0 read.1 fault ending read.4 failed,
   )

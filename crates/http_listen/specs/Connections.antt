@@ -2,6 +2,7 @@
 use Rattle.std.specs.Prelude.{◌≡◌, ℕ, Bool, false, List, [], ◌∷◌, length, filter, Option, Some, IsSome, Result, Ok, Err, ⊤}
 use Rattle.http_serve.specs.declared.connection.ServeFault.{ServeFault}
 use Rattle.http_serve.specs.declared.connection.Served.{Served}
+use Rattle.http_serve.specs.declared.handlers.RestFault.{RestFault}
 use Rattle.http_serve.specs.declared.handlers.Ticket.{Ticket}
 use Rattle.http_requests.specs.Requests.{RequestView}
 use Rattle.http_serve.specs.Reply.{ReplyView}
@@ -21,13 +22,13 @@ pub record Stretch : Type 0 where
 pub data Event : Type 0 where
   -- a stretch
   at_stretch : Stretch → Event
-  -- a read of the rest of a content that a stretch left: its ticket, an offset, and the bytes from there on, or None if they couldn't be read
-  at_part : Ticket → ℕ → Option (List ℕ) → Event
+  -- a read of the rest of a content that a stretch left: its ticket, an offset, how many bytes from there on, and these, or why they couldn't be read
+  at_part : Ticket → (offset count : ℕ) → Result (List ℕ) RestFault → Event
 
 -- it is the first stretch of a connection
 abbrev pub is_first : Event → Bool
 is_first (at_stretch s) = s.first
-is_first (at_part ticket offset outcome) = false
+is_first (at_part ticket offset count outcome) = false
 
 -- how many connections these events are of: the number of first stretches
 abbrev pub begun : List Event → ℕ
@@ -36,7 +37,7 @@ begun events = length (filter is_first events)
 -- what a stretch was over is known: the bytes that its requests and the ending are in
 abbrev pub IsOverKnown : Event → Type 0
 IsOverKnown (at_stretch s) = IsSome s.left
-IsOverKnown (at_part ticket offset outcome) = ⊤
+IsOverKnown (at_part ticket offset count outcome) = ⊤
 
 -- so it is of each of these
 abbrev pub AreOverKnown : List Event → Type 0
@@ -60,16 +61,18 @@ module _ {S : Type 0} (replies fails : S → RequestView → ReplyView → S →
   NextStretch old new = (result : Result Served ServeFault) × ComesTo result old new
 
 -- reads of a content by its ticket
-module _ {S : Type 0} (reads : S → Ticket → ℕ → Option (List ℕ) → S → Type 0) where
+module _ {S : Type 0} (reads : S → Ticket → (offset count : ℕ) → Result (List ℕ) RestFault → S → Type 0) where
   -- a read leads from a state to the next
   abbrev pub NextPart : S → S → Type 0
-  NextPart old new = (ticket : Ticket) × (offset : ℕ) × (outcome : Option (List ℕ)) × reads old ticket offset outcome new
+  NextPart old new = (ticket : Ticket) × (offset : ℕ) × (count : ℕ) × (outcome : Result (List ℕ) RestFault)
+      × reads old ticket offset count outcome new
 
-module _ {S : Type 0} (replies fails : S → RequestView → ReplyView → S → Type 0) (reads : S → Ticket → ℕ → Option (List ℕ) → S → Type 0) where
+module _ {S : Type 0} (replies fails : S → RequestView → ReplyView → S → Type 0)
+    (reads : S → Ticket → (offset count : ℕ) → Result (List ℕ) RestFault → S → Type 0) where
   -- an event leads from a state to the next
   abbrev pub Happens : S → Event → S → Type 0
   Happens old (at_stretch s) new = CameTo replies fails s.result old s new
-  Happens old (at_part ticket offset outcome) new = reads old ticket offset outcome new
+  Happens old (at_part ticket offset count outcome) new = reads old ticket offset count outcome new
 
   -- the replies and reads of these events, in order, lead from the old state to the new one
   abbrev pub Serves : S → List Event → S → Type 0

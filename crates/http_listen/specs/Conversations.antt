@@ -1,55 +1,64 @@
 -- The conversation of one connection: what is done for it, one act after the other, and what its stream told.
-use Rattle.std.specs.Prelude.{◌≡◌, ◌≢◌, ◌<◌, ◌≤◌, ◌+◌, ℕ, Bool, nat_eq, cond, All, List, [], ◌∷◌, ◌++◌, length, Option, None, Some, is_some, Result, MatchOption, ⊤, false}
+use Rattle.std.specs.Prelude.{◌≡◌, ◌≢◌, ◌<◌, ◌≤◌, ◌+◌, ◌-◌, ℕ, Bool, nat_eq, cond, All, List, [], ◌∷◌, ◌++◌, length, Option, None, Some, is_some, Result, Ok, Err, MatchOption, ⊤, false}
 use Rattle.http_serve.specs.declared.connection.ServeFault.{ServeFault}
 use Rattle.http_serve.specs.declared.connection.Served.{Served}
+use Rattle.http_serve.specs.declared.handlers.RestFault.{RestFault}
 use Rattle.http_serve.specs.declared.handlers.Ticket.{Ticket}
 use Rattle.http_requests.specs.Requests.{RequestView}
 use Rattle.http_serve.specs.Reply.{ReplyView}
+use Rattle.http_listen.specs.declared.ends.EndFault.{EndFault}
 use Rattle.http_listen.specs.declared.kept.Kept.{Kept}
 use Rattle.http_listen.specs.declared.rests.Unsent.{Unsent}
 use Rattle.http_listen.specs.declared.turns.Next.{Next}
 use Rattle.http_listen.specs.declared.turns.Next.TheVariants.{Asks, Reads, Rests, Closes}
 use Rattle.http_listen.specs.Asked.{IsAsked}
 use Rattle.http_listen.specs.Connections.{CameTo}
-use Rattle.http_listen.specs.Rests.{rest_after}
+use Rattle.http_listen.specs.Rests.{rest_after, cut_by}
 use Rattle.http_listen.specs.Talks.{Told, Grows, Moves}
 
 -- what is done for a connection
 pub data Act : Type 0 where
   -- these bytes were answered by these replies, and came to this; the last reply's content has this ticket
   answered : (asked replies : List ℕ) → Result Served ServeFault → Ticket → Act
-  -- bytes of a content that a reply left were read by its ticket, from an offset on, or couldn't be
-  fetched : Ticket → ℕ → Option (List ℕ) → Act
+  -- this many bytes of a content that a reply left were read by its ticket, from an offset on, or couldn't be
+  fetched : Ticket → (offset count : ℕ) → Result (List ℕ) RestFault → Act
 
 -- the bytes that were read of a content, none if they couldn't be
-abbrev pub fetched_bytes : Option (List ℕ) → List ℕ
-fetched_bytes None = []
-fetched_bytes (Some bytes) = bytes
+abbrev pub fetched_bytes : Result (List ℕ) RestFault → List ℕ
+fetched_bytes (Ok bytes) = bytes
+fetched_bytes (Err fault) = []
 
 -- the bytes that were answered
 abbrev pub asked : List Act → List ℕ
 asked [] = []
 asked (answered bytes replies result ticket ∷ acts) = bytes ++ asked acts
-asked (fetched ticket offset outcome ∷ acts) = asked acts
+asked (fetched ticket offset count outcome ∷ acts) = asked acts
 
 -- the replies to them, with what was read of their contents later
 abbrev pub replied : List Act → List ℕ
 replied [] = []
 replied (answered bytes replies result ticket ∷ acts) = replies ++ replied acts
-replied (fetched ticket offset outcome ∷ acts) = fetched_bytes outcome ++ replied acts
+replied (fetched ticket offset count outcome ∷ acts) = fetched_bytes outcome ++ replied acts
+
+-- after an act a connection ends so: with the word for why a part couldn't be read, if it couldn't
+abbrev pub IsEndedBy : Act → Option (Result Served EndFault) → Type 0
+IsEndedBy (answered bytes replies result ticket) ending = ⊤
+IsEndedBy (fetched ticket offset count (Ok bytes)) ending = ⊤
+IsEndedBy (fetched ticket offset count (Err cause)) ending = ending ≡ Some (Err (cut_by cause))
 
 -- what is left of a content once these bytes of it were read
-abbrev pub IsLeft : Unsent → Option (List ℕ) → Option Unsent → Type 0
-IsLeft unsent None left = ⊤
-IsLeft unsent (Some bytes) left =
+abbrev pub IsLeft : Unsent → Result (List ℕ) RestFault → Option Unsent → Type 0
+IsLeft unsent (Err fault) left = ⊤
+IsLeft unsent (Ok bytes) left =
     MatchOption left (unsent.end ≤ unsent.at + length bytes) (λ next. next ≡ record unsent { at = unsent.at + length bytes })
 
 -- An act is in its place, by what is left before it of the last reply's content and after it: while something is left, nothing is answered,
--- and what is read is the next bytes, by the ticket of that reply.
+-- and what is read is the next bytes, no more than are left, by the ticket of that reply.
 abbrev pub IsNext : Option Unsent → Act → Option Unsent → Type 0
 IsNext before (answered bytes replies result ticket) after = (before ≡ None) × (after ≡ rest_after ticket result)
-IsNext before (fetched ticket offset outcome) after =
-    (unsent : Unsent) × (before ≡ Some unsent) × (ticket ≡ unsent.ticket) × (offset ≡ unsent.at) × IsLeft unsent outcome after
+IsNext before (fetched ticket offset count outcome) after =
+    (unsent : Unsent) × (before ≡ Some unsent) × (ticket ≡ unsent.ticket) × (offset ≡ unsent.at) × (count ≤ unsent.end - unsent.at)
+    × IsLeft unsent outcome after
 
 -- so is each of these
 abbrev pub Follows : Option Unsent → List Act → Option Unsent → Type 0
@@ -74,11 +83,11 @@ module _ {S : Type 0} (replies fails : S → RequestView → ReplyView → S →
 
 -- the same handler, with its reads and tickets
 module _ {S : Type 0} (replies fails : S → RequestView → ReplyView → S → Type 0)
-    (reads : S → Ticket → ℕ → Option (List ℕ) → S → Type 0) (ticket_of : S → Ticket) where
+    (reads : S → Ticket → (offset count : ℕ) → Result (List ℕ) RestFault → S → Type 0) (ticket_of : S → Ticket) where
   -- an act leads from a state to the next
   abbrev pub Does : S → Act → S → Type 0
   Does old (answered bytes out result ticket) new = Answers replies fails old bytes out result new × (ticket ≡ ticket_of new)
-  Does old (fetched ticket offset outcome) new = reads old ticket offset outcome new
+  Does old (fetched ticket offset count outcome) new = reads old ticket offset count outcome new
 
 -- what streams told
 module _ {S : Type 0} (told : S → Option Told) where
@@ -169,7 +178,7 @@ acts_of number (deed ∷ deeds) = cond (nat_eq deed.number number) (deed.act ∷
 
 -- a handler
 module _ {S : Type 0} (replies fails : S → RequestView → ReplyView → S → Type 0)
-    (reads : S → Ticket → ℕ → Option (List ℕ) → S → Type 0) (ticket_of : S → Ticket) where
+    (reads : S → Ticket → (offset count : ℕ) → Result (List ℕ) RestFault → S → Type 0) (ticket_of : S → Ticket) where
   -- All that was done, in this order, leads from a state to the next.
   abbrev pub Runs : S → List Deed → S → Type 0
   Runs old [] new = new ≡ old

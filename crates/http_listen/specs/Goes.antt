@@ -3,8 +3,8 @@ use Rattle.std.specs.Prelude.{◌≡◌, ◌≢◌, ◌⊎◌, ℕ, [], ◌∷�
 use Rattle.http_listen.specs.declared.kept.Kept.{Kept}
 use Rattle.http_listen.specs.declared.rooms.Found.{Found}
 use Rattle.http_listen.specs.declared.rooms.Found.TheVariants.{New, Asks, Reads, Nothing, Over}
-use Rattle.http_serve.specs.declared.connection.ServeFault.{ServeFault}
 use Rattle.http_serve.specs.declared.connection.Served.{Served}
+use Rattle.http_listen.specs.declared.ends.EndFault.{EndFault}
 use Rattle.http_listen.specs.Conversations.{Act, Steps}
 use Rattle.http_listen.specs.Talks.{Told}
 
@@ -59,7 +59,7 @@ module _ {S : Type 0} (told : S → Option Told) where
   pub record Acts (old : ℕ → Option (Kept S)) (kept : Kept S) (act : Act) (new : ℕ → Option (Kept S)) : Type 0 where
     pub mid : Kept S
     pub last : Kept S
-    pub ending : Option (Result Served ServeFault)
+    pub ending : Option (Result Served EndFault)
     pub steps : Steps told kept (act ∷ []) (ending ≡ None) mid
     pub number : last.turn.number ≡ mid.turn.number
     pub same : last.turn.drops ≡ None → (ending ≡ None) × (last ≡ mid)

@@ -4,7 +4,7 @@ ghost use Rattle.http_serve.specs.declared.connection.ServeFault.{ServeFault};
 ghost use Rattle.http_serve.specs.declared.connection.Served.{Served};
 ghost use Rattle.http_listen.specs.Rests.{rest_after};
 ghost use Rattle.http_listen.specs.Asked.{IsAsked};
-ghost use Rattle.http_listen.specs.Conversations.{Act, Deed, Answers, Does, Runs, Steps};
+ghost use Rattle.http_listen.specs.Conversations.{Act, Deed, Answers, Does, IsEndedBy, Runs, Steps};
 ghost use Rattle.http_listen.specs.Orders.{AreInOrder};
 ghost use Rattle.http_listen.specs.Goes.{Acts};
 ghost use Rattle.http_listen.specs.Places.{kept_at};
@@ -12,7 +12,7 @@ ghost use Rattle.http_listen.specs.Talks.{Moves};
 ghost use Rattle.http_listen.specs.Connections.{Event, Serves, ComesTo, NextStretch, NextPart, AreOverKnown, begun};
 
 use crate::kept::{Ending, Kept, Turn};
-use crate::rests::{Unsent, add_part};
+use crate::rests::{Unsent, add_part, once_sent};
 use crate::rooms::{Found, Room, time_of};
 use crate::talks::Talks;
 use crate::waits::Waits;
@@ -104,7 +104,7 @@ where
         × Acts S.told (kept_at room.old.places) kept act (kept_at room.new.places) }
 {
     let past = serve_front(buffers, kept, 0, handler);
-    room.opened(past.kept, past.outcome, log);
+    room.opened(past.kept, once_sent(past.outcome), log);
 }
 
 /// A connection after an act, at this time, and what it came to, if it ends.
@@ -142,7 +142,7 @@ where
     let now = room.now(clock);
     kept.answered(now, end, outcome);
     let ending = match outcome {
-        Err(ServeFault::Write { .. }) => Some(outcome),
+        Err(ServeFault::Write { .. }) => Some(once_sent(outcome)),
         _ => kept.send_replies(now),
     };
     Acted { now, kept, ending }
@@ -190,8 +190,9 @@ where
     requires rest { kept.turn.unsent ≡ Some unsent }
     ensures reads { NextPart H.reads handler.old handler.new }
     ensures places { room.new.places ≡ room.old.places }
+    // If the part can't be read, the connection ends with the word for why.
     ensures acts { (act : Act) × Does H.replies H.fails H.reads H.ticket_of handler.old act handler.new
-        × Steps S.told kept (act ∷ []) (result.ending ≡ None) result.kept }
+        × Steps S.told kept (act ∷ []) (result.ending ≡ None) result.kept × IsEndedBy act result.ending }
 {
     let start = time_of(clock);
     kept.output.clear();
@@ -228,7 +229,7 @@ where
 
 /// Serves this many connections of a listener by turns, and writes a line to the log as each ends: `connection I: R requests, END`. I
 /// counts the connections from 1 as they are accepted, R the requests whose replies were sent whole, and END is `closed`, `asked`,
-/// `refused` or `turns`, or at a fault `memory`, `read`, `write` or `device`.
+/// `refused` or `turns`, or at a fault `memory`, `read`, `write`, `device` or `gone`.
 ///
 /// No peer is waited for. A turn of a connection is one read or one write, which returns at once. As soon as a whole request was read, or
 /// bytes that are none, they are answered in a stretch of the connection, as `http_serve::serve_fronts` does. The replies are kept in

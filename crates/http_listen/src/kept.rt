@@ -5,6 +5,7 @@ ghost use Rattle.http_listen.specs.Conversations.{Beside, Stands, IsRead, IsSear
 ghost use Rattle.http_listen.specs.Lines.{line_of};
 ghost use Rattle.http_listen.specs.Talks.{Moves};
 
+use crate::ends::EndFault;
 use crate::inputs::Input;
 use crate::lines::write_line;
 use crate::no_memory::memory_reply;
@@ -35,7 +36,7 @@ pub(crate) const PIECE: usize = 8_192;
 const LEAST_WAIT_SECONDS: u64 = 1;
 
 /// What a connection came to on which nothing was answered.
-const NOTHING: Result<Served, ServeFault> = Ok(Served {
+const NOTHING: Result<Served, EndFault> = Ok(Served {
     requests: 0,
     end: End::Closed,
 });
@@ -50,13 +51,13 @@ pub(crate) enum GivenUp {
 }
 
 /// What a connection came to that has made as many reads as it may.
-const TURNS: Result<Served, ServeFault> = Ok(Served {
+const TURNS: Result<Served, EndFault> = Ok(Served {
     requests: 0,
     end: End::Turns,
 });
 
 /// What a connection came to, if it ends.
-pub(crate) type Ending = Option<Result<Served, ServeFault>>;
+pub(crate) type Ending = Option<Result<Served, EndFault>>;
 
 /// What is known of a connection, beside its bytes.
 #[derive(Clone, Copy)]
@@ -72,7 +73,7 @@ pub(crate) struct Turn {
     /// Whether the input is searched for a request before more is read.
     pub(crate) searches: bool,
     /// What its last stretch came to. The output has its replies.
-    pub(crate) outcome: Result<Served, ServeFault>,
+    pub(crate) outcome: Result<Served, EndFault>,
     /// The rest of the last reply's content, which is read once the output was sent.
     pub(crate) unsent: Option<Unsent>,
     /// Whether the connection ends once they are sent.
@@ -201,13 +202,13 @@ impl<S> Kept<S> {
     }
 
     /// What it comes to if its peer is waited for no longer.
-    pub(crate) fn given_up(&self, why: GivenUp) -> Result<Served, ServeFault> {
+    pub(crate) fn given_up(&self, why: GivenUp) -> Result<Served, EndFault> {
         if self.sends() {
-            Err(ServeFault::Write { requests: 0 })
+            Err(EndFault::Write { requests: 0 })
         } else if matches!(why, GivenUp::Held) {
-            Err(ServeFault::Memory)
+            Err(EndFault::Memory)
         } else if self.input.len() > 0 {
-            Err(ServeFault::Read { requests: 0 })
+            Err(EndFault::Read { requests: 0 })
         } else {
             NOTHING
         }
@@ -216,7 +217,7 @@ impl<S> Kept<S> {
     /// Writes its line to the log: what its last stretch came to, with the requests that got a whole reply before.
     pub(crate) fn log_end<W: Write>(
         &self,
-        outcome: Result<Served, ServeFault>,
+        outcome: Result<Served, EndFault>,
         log: &mut W,
     ) -> io::Result<()>
         ensures { OnOk result (Appends (W.contents log.old) (W.contents log.new) (line_of self.now.turn.number self.now.turn.requests outcome)) }
@@ -300,12 +301,12 @@ impl<S: Talks> Kept<S> {
 
 impl<S: Talks + OpenStream> Kept<S> {
     /// Whether the peer of a connection that came to this may read a last reply. One whose request there was no memory for gets that reply now.
-    fn has_last_reply(&mut self, outcome: Result<Served, ServeFault>) -> bool
+    fn has_last_reply(&mut self, outcome: Result<Served, EndFault>) -> bool
         ensures { self.new.turn ≡ self.old.turn }
     {
         match outcome {
             Ok(_) => true,
-            Err(ServeFault::Memory) => self.refuse_memory(),
+            Err(EndFault::Memory) => self.refuse_memory(),
             Err(_) => false,
         }
     }
@@ -316,7 +317,7 @@ impl<S: Talks + OpenStream> Kept<S> {
     pub(crate) fn end<W: Write>(
         &mut self,
         now: Duration,
-        outcome: Result<Served, ServeFault>,
+        outcome: Result<Served, EndFault>,
         log: &mut W,
     ) -> bool
         ensures number { self.new.turn.number ≡ self.old.turn.number }
@@ -367,7 +368,7 @@ impl<S: Talks> Kept<S> {
             return Next::Rests(Some(TURNS));
         }
         if is_full && self.input.len() > 0 {
-            return Next::Rests(Some(Err(ServeFault::Memory)));
+            return Next::Rests(Some(Err(EndFault::Memory)));
         }
         let space = MAX_REQUEST
             .saturating_sub(self.input.len())
@@ -375,7 +376,7 @@ impl<S: Talks> Kept<S> {
         let count = match self.stream.receive(&mut piece[..space]) {
             Ok(count) => count,
             Err(e) if self.may_read_again(&e) => return Next::Rests(None),
-            Err(_) => return Next::Rests(Some(Err(ServeFault::Read { requests: 0 }))),
+            Err(_) => return Next::Rests(Some(Err(EndFault::Read { requests: 0 }))),
         };
         if count == 0 {
             self.turn.ended = true;
@@ -383,7 +384,7 @@ impl<S: Talks> Kept<S> {
             self.turn.reads = self.turn.reads.saturating_add(1);
             self.turn.ready = self.turn.ready.read(count >= space);
             if self.input.add(&piece[..count]).is_err() {
-                return Next::Rests(Some(Err(ServeFault::Memory)));
+                return Next::Rests(Some(Err(EndFault::Memory)));
             }
         }
         self.pace = self.pace_at(now).received();
@@ -411,13 +412,13 @@ impl<S: Talks> Kept<S> {
 
 impl<S: Talks> Kept<S> {
     /// Makes one write of the replies that wait.
-    pub(crate) fn send(&mut self, now: Duration) -> Result<(), ServeFault>
+    pub(crate) fn send(&mut self, now: Duration) -> Result<(), EndFault>
         ensures moves { Moves (S.told self.old.stream) self.old.output [] [] (S.told self.new.stream) self.new.output }
         ensures beside { Beside self.old self.new }
         ensures unsent { self.new.turn.unsent ≡ self.old.turn.unsent }
     {
         match self.output.send(&mut self.stream) {
-            Ok(0) => Err(ServeFault::Write { requests: 0 }),
+            Ok(0) => Err(EndFault::Write { requests: 0 }),
             Ok(count) => {
                 self.pace = self.pace_at(now).sent(count);
                 self.turn.since = now;
@@ -428,7 +429,7 @@ impl<S: Talks> Kept<S> {
                 self.turn.ready.writes = e.kind() != ErrorKind::WouldBlock;
                 Ok(())
             }
-            Err(_) => Err(ServeFault::Write { requests: 0 }),
+            Err(_) => Err(EndFault::Write { requests: 0 }),
         }
     }
 }

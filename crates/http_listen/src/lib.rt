@@ -4,6 +4,7 @@
 mod accepting;
 mod connections;
 mod deadlines;
+mod ends;
 mod inputs;
 mod kept;
 mod lines;
@@ -23,6 +24,7 @@ mod waits;
 mod writers;
 
 pub use connections::{ListenFault, serve_on};
+pub use ends::EndFault;
 pub use lines::write_line;
 pub use places::Places;
 pub use system_listener::SystemListener;

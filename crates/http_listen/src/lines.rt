@@ -3,27 +3,28 @@ ghost use Rattle.std.specs.Prelude.{◌≡◌, OnOk};
 ghost use Rattle.std.specs.Io.KnownBytes.{Appends};
 ghost use Rattle.http_listen.specs.Lines.{result_word, replied_requests, line_of};
 
-use http_serve::{End, ServeFault, Served};
+use crate::ends::EndFault;
+use http_serve::{End, Served};
 use std::io::{self, Write};
 
 /// How many requests of a stretch got a whole reply.
-fn replied_requests(outcome: Result<Served, ServeFault>) -> u64
+fn replied_requests(outcome: Result<Served, EndFault>) -> u64
     ensures { result ≡ replied_requests outcome }
 {
     match outcome {
         Ok(served) => served.requests,
-        Err(ServeFault::Memory) => 0,
+        Err(EndFault::Memory) => 0,
         Err(
-            ServeFault::Read { requests }
-            | ServeFault::Write { requests }
-            | ServeFault::Content { requests }
-            | ServeFault::Rest { requests, .. },
+            EndFault::Read { requests }
+            | EndFault::Write { requests }
+            | EndFault::Device { requests }
+            | EndFault::Gone { requests },
         ) => requests,
     }
 }
 
 /// The word for what a connection came to.
-fn result_word(outcome: Result<Served, ServeFault>) -> &'static str
+fn result_word(outcome: Result<Served, EndFault>) -> &'static str
     ensures { result.now ≡ result_word outcome }
 {
     match outcome {
@@ -33,10 +34,11 @@ fn result_word(outcome: Result<Served, ServeFault>) -> &'static str
             End::Refused => "refused",
             End::Turns => "turns",
         },
-        Err(ServeFault::Memory) => "memory",
-        Err(ServeFault::Read { .. }) => "read",
-        Err(ServeFault::Write { .. } | ServeFault::Rest { .. }) => "write",
-        Err(ServeFault::Content { .. }) => "device",
+        Err(EndFault::Memory) => "memory",
+        Err(EndFault::Read { .. }) => "read",
+        Err(EndFault::Write { .. }) => "write",
+        Err(EndFault::Device { .. }) => "device",
+        Err(EndFault::Gone { .. }) => "gone",
     }
 }
 
@@ -46,7 +48,7 @@ pub fn write_line<W: Write>(
     log: &mut W,
     number: u64,
     earlier: u64,
-    outcome: Result<Served, ServeFault>,
+    outcome: Result<Served, EndFault>,
 ) -> io::Result<()>
     ensures { OnOk result (Appends (W.contents log.old) (W.contents log.new) (line_of number earlier outcome)) }
 {

@@ -1,7 +1,9 @@
 //! The rest of a content that a stretch left: it is read part by part, each once the peer has taken the part before.
-ghost use Rattle.std.specs.Prelude.{◌≡◌, ◌≤◌, ◌+◌, ◌++◌, Some, Option, List, ℕ, length, IfOk, OnErr, MatchOption};
-ghost use Rattle.http_listen.specs.Rests.{rest_after, once_sent};
+ghost use Rattle.std.specs.Prelude.{◌≡◌, ◌≤◌, ◌+◌, ◌-◌, ◌++◌, Ok, Result, List, ℕ, length, IfOk, IfErr, OnErr, MatchOption};
+ghost use Rattle.http_serve.specs.declared.handlers.RestFault.{RestFault};
+ghost use Rattle.http_listen.specs.Rests.{rest_after, once_sent, EndsAt};
 
+use crate::ends::EndFault;
 use crate::outputs::Output;
 use http_serve::{Downloads, End, PART_SIZE, ServeFault, Served, Ticket};
 
@@ -47,17 +49,22 @@ impl Unsent {
 
     /// How many bytes the next part has.
     fn part_len(self) -> usize
-        ensures { result ≤ PART_SIZE }
+        ensures { (result ≤ PART_SIZE) × (result ≤ self.end - self.at) }
     {
         self.end.saturating_sub(self.at).min(PART_SIZE as u64) as usize
     }
 }
 
-/// What a stretch comes to once the rest that it left is sent too.
-pub(crate) fn once_sent(outcome: Result<Served, ServeFault>) -> Result<Served, ServeFault>
+/// What a connection comes to after a stretch, once the rest that it left is sent too.
+pub(crate) fn once_sent(outcome: Result<Served, ServeFault>) -> Result<Served, EndFault>
     ensures { result ≡ once_sent outcome }
 {
     match outcome {
+        Ok(served) => Ok(served),
+        Err(ServeFault::Memory) => Err(EndFault::Memory),
+        Err(ServeFault::Read { requests }) => Err(EndFault::Read { requests }),
+        Err(ServeFault::Write { requests }) => Err(EndFault::Write { requests }),
+        Err(ServeFault::Content { requests }) => Err(EndFault::Device { requests }),
         Err(
             ServeFault::Rest {
                 requests,
@@ -68,7 +75,6 @@ pub(crate) fn once_sent(outcome: Result<Served, ServeFault>) -> Result<Served, S
             requests: requests.saturating_add(1),
             end: if close { End::Asked } else { End::Closed },
         }),
-        other => other,
     }
 }
 
@@ -78,21 +84,22 @@ fn add_bytes<H: Downloads>(
     unsent: Unsent,
     part: &mut [u8],
     output: &mut Output,
-) -> Result<Option<Unsent>, ServeFault>
-    ensures read { (outcome : Option (List ℕ)) × H.reads handler.old unsent.ticket unsent.at outcome handler.new }
-    ensures added { IfOk result (λ left. (bytes : List ℕ) × H.reads handler.old unsent.ticket unsent.at (Some bytes) handler.new
-        × (output.new ≡ output.old ++ bytes)
+) -> Result<Option<Unsent>, EndFault>
+    ensures read { (outcome : Result (List ℕ) RestFault) × H.reads handler.old unsent.ticket unsent.at (length part.old) outcome handler.new
+        × IfErr result (EndsAt outcome) }
+    ensures added { IfOk result (λ left. (bytes : List ℕ)
+        × H.reads handler.old unsent.ticket unsent.at (length part.old) (Ok bytes) handler.new × (output.new ≡ output.old ++ bytes)
         × MatchOption left (unsent.end ≤ unsent.at + length bytes) (λ next. next ≡ record unsent { at = unsent.at + length bytes })) }
     ensures same { OnErr result (output.new ≡ output.old) }
 {
     match handler.read_rest(unsent.ticket, unsent.at, part) {
         Ok(()) => {}
-        Err(_) => return Err(ServeFault::Content { requests: 0 }),
+        Err(cause) => return Err(EndFault::cut_by(cause)),
     }
     if output.add(part) {
         return Ok(unsent.less(part.len()));
     }
-    Err(ServeFault::Memory)
+    Err(EndFault::Memory)
 }
 
 /// Reads the next part of a content, of at most `PART_SIZE` bytes, and adds it to the replies that wait, of which there are none. Returns
@@ -100,16 +107,18 @@ fn add_bytes<H: Downloads>(
 ///
 /// # Errors
 ///
-/// `Content` if it can't be read, `Memory` if there is none for it.
+/// `Gone` or `Device` if it can't be read, `Memory` if there is none for it.
 pub(crate) fn add_part<H: Downloads>(
     handler: &mut H,
     unsent: Unsent,
     output: &mut Output,
-) -> Result<Option<Unsent>, ServeFault>
-    ensures read { (outcome : Option (List ℕ)) × H.reads handler.old unsent.ticket unsent.at outcome handler.new }
+) -> Result<Option<Unsent>, EndFault>
+    // No more bytes are read than are left. The fault says why they couldn't be.
+    ensures read { (count : ℕ) × (outcome : Result (List ℕ) RestFault) × (count ≤ unsent.end - unsent.at)
+        × H.reads handler.old unsent.ticket unsent.at count outcome handler.new × IfErr result (EndsAt outcome) }
     // What is added is what was read by the ticket, and the next part is read after it.
-    ensures added { IfOk result (λ left. (bytes : List ℕ) × H.reads handler.old unsent.ticket unsent.at (Some bytes) handler.new
-        × (output.new ≡ output.old ++ bytes)
+    ensures added { IfOk result (λ left. (count : ℕ) × (bytes : List ℕ) × (count ≤ unsent.end - unsent.at)
+        × H.reads handler.old unsent.ticket unsent.at count (Ok bytes) handler.new × (output.new ≡ output.old ++ bytes)
         × MatchOption left (unsent.end ≤ unsent.at + length bytes) (λ next. next ≡ record unsent { at = unsent.at + length bytes })) }
     ensures same { OnErr result (output.new ≡ output.old) }
 {

@@ -8,13 +8,14 @@ ghost use Rattle.http_listen.specs.Places.{kept_at, next_key};
 ghost use Rattle.http_listen.specs.declared.kept.Kept.{Kept};
 
 use crate::deadlines::Deadlines;
+use crate::ends::EndFault;
 use crate::kept::{Ending, GivenUp, Kept, PIECE};
 use crate::places::{List, Places};
 use crate::rests::Unsent;
 use crate::talks::Talks;
 use crate::turns::Next;
 use crate::waits::Waits;
-use http_serve::{ServeFault, Served};
+use http_serve::Served;
 use std::alloc::Global;
 use std::io::Write;
 use std::net::OpenStream;
@@ -174,7 +175,7 @@ impl<S: Talks + OpenStream + Drop> Room<S> {
     pub(crate) fn opened<W: Write>(
         &mut self,
         kept: Kept<S>,
-        outcome: Result<Served, ServeFault>,
+        outcome: Result<Served, EndFault>,
         log: &mut W,
     )
         ensures { (last : Kept S) × (last.turn.number ≡ kept.turn.number) × (last.turn.drops ≡ None → last ≡ kept)

@@ -1,13 +1,13 @@
 //! The turn of a connection: a read, or a write.
-ghost use Rattle.std.specs.Prelude.{◌≡◌, [], None, IsSome, IfOk, OnErr};
+ghost use Rattle.std.specs.Prelude.{◌≡◌, [], None, Some, Err, IfOk, IfErr};
 ghost use Rattle.http_listen.specs.Conversations.{Beside, Stands, IsSearched, Turned};
 ghost use Rattle.http_listen.specs.Talks.{Moves};
 
+use crate::ends::EndFault;
 use crate::kept::{Ending, Kept};
 use crate::rests::Unsent;
 use crate::talks::Talks;
 use http_requests::Scanned;
-use http_serve::ServeFault;
 use std::time::Duration;
 
 /// What follows the turn of a connection.
@@ -38,7 +38,7 @@ impl<S: Talks> Kept<S> {
         }
         if self.sends() {
             return if self.pace.is_over() {
-                Some(Err(ServeFault::Write { requests: 0 }))
+                Some(Err(EndFault::Write { requests: 0 }))
             } else {
                 None
             };
@@ -50,16 +50,17 @@ impl<S: Talks> Kept<S> {
         None
     }
 
-    /// The next part of a content was added to the output, and this is left of it, or it couldn't be read. Begins to send it.
+    /// The next part of a content was added to the output, and this is left of it: begins to send it. Or it couldn't be, and the connection
+    /// ends with this fault.
     pub(crate) fn send_part(
         &mut self,
         now: Duration,
-        outcome: Result<Option<Unsent>, ServeFault>,
+        outcome: Result<Option<Unsent>, EndFault>,
     ) -> Ending
         ensures moves { Moves (S.told self.old.stream) self.old.output [] [] (S.told self.new.stream) self.new.output }
         ensures beside { Beside self.old self.new }
         ensures unsent { IfOk outcome (λ left. self.new.turn.unsent ≡ left) }
-        ensures failed { OnErr outcome (IsSome result) }
+        ensures failed { IfErr outcome (λ fault. result ≡ Some (Err fault)) }
     {
         match outcome {
             Ok(unsent) => {
@@ -89,7 +90,7 @@ impl<S> Kept<S> {
         }
         self.begin_read(now);
         if self.pace.is_over() {
-            Next::Rests(Some(Err(ServeFault::Read { requests: 0 })))
+            Next::Rests(Some(Err(EndFault::Read { requests: 0 })))
         } else {
             Next::Rests(None)
         }

@@ -8,6 +8,7 @@ use Rattle.http_serve.specs.declared.connection.ServeFault.{ServeFault}
 use Rattle.http_serve.specs.declared.connection.ServeFault.TheVariants as ends
 use Rattle.http_serve.specs.declared.contents.SendFault.{SendFault}
 use Rattle.http_serve.specs.declared.contents.SendFault.TheVariants as cuts
+use Rattle.http_serve.specs.declared.handlers.RestFault.{RestFault}
 use Rattle.http_serve.specs.declared.replies.Content.{Content}
 use Rattle.http_serve.specs.declared.replies.Content.TheVariants.{Empty, Fixed, Whole, Shared, Parts}
 use Rattle.http_serve.specs.declared.replies.Reply.{Reply}
@@ -109,3 +110,8 @@ IsNoContentFault (cuts.Rest from size) = ⊤
 abbrev pub read_outcome : {E : Type 0} → Result (Unit {0}) E → (bytes : List ℕ) → Option (List ℕ)
 read_outcome (Ok done) bytes = Some bytes
 read_outcome (Err fault) bytes = None
+
+-- the same of a content that is read by its ticket: the bytes, or why they couldn't be read
+abbrev pub rest_outcome : Result (Unit {0}) RestFault → (bytes : List ℕ) → Result (List ℕ) RestFault
+rest_outcome (Ok done) bytes = Ok bytes
+rest_outcome (Err fault) bytes = Err fault

@@ -1,8 +1,9 @@
 //! The handler of a connection's requests.
-ghost use Rattle.std.specs.Prelude.{◌≡◌, ◌≤◌, ◌+◌, ℕ, List, Option, length, OnOk, OnErr};
+ghost use Rattle.std.specs.Prelude.{◌≡◌, ◌≤◌, ◌+◌, ℕ, List, Result, length, OnOk, OnErr};
 ghost use Rattle.http_serve.specs.declared.handlers.TheConstants.{PART_SIZE};
+ghost use Rattle.http_serve.specs.declared.handlers.RestFault.{RestFault};
 ghost use Rattle.http_serve.specs.declared.handlers.Ticket.{Ticket};
-ghost use Rattle.http_serve.specs.Parts.{read_outcome};
+ghost use Rattle.http_serve.specs.Parts.{rest_outcome};
 ghost use Rattle.http_requests.specs.Requests.{RequestView};
 ghost use Rattle.http_serve.specs.Reply.{ReplyView, IsReply, InParts, HasShortWords, head_view, with_part};
 
@@ -95,10 +96,19 @@ pub struct Ticket {
     pub first: u64,
 }
 
+/// Why bytes of a content couldn't be read by its ticket.
+#[derive(Clone, Copy)]
+pub enum RestFault {
+    /// The source of the content failed.
+    Failed,
+    /// The content isn't there any more, or has no such bytes.
+    Gone,
+}
+
 /// A handler whose contents can be read between later replies: the rest of a content that `serve_fronts` left.
 pub trait Downloads: Handler {
-    /// In the first state bytes of a ticket's content were read from an offset on, or couldn't be, and the second state follows.
-    ghost reads: { Self → Ticket → ℕ → Option (List ℕ) → Self → Type 0 };
+    /// In the first state this many bytes of a ticket's content were read from an offset on, or couldn't be, and the second state follows.
+    ghost reads: { Self → Ticket → (offset count : ℕ) → Result (List ℕ) RestFault → Self → Type 0 };
 
     /// The ticket for the content of the last reply.
     ghost ticket_of: { Self → Ticket };
@@ -111,13 +121,8 @@ pub trait Downloads: Handler {
     ///
     /// # Errors
     ///
-    /// The content isn't there any more, has no such bytes, or can't be read.
-    fn read_rest(
-        &mut self,
-        ticket: Ticket,
-        offset: u64,
-        part: &mut [u8],
-    ) -> Result<(), ContentFault>
-        ensures read { reads self.old ticket offset (read_outcome result part.new) self.new }
+    /// `Gone` if the content isn't there any more or has no such bytes, `Failed` if it can't be read.
+    fn read_rest(&mut self, ticket: Ticket, offset: u64, part: &mut [u8]) -> Result<(), RestFault>
+        ensures read { reads self.old ticket offset (length part.old) (rest_outcome result part.new) self.new }
         ensures length { length part.new ≡ length part.old };
 }

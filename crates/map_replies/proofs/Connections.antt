@@ -1,5 +1,5 @@
 -- What happens on a connection, reply by reply.
-use Rattle.std.proofs.Common.{◌≡◌, ℕ, List, [], ◌∷◌, ◌++◌, Option, refl, sym, ap, subst}
+use Rattle.std.proofs.Common.{◌≡◌, ℕ, List, [], ◌∷◌, ◌++◌, Option, Result, refl, sym, ap, subst}
 use Rattle.http_serve.specs.declared.connection.ServeFault.{ServeFault}
 use Rattle.http_serve.specs.declared.connection.Served.{Served}
 use Rattle.http_requests.specs.Requests.{RequestView}
@@ -18,6 +18,7 @@ use Rattle.map_replies.specs.State.{access_of, tags_of, settings_of, asked_servi
 use Rattle.map_replies.specs.State.{Course, course, Tells, TellsCut, TellsRead}
 use Rattle.map_replies.specs.Tickets.{KeepsTickets}
 use Rattle.map_replies.proofs.Passing.{Passes, passes_none, passes_all, passes_read}
+use Rattle.http_serve.specs.declared.handlers.RestFault.{RestFault}
 use Rattle.http_serve.specs.declared.handlers.Ticket.{Ticket}
 use Rattle.map_replies.proofs.Along.{served_along, fault_along}
 
@@ -66,13 +67,14 @@ module _ {D : Type 0} (sectors : D → ℕ) (honest : D → Type 0) (history : D
       )
 
   -- a read of a download between two replies
-  pub read_told : (first old : MapReplies D) (so : Course D) (ticket : Ticket) (offset : ℕ) (outcome : Option (List ℕ)) (new : MapReplies D)
-      → GoesAlong first old so → ServiceReads sectors honest history faults old ticket offset outcome new
-      → (more : Course D) × TellsRead sectors honest history faults so ticket offset outcome more × GoesAlong first new more
-  read_told first old so ticket offset outcome new along is =
+  pub read_told : (first old : MapReplies D) (so : Course D) (ticket : Ticket) (offset count : ℕ) (outcome : Result (List ℕ) RestFault)
+      (new : MapReplies D)
+      → GoesAlong first old so → ServiceReads sectors honest history faults old ticket offset count outcome new
+      → (more : Course D) × TellsRead sectors honest history faults so ticket offset count outcome more × GoesAlong first new more
+  read_told first old so ticket offset count outcome new along is =
       let here : so.replies ≡ old = ap (λ (c : Course D). c.replies) along.0 in (
         course new so.run,
-        (subst (λ (s : MapReplies D). ServiceReads sectors honest history faults s ticket offset outcome new) (sym here) is, refl),
+        (subst (λ (s : MapReplies D). ServiceReads sectors honest history faults s ticket offset count outcome new) (sym here) is, refl),
         (
           refl,
           passes_read sectors honest history (asked_service first) (asked_service old) (asked_service new) so.run along.1

@@ -4,7 +4,7 @@ use Rattle.std.specs.Prelude.{Result, Ok, Err, IfErr}
 use Rattle.http_requests.specs.Requests.{RequestView}
 use Rattle.http_serve.specs.Reply.{ReplyView}
 use Rattle.sector_disk.specs.Asked.{OnlyReads}
-use Rattle.sector_disk.specs.Disk.{History, moment, seen}
+use Rattle.sector_disk.specs.Disk.{History, HasFailed, moment, seen}
 use Rattle.sector_disk.proofs.AskedLaws.{writes_on, reads_may, reads_none}
 use Rattle.published_tiles.specs.declared.place.ArchivePlace.{ArchivePlace}
 use Rattle.tile_service.specs.Machine.{Happening, Runs}
@@ -21,6 +21,7 @@ use Rattle.tile_service.specs.declared.fault.ServiceFault.{ServiceFault}
 use Rattle.tile_service.specs.declared.fault.ServiceFault.TheVariants.{Device}
 use Rattle.tile_service.proofs.Archive.Tickets as tickets
 use Rattle.tile_service.proofs.Tiles.Tags.{knows_same}
+use Rattle.http_serve.specs.declared.handlers.RestFault.TheVariants.{Failed, Gone}
 use Rattle.http_serve.specs.declared.handlers.Ticket.{Ticket}
 use Rattle.map_replies.specs.declared.calls.Calls.{Calls}
 use Rattle.map_replies.specs.declared.service.MapReplies.{MapReplies}
@@ -128,50 +129,59 @@ module _ {D : Type 0} (sectors : D → ℕ) (honest : D → Type 0) (history : D
 
   -- ---- reads
 
-  -- nothing is read
-  pub rest_unread : (old : Calls D) (ticket : Ticket) (offset : ℕ) → ReadsRest sectors honest history old ticket offset None old
-  rest_unread old ticket offset = record {
-    same = refl;
-    oldest = refl;
-    sending = refl;
-    disk = reads_none old.service.disk;
-    up = λ stored up is_honest. up;
-    there = tt;
-    shown = λ archive has is_honest. tt;
-  }
-
-  -- the disk was read
-  module _ (old : Calls D) (new : ServiceView D) (same : new ≡ record old.service { disk = new.disk })
-      (disk : OnlyReads sectors honest history old.service.disk new.disk)
-      (up : (stored : Stored) → IsUp (sectors old.service.disk) (history old.service.disk) stored old.service → honest new.disk
-      → IsUp (sectors new.disk) (history new.disk) stored new) (ticket : Ticket) (offset : ℕ) where
-    pub rest_failed : ReadsRest sectors honest history old ticket offset None (record old { service = new })
-    rest_failed = record {
-      same = same;
+  module _ (faults : D → ℕ) where
+    -- nothing is read: the bytes aren't there
+    pub rest_unread : (old : Calls D) (ticket : Ticket) (offset count : ℕ) → (IsThere old.service.size old.oldest ticket offset count → ⊥)
+        → ReadsRest sectors honest history faults old ticket offset count (Err Gone) old
+    rest_unread old ticket offset count none = record {
+      same = refl;
       oldest = refl;
       sending = refl;
-      disk = disk;
-      up = up;
+      disk = reads_none old.service.disk;
+      up = λ stored up is_honest. up;
+      gone = (λ _. none, λ _. refl);
+      failed = λ e. absurd (cc);
       there = tt;
       shown = λ archive has is_honest. tt;
     }
 
-    pub rest_read : (place : ArchivePlace) (count : ℕ) (bytes : List ℕ) → place ≡ place_of ticket → length bytes ≡ count
-        → IsThere old.service.size old.oldest ticket offset count
-        → ((archive : List ℕ) → HasArchive (history old.service.disk) place archive → honest new.disk
-        → bytes ≡ slice_range archive (ticket.first + offset) (ticket.first + offset + count))
-        → ReadsRest sectors honest history old ticket offset (Some bytes) (record old { service = new })
-    rest_read place count bytes at long there shown = record {
-      same = same;
-      oldest = refl;
-      sending = refl;
-      disk = disk;
-      up = up;
-      there = subst (λ (n : ℕ). IsThere old.service.size old.oldest ticket offset n) (sym long) there;
-      shown = λ archive has is_honest.
-          subst (λ (n : ℕ). bytes ≡ slice_range archive (ticket.first + offset) (ticket.first + offset + n)) (sym long)
-          (shown archive (subst (λ (p : ArchivePlace). HasArchive (history old.service.disk) p archive) (sym at) has) is_honest);
-    }
+    -- the disk was read: the bytes are there
+    module _ (old : Calls D) (new : ServiceView D) (same : new ≡ record old.service { disk = new.disk })
+        (disk : OnlyReads sectors honest history old.service.disk new.disk)
+        (up : (stored : Stored) → IsUp (sectors old.service.disk) (history old.service.disk) stored old.service → honest new.disk
+        → IsUp (sectors new.disk) (history new.disk) stored new) (ticket : Ticket) (offset count : ℕ)
+        (there : IsThere old.service.size old.oldest ticket offset count) where
+      pub rest_failed : HasFailed (faults old.service.disk) (faults new.disk)
+          → ReadsRest sectors honest history faults old ticket offset count (Err Failed) (record old { service = new })
+      rest_failed failed = record {
+        same = same;
+        oldest = refl;
+        sending = refl;
+        disk = disk;
+        up = up;
+        gone = (λ e. absurd (cc), λ none. absurd (none there));
+        failed = λ _. failed;
+        there = tt;
+        shown = λ archive has is_honest. tt;
+      }
+
+      pub rest_read : (place : ArchivePlace) (bytes : List ℕ) → place ≡ place_of ticket → length bytes ≡ count
+          → ((archive : List ℕ) → HasArchive (history old.service.disk) place archive → honest new.disk
+          → bytes ≡ slice_range archive (ticket.first + offset) (ticket.first + offset + count))
+          → ReadsRest sectors honest history faults old ticket offset count (Ok bytes) (record old { service = new })
+      rest_read place bytes at long shown = record {
+        same = same;
+        oldest = refl;
+        sending = refl;
+        disk = disk;
+        up = up;
+        gone = (λ e. absurd (cc), λ none. absurd (none there));
+        failed = λ e. absurd (cc);
+        there = (long, subst (λ (n : ℕ). IsThere old.service.size old.oldest ticket offset n) (sym long) there);
+        shown = λ archive has is_honest.
+            subst (λ (n : ℕ). bytes ≡ slice_range archive (ticket.first + offset) (ticket.first + offset + n)) (sym long)
+            (shown archive (subst (λ (p : ArchivePlace). HasArchive (history old.service.disk) p archive) (sym at) has) is_honest);
+      }
 
 -- ---- a download
 
@@ -180,7 +190,7 @@ module _ {D : Type 0} (sectors : D → ℕ) (honest : D → Type 0) (history : D
   pub download_part : (old at before after : MapReplies D) (request : RequestView) (reply : ReplyView) (offset : ℕ) (bytes archive : List ℕ)
       → ServiceSends sectors honest history faults old request reply at
       → at.calls.oldest ≤ (asked_service at).generation → KeepsTickets honest history at.calls before.calls
-      → ReadsRest sectors honest history before.calls (ticket_for at.calls) offset (Some bytes) after.calls
+      → ReadsRest sectors honest history faults before.calls (ticket_for at.calls) offset (length bytes) (Ok bytes) after.calls
       → honest (asked_service after).disk → ShowsArchive (history (asked_service old).disk) (asked_service old) archive
       → offset + length bytes ≤ length reply.content → bytes ≡ take (length bytes) (drop offset reply.content)
   download_part old at before after request reply offset bytes archive sends least keeps reads is_honest shows within =
@@ -193,11 +203,11 @@ module _ {D : Type 0} (sectors : D → ℕ) (honest : D → Type 0) (history : D
       keeps place first (tickets.held_first sectors honest history first at.calls.oldest least) in
       let honest_before : honest (asked_service before).disk = reads.disk.was_honest is_honest in
       let honest_at : honest first.disk = held.was_honest honest_before in
-      let inside : IsPlaceIn first.size place = subst (λ (n : ℕ). IsPlaceIn n place) held.size reads.there.inside in
+      let inside : IsPlaceIn first.size place = subst (λ (n : ℕ). IsPlaceIn n place) held.size reads.there.1.inside in
       let there : HasArchive (history first.disk) place archive =
       shows_on sectors honest history (asked_service old) first start (Some begun.content) archive begun.reads honest_at shows in
       let now : HasArchive (history (asked_service before).disk) place archive =
-      tickets.held_archive sectors honest history place first before.calls.oldest (asked_service before) held inside reads.there.kept archive there
+      tickets.held_archive sectors honest history place first before.calls.oldest (asked_service before) held inside reads.there.1.kept archive there
       honest_before in
       let read = reads.shown archive now is_honest in
       let from : at.calls.sending.first ≡ start = ap (λ s. s.first) begun.sent.1 in

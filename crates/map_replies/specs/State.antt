@@ -1,5 +1,6 @@
 -- The state of the request handler, regardless of its address in memory.
-use Rattle.std.specs.Prelude.{◌≡◌, ℕ, ◌-◌, min, List, Option, ◌++◌}
+use Rattle.std.specs.Prelude.{◌≡◌, ℕ, ◌-◌, min, List, Option, Result, ◌++◌}
+use Rattle.http_serve.specs.declared.handlers.RestFault.{RestFault}
 use Rattle.http_serve.specs.declared.handlers.Ticket.{Ticket}
 use Rattle.http_requests.specs.Requests.{RequestView}
 use Rattle.http_serve.specs.Reply.{ReplyView}
@@ -65,9 +66,9 @@ module _ {D : Type 0} (sectors : D → ℕ) (honest : D → Type 0) (history : D
   ServiceFails old request reply new = ServiceReplies old request reply new × DiskFailed faults (asked_service old) (asked_service new)
 
   -- bytes of a ticket's content were read, or couldn't be; the same paths are served as before, with the same tags
-  abbrev pub ServiceReads : MapReplies D → Ticket → ℕ → Option (List ℕ) → MapReplies D → Type 0
-  ServiceReads old ticket offset outcome new =
-      ReadsRest sectors honest history old.calls ticket offset outcome new.calls × (settings_of new ≡ settings_of old)
+  abbrev pub ServiceReads : MapReplies D → Ticket → (offset count : ℕ) → Result (List ℕ) RestFault → MapReplies D → Type 0
+  ServiceReads old ticket offset count outcome new =
+      ReadsRest sectors honest history faults old.calls ticket offset count outcome new.calls × (settings_of new ≡ settings_of old)
 
 -- ---- a connection
 
@@ -95,6 +96,6 @@ module _ {D : Type 0} (sectors : D → ℕ) (honest : D → Type 0) (history : D
   TellsCut old request reply new = Tells old request reply new × DiskFailed faults (asked_service old.replies) (asked_service new.replies)
 
   -- bytes of a ticket's content were read, or couldn't be: nothing happens
-  abbrev pub TellsRead : Course D → Ticket → ℕ → Option (List ℕ) → Course D → Type 0
-  TellsRead old ticket offset outcome new =
-      ServiceReads sectors honest history faults old.replies ticket offset outcome new.replies × (new.run ≡ old.run)
+  abbrev pub TellsRead : Course D → Ticket → (offset count : ℕ) → Result (List ℕ) RestFault → Course D → Type 0
+  TellsRead old ticket offset count outcome new =
+      ServiceReads sectors honest history faults old.replies ticket offset count outcome new.replies × (new.run ≡ old.run)

@@ -1,8 +1,10 @@
 -- The rest of a download, which is read by its ticket between other replies.
-use Rattle.std.specs.Prelude.{◌≡◌, ◌≤◌, ◌+◌, ℕ, List, length, slice_range, Option, IfSome, Result, Ok, Err}
+use Rattle.std.specs.Prelude.{◌≡◌, ◌≤◌, ◌+◌, ◌↔◌, ℕ, List, length, slice_range, IfOk, Result, Ok, Err}
+use Rattle.http_serve.specs.declared.handlers.RestFault.{RestFault}
+use Rattle.http_serve.specs.declared.handlers.RestFault.TheVariants.{Failed, Gone}
 use Rattle.http_serve.specs.declared.handlers.Ticket.{Ticket}
 use Rattle.sector_disk.specs.Asked.{OnlyReads}
-use Rattle.sector_disk.specs.Disk.{History}
+use Rattle.sector_disk.specs.Disk.{History, HasFailed}
 use Rattle.generations.specs.Areas.{IsSize}
 use Rattle.published_tiles.specs.declared.place.ArchivePlace.{ArchivePlace}
 use Rattle.tile_service.specs.Service.{ServiceView, IsUp, IsPlaceIn, HasArchive, archive_of}
@@ -44,17 +46,21 @@ abbrev pub KeepsTickets : {D : Type 0} (honest : D → Type 0) (history : D → 
 KeepsTickets {D} honest history old new = (place : ArchivePlace) (first : ServiceView D)
     → IsHeld honest history place first old.oldest old.service → IsHeld honest history place first new.oldest new.service
 
--- Bytes of a ticket's content were read from an offset on, or couldn't be. Nothing changes but what the disk was asked.
-pub record ReadsRest {D : Type 0} (sectors : D → ℕ) (honest : D → Type 0) (history : D → History) (old : Calls D)
-    (ticket : Ticket) (offset : ℕ) (outcome : Option (List ℕ)) (new : Calls D) : Type 0 where
+-- This many bytes of a ticket's content were read from an offset on, or couldn't be. Nothing changes but what the disk was asked.
+pub record ReadsRest {D : Type 0} (sectors : D → ℕ) (honest : D → Type 0) (history : D → History) (faults : D → ℕ) (old : Calls D)
+    (ticket : Ticket) (offset count : ℕ) (outcome : Result (List ℕ) RestFault) (new : Calls D) : Type 0 where
   pub same : new.service ≡ record old.service { disk = new.service.disk }
   pub oldest : new.oldest ≡ old.oldest
   pub sending : new.sending ≡ old.sending
   pub disk : OnlyReads sectors honest history old.service.disk new.service.disk
   pub up : (stored : Stored) → IsUp (sectors old.service.disk) (history old.service.disk) stored old.service → honest new.service.disk
       → IsUp (sectors new.service.disk) (history new.service.disk) stored new.service
-  -- they are read only if they are there
-  pub there : IfSome outcome (λ bytes. IsThere old.service.size old.oldest ticket offset (length bytes))
+  -- they are gone exactly if they aren't there
+  pub gone : (outcome ≡ Err Gone) ↔ (IsThere old.service.size old.oldest ticket offset count → ⊥)
+  -- another fault is one of the disk
+  pub failed : outcome ≡ Err Failed → HasFailed (faults old.service.disk) (faults new.service.disk)
+  -- so they are read only if they are there, all of them
+  pub there : IfOk outcome (λ bytes. (length bytes ≡ count) × IsThere old.service.size old.oldest ticket offset (length bytes))
   -- they are those of the archive that the disk has in the ticket's place
   pub shown : (archive : List ℕ) → HasArchive (history old.service.disk) (place_of ticket) archive → honest new.service.disk
-      → IfSome outcome (λ bytes. bytes ≡ slice_range archive (ticket.first + offset) (ticket.first + offset + length bytes))
+      → IfOk outcome (λ bytes. bytes ≡ slice_range archive (ticket.first + offset) (ticket.first + offset + length bytes))

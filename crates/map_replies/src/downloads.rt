@@ -1,17 +1,16 @@
 //! The rest of a download, which is read by its ticket between other replies.
-ghost use Rattle.std.specs.Prelude.{◌≡◌, ◌≤◌, ◌<◌, ◌↔◌, ◌⊎◌, ◌+◌, ℕ, List, Some, IsTrue, IfErr, false, length, take, drop};
-ghost use Rattle.http_serve.specs.Parts.{read_outcome};
+ghost use Rattle.std.specs.Prelude.{◌≡◌, ◌≤◌, ◌<◌, ◌↔◌, ◌+◌, ℕ, List, Ok, IsTrue, false, length, take, drop};
+ghost use Rattle.http_serve.specs.Parts.{rest_outcome};
 ghost use Rattle.http_requests.specs.Requests.{RequestView};
 ghost use Rattle.http_serve.specs.Reply.{ReplyView};
 ghost use Rattle.tile_service.specs.Service.{IsPlaceIn, ShowsArchive};
-ghost use Rattle.map_replies.specs.Meanings.{DiskFailed};
 ghost use Rattle.map_replies.specs.State.{ServiceSends, asked_service};
 ghost use Rattle.map_replies.specs.Tickets.{place_of, ticket_for, IsThere, KeepsTickets, ReadsRest};
 ghost use Rattle.map_replies.specs.declared.service.MapReplies.{MapReplies};
 
 use crate::calls::Calls;
 use generations::{Layout, sectors_for};
-use http_serve::{ContentFault, Ticket};
+use http_serve::{RestFault, Ticket};
 use published_tiles::ArchivePlace;
 use sector_disk::Sectors;
 
@@ -80,15 +79,14 @@ impl<D: Sectors + Drop> Calls<D> {
         ticket: Ticket,
         offset: u64,
         part: &mut [u8],
-    ) -> Result<(), ContentFault>
-        ensures read { ReadsRest D.sectors D.honest D.history self.old ticket offset (read_outcome result part.new) self.new }
-        ensures failed { IfErr result (λ fault. DiskFailed D.faults self.old.service self.new.service
-            ⊎ (IsThere self.old.service.size self.old.oldest ticket offset (length part.old) → ⊥)) }
+    ) -> Result<(), RestFault>
+        ensures read { ReadsRest D.sectors D.honest D.history D.faults self.old ticket offset (length part.old)
+            (rest_outcome result part.new) self.new }
         ensures held { KeepsTickets D.honest D.history self.old self.new }
         ensures length { length part.new ≡ length part.old }
     {
         if !self.is_there(ticket, offset, part.len()) {
-            return Err(ContentFault);
+            return Err(RestFault::Gone);
         }
         let place = place_of(ticket);
         match self
@@ -96,7 +94,7 @@ impl<D: Sectors + Drop> Calls<D> {
             .archive_read_at(place, ticket.first + offset, part)
         {
             Ok(()) => Ok(()),
-            Err(_) => Err(ContentFault),
+            Err(_) => Err(RestFault::Failed),
         }
     }
 }
@@ -108,7 +106,7 @@ pub fn download_is_of_one_archive<D: Sectors>()
     ensures { (old at before after : MapReplies D) (request : RequestView) (reply : ReplyView) (offset : ℕ) (bytes archive : List ℕ)
         → ServiceSends D.sectors D.honest D.history D.faults old request reply at
         → at.calls.oldest ≤ (asked_service at).generation → KeepsTickets D.honest D.history at.calls before.calls
-        → ReadsRest D.sectors D.honest D.history before.calls (ticket_for at.calls) offset (Some bytes) after.calls
+        → ReadsRest D.sectors D.honest D.history D.faults before.calls (ticket_for at.calls) offset (length bytes) (Ok bytes) after.calls
         → D.honest (asked_service after).disk → ShowsArchive (D.history (asked_service old).disk) (asked_service old) archive
         → offset + length bytes ≤ length reply.content → bytes ≡ take (length bytes) (drop offset reply.content) }
 {}

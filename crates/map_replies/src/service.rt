@@ -8,8 +8,8 @@ use crate::conditions::Ask;
 use crate::parts::Sending;
 use crate::replies;
 use http_serve::{
-    Buffers, ContentFault, Downloads, Handler, MAX_READS, Reply, Request, ServeFault, Served,
-    Ticket, serve_with,
+    Buffers, ContentFault, Downloads, Handler, MAX_READS, Reply, Request, RestFault, ServeFault,
+    Served, Ticket, serve_with,
 };
 use sector_disk::Sectors;
 use std::alloc::Global;
@@ -106,11 +106,7 @@ impl<D: Sectors + Drop> Handler for MapReplies<D> {
 }
 
 impl<D: Sectors + Drop> Downloads for MapReplies<D> {
-    ghost use Rattle.std.specs.Prelude.{◌⊎◌, length, IfErr};
-    ghost use Rattle.http_serve.specs.Parts.{read_outcome};
-    ghost use Rattle.map_replies.specs.Meanings.{DiskFailed};
-    ghost use Rattle.map_replies.specs.State.{ServiceReads, asked_service, sending_ticket};
-    ghost use Rattle.map_replies.specs.Tickets.{IsThere};
+    ghost use Rattle.map_replies.specs.State.{ServiceReads, sending_ticket};
 
     ghost reads = { ServiceReads D.sectors D.honest D.history D.faults };
 
@@ -120,18 +116,7 @@ impl<D: Sectors + Drop> Downloads for MapReplies<D> {
         self.calls.ticket()
     }
 
-    fn read_rest(
-        &mut self,
-        ticket: Ticket,
-        offset: u64,
-        part: &mut [u8],
-    ) -> Result<(), ContentFault>
-        ensures read { ServiceReads D.sectors D.honest D.history D.faults self.old ticket offset (read_outcome result part.new) self.new }
-        ensures length { length part.new ≡ length part.old }
-        // Bytes that are there are read, unless the disk fails.
-        ensures failed { IfErr result (λ fault. DiskFailed D.faults (asked_service self.old) (asked_service self.new)
-            ⊎ (IsThere (asked_service self.old).size self.old.calls.oldest ticket offset (length part.old) → ⊥)) }
-    {
+    fn read_rest(&mut self, ticket: Ticket, offset: u64, part: &mut [u8]) -> Result<(), RestFault> {
         self.calls.read_rest(ticket, offset, part)
     }
 }

@@ -52,8 +52,8 @@ module _ {D : Type 0} (sectors : D → ℕ) (honest : D → Type 0) (history : D
         → (after : Course D) × Happens (Tells sectors honest history faults) (TellsCut sectors honest history faults)
         (TellsRead sectors honest history faults) before event after × Along new after
     event_along (at_stretch s) old new before so is = came_along s.result s old new before so is
-    event_along (at_part ticket offset outcome) old new before so is =
-        read_told sectors honest history faults first old before ticket offset outcome new so is
+    event_along (at_part ticket offset count outcome) old new before so is =
+        read_told sectors honest history faults first old before ticket offset count outcome new so is
 
     all_along : (served : List Event) (old new : MapReplies D) (before : Course D) → Along old before
         → ServiceServes old served new → (after : Course D) × TellsAll before served after × Along new after

@@ -1,13 +1,13 @@
 //! The lines of the log.
 use crate::wanted::same;
-use http_listen::write_line;
-use http_serve::{End, ServeFault, Served};
+use http_listen::{EndFault, write_line};
+use http_serve::{End, Served};
 use std::alloc::Global;
 
 /// The number of a connection, how many replies it had before its last stretch, what that came to, and its line.
-type Row = (u64, u64, Result<Served, ServeFault>, &'static str);
+type Row = (u64, u64, Result<Served, EndFault>, &'static str);
 
-static ROWS: [Row; 8] = [
+static ROWS: [Row; 9] = [
     (
         1,
         0,
@@ -47,26 +47,32 @@ static ROWS: [Row; 8] = [
     (
         u64::MAX,
         3,
-        Err(ServeFault::Memory),
+        Err(EndFault::Memory),
         "connection 18446744073709551615: 3 requests, memory\n",
     ),
     (
         3,
         1,
-        Err(ServeFault::Read { requests: 3 }),
+        Err(EndFault::Read { requests: 3 }),
         "connection 3: 4 requests, read\n",
     ),
     (
         4,
         0,
-        Err(ServeFault::Write { requests: 5 }),
+        Err(EndFault::Write { requests: 5 }),
         "connection 4: 5 requests, write\n",
     ),
     (
         5,
         2,
-        Err(ServeFault::Content { requests: 4 }),
+        Err(EndFault::Device { requests: 4 }),
         "connection 5: 6 requests, device\n",
+    ),
+    (
+        6,
+        7,
+        Err(EndFault::Gone { requests: 0 }),
+        "connection 6: 7 requests, gone\n",
     ),
 ];
 

@@ -3,7 +3,9 @@ ghost use Rattle.http_serve.specs.Reply.{IsWhole};
 
 use crate::wanted::same;
 use http_listen::{SystemListener, serve_on};
-use http_serve::{Content, ContentFault, Downloads, Handler, Reply, Request, Status, Ticket};
+use http_serve::{
+    Content, ContentFault, Downloads, Handler, Reply, Request, RestFault, Status, Ticket,
+};
 use std::io::{Read, Write};
 use std::net::{Ipv4Addr, Shutdown, SocketAddr, TcpListener, TcpStream};
 
@@ -129,7 +131,7 @@ impl Handler for Counter<'_> {
 }
 
 impl Downloads for Counter<'_> {
-    ghost reads = { λ _ _ _ _ _. Unit {0} };
+    ghost reads = { λ _ _ _ _ _ _. Unit {0} };
 
     ghost ticket_of = { λ _. record { generation = 0; place = 0; total = 0; first = 0 } };
 
@@ -142,8 +144,8 @@ impl Downloads for Counter<'_> {
         _ticket: Ticket,
         _offset: u64,
         _part: &mut [u8],
-    ) -> Result<(), ContentFault> {
-        Err(ContentFault)
+    ) -> Result<(), RestFault> {
+        Err(RestFault::Failed)
     }
 }
 
