@@ -1,16 +1,14 @@
 -- How many bytes an archive of tiles has at most, and which areas it doesn't fit.
-use Rattle.std.proofs.Common.{◌≡◌, ℕ, ◌+◌, ◌*◌, ◌^◌, ◌<◌, ◌≤◌, inl, inr, List, [], ◌∷◌, ◌++◌, length, refl, sym, ap, subst, arith}
+use Rattle.std.proofs.Common.{◌≡◌, ℕ, ◌+◌, ◌*◌, ◌<◌, ◌≤◌, inr, List, [], ◌∷◌, ◌++◌, length, refl, sym, ap, subst, arith}
 use Rattle.feature_store.specs.Store.{FeatureMap, snapshot}
 use Rattle.feature_store.specs.Tiles.{IsNextTile}
 use Rattle.generations.specs.Areas.{sectors_of}
-use Rattle.pm_build.specs.declared.fault.BuildFault.{BuildFault}
-use Rattle.pm_build.specs.declared.fault.BuildFault.TheVariants as building
 use Rattle.pm_build.specs.Bounded.{IsSize}
 use Rattle.pm_build.specs.Building.{AreTooMany}
 use Rattle.pm_build.specs.Runs.{AreLongestRuns}
 use Rattle.pm_build.specs.Tiles.{Tile}
 use Rattle.area_content.specs.Content.{ContentView, sectors_taken}
-use Rattle.area_content.specs.Faults.{IsShort, AreAdded, HasLongTile, HasManyTiles, IsBuiltFor, IsFull, IsContentFault, told_as}
+use Rattle.area_content.specs.Faults.{IsShort, AreAdded, HasManyTiles, IsBuiltFor, IsFull}
 
 pub no_runs : AreLongestRuns [] []
 no_runs = record { together = refl; each = tt; longest = tt }
@@ -26,21 +24,6 @@ none_bounded ts metadata bytes none empty =
 -- ---- faults
 
 module _ (m : FeatureMap) (metadata : List ℕ) (area : ℕ) where
-  -- no area takes a content of 2^32 bytes or more
-  pub full_of_long : (from size need : ℕ) (ts : List Tile) (t : Tile) → AreAdded m from ts → IsNextTile m from t → 2 ^ 32 ≤ size → size ≡ length t.1
-      → area < 2 ^ 23 → need ≡ sectors_of size → IsFull m metadata area need area
-  full_of_long from size need ts t added next above size_is small is =
-      let long : HasLongTile m size = record {
-        from = from;
-        before = ts;
-        added = added;
-        long = t;
-        next = next;
-        above = above;
-        size_is = size_is;
-      } in
-      record { free_is = refl; above = omega (arith, above, small, is); needed = inl (size, long, is) }
-
   -- an area of fewer sectors than these take
   pub full_of_both : (c : ContentView) → c.snapshot ≡ snapshot m → IsBuiltFor m metadata c.archive
       → area < sectors_taken c → IsFull m metadata area (sectors_taken c) area
@@ -48,11 +31,6 @@ module _ (m : FeatureMap) (metadata : List ℕ) (area : ℕ) where
       let need : sectors_taken c ≡ sectors_of (length (snapshot m)) + sectors_of (length c.archive) =
       ap (λ (bytes : List ℕ). sectors_of (length bytes) + sectors_of (length c.archive)) same in
       record { free_is = refl; above = more; needed = inr (c.archive, built, need) }
-
-  -- the fault of a builder, which has too many tiles only if the map has
-  pub fault_told : (fault : BuildFault) → (fault ≡ building.TooManyEntries → HasManyTiles m) → IsContentFault m metadata area (told_as fault)
-  fault_told building.TooManyEntries many = many refl
-  fault_told building.Memory many = tt
 
 -- more entries than an archive takes
 pub many_tiles : (m : FeatureMap) (from : ℕ) (ts : List Tile) (t : Tile) → AreAdded m from ts → IsNextTile m from t → IsShort t → AreTooMany (ts ++ t ∷ [])

@@ -1,6 +1,5 @@
 mod Bounds
 mod Drafts
-mod Exits
 pub mod Laws
 mod MapTiles
 mod Pieces

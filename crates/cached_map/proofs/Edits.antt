@@ -237,9 +237,3 @@ module _ (old new : CachedView) (marked : List Mark → List Mark) (edited : IsE
     number = omega (arith, before.number, edited.later);
     tiles = λ z x y all. edited.leaves before.marks z x y n before.number all ∙ before.tiles z x y (edited.before before.marks z x y n all);
   }
-
--- ---- the map now
-
--- the map of this moment, where some marks are remembered
-pub is_now : (m : FeatureMap) (cells : List ℕ) (last : ℕ) (marks : List Mark) → Remembers cells marks → WasMap m cells last last m
-is_now m cells last marks remembers = record { marks = marks; remembers = remembers; number = omega arith; tiles = λ z x y all. refl }

@@ -1,24 +1,23 @@
 -- Kept tiles stay those of the map.
 use Rattle.std.proofs.Common.{◌≡◌, ℕ, ◌≤◌, ◌⊎◌, ◌&&◌, inl, inr, Bool, true, false, cond, min, List, [], ◌∷◌, All}
-use Rattle.std.proofs.Common.{Option, Some, None, refl, sym, ap, subst, ◌∙◌, arith, length, map}
-use Rattle.std.specs.Prelude.{nat_le, slice_index, Result, Ok, Err, OnOk, OnErr}
+use Rattle.std.proofs.Common.{Option, Some, None, refl, sym, ap, subst, ◌∙◌, arith, map}
+use Rattle.std.specs.Prelude.{nat_le, slice_index}
 use Rattle.std.specs.Map.{lookup}
-use Rattle.std.proofs.lemmas.Bool.{leb-true, and_parts, cases_lt}
+use Rattle.std.proofs.lemmas.Bool.{leb-true, and_parts}
 use Rattle.std.proofs.lemmas.List.Elements.{All-nil, All-cons, All-head, All-tail, All-contains, All-map, All-weaker}
 use Rattle.feature_store.specs.Content.{IsTileContent}
 use Rattle.feature_store.specs.Layers.{layers}
 use Rattle.feature_store.specs.Store.{FeatureMap}
 use Rattle.tile_cache.specs.Cells.{place_in, cell_at}
-use Rattle.tile_cache.specs.Kept.{TileView, CacheView, is_place, kept_at, counts, fresh, IsSmall, KeepsSame, KeepsFewer}
+use Rattle.tile_cache.specs.Kept.{TileView, CacheView, is_place, kept_at, counts, fresh, KeepsSame, KeepsFewer}
 use Rattle.tile_cache.specs.Touched.{Mark, Reaches, Touches, Remembers, IsNewest, IsNewestOf, IsZeroOrMarked, shown_box}
 use Rattle.tile_cache.specs.declared.cached_tiles.Origin.{Origin}
 use Rattle.tile_cache.specs.declared.cached_tiles.Origin.TheVariants.{Cut, Read}
 use Rattle.tile_cache.specs.declared.cached_tiles.TileKey.{TileKey}
-use Rattle.tile_cache.specs.declared.cached_tiles.TheConstants.{MAX_TILE_BYTES}
 use Rattle.tile_cache.proofs.Marks.{marked_more, newest_of, reached_at_most}
 use Rattle.tile_cache.proofs.Numbers.{newest_once}
 use Rattle.tile_cache.proofs.Places.{place_is}
-use Rattle.cached_map.specs.Cached.{IsUntouched, IsKept, AreKept, AreReadRight, KeepsFirst, KeepsOrNot, WasMap}
+use Rattle.cached_map.specs.Cached.{IsUntouched, IsKept, AreKept, AreReadRight, KeepsOrNot, WasMap}
 
 none_is_none : {T : Type 0} {t : T} → ◌≡◌ {A = Option T} None (Some t) → ⊥
 none_is_none is = cc
@@ -187,17 +186,6 @@ read_kept m cells last number old new z x y bytes was kept earlier content befor
     low = reached_at_most cells earlier.marks 0 z x y last (omega arith)
         (λ column row has. at_most before.marks (cell_at cells 0 column row) last before.numbers (before.remembers.only (place_in 0 column row)))
         earlier.remembers
-
--- ---- a tile that is offered to be kept
-
-pub keeps_or_not : {T E : Type 0} (r : Result T E) (old new : CacheView) (z x y : ℕ) (t : TileView)
-    → OnOk r (IsSmall t.bytes → kept_at new z x y ≡ Some t) → (¬ IsSmall t.bytes → new ≡ old) → OnOk r (KeepsFewer z x y old new)
-    → OnOk r (IsSmall t.bytes → KeepsFirst z x y t old new) → OnErr r (new ≡ old) → KeepsOrNot z x y t old new
-keeps_or_not (Ok done) old new z x y t kept large others latest same = elim (cases_lt MAX_TILE_BYTES (length t.bytes)) [
-  | inl more ↦ inr (large (λ small. absurd (omega (arith, more, small))))
-  | inr small ↦ inl (kept small, others, latest small, small)
-]
-keeps_or_not (Err fault) old new z x y t kept large others latest same = inr same
 
 -- ---- the newest edit that reaches a tile
 

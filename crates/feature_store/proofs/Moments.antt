@@ -27,11 +27,6 @@ pub none_found : (p : Option (Option Stored)) → is_some p ≡ false → p ≡ 
 none_found None is = refl
 none_found (Some x) is = absurd (false≢true (sym is))
 
--- of a number that was kept, it doesn't matter what it has now
-pub had_known : (o : Option (Option Stored)) (x y : Option FeatureData) → is_some o ≡ true → had_by o x ≡ had_by o y
-had_known (Some h) x y some = refl
-had_known None x y some = absurd (false≢true some)
-
 -- a number is kept that wasn't
 pub had_kept : (kept : Kept) (n : ℕ) (has : Option Stored) (x y : Option FeatureData) → lookup (is_at (nat_cmp n)) kept ≡ None
     → option_map stored_data has ≡ y → had_at (insert_entry nat_cmp kept n has) n x ≡ had_at kept n y

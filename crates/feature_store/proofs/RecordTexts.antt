@@ -2,8 +2,8 @@
 use Rattle.std.proofs.Common.{◌≡◌, ℕ, ◌+◌, ◌<◌, ◌≤◌, ◌⊎◌, inl, inr, Result, Ok, Err, List, [], ◌∷◌, ◌++◌, length, get_or, map, take, drop}
 use Rattle.std.specs.Prelude.{IfOk, IfErr}
 use Rattle.std.proofs.Common.{refl, sym, ap, subst, ◌∙◌, arith, All, append_assoc, append-nil, length-append}
-use Rattle.std.proofs.lemmas.List.{flat_map_more, length-map, take-map, get_or-map, nil_from_length}
-use Rattle.std.proofs.lemmas.List.Elements.{All-nil, All-head, All-tail, All-push}
+use Rattle.std.proofs.lemmas.List.{flat_map_more, length-map, take-map, get_or-map}
+use Rattle.std.proofs.lemmas.List.Elements.{All-head, All-tail, All-push}
 use Rattle.std.proofs.lemmas.List.Folds.{length-flat_map-take}
 use Rattle.feature_model.specs.declared.limits.TheConstants.{MAX_EDIT_BYTES}
 use Rattle.feature_model.specs.declared.kinds.TheConstants.{DELETE_KIND}
@@ -11,7 +11,7 @@ use Rattle.feature_model.specs.Data.{FeatureData, ChangeData, put, delete, EditD
 use Rattle.feature_model.specs.Limits.{AreEnough, IsNew, AreDistinct, IsAllowedChange, TextsFit}
 use Rattle.feature_model.specs.Spelled.{spelled_change, spelled_changes, spelled}
 use Rattle.feature_model.specs.Types.{IsChange, IsEdit}
-use Rattle.feature_model.proofs.Changes.{distinct_none, distinct_push, distinct_front, distinct_last}
+use Rattle.feature_model.proofs.Changes.{distinct_push, distinct_front, distinct_last}
 use Rattle.edit_text.specs.declared.fault.TextFault.{TextFault}
 use Rattle.edit_text.specs.declared.fault.TextFault.TheVariants.{Bad, Memory}
 use Rattle.edit_text.specs.Decoding.{BeginsWithChange}
@@ -29,9 +29,6 @@ pub record AreRead (done : EditData) (rest text : List ℕ) : Type 0 where
   pub changes : All IsChange done
   pub distinct : AreDistinct done
   pub whole : text ≡ spelled_changes done ++ rest
-
-pub nothing_read : (text : List ℕ) → AreRead [] text text
-nothing_read text = record { changes = All-nil IsChange; distinct = distinct_none; whole = refl }
 
 pub one_more : (done : EditData) (c : ChangeData) (rest behind text : List ℕ) → AreRead done rest text → IsChange c → IsNew done (number_of c)
     → rest ≡ spelled_change c ++ behind → AreRead (done ++ c ∷ []) behind text
@@ -88,14 +85,6 @@ module _ (count : ℕ) (done : EditData) (rest text : List ℕ) (read : AreRead 
 
   pub all_read : (cs : EditData) → length done ≡ count → AreTexts count cs text → (length rest ≡ 0) × (done ≡ cs)
   all_read cs full is = let on = on_from cs is in all_by cs on.0 full is.count_is on.1 on.2
-
-  pub are_texts : length done ≡ count → length rest ≡ 0 → AreTexts count done text
-  are_texts full none = record {
-    count_is = full;
-    changes = read.changes;
-    distinct = read.distinct;
-    text_is = read.whole ∙ ap (λ r. spelled_changes done ++ r) (nil_from_length rest none) ∙ append-nil (spelled_changes done);
-  }
 
 -- ---- a change at the start
 

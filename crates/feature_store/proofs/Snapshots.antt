@@ -174,13 +174,6 @@ one_read m e rest behind text read is begins low = record {
 pub all_read : (m : FeatureMap) (rest text : List ℕ) → IsRead m rest text → length rest ≡ 0 → snapshot m ≡ text
 all_read m rest text read none = sym (read.whole ∙ ap (λ r. snapshot m ++ r) (nil_from_length rest none) ∙ append-nil (snapshot m))
 
-pub map_read : (m : FeatureMap) (rest text : List ℕ) → IsRead m rest text → length rest ≡ 0 → length text < TEXTS_END → IsMap m
-map_read m rest text read none short = record {
-  ascending = read.ascending;
-  edits = read.edits;
-  short = omega (arith, short, ap length (all_read m rest text read none));
-}
-
 -- ---- what no text of a map begins with
 
 -- what isn't empty has a byte

@@ -13,8 +13,7 @@ use Rattle.feature_model.specs.Spelled.{spelled_change, spelled_feature, spelled
 use Rattle.feature_model.specs.Types.{IsChange}
 use Rattle.edit_text.proofs.Laws.{short_from}
 use Rattle.feature_model.specs.declared.limits.TheConstants.{MAX_EDIT_BYTES}
-use Rattle.feature_store.specs.declared.limit.TheConstants.{TEXTS_END}
-use Rattle.feature_store.specs.Store.{FeatureMap, IsMap, entry_text, snapshot, with_feature, without_feature}
+use Rattle.feature_store.specs.Store.{FeatureMap, entry_text, snapshot, with_feature, without_feature}
 use Rattle.number_map.proofs.Entries.{set_step, removed_here, removed_on}
 use Rattle.number_map.proofs.Numbers.{less, equal, greater, by_order}
 
@@ -113,9 +112,3 @@ with_takes m id f = set_takes m id f
 pub without_takes : (m : FeatureMap) (id : ℕ) → length (snapshot (without_feature m id)) ≤ length (snapshot m)
 unfolding without_feature
 without_takes m id = removed_takes m id
-
--- room for one more text is left where there are few features
-pub few_are_short : (m : FeatureMap) (id : ℕ) (f : FeatureData) → IsMap m → IsChange (put id f) → MAX_EDIT_BYTES * (length m + 1) < TEXTS_END
-    → length (snapshot (with_feature m id f)) < TEXTS_END
-few_are_short m id f is_map edit few =
-    omega (arith, with_takes m id f, snapshot_short m is_map.edits, short_from (put id f) edit)

@@ -1,8 +1,7 @@
 -- The tiles of a map that are left to make.
 use Rattle.std.proofs.Common.{◌≡◌, ℕ, zero, suc, ◌+◌, ◌-◌, ◌<◌, ◌≤◌, Bool, true, false, List, [], ◌∷◌, length, get_or}
-use Rattle.std.proofs.Common.{IsSome, refl, sym, ap, subst, ◌∙◌, arith, inl, inr, Option, Some, None, is_some, IfSome, Vec, Global}
+use Rattle.std.proofs.Common.{IsSome, refl, sym, ap, subst, ◌∙◌, arith, inl, inr, Option, Some, None, IfSome, Vec, Global}
 use Rattle.std.specs.Prelude.{IfNone}
-use mathlib.Core.Bool.{not, false≢true}
 use Rattle.std.specs.List.{Contains}
 use Rattle.std.specs.List.Sorted.{IsStrictlySortedBy}
 use Rattle.std.specs.Map.{keys_of}
@@ -21,7 +20,7 @@ use Rattle.tile_walk.specs.Boxes.{numbers_at, IsTileOf, AreTilesOf}
 use Rattle.feature_store.specs.Boxes.{boxes_at}
 use Rattle.feature_store.specs.Indexed.{ShowsAll}
 use Rattle.feature_store.specs.Layers.{is_tile, layers, IsLayer}
-use Rattle.feature_store.specs.Left.{IsTileBelow, AreLeft, AllStay, with_next}
+use Rattle.feature_store.specs.Left.{IsTileBelow, AreLeft, AllStay}
 use Rattle.feature_store.specs.Store.{FeatureMap, IsMap}
 use Rattle.feature_store.specs.Tiles.{ShowsNothing, ShowsNothingFrom, HasPlace}
 use Rattle.feature_store.proofs.Below.{no_numbers, first_least, not_first, sorted_tail, above_first, key_there}
@@ -197,17 +196,6 @@ module _ (m : FeatureMap) (start end : ℕ) (old ts : List (ℕ × List ℕ)) (s
   stay_ended new None told = stay_same new (told.0 ∙ sym told.1)
   stay_ended new (Some t) told = tt
 
--- with the tile that was taken, if one was
-pub stay_with : (m : FeatureMap) (start end : ℕ) (old ts : List (ℕ × List ℕ)) (o : Option (ℕ × Vec ℕ Global))
-    → IfSome o (λ t. AllStay m start old end ((t.0, t.1.items) ∷ ts)) → IfNone o (AllStay m start old end ts) → AllStay m start old end (with_next o ts)
-stay_with m start end old ts None some none = none
-stay_with m start end old ts (Some t) some none = some
-
--- where none was taken before
-pub stay_ahead : (m : FeatureMap) (start end : ℕ) (old new : List (ℕ × List ℕ)) (o : Option (ℕ × Vec ℕ Global)) → o ≡ None
-    → AllStay m start old end new → AllStay m start (with_next o old) end new
-stay_ahead m start end old new o none stay from left = stay from (subst (λ p. AreLeft m start from (with_next p old)) none left)
-
 -- what is told where there is something, or nothing
 pub of_some : {X : Type 0} (P : X → Type 0) (o : Option X) (x : X) → o ≡ Some x → IfSome o P → P x
 of_some P o x is told = subst (λ p. IfSome p P) is told
@@ -215,19 +203,14 @@ of_some P o x is told = subst (λ p. IfSome p P) is told
 pub of_none : {X : Type 0} (P : Type 0) (o : Option X) → o ≡ None → IfNone o P → P
 of_none P o is told = subst (λ p. IfNone p P) is told
 
--- a test of what is there
-pub is_nothing : {X : Type 0} (o : Option X) (test : Bool) → is_some o ≡ not test → test ≡ true → o ≡ None
-is_nothing None test same is = refl
-is_nothing (Some x) test same is = absurd (false≢true (sym (same ∙ ap not is)))
+-- what is left where one was taken, with that one
+pub left_taken : (m : FeatureMap) (start end from : ℕ) (old ts : List (ℕ × List ℕ)) (o : Option (ℕ × Vec ℕ Global)) (id : ℕ) (numbers : Vec ℕ Global)
+    → o ≡ Some (id, numbers) → IfSome o (λ t. AllStay m start old end ((t.0, t.1.items) ∷ ts)) → AreLeft m start from old
+    → AreLeft m end from ((id, numbers.items) ∷ ts)
+left_taken m start end from old ts o id numbers is told =
+    of_some (λ (t : ℕ × Vec ℕ Global). AllStay m start old end ((t.0, t.1.items) ∷ ts)) o (id, numbers) is told from
 
--- what is left where a tile was taken
-pub left_some : (m : FeatureMap) (end from : ℕ) (ts : List (ℕ × List ℕ)) (o : Option (ℕ × Vec ℕ Global)) (id : ℕ) (numbers : Vec ℕ Global)
-    → o ≡ Some (id, numbers) → AreLeft m end from (with_next o ts) → AreLeft m end from ((id, numbers.items) ∷ ts)
-left_some m end from ts o id numbers is left = subst (λ p. AreLeft m end from (with_next p ts)) is left
-
--- and where none is left
-pub none_from : (m : FeatureMap) (is_map : IsMap m) (end from : ℕ) (ts : List (ℕ × List ℕ)) (o : Option (ℕ × Vec ℕ Global)) → o ≡ None
-    → IfNone o ((end ≡ MAX_ZOOM + 1) × (ts ≡ [])) → AreLeft m end from (with_next o ts) → ShowsNothingFrom m from
-none_from m is_map end from ts o is told left =
-    let last = of_none ((end ≡ MAX_ZOOM + 1) × (ts ≡ [])) o is told in
-    nothing_left m is_map end from (subst (AreLeft m end from) (ap (λ p. with_next p ts) is ∙ last.1) left) last.0
+-- where none is left of all zooms
+pub none_from : (m : FeatureMap) (is_map : IsMap m) (end from : ℕ) (ts : List (ℕ × List ℕ)) → (end ≡ MAX_ZOOM + 1) × (ts ≡ []) → AreLeft m end from ts
+    → ShowsNothingFrom m from
+none_from m is_map end from ts last left = nothing_left m is_map end from (subst (AreLeft m end from) last.1 left) last.0

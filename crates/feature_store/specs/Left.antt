@@ -1,9 +1,8 @@
 -- The tiles of a map that are left to make.
-use Rattle.std.specs.Prelude.{ℕ, ◌<◌, ◌≤◌, List, [], ◌∷◌, length, All, Contains, Option, Some, None, Vec}
+use Rattle.std.specs.Prelude.{ℕ, ◌<◌, ◌≤◌, List, [], length, All, Contains, Option, Some, None}
 use Rattle.std.specs.List.Sorted.{IsStrictlySortedBy}
 use Rattle.std.specs.Map.{keys_of}
 use Rattle.std.specs.Ordering.{nat_cmp}
-use Rattle.std.specs.declared.alloc.Global.{Global}
 use Rattle.hilbert_id.specs.Curve.{IsTileId, first_id}
 use Rattle.tile_walk.specs.Boxes.{IsTileOf, numbers_at}
 use Rattle.tile_walk.specs.Walk.{WalkView}
@@ -30,8 +29,3 @@ AllStay m end old new_end new = (from : ℕ) → AreLeft m end from old → AreL
 abbrev pub left_of : Option WalkView → List (ℕ × List ℕ)
 left_of None = []
 left_of (Some walk) = walk.left
-
--- a tile that was taken, before others
-abbrev pub with_next : Option (ℕ × Vec ℕ Global) → List (ℕ × List ℕ) → List (ℕ × List ℕ)
-with_next None ts = ts
-with_next (Some t) ts = (t.0, t.1.items) ∷ ts

@@ -2,7 +2,7 @@
 use Rattle.std.specs.Prelude.{◌+◌, ◌≤◌}
 use Rattle.feature_model.specs.declared.limits.TheConstants.{MAX_ZOOM}
 use Rattle.feature_store.specs.declared.all_tiles.Tiles.TheInside.{Inside}
-use Rattle.feature_store.specs.Left.{AreLeft, left_of, with_next}
+use Rattle.feature_store.specs.Left.{AreLeft, left_of}
 use Rattle.feature_store.specs.Store.{IsMap}
 use Rattle.feature_store.specs.Tiles.{TilesView}
 
@@ -10,8 +10,8 @@ use Rattle.feature_store.specs.Tiles.{TilesView}
 abbrev pub tiles_view : Inside → TilesView
 tiles_view w = record { features = w.map; from = w.from }
 
--- the tile that was taken and those of the walk are all that are left of the zooms that were begun
+-- the tiles of the walk are all that are left of the zooms that were begun
 pub record IsWalk (w : Inside) : Type 0 where
   pub is_map : IsMap w.map
   pub zoom : w.left.zoom ≤ MAX_ZOOM + 1
-  pub left : AreLeft w.map w.left.zoom w.from (with_next w.left.next (left_of w.left.walk))
+  pub left : AreLeft w.map w.left.zoom w.from (left_of w.left.walk)

@@ -1,5 +1,5 @@
 //! All tiles of a map, one after the other.
-ghost use Rattle.std.specs.Prelude.{◌≡◌, ◌≤◌, ◌+◌, ℕ, List, false, IfOk, OnErr, IfSome, IfNone, option_map};
+ghost use Rattle.std.specs.Prelude.{◌≡◌, ◌≤◌, ◌+◌, ℕ, List, false, IfOk, IfSome, IfNone, option_map};
 ghost use Rattle.feature_model.specs.declared.limits.TheConstants.{MAX_ZOOM};
 ghost use Rattle.hilbert_id.specs.Curve.{IsTileId};
 ghost use Rattle.feature_store.specs.Indexed.{ShowsAll};
@@ -7,7 +7,7 @@ ghost use Rattle.feature_store.specs.Inside.{entries_data};
 ghost use Rattle.feature_store.specs.Layers.{layers};
 ghost use Rattle.feature_store.specs.Moments.{IsAsOf};
 ghost use Rattle.feature_store.specs.Store.{IsMap};
-ghost use Rattle.feature_store.specs.Tiles.{HasPlace, IsBytesAt, IsNextTile, IsStep, IsTile, ShowsNothing, ShowsNothingFrom, tile_bytes};
+ghost use Rattle.feature_store.specs.Tiles.{HasPlace, IsBytesAt, IsNextTile, IsStep, IsTile, ShowsNothingFrom, tile_bytes};
 
 use crate::cutter::Cutter;
 use crate::feature_boxes::FeatureBoxes;
@@ -125,21 +125,17 @@ impl Tiles {
         ensures tile { IfOk result (λ o. IfSome o (λ t. IsStep self.old.features self.old.from t.0 (option_map (λ v. v.items) t.1)
             × (self.new.from ≡ t.0 + 1))) }
         ensures none { IfOk result (λ o. IfNone o (ShowsNothingFrom self.old.features self.old.from)) }
-        ensures failed { OnErr result (self.new ≡ self.old) }
     {
-        self.left.look_ahead(self.alloc, &self.map)?;
-        let Some((id, numbers)) = &self.left.next else {
+        let Some((id, numbers)) = self.left.take_next(self.alloc, &self.map)? else {
             return Ok(None);
         };
-        let id = *id;
-        let bytes = bytes_at(self.alloc, &mut self.cutter, features, moment, numbers, id)?;
-        self.left.next = None;
         self.from = id + 1;
+        let bytes = bytes_at(self.alloc, &mut self.cutter, features, moment, &numbers, id)?;
         Ok(Some((id, bytes)))
     }
 
-    /// The next tile that shows something of the moment, if there is one. `store` is the map as it is now. The only error is out of memory;
-    /// the next call makes the same tile then.
+    /// The next tile that shows something of the moment, if there is one. `store` is the map as it is now. The only error is out of memory; the
+    /// walk is of no use then.
     pub fn next(&mut self, store: &Store, moment: &Moment) -> Result<Option<Tile>, AllocError>
         requires same { moment.now.features ≡ self.old.features }
         requires there { moment.now.lost ≡ false }
@@ -147,7 +143,6 @@ impl Tiles {
         ensures map { self.new.features ≡ self.old.features }
         ensures tile { IfOk result (λ o. IfSome o (λ t. IsNextTile self.old.features self.old.from (t.0, t.1.items) × (self.new.from ≡ t.0 + 1))) }
         ensures none { IfOk result (λ o. IfNone o (ShowsNothingFrom self.old.features self.old.from)) }
-        ensures failed { OnErr result ((self.old.from ≤ self.new.from) × ShowsNothing self.old.features self.old.from self.new.from) }
     {
         let features = store.features();
         while let Some((id, bytes)) = self.step(features, moment)? {

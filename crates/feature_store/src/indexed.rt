@@ -76,7 +76,8 @@ pub(crate) fn set_entry(
     requires { 0 < index.old.spare }
     ensures bounds { result ≡ option_map (λ s. bounding_box (stored_data s).geometry) (option_copied replaced.entry) }
     ensures indexed { (m : FeatureMap) (id : ℕ) (f : FeatureData) → entry ≡ index_entry (id, f) → Ascends m
-        → option_map stored_data (option_copied replaced.entry) ≡ feature_at m id → IsIndexed m index.old.entries → IsIndexed (with_feature m id f) index.new.entries }
+        → option_map stored_data (option_copied replaced.entry) ≡ feature_at m id → IsIndexed m index.old.entries
+        → IsIndexed (with_feature m id f) index.new.entries }
     ensures spare { index.old.spare ≤ index.new.spare + 1 }
 {
     match replaced {

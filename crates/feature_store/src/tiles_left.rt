@@ -1,7 +1,7 @@
 //! The tiles of a map that are left to make, zoom by zoom.
-ghost use Rattle.std.specs.Prelude.{◌≡◌, ◌≤◌, ◌+◌, ◌∷◌, [], IfOk, IfSome, IfNone, OnOk, OnErr};
+ghost use Rattle.std.specs.Prelude.{◌≡◌, ◌≤◌, ◌+◌, ◌∷◌, [], IfOk, IfSome, IfNone, OnErr};
 ghost use Rattle.feature_model.specs.declared.limits.TheConstants.{MAX_ZOOM};
-ghost use Rattle.feature_store.specs.Left.{AreLeft, AllStay, left_of, with_next};
+ghost use Rattle.feature_store.specs.Left.{AreLeft, AllStay, left_of};
 
 use crate::feature_boxes::FeatureBoxes;
 use feature_model::MAX_ZOOM;
@@ -18,8 +18,6 @@ pub(crate) struct TilesLeft {
     pub(crate) zoom: u8,
     /// The walk over the zoom before it, if it isn't at its end.
     pub(crate) walk: Option<Walk>,
-    /// The next tile, once it is taken from the walk: it stays here until its bytes are made.
-    pub(crate) next: Option<Covered>,
 }
 
 /// Takes the next tile from a walk, which is dropped at its end. The only error is out of memory; no tile is lost then.
@@ -42,26 +40,24 @@ impl TilesLeft {
     /// All tiles of a map. The only error is out of memory.
     pub(crate) fn of(alloc: Global, map: &FeatureBoxes) -> Result<TilesLeft, AllocError>
         ensures zoom { IfOk result (λ left. left.zoom ≤ MAX_ZOOM + 1) }
-        ensures left { IfOk result (λ left. AreLeft map.now left.zoom 0 (with_next left.next (left_of left.walk))) }
+        ensures left { IfOk result (λ left. AreLeft map.now left.zoom 0 (left_of left.walk)) }
     {
         let walk = map.walk(alloc, 0)?;
         Ok(TilesLeft {
             zoom: 1,
             walk: Some(walk),
-            next: None,
         })
     }
 
     /// Takes the next tile from the walk, or from that of the next zoom which has one. The only error is out of memory; no tile is lost
     /// then.
-    fn take_next(
+    pub(crate) fn take_next(
         &mut self,
         alloc: Global,
         map: &FeatureBoxes,
     ) -> Result<Option<Covered>, AllocError>
         requires { self.old.zoom ≤ MAX_ZOOM + 1 }
         ensures zoom { self.new.zoom ≤ MAX_ZOOM + 1 }
-        ensures next { self.new.next ≡ self.old.next }
         ensures tile { IfOk result (λ o. IfSome o (λ t. AllStay map.now self.old.zoom (left_of self.old.walk)
             self.new.zoom ((t.0, t.1.items) ∷ left_of self.new.walk))) }
         ensures none { IfOk result (λ o. IfNone o (AllStay map.now self.old.zoom (left_of self.old.walk)
@@ -80,19 +76,5 @@ impl TilesLeft {
         }
         let tile = take_tile(&mut self.walk)?;
         Ok(tile)
-    }
-
-    /// Fills `next`, if it is empty and a tile is left. The only error is out of memory; no tile is lost then.
-    pub(crate) fn look_ahead(&mut self, alloc: Global, map: &FeatureBoxes) -> Result<(), AllocError>
-        requires { self.old.zoom ≤ MAX_ZOOM + 1 }
-        ensures zoom { self.new.zoom ≤ MAX_ZOOM + 1 }
-        ensures stay { AllStay map.now self.old.zoom (with_next self.old.next (left_of self.old.walk))
-            self.new.zoom (with_next self.new.next (left_of self.new.walk)) }
-        ensures none { OnOk result (IfNone self.new.next ((self.new.zoom ≡ MAX_ZOOM + 1) × (left_of self.new.walk ≡ []))) }
-    {
-        if self.next.is_none() {
-            self.next = self.take_next(alloc, map)?;
-        }
-        Ok(())
     }
 }

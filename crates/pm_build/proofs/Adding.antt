@@ -8,7 +8,8 @@ use Rattle.std.proofs.lemmas.List.Elements.{All-nil, All-cons, All-head, All-tai
 use Rattle.hilbert_id.specs.declared.number.TheConstants.{TILE_IDS}
 use Rattle.pm_build.specs.Building.{CanAdd}
 use Rattle.pm_build.specs.Different.{content_at, with_content}
-use Rattle.pm_build.specs.Joined.{ArePlaces, IsLast, run_view, run_views, last_end, goes_on, run_of, one_more, runs_of, runs_end, goes_on_last, last_grown, with_tile}
+use Rattle.pm_build.specs.Joined.{ArePlaces, IsLast, run_view, run_views, last_end, goes_on, run_of, one_more, runs_of, runs_end}
+use Rattle.pm_build.specs.Joined.{goes_on_last, last_grown, with_tile}
 use Rattle.pm_build.specs.Runs.{TileRun, repeated, tiles_in, AreLongestRuns}
 use Rattle.pm_build.specs.Tiles.{Tile, IdsAscend, IsTile, AreTiles}
 use Rattle.pm_build.specs.declared.run.Run.{Run}

@@ -45,11 +45,6 @@ push_same from (c ∷ cs) d h =
     let e : from + length c + length (concat cs) ≡ from + length (c ++ concat cs) = omega (arith, length-append c (concat cs)) in
     cond-false (bytes_eq d c) _ _ n.test ∙ push_same (from + length c) cs d n.rest ∙ ap (λ (n : ℕ). Some n) e
 
-push_other : (from : ℕ) (cs : List (List ℕ)) (d q : List ℕ) → bytes_eq q d ≡ false → offset_from from (cs ++ d ∷ []) q ≡ offset_from from cs q
-unfolding offset_from
-push_other from [] d q h = cond-false (bytes_eq q d) _ _ h
-push_other from (c ∷ cs) d q h = ap (λ x. cond (bytes_eq q c) (Some from) x) (push_other (from + length c) cs d q h)
-
 pub push_kept : (from : ℕ) (cs : List (List ℕ)) (d q : List ℕ) (k : ℕ) → offset_from from cs q ≡ Some k → offset_from from (cs ++ d ∷ []) q ≡ Some k
 unfolding offset_from
 push_kept from [] d q k h = cc

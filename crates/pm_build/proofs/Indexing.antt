@@ -1,13 +1,12 @@
 -- What is known of different contents, and how one that is equal is found.
-use Rattle.std.proofs.Common.{◌≡◌, ◌≢◌, ℕ, zero, suc, ◌+◌, ◌<◌, ◌≤◌, Bool, true, false, ltb, cond, List, [], ◌∷◌, ◌++◌, length, map, take, get_or}
+use Rattle.std.proofs.Common.{◌≡◌, ◌≢◌, ℕ, zero, suc, ◌+◌, ◌<◌, ◌≤◌, Bool, true, false, ltb, cond, List, [], ◌∷◌, ◌++◌, length, take, get_or}
 use Rattle.std.proofs.Common.{Option, Some, None, inl, inr, refl, sym, ap, subst, ◌∙◌, arith}
 use Rattle.std.specs.List.{concat}
 use Rattle.std.specs.Ordering.{nat_cmp, is_eq}
-use Rattle.std.specs.BTreeMap.{BTreeMap, get, Updates, is_at}
-use Rattle.std.specs.Map.{lookup}
+use Rattle.std.specs.BTreeMap.{BTreeMap, get, Updates}
 use Rattle.std.specs.declared.cmp.Ordering.TheVariants.{Less, Equal, Greater}
 use Rattle.std.proofs.lemmas.Bool.{cases_lt, cases_eq, ne_eqb}
-use Rattle.std.proofs.lemmas.List.{length-append, length-map, get_or_append_left, get_or-append-add, get_or-map}
+use Rattle.std.proofs.lemmas.List.{length-append, get_or_append_left, get_or-append-add}
 use Rattle.pm_build.specs.declared.index.Stored.{Stored}
 use Rattle.pm_build.specs.Different.{content_at, offset_from}
 use Rattle.pm_build.specs.Hashing.{content_hash}
@@ -159,7 +158,8 @@ module _ (cs : List (List ℕ)) (content : List ℕ) where
       → IsLastOf more (content_hash (content_at more place)) place (get_or (ss ++ s ∷ []) place d).before
   grown_chained hash ss s hash_is size before chained place d lt = elim (cases_lt place count) [
     | inl low ↦
-        subst (λ (r : Stored). IsLastOf more (content_hash (content_at more place)) place r.before) (sym (get_or_append_left ss (s ∷ []) d place (omega (arith, low, size))))
+        subst (λ (r : Stored). IsLastOf more (content_hash (content_at more place)) place r.before)
+        (sym (get_or_append_left ss (s ∷ []) d place (omega (arith, low, size))))
         (subst (λ (c : List ℕ). IsLastOf more (content_hash c) place (get_or ss place d).before) (sym (earlier_at place low))
         (last_stays cs more _ place _ (λ i below. earlier_at i (omega (arith, below, low))) (chained place d (omega (arith, low, size)))))
     | inr high ↦

@@ -1,5 +1,5 @@
 -- The contents of runs, by the entries that name them.
-use Rattle.std.proofs.Common.{◌≡◌, ◌≢◌, ℕ, zero, suc, ◌+◌, ◌*◌, ◌^◌, ◌<◌, ◌≤◌, ◌&&◌, Bool, true, false, cond, eqb, leb, ltb, List, [], ◌∷◌, ◌++◌, length, map}
+use Rattle.std.proofs.Common.{◌≡◌, ℕ, zero, suc, ◌+◌, ◌*◌, ◌^◌, ◌<◌, ◌≤◌, ◌&&◌, Bool, true, false, cond, eqb, leb, ltb, List, [], ◌∷◌, ◌++◌, length, map}
 use Rattle.std.proofs.Common.{slice_range, Some, ◌⊎◌, inl, inr, refl, sym, ap, ◌∙◌, arith}
 use Rattle.std.specs.List.{AllByRecursion, concat, Contains}
 use Rattle.std.proofs.lemmas.Bool.{cases_Bool, and_parts, and_cases, eqb-false, ne_eqb, leb-true, leb-false, ltb-true, ltb-false}
@@ -100,13 +100,6 @@ addressed_all bytes (r ∷ rs) (e ∷ es) named =
       length-repeated r.first r.count r.content,
       addressed_all bytes rs es named.1,
     )
-
-pub some_entries : (bytes : List ℕ) (rs : List TileRun) (es : List DirectoryEntry) (tiles : List Tile) → EachNames bytes rs es → tiles_in rs ≡ tiles
-    → tiles ≢ [] → 0 < length es
-some_entries bytes [] [] tiles named together some = absurd (some (sym together))
-some_entries bytes [] (e ∷ es) tiles named together some = absurd named
-some_entries bytes (r ∷ rs) [] tiles named together some = absurd named
-some_entries bytes (r ∷ rs) (e ∷ es) tiles named together some = omega arith
 
 -- ---- the content of an id
 

@@ -110,7 +110,8 @@ fn front_of(
     requires metadata { IsMetadata metadata.now }
     ensures archive { IfOk result (λ front. IsVectorArchive (front.items ++ concat contents.now.contents) metadata.now
         (tile_content (tiles_in (run_views contents.now.contents runs.now)))) }
-    ensures header { IfOk result (λ front. AreLaidOut (front.items ++ concat contents.now.contents) (tiles_in (run_views contents.now.contents runs.now)) metadata.now) }
+    ensures header { IfOk result (λ front.
+        AreLaidOut (front.items ++ concat contents.now.contents) (tiles_in (run_views contents.now.contents runs.now)) metadata.now) }
     ensures size { IfOk result (λ front. length front.items ≤ HEADER_BYTES + length metadata.now + 64 * length entries.now) }
     ensures least { IfOk result (λ front. HEADER_BYTES + length metadata.now ≤ length front.items) }
 {
@@ -137,7 +138,8 @@ pub(crate) fn front_of_runs(
     requires metadata { IsMetadata metadata.now }
     ensures archive { IfOk result (λ front. IsVectorArchive (front.items ++ concat contents.now.contents) metadata.now
         (tile_content (tiles_in (run_views contents.now.contents runs.now)))) }
-    ensures header { IfOk result (λ front. AreLaidOut (front.items ++ concat contents.now.contents) (tiles_in (run_views contents.now.contents runs.now)) metadata.now) }
+    ensures header { IfOk result (λ front.
+        AreLaidOut (front.items ++ concat contents.now.contents) (tiles_in (run_views contents.now.contents runs.now)) metadata.now) }
     ensures size { IfOk result (λ front. length front.items ≤ HEADER_BYTES + length metadata.now + 64 * length runs.now) }
     ensures least { IfOk result (λ front. HEADER_BYTES + length metadata.now ≤ length front.items) }
 {

@@ -1,5 +1,6 @@
 //! Joins tiles to the longest runs.
-ghost use Rattle.std.specs.Prelude.{◌≡◌, ◌+◌, ◌<◌, ◌≤◌, ◌^◌, ◌↔◌, ◌++◌, ◌∷◌, [], ℕ, List, length, Err, OnOk, OnErr, Contains, false, if◌then◌else◌, vec_capacity};
+ghost use Rattle.std.specs.Prelude.{◌≡◌, ◌+◌, ◌<◌, ◌≤◌, ◌^◌, ◌↔◌, ◌++◌, ◌∷◌, [], ℕ, List, length};
+ghost use Rattle.std.specs.Prelude.{Err, OnOk, OnErr, Contains, false, if◌then◌else◌, vec_capacity};
 ghost use Rattle.std.specs.Bool.{OnFalse};
 ghost use Rattle.pm_build.specs.Different.{with_content};
 ghost use Rattle.pm_build.specs.Firsts.{AreFirsts};
@@ -92,7 +93,8 @@ fn begin_run(
     requires few { length runs.old.items ≤ MAX_ENTRIES }
     requires short { length content.now < 2 ^ 32 }
     requires places { ArePlaces contents.old.contents runs.old.items }
-    ensures begun { OnOk result (run_views contents.new.contents runs.new.items ≡ run_views contents.old.contents runs.old.items ++ run_of (id, content.now) ∷ []) }
+    ensures begun { OnOk result
+        (run_views contents.new.contents runs.new.items ≡ run_views contents.old.contents runs.old.items ++ run_of (id, content.now) ∷ []) }
     ensures contents { OnOk result (contents.new.contents ≡ with_content contents.old.contents content.now) }
     ensures firsts { OnOk result ((ts : List Tile) → AreFirsts ts contents.old → Contains ts (id, content.now) → AreFirsts ts contents.new) }
     ensures places { OnOk result (ArePlaces contents.new.contents runs.new.items) }
@@ -129,7 +131,8 @@ pub(crate) fn add_tile(
     requires few { length runs.old.items ≤ MAX_ENTRIES }
     requires short { length content.now < 2 ^ 32 }
     requires places { ArePlaces contents.old.contents runs.old.items }
-    ensures added { OnOk result (run_views contents.new.contents runs.new.items ≡ with_tile (run_views contents.old.contents runs.old.items) (id, content.now)) }
+    ensures added { OnOk result
+        (run_views contents.new.contents runs.new.items ≡ with_tile (run_views contents.old.contents runs.old.items) (id, content.now)) }
     ensures contents { OnOk result (contents.new.contents ≡ with_content contents.old.contents content.now) }
     ensures firsts { OnOk result ((ts : List Tile) → AreFirsts ts contents.old → Contains ts (id, content.now) → AreFirsts ts contents.new) }
     ensures places { OnOk result (ArePlaces contents.new.contents runs.new.items) }

@@ -72,9 +72,3 @@ number_stands (a ∷ bs) b column row h inside = by (covers column row a) refl (
         let there : covers column row a ≡ true = ap (covers column row) same ∙ has_in_range b.range column row inside in
         absurd cc
     by false is more (suc i) lt same = more (i, omega arith, same)
-
-pub none_outside : (bs : List Numbered) (column row : ℕ) → numbers_at bs column row ≡ [] → (b : Numbered) → Contains bs b → ¬ IsInRange b.range column row
-none_outside bs column row none b h inside =
-    let at = number_stands bs b column row h inside in
-    let few : length (numbers_at bs column row) ≡ 0 = ap length none in
-    absurd (omega (arith, at.1))

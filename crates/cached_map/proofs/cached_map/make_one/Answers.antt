@@ -11,7 +11,8 @@ returns-in-Put-clause-stays c marks first before =
     let number = c.args.number in
     let boxes = c.place_keeping-boxes.result in
     let both = c.mark.ensures.stays (with_box boxes.before number marks) first (c.mark_some.ensures.stays marks first before) in
-    let of_before = subst (λ o. StaysElsewhere ((boxes.after, number) ∷ with_box o number marks) first c.mark.new.self) c.place_keeping-boxes.ensures.before both in
+    let of_before = subst (λ o. StaysElsewhere ((boxes.after, number) ∷ with_box o number marks) first c.mark.new.self)
+    c.place_keeping-boxes.ensures.before both in
     let of_both = subst (λ b. StaysElsewhere ((b, number) ∷ with_box (box_at m c.in-Put.stored.0) number marks) first c.mark.new.self)
     c.place_keeping-boxes.ensures.after of_before in
     subst (λ change. StaysElsewhere (marks_of m (prepared_data change) number marks) first c.mark.new.self) (sym c.in-Put.is) of_both
@@ -43,7 +44,8 @@ returns-in-Put-clause-marks c marks before =
     subst (λ change. Remembers c.mark.new.self (marks_of m (prepared_data change) number marks)) (sym c.in-Put.is) of_both
 
 pub returns-in-Delete-clause-map : goal.returns-in-Delete-clause-map
-returns-in-Delete-clause-map c = c.remove_keeping-bounds.ensures.map ∙ sym (ap (λ change. changed c.args.store.now.features (prepared_data change)) c.in-Delete.is)
+returns-in-Delete-clause-map c = c.remove_keeping-bounds.ensures.map
+    ∙ sym (ap (λ change. changed c.args.store.now.features (prepared_data change)) c.in-Delete.is)
 
 pub returns-in-Delete-clause-spare : goal.returns-in-Delete-clause-spare
 returns-in-Delete-clause-spare c = omega (arith, c.remove_keeping-bounds.ensures.spare)

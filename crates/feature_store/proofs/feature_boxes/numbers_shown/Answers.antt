@@ -1,4 +1,4 @@
-use Rattle.std.proofs.Common.{subst, ◌≡◌, ◌∙◌, arith}
+use Rattle.std.proofs.Common.{subst, ◌≡◌, arith}
 use Rattle.std.proofs.lemmas.List.{take_all}
 use Rattle.box_index.specs.Shown.{ids_shown}
 use Rattle.feature_store.proofs.Boxes.{shown_more}

@@ -31,7 +31,13 @@ pub zoom_of-last-requires : goal.zoom_of-last-requires
 zoom_of-last-requires c =
     let rs = run_views c.args.contents.now.contents c.args.runs.now in
     let last = last_tile rs (omega (arith, c.requires.some, length-map c.args.runs.now (run_view c.args.contents.now.contents))) c.requires.longest.each in
-    omega (arith, last.id_is, views_end c.args.contents.now.contents c.args.runs.now, c.end_of.ensures, end_low (tiles_in rs) rs c.requires.tiles c.requires.longest)
+    omega (
+      arith,
+      last.id_is,
+      views_end c.args.contents.now.contents c.args.runs.now,
+      c.end_of.ensures,
+      end_low (tiles_in rs) rs c.requires.tiles c.requires.longest,
+    )
 
 pub returns : goal.returns
 returns c =

@@ -1,4 +1,4 @@
-use Rattle.std.proofs.Common.{◌≡◌, ◌+◌, ◌<◌, ℕ, List, [], ◌∷◌, ◌++◌, length, take, drop, true, false, refl, sym, ap, subst, ◌∙◌, arith}
+use Rattle.std.proofs.Common.{◌≡◌, ℕ, List, [], ◌∷◌, ◌++◌, length, take, drop, true, false, sym, ap, subst, ◌∙◌, arith}
 use Rattle.std.specs.Result.{OnErr}
 use Rattle.std.proofs.lemmas.List.{take_at}
 use Rattle.std.proofs.lemmas.Result.{on_ok_weaker}
@@ -77,7 +77,8 @@ pub begin_run-requires-clause-few : goal.begin_run-requires-clause-few
 begin_run-requires-clause-few c =
     let items = c.args.runs.now.items in
     let same = c.if-join_last.ensures.unchanged ∙ c.deref_mut.ensures.value in
-    omega (arith, c.requires.few, ap (λ (rs : List Run). length rs) (restored c.args.runs.now.len c.join_last.new.runs items same (omega (arith, c.args.runs.now.ok))))
+    let still = restored c.args.runs.now.len c.join_last.new.runs items same (omega (arith, c.args.runs.now.ok)) in
+    omega (arith, c.requires.few, ap (λ (rs : List Run). length rs) still)
 
 pub begin_run-requires-clause-places : goal.begin_run-requires-clause-places
 begin_run-requires-clause-places c =

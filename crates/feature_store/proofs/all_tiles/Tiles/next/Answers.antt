@@ -1,14 +1,6 @@
-use Rattle.std.proofs.Common.{◌≤◌, sym, subst, ◌∙◌, arith}
-use Rattle.feature_store.specs.Tiles.{TilesView, ShowsNothing}
-use Rattle.feature_store.proofs.Walk.{tile_made, passed, last_step, on_err}
+use Rattle.std.proofs.Common.{◌∙◌, arith}
+use Rattle.feature_store.proofs.Walk.{tile_made, passed, last_step}
 use Rattle.feature_store.proofs.all_tiles.Tiles.next.Goals as goal
-
-pub returns-in_err-id-clause-failed : goal.returns-in_err-id-clause-failed
-returns-in_err-id-clause-failed c =
-    let start = c.args.self.now in
-    on_err c.from_residual.result
-    (subst (λ (v : TilesView). (start.from ≤ v.from) × ShowsNothing start.features start.from v.from) (sym c.in_err-id.ensures.failed)
-    (c.loop-id.invariant.above, c.loop-id.invariant.nothing))
 
 pub returns-in-Some-bytes-clause-tile : goal.returns-in-Some-bytes-clause-tile
 returns-in-Some-bytes-clause-tile c =

@@ -1,4 +1,4 @@
-use Rattle.std.proofs.Common.{subst, ap, ◌∙◌, List}
+use Rattle.std.proofs.Common.{ap, ◌∙◌, List}
 use Rattle.std.proofs.lemmas.Result.{IfOk-weaker}
 use Rattle.box_index.specs.Shown.{ids_shown}
 use Rattle.box_index.specs.declared.entry.IndexEntry.{IndexEntry}

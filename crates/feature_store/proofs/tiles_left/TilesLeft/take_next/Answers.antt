@@ -39,7 +39,6 @@ loop-self-preserved c =
     c.in_ok-tile.ensures.none in
     record {
       zoom = omega (arith, c.loop-self-test.true);
-      next = c.loop-self.invariant.next;
       stay = stay_next m start.zoom c.loop-self.self.zoom (left_of start.walk) (left_of c.loop-self.self.walk) c.loop-self.invariant.stay
           c.in_ok-walk.walk.left none.0 c.in_ok-walk.ensures;
     }

@@ -1,4 +1,4 @@
-use Rattle.std.proofs.Common.{◌≡◌, ◌≤◌, ◌+◌, ◌-◌}
+use Rattle.std.proofs.Common.{◌≤◌, ◌+◌, ◌-◌}
 use Rattle.feature_model.specs.declared.limits.TheConstants.{MAX_ZOOM}
 use Rattle.feature_store.specs.Left.{AllStay, left_of}
 use Rattle.feature_store.proofs.tiles_left.TilesLeft.take_next.Given as goal
@@ -6,7 +6,6 @@ use Rattle.feature_store.proofs.tiles_left.TilesLeft.take_next.Given as goal
 abbrev pub invariant-loop-self : goal.invariant-loop-self
 invariant-loop-self l = record {
   zoom : l.self.zoom ≤ MAX_ZOOM + 1;
-  next : l.self.next ≡ l.initial.self.next;
   stay : AllStay l.map l.initial.self.zoom (left_of l.initial.self.walk) l.self.zoom (left_of l.self.walk);
 }
 

@@ -5,7 +5,7 @@ use Rattle.pm_build.specs.Kept.{tiles_kept}
 use Rattle.pm_build.specs.Tiles.{Tile}
 use Rattle.pm_build.proofs.Adding.{tiles_room, views_end}
 use Rattle.pm_build.proofs.Entries.{end_low}
-use Rattle.pm_build.proofs.Keeping.{IsAdded, added, IsSame, same, too_many}
+use Rattle.pm_build.proofs.Keeping.{IsAdded, added, too_many}
 use Rattle.pm_build.proofs.builder.ArchiveBuilder.add.Goals as goal
 use Rattle.pm_build.proofs.builder.ArchiveBuilder.add.Goals.{In-Err}
 

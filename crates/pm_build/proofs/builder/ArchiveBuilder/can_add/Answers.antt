@@ -23,7 +23,8 @@ returns c =
     let rs = run_views c.self.inside.contents.contents c.self.inside.runs.items in
     let t : Tile = (c.args.id, c.args.content.now) in
     let end : c.end_of.result ≡ runs_end rs =
-    c.end_of.ensures ∙ ap (λ (runs : List Run). last_end runs) c.deref.ensures.value ∙ sym (views_end c.self.inside.contents.contents c.self.inside.runs.items) in
+    c.end_of.ensures ∙ ap (λ (runs : List Run). last_end runs) c.deref.ensures.value
+    ∙ sym (views_end c.self.inside.contents.contents c.self.inside.runs.items) in
     let test = can_add rs t c.self.invariant.tiles c.self.invariant.longest in (
       λ yes.
           let h = c.is_tile.ensures.0 yes in

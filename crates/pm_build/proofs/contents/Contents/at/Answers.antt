@@ -1,7 +1,7 @@
-use Rattle.std.proofs.Common.{◌+◌, ◌<◌, ℕ, List, length, slice_range, sym, ap, subst, ◌∙◌, arith}
+use Rattle.std.proofs.Common.{◌+◌, ◌<◌, ℕ, List, length, slice_range, ap, ◌∙◌, arith}
 use Rattle.pm_build.specs.Different.{content_at}
 use Rattle.pm_build.specs.Indexed.{IndexView}
-use Rattle.pm_build.proofs.Pieces.{LiesAt, lies_at}
+use Rattle.pm_build.proofs.Pieces.{lies_at}
 use Rattle.pm_build.proofs.contents.Contents.at.Goals as goal
 
 pub overflow_add-result : goal.overflow_add-result

@@ -1,5 +1,5 @@
 use Rattle.std.proofs.Common.{refl, sym, ◌∙◌}
-use Rattle.std.proofs.lemmas.Result.{on_ok_weaker, on_err_weaker}
+use Rattle.std.proofs.lemmas.Result.{on_ok_weaker}
 use Rattle.pm_build.proofs.Different.{with_at, with_new}
 use Rattle.pm_build.proofs.FirstTiles.{firsts_pushed}
 use Rattle.pm_build.proofs.contents.Contents.place.Goals as goal

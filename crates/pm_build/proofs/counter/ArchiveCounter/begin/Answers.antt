@@ -1,8 +1,7 @@
-use Rattle.std.proofs.Common.{◌≡◌, ◌+◌, List, [], ◌∷◌, ◌++◌, false, refl, sym, ap, subst, ◌∙◌, arith}
+use Rattle.std.proofs.Common.{◌≡◌, ◌+◌, List, [], ◌∷◌, ◌++◌, refl, sym, ap, subst, ◌∙◌, arith}
 use Rattle.pm_build.specs.declared.run.Run.{Run}
 use Rattle.pm_build.specs.Building.{CanAdd}
-use Rattle.pm_build.specs.Counted.{IsPlaceAmong, tiles_counted}
-use Rattle.pm_build.specs.Different.{contents_of}
+use Rattle.pm_build.specs.Counted.{tiles_counted}
 use Rattle.pm_build.specs.Joined.{IsLast}
 use Rattle.pm_build.specs.Tiles.{Tile}
 use Rattle.pm_build.proofs.Adding.{last_pushed, tiles_room}

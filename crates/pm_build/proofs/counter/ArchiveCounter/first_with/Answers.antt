@@ -1,4 +1,4 @@
-use Rattle.std.proofs.Common.{◌<◌, ℕ, List, length, get_or, sym, ap, ◌∙◌, arith}
+use Rattle.std.proofs.Common.{◌<◌, ℕ, List, length, get_or, ap, arith}
 use Rattle.pm_build.specs.Counted.{tiles_counted}
 use Rattle.pm_build.specs.Different.{contents_of}
 use Rattle.pm_build.specs.Tiles.{Tile}

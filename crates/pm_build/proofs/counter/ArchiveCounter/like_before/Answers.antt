@@ -1,6 +1,3 @@
-use Rattle.std.proofs.Common.{◌<◌, length, ap, ◌∙◌, sym, arith}
-use Rattle.pm_build.specs.Different.{contents_of}
-use Rattle.pm_build.specs.Tiles.{Tile}
 use Rattle.pm_build.proofs.CounterSteps.{like_before}
 use Rattle.pm_build.proofs.Indexing.{up_to_before}
 use Rattle.pm_build.proofs.counter.ArchiveCounter.like_before.Goals as goal

@@ -1,4 +1,4 @@
-use Rattle.std.proofs.Common.{ℕ, length, Option, sym, ap, subst, ◌∙◌}
+use Rattle.std.proofs.Common.{ℕ, length, Option, sym, subst, ◌∙◌}
 use Rattle.std.specs.Ordering.{nat_cmp}
 use Rattle.std.specs.BTreeMap.{get}
 use Rattle.pm_build.specs.Indexed.{IndexView, IsLastOf}
