@@ -164,6 +164,15 @@ fn is_going(draft: &Option<Draft>) -> bool {
     }
 }
 
+/// How many tiles are made after a step that left this stage: the last step makes none, and neither does one after it.
+fn tiles_made(before: u64, stage: &DraftStage) -> u64 {
+    match stage {
+        DraftStage::Going(_) => before.saturating_add(1),
+        DraftStage::Found(_) => before,
+        DraftStage::Refused(_) => before,
+    }
+}
+
 impl<D: Sectors + Drop> Service<D> {
     /// How far the publication in the making is, if there is one. It doesn't allocate.
     pub fn drafting(&self) -> Option<Drafting>
@@ -213,7 +222,7 @@ impl<D: Sectors + Drop> Service<D> {
                 self.draft = Some(Draft {
                     start: draft.start,
                     places: draft.places,
-                    made: draft.made.saturating_add(1),
+                    made: tiles_made(draft.made, &stage),
                     stage,
                 });
             }
