@@ -1,13 +1,14 @@
 """A model of a service on a disk: the answer to each call and the calls of the disk that it makes, from docs/FORMATS.md, docs/HTTP.md and
 docs/DECISIONS.md. It shares no code with the product."""
 import json
+from collections import namedtuple
 
 from calls import append, install, write_area
 from crashes import Failed, Seen
 from disk import FIRST_VERSION, LAST_NUMBER, LONGEST, MAX_CHANGES, SECTOR, Change, Record, Root, after, in_order, parts_of, read_disk
 from disk import record_text, snapshot_text, text_of, whole_sectors
 from limits import MAX_ZOOM, MAX_TILES
-from map_archive import archive_of, id_of, metadata, points_of, reach
+from map_archive import archive_of, id_of, metadata, points_of, reach, tiles_of
 from tiles import tile
 
 NUMBER_END = 2**63
@@ -105,20 +106,38 @@ def is_same(one, other):
 # ---- the service
 
 
-class Publication:
-    """A publication: the content of its area, and the end of the journal when it began."""
+# What a publication fixes as it is asked for: the map, the number of the last edit, the next place of the journal, and how many are in use.
+Moment = namedtuple("Moment", "map edits place used")
 
-    def __init__(self, service):
-        snapshot, archive = snapshot_text(service.map), archive_of(service.map)
+
+class Publication:
+    """A publication of the map of a moment: the content of its area, which has so many sectors."""
+
+    def __init__(self, moment, area):
+        snapshot, archive = snapshot_text(moment.map), archive_of(moment.map)
         if archive is None:
             raise Refused("TooManyTiles")
         self.lengths = len(snapshot), len(archive)
         self.sectors = whole_sectors(len(snapshot)) + whole_sectors(len(archive))
-        if self.sectors > service.layout.area:
-            raise Refused("AreaFull", self.sectors, service.layout.area)
+        if self.sectors > area:
+            raise Refused("AreaFull", self.sectors, area)
         self.held = snapshot.ljust(SECTOR * whole_sectors(len(snapshot)), b"\0") + archive
-        self.edits, self.place, self.used, self.written = service.last, service.next_place(), service.used, 0
-        self.map = dict(service.map)
+        self.map, self.edits, self.place, self.used = moment
+        self.written = 0
+
+
+class Draft:
+    """A publication in the making: its moment, and how many tiles of its map are made. After the last one comes a step that makes none."""
+
+    def __init__(self, moment):
+        self.moment, self.made, self.left = moment, 0, tiles_of(moment.map)
+
+    def advance(self):
+        """Makes the next tile. Whether there was one."""
+        if next(self.left, None) is None:
+            return False
+        self.made += 1
+        return True
 
 
 class Service:
@@ -128,7 +147,7 @@ class Service:
         disk.sync()
         found = read_disk(Seen(disk))
         self.disk, self.version, self.layout, self.root, self.used = disk, found.version, found.layout, found.root, found.used
-        self.publication, self.broken, self.attempted = None, False, []
+        self.publication, self.draft, self.broken, self.attempted = None, None, False, []
         self.snapshot, self.map, self.last, self.cells, self.boxes = found.snapshot, dict(found.snapshot), found.root.edits, {}, []
         self.kept, self.directories = {}, None
         # The edits since the last publication, as the journal has them.
@@ -225,8 +244,43 @@ class Service:
             raise Refused("Busy")
         if self.root.generation == LAST_NUMBER:
             raise Refused("NumbersSpent")
-        self.publication = Publication(self)
+        return self.publishes(self.moment())
+
+    def moment(self):
+        return Moment(dict(self.map), self.last, self.next_place(), self.used)
+
+    def publishes(self, moment):
+        """Begins the publication of the map of a moment."""
+        self.publication = Publication(moment, self.layout.area)
         return self.publication.sectors + 1
+
+    def prepare(self):
+        """The first call fixes the map, each later one makes a tile of it. Whether tiles may be left."""
+        if self.broken:
+            self.draft = None
+            raise Refused("Broken")
+        if self.draft:
+            return self.draft.advance()
+        if self.publication:
+            raise Refused("Busy")
+        if self.root.generation == LAST_NUMBER:
+            raise Refused("NumbersSpent")
+        self.draft = Draft(self.moment())
+        return True
+
+    def drafted(self):
+        """Begins the publication of the map that was fixed."""
+        draft, self.draft = self.draft, None
+        if self.broken:
+            raise Refused("Broken")
+        if self.publication:
+            raise Refused("Busy")
+        if not draft:
+            raise Refused("Idle")
+        return self.publishes(draft.moment)
+
+    def drop(self):
+        self.draft = None
 
     def going(self):
         if self.broken:
@@ -255,7 +309,7 @@ class Service:
         install(self.disk, root)
         self.recorded = self.recorded[root.edits - self.root.edits :]
         self.root, self.snapshot, self.used = root, going.map, self.used - going.used
-        self.publication, self.directories = None, None
+        self.publication, self.draft, self.directories = None, None, None
 
     def cancel(self):
         self.going()

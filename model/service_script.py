@@ -1,6 +1,7 @@
 """The part `service` of the script of `service_runs`: a model of a service on a disk in memory answers each line."""
 import service_batches
 import service_damage
+import service_drafts
 import service_edits
 import service_exports
 import service_openings
@@ -12,7 +13,7 @@ from service_stand import Trial
 
 CRATE, PART = "service_runs", "service"
 BLOCKS = [*service_edits.BLOCKS, *service_batches.BLOCKS, *service_publications.BLOCKS, *service_openings.BLOCKS, *service_versions.BLOCKS]
-BLOCKS += [*service_exports.BLOCKS, *service_damage.BLOCKS, *service_random.BLOCKS]
+BLOCKS += [*service_exports.BLOCKS, *service_damage.BLOCKS, *service_random.BLOCKS, *service_drafts.BLOCKS]
 
 
 def lines():

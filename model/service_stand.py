@@ -13,9 +13,10 @@ Tag = namedtuple("Tag", "key value")
 Feature = namedtuple("Feature", "layer minzoom maxzoom geometry tags")
 Published = namedtuple("Published", "generation edits archive_len")
 Report = namedtuple("Report", "tiles entries contents")
+Drafting = namedtuple("Drafting", "made places")
 
 LONGEST = 240
-CALLS = ("publish", "archive", "verify", "metadata", "version", "nothing")
+CALLS = ("publish", "prepare", "drafted", "drop", "drafting", "archive", "verify", "metadata", "version", "nothing")
 EVENTS = ("put", "delete", "batch", "tile", "look", "begin", "step", "cancel")
 SERVICE_WORDS = CALLS + EVENTS
 CLOSED_WORDS = ("write", "sector", "sectors", "export")
@@ -231,10 +232,32 @@ class Trial:
     # ---- calls of a service
 
     def do_publish(self):
+        return self.told(lambda: Published(*self.session.publish()))
+
+    def told(self, call):
+        """What a call returns."""
         try:
-            return debug(ok(Published(*self.session.publish())))
+            return debug(ok(call()))
         except Refused as refused:
             return debug(err(fault_shown(refused)))
+
+    def do_prepare(self, count=1):
+        outcome = "Ok(true)"
+        for _ in range(count):
+            if outcome == "Ok(true)":
+                outcome = self.told(self.session.prepare)
+        return outcome
+
+    def do_drafted(self):
+        return self.told(self.session.drafted)
+
+    def do_drop(self):
+        self.session.drop()
+        return "dropped"
+
+    def do_drafting(self):
+        draft = self.session.draft
+        return debug(some(Drafting(draft.made, draft.moment.used)) if draft else None)
 
     def do_archive(self, at=0, count=None):
         count = self.session.root.archive_len if count is None else count

@@ -22,6 +22,9 @@
 //! | `batch CHANGE & CHANGE ..` | an event too: changes, each as `put ID FEATURE` or `delete ID`; `batch` alone has none |
 //! | `nothing` | runs no event |
 //! | `publish` | publishes the map by one call |
+//! | `prepare`, `prepare N` | prepares a publication by one call, or by up to N until one doesn't return `Ok(true)`; prints what the last one returned |
+//! | `drafting` | prints how far the publication in the making is |
+//! | `drafted`, `drop` | begins the publication that is in the making; drops it |
 //! | `archive`, `archive AT N` | reads the published archive, or N bytes of it |
 //! | `verify` | verifies the published archive |
 //! | `metadata`, `version` | prints the metadata of the map; the version of the disk |
@@ -53,7 +56,7 @@ enum Asks {
 }
 
 /// The words of commands, with how many numbers they have and what they ask for.
-static COMMANDS: [(&str, usize, Asks); 22] = [
+static COMMANDS: [(&str, usize, Asks); 27] = [
     ("disk", 1, Asks::Session(OfSession::Make)),
     ("fail_from", 1, Asks::Session(OfSession::Fail(Fails::From))),
     (
@@ -75,6 +78,11 @@ static COMMANDS: [(&str, usize, Asks); 22] = [
     ("export", 0, Asks::Disk(OfDisk::Export)),
     ("export", 1, Asks::Disk(OfDisk::ExportUpTo)),
     ("publish", 0, Asks::Service(OfService::Publish)),
+    ("prepare", 0, Asks::Service(OfService::Prepare)),
+    ("prepare", 1, Asks::Service(OfService::PrepareUpTo)),
+    ("drafting", 0, Asks::Service(OfService::Drafting)),
+    ("drafted", 0, Asks::Service(OfService::Drafted)),
+    ("drop", 0, Asks::Service(OfService::Drop)),
     ("archive", 0, Asks::Service(OfService::Archive)),
     ("archive", 2, Asks::Service(OfService::ArchivePart)),
     ("verify", 0, Asks::Service(OfService::Verify)),

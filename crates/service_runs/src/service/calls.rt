@@ -83,10 +83,27 @@ fn metadata(alloc: Global, service: &mut Served, answer: &mut Answer) {
     }
 }
 
+/// Prepares a publication by up to `count` calls, until one doesn't return that tiles may be left. Tells what the last one returned.
+fn prepare(service: &mut Served, count: u64, answer: &mut Answer) {
+    let mut outcome = Ok(true);
+    for _ in 0..count {
+        if !matches!(outcome, Ok(true)) {
+            break;
+        }
+        outcome = service.publish_prepare();
+    }
+    answer.show(&outcome);
+}
+
 /// What is asked of a service.
 #[derive(Clone, Copy)]
 pub(crate) enum OfService {
     Publish,
+    Prepare,
+    PrepareUpTo,
+    Drafting,
+    Drafted,
+    Drop,
     Archive,
     ArchivePart,
     Verify,
@@ -109,6 +126,14 @@ pub(crate) fn run(
     let (at, count) = (operands.number(0), operands.number(1));
     match asks {
         OfService::Publish => answer.show(&service.publish()),
+        OfService::Prepare => prepare(service, 1, answer),
+        OfService::PrepareUpTo => prepare(service, at, answer),
+        OfService::Drafting => answer.show(&service.drafting()),
+        OfService::Drafted => answer.show(&service.publish_drafted()),
+        OfService::Drop => {
+            service.publish_drop();
+            answer.say("dropped");
+        }
         OfService::Archive => archive(alloc, service, 0, len, answer),
         OfService::ArchivePart => archive(alloc, service, at, count, answer),
         OfService::Verify => verify(alloc, service, len, answer),
