@@ -23,20 +23,10 @@ use Rattle.pm_verify.specs.VerifiedPieces.{IsFirstTileFault, span_cmp, AreRead}
 
 -- ---- one tile
 
--- a fault that is met when these layers are read, a failed allocation aside
-abbrev Meets : TileFault → List LayerView → Type 0
-Meets d ls = ¬ (d ≡ tile_faults.Memory) → ◌≡◌ {A = Result (List LayerView) TileFault} (Ok ls) (Err d)
-
-pub no_tile : (content : List ℕ) (d : TileFault) → d ≢ tile_faults.Memory → ((ls : List LayerView) → ReadsAs content ls → Meets d ls) → ¬ IsTile content
-no_tile content d other only t = differ t.0 (only t.0 t.1 other)
-  where
-    differ : (ls : List LayerView) → ¬ ◌≡◌ {A = Result (List LayerView) TileFault} (Ok ls) (Err d)
-    differ ls e = cc
-
--- a fault that says so of the bytes says that they are no tile
+-- a fault that no tile has says that the bytes are no tile
 pub refused_tile : (content : List ℕ) (d : TileFault) (r : Result Bool AllocError) → IfOk r (λ is. (is ≡ false) × (d ≢ tile_faults.Memory))
-    → ((ls : List LayerView) → ReadsAs content ls → Meets d ls) → IfOk r (λ is. IsTrue is ↔ IsTile content)
-refused_tile content d (Ok is) h only = (λ t. absurd (false≢true (sym h.0 ∙ t)), λ t. absurd (no_tile content d h.1 only t))
+    → ((ls : List LayerView) → ReadsAs content ls → d ≡ tile_faults.Memory) → IfOk r (λ is. IsTrue is ↔ IsTile content)
+refused_tile content d (Ok is) h only = (λ t. absurd (false≢true (sym h.0 ∙ t)), λ t. absurd (h.1 (only t.0 t.1)))
 refused_tile content d (Err e) h only = tt
 
 -- ---- spans

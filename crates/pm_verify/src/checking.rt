@@ -9,7 +9,7 @@ ghost use Rattle.pm_verify.specs.Verified.{IsTile, HasTile};
 ghost use Rattle.pm_verify.specs.VerifiedPieces.{IsTileFault, IsFirstTileFault, AreRead};
 
 use byte_source::Bytes;
-use mvt_layer::{TileFault, read_tile};
+use mvt_layer::TileFault;
 use pm_archive::{Archive, ArchiveFault};
 use pm_directory::DirectoryEntry;
 use std::alloc::{AllocError, Global};
@@ -30,8 +30,8 @@ fn refused(fault: TileFault) -> Result<bool, AllocError>
 pub(crate) fn is_tile(alloc: Global, content: &[u8]) -> Result<bool, AllocError>
     ensures { IfOk result (λ is. IsTrue is ↔ IsTile content.now) }
 {
-    match read_tile(alloc, content) {
-        Ok(_) => Ok(true),
+    match mvt_layer::check_tile(alloc, content) {
+        Ok(()) => Ok(true),
         Err(fault) => refused(fault),
     }
 }
