@@ -1,4 +1,5 @@
 mod Inserts
 mod Keys
 mod Methods
+mod Parts
 mod Texts

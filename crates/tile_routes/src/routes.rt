@@ -1,11 +1,13 @@
 //! The table of the paths that are served, and what a path asks for.
-ghost use Rattle.std.specs.Prelude.{◌≡◌, [], map, true, false, IfOk, IfErr, MatchOption};
+ghost use Rattle.std.specs.Prelude.{◌≡◌, ℕ, List, [], ◌∷◌, map, true, false, IfOk, IfErr, MatchOption};
 ghost use Rattle.std.specs.List.{list_all};
 ghost use Rattle.std.specs.Char.{is_ascii};
+ghost use Rattle.std.specs.Option.{option_map};
 ghost use Rattle.matchit.specs.Seek.{first};
 ghost use Rattle.matchit.specs.Params.{AllText};
-ghost use Rattle.tile_routes.specs.Paths.{served_rows, with_routes, AllFit, asked_on, part_named, asked_at, asked_by};
+ghost use Rattle.tile_routes.specs.Paths.{served_rows, with_routes, AllFit, asked_on, part_named, or_named, asked_at, asked_by};
 ghost use Rattle.tile_routes.specs.Targets.{asked_of, IsInRange, parts_of, row_path};
+ghost use Rattle.tile_routes.specs.declared.routes.Route.TheVariants.{Tile};
 
 use crate::target::{
     Action, Target, View, edits_target, feature_target, from_target, numbered_target, page_target,
@@ -118,6 +120,48 @@ fn part<'p>(params: &Params<'_, 'p>, name: &str) -> &'p [u8]
     }
 }
 
+/// The first part with this name, after one part more with a name of its own.
+fn first_named<'p>(
+    before: Option<&'p [u8]>,
+    wanted: &str,
+    name: &str,
+    part: &'p str,
+) -> Option<&'p [u8]>
+    ensures { (rest : List (List ℕ × List ℕ)) → or_named (option_map (λ b. b.now) before.entry) wanted.now ((name.now, part.entry.now) ∷ rest)
+        ≡ or_named (option_map (λ b. b.now) result) wanted.now rest }
+{
+    match before {
+        Some(found) => Some(found),
+        None if name == wanted => Some(part.as_bytes()),
+        None => None,
+    }
+}
+
+/// The bytes that were found, or none.
+fn or_none(found: Option<&[u8]>) -> &[u8]
+    ensures { MatchOption found.entry (result.now ≡ []) (λ part. result.now ≡ part.now) }
+{
+    match found {
+        Some(part) => part,
+        None => b"",
+    }
+}
+
+/// The tile that the parts of a path ask for, in one pass over them.
+fn requested_tile(params: &Params<'_, '_>) -> Target
+    requires { AllText (parts_of params.now) }
+    ensures asked { asked_of result ≡ asked_on Tile (parts_of params.now) }
+    ensures range { IsInRange result }
+{
+    let (mut z, mut x, mut y) = (None, None, None);
+    for (name, part) in params.iter() {
+        z = first_named(z, "z", name, part);
+        x = first_named(x, "x", name, part);
+        y = first_named(y, "y", name, part);
+    }
+    tile_target(or_none(z), or_none(x), or_none(y))
+}
+
 /// What the parts of a path on this route ask for.
 fn route_target(route: Route, params: &Params<'_, '_>) -> Target
     requires { AllText (parts_of params.now) }
@@ -125,7 +169,7 @@ fn route_target(route: Route, params: &Params<'_, '_>) -> Target
     ensures range { IsInRange result }
 {
     match route {
-        Route::Tile => tile_target(part(params, "z"), part(params, "x"), part(params, "y")),
+        Route::Tile => requested_tile(params),
         Route::Feature => feature_target(part(params, "id")),
         Route::FeatureFrom => from_target(part(params, "id")),
         Route::FeaturePage => page_target(part(params, "id")),
