@@ -33,7 +33,7 @@ def parts():
         "The documented archive in parts: a call fixes the map, three make its tiles, and one finds none left. Nothing is written before a step.",
     )
     yield from [*opened(), "drafting", put(7), "prepare", "drafting", "prepare", "drafting", "prepare", "prepare", "drafting", "prepare", "prepare"]
-    yield from ["archive", "drafted", "drafting", "drafted", "step", "archive", "verify", "stop", "resume", "sector 2"]
+    yield from ["drafting", "archive", "drafted", "drafting", "drafted", "step", "archive", "verify", "stop", "resume", "sector 2"]
     yield from heading("The same without a tile made before it is begun, with one, and with all in one call.")
     for prepared in (["prepare"], ["prepare 2"], ["prepare 4"], [ALL], ["prepare 0", "prepare 1", "prepare 0"]):
         yield from [*opened(), put(7), *prepared, "drafted", "step", "archive", "stop"]
