@@ -19,3 +19,4 @@ mod Told
 mod TileLemmas
 mod PageLemmas
 mod TagLemmas
+mod LimitNumbers

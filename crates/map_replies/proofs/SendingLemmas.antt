@@ -36,7 +36,7 @@ use Rattle.map_replies.specs.Conditions.{AskView, judged, needed, range_for, ref
 use Rattle.map_replies.specs.declared.conditions.Judged.{Judged}
 use Rattle.map_replies.specs.declared.conditions.Judged.TheVariants.{Holds, Fails, Unchanged}
 use Rattle.map_replies.specs.Parts.{IsPart, start_of, size_of, archive_tag, shown_tag, part_reply, unchanged_reply}
-use Rattle.map_replies.specs.Sending.{IsAnswered, IsAnswer, IsAnsweredInParts, IsInside, Begins, SendsPart, AnswersPart, IsSending, SendsAsked, SendsMethod}
+use Rattle.map_replies.specs.Sending.{IsAnswered, IsAnswer, IsBegun, IsAnsweredInParts, IsInside, Begins, SendsPart, AnswersPart, IsSending, SendsAsked, SendsMethod}
 use Rattle.map_replies.specs.Words.{refusal_of, service_refusal}
 use Rattle.map_replies.proofs.Answering.{no_memory_first}
 
@@ -114,6 +114,17 @@ whole_answer P Q (Err fault) meant is = meant
 pub whole_words : (r : Result Reply RequestFault) → IfOk r IsWhole → IfOk r (λ reply. HasShortWords (head_view reply))
 whole_words (Ok reply) is = is.0
 whole_words (Err fault) is = tt
+
+-- a whole reply has all of its content
+pub whole_begun : (reply : Reply) → IsWhole reply → IsBegun reply.content
+whole_begun reply is = begun_in reply.content is.1
+  where
+    begun_in : (content : Content) → InParts content ⊥ → IsBegun content
+    begun_in contents.Empty none = tt
+    begun_in (contents.Fixed text) none = tt
+    begun_in (contents.Whole bytes) none = tt
+    begun_in (contents.Shared bytes) none = tt
+    begun_in (contents.Parts first size) none = absurd none
 
 all_in_parts : (content : Content) (fact : Type 0) → fact → InParts content fact
 all_in_parts contents.Empty fact is = tt

@@ -3,6 +3,7 @@ use Rattle.std.specs.Prelude.{◌≡◌, ◌<◌, ◌≤◌, ℕ, false, List, [
 use Rattle.http_serve.specs.Reply.{ReplyView, IsReply, InParts, FitsParts, content_bytes, reply_view}
 use Rattle.http_serve.specs.Tags.{tag_text}
 use Rattle.http_serve.specs.declared.replies.Content.{Content}
+use Rattle.http_serve.specs.declared.replies.Content.TheVariants.{Parts}
 use Rattle.http_serve.specs.declared.replies.Reply.{Reply}
 use Rattle.http_serve.specs.declared.replies.Tag.{Tag}
 use Rattle.sector_disk.specs.Disk.{History}
@@ -43,6 +44,11 @@ IsAnswer P Q reply = (view : ReplyView) × IsReply reply view × P view × InPar
 abbrev pub IsAnsweredInParts : (P Q : ReplyView → Type 0) → Result Reply RequestFault → Type 0
 IsAnsweredInParts P Q (Ok reply) = IsAnswer P Q reply
 IsAnsweredInParts P Q (Err fault) = P (refusal_of fault)
+
+-- a content that is read in parts has its first bytes already, if it has any
+abbrev pub IsBegun : Content → Type 0
+IsBegun (Parts first size) = 0 < size → 0 < length first.items
+IsBegun content = ⊤
 
 -- a part lies within an archive of total bytes
 abbrev pub IsInside : ArchiveRange → (total : ℕ) → Type 0

@@ -1,14 +1,15 @@
 //! The archive published last.
-ghost use Rattle.std.specs.Prelude.{◌≡◌, ◌<◌, ◌≤◌, ◌+◌, length, IfOk, IfErr, IfSome, OnOk, None, option_map};
+ghost use Rattle.std.specs.Prelude.{◌≡◌, ◌≢◌, false, ◌<◌, ◌≤◌, ◌+◌, length, IfOk, IfErr, IfSome, OnOk, None, option_map};
 ghost use Rattle.http_serve.specs.Reply.{head_view, HasShortWords};
 ghost use Rattle.sector_disk.specs.Disk.{HasFailed};
+ghost use Rattle.tile_routes.specs.declared.method.Method.TheVariants.{Head};
 ghost use Rattle.tile_service.specs.Machine.{read};
 ghost use Rattle.tile_service.specs.Runs.{Takes};
 ghost use Rattle.tile_service.specs.Service.{status_of};
 ghost use Rattle.map_replies.specs.Conditions.{ask_view};
 ghost use Rattle.map_replies.specs.Meanings.{OrNoMemory, MeansArchive, MeansRange, Answers, DiskFailed};
 ghost use Rattle.http_serve.specs.Parts.{read_outcome};
-ghost use Rattle.map_replies.specs.Sending.{IsAnsweredInParts, BeginsOrFails, AnswersPart, IsSending, SendsAsked};
+ghost use Rattle.map_replies.specs.Sending.{IsAnsweredInParts, IsBegun, BeginsOrFails, AnswersPart, IsSending, SendsAsked};
 ghost use Rattle.map_replies.specs.Parts.{archive_tag, shown_tag};
 ghost use Rattle.map_replies.specs.State.{sent_by};
 ghost use Rattle.map_replies.specs.Tickets.{KeepsTickets};
@@ -66,6 +67,7 @@ impl<D: Sectors + Drop> Calls<D> {
             D.faults self.new.service.disk ≡ D.faults self.old.service.disk)) }
         ensures sending { IfOk result (λ content. IfSome content (λ _. self.new.sending ≡ record { first = first; length = length })) }
         ensures refused { IfErr result (λ fault. (self.new.service ≡ self.old.service) × (fault ≡ RequestFault.Memory)) }
+        ensures some { bare ≡ false → IfOk result (λ content. IfSome content IsBegun) }
         ensures held { KeepsTickets D.honest D.history self.old self.new }
     {
         match self.archive_bytes(first, begin_size(first, length, bare)) {
@@ -105,6 +107,7 @@ impl<D: Sectors + Drop> Calls<D> {
             self.old.service self.new.sending self.new.service) }
         ensures words { IfOk result (λ reply. HasShortWords (head_view reply)) }
         ensures refused { IfErr result (λ fault. (self.new.service ≡ self.old.service) × (fault ≡ RequestFault.Memory)) }
+        ensures some { bare ≡ false → IfOk result (λ reply. IsBegun reply.content) }
         ensures held { KeepsTickets D.honest D.history self.old self.new }
     {
         match self.send(0, total, bare) {
@@ -130,6 +133,7 @@ impl<D: Sectors + Drop> Calls<D> {
             self.old.service self.new.sending self.new.service) }
         ensures words { IfOk result (λ reply. HasShortWords (head_view reply)) }
         ensures refused { IfErr result (λ fault. (self.new.service ≡ self.old.service) × (fault ≡ RequestFault.Memory)) }
+        ensures some { bare ≡ false → IfOk result (λ reply. IsBegun reply.content) }
         ensures held { KeepsTickets D.honest D.history self.old self.new }
     {
         match self.send(first, last + 1 - first, bare) {
@@ -157,6 +161,7 @@ impl<D: Sectors + Drop> Calls<D> {
             (IsSending D.sectors D.honest D.history D.faults tag (option_map (λ value. value.now) range.entry)
             self.old.service self.new.sending self.new.service) result }
         ensures words { IfOk result (λ reply. HasShortWords (head_view reply)) }
+        ensures some { bare ≡ false → IfOk result (λ reply. IsBegun reply.content) }
         ensures held { KeepsTickets D.honest D.history self.old self.new }
     {
         match part_of(range, total) {
@@ -177,6 +182,7 @@ impl<D: Sectors + Drop> Calls<D> {
             (SendsAsked D.sectors D.honest D.history D.faults method (ask_view ask.entry)
             self.old.service self.new.sending self.new.service) result }
         ensures words { IfOk result (λ reply. HasShortWords (head_view reply)) }
+        ensures some { method ≢ Head → IfOk result (λ reply. IsBegun reply.content) }
         ensures held { KeepsTickets D.honest D.history self.old self.new }
     {
         let tag = self.archive_tag();

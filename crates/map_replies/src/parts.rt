@@ -1,7 +1,8 @@
 //! Parts of the published archive, and the replies with them.
-ghost use Rattle.std.specs.Prelude.{◌≡◌, ◌<◌, ◌≤◌, ℕ, List, [], Option, option_map};
+ghost use Rattle.std.specs.Prelude.{◌≡◌, ◌≢◌, ◌<◌, false, ◌≤◌, ℕ, List, [], Option, option_map};
 ghost use Rattle.http_serve.specs.Reply.{content_bytes, reply_view, head_view, HasShortWords, IsWhole};
 ghost use Rattle.http_serve.specs.declared.replies.Tag.{Tag};
+ghost use Rattle.tile_routes.specs.declared.method.Method.TheVariants.{Head};
 ghost use Rattle.tile_service.specs.declared.fault.ServiceFault.TheVariants.{Device};
 ghost use Rattle.map_replies.specs.declared.parts.TheConstants.{FIRST_BYTES};
 ghost use Rattle.map_replies.specs.Parts.{IsPart, octets_type, range_word, part_reply, unchanged_reply};
@@ -24,7 +25,9 @@ pub(crate) enum ArchiveRange {
 }
 
 /// Whether a method is HEAD, whose replies have no body.
-pub(crate) fn is_head(method: Method) -> bool {
+pub(crate) fn is_head(method: Method) -> bool
+    ensures { method ≢ Head → result ≡ false }
+{
     matches!(method, Method::Head)
 }
 
@@ -62,6 +65,7 @@ pub(crate) const FIRST_BYTES: u64 = 16_384;
 pub(crate) fn begin_size(first: u64, length: u64, bare: bool) -> u64
     ensures within { result ≤ length }
     ensures most { result ≤ FIRST_BYTES }
+    ensures some { bare ≡ false → 0 < length → 0 < result }
 {
     if bare {
         return 0;

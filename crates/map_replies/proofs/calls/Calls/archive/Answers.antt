@@ -4,6 +4,7 @@ use Rattle.http_serve.specs.declared.replies.EntityTag.{EntityTag}
 use Rattle.map_replies.specs.Conditions.{ask_view, judged}
 use Rattle.map_replies.specs.Parts.{shown_tag, unchanged_reply}
 use Rattle.map_replies.proofs.SendingLemmas.{range_asked, other_wanted, is_there, whole_is}
+use Rattle.map_replies.proofs.SendingLemmas.{whole_begun}
 use Rattle.map_replies.proofs.calls.Calls.archive.Goals as goal
 
 pub returns-in-Ok-Holds-clause-answered : goal.returns-in-Ok-Holds-clause-answered
@@ -36,3 +37,12 @@ returns-in-Ok-Unchanged-clause-answered g c =
     (is_there d.sectors d.honest d.history d.faults c.args.method ask old c.args.self.now.sending some _
     (ap (λ (t : EntityTag). judged (tag_text t) ask) (sym c.archive_tag-tag.ensures) ∙ sym c.in-Ok-Unchanged.ensures ∙ c.in-Ok-Unchanged.field-0-is)
     (c.unchanged.ensures.reply ∙ ap unchanged_reply (c.shown_tag-shown.ensures ∙ ap (shown_tag ask.tags) c.archive_tag-tag.ensures)))
+
+pub returns-in-Ok-Holds-clause-some : goal.returns-in-Ok-Holds-clause-some
+returns-in-Ok-Holds-clause-some g c = λ whole. c.archive_in.ensures.some (c.is_head.ensures whole)
+
+pub returns-in-Ok-Fails-clause-some : goal.returns-in-Ok-Fails-clause-some
+returns-in-Ok-Fails-clause-some g c = λ whole. tt
+
+pub returns-in-Ok-Unchanged-clause-some : goal.returns-in-Ok-Unchanged-clause-some
+returns-in-Ok-Unchanged-clause-some g c = λ whole. whole_begun c.unchanged.result c.unchanged.ensures.writable

@@ -3,6 +3,7 @@ use Rattle.std.specs.Prelude.{option_map}
 use Rattle.map_replies.specs.declared.parts.ArchiveRange.TheVariants.{Whole, Between, Beyond}
 use Rattle.map_replies.specs.Parts.{IsPart, part_reply}
 use Rattle.map_replies.proofs.SendingLemmas.{archive_answered, whole_is}
+use Rattle.map_replies.proofs.SendingLemmas.{whole_begun}
 use Rattle.map_replies.proofs.calls.Calls.archive_in.Goals as goal
 
 pub returns-in-Beyond-clause-answered : goal.returns-in-Beyond-clause-answered
@@ -33,3 +34,12 @@ returns-in-Between-clause-answered g c =
     archive_answered d.sectors d.honest d.history d.faults c.args.tag range c.args.self.now.service c.archive_part.new.self.sending
     c.archive_part.new.self.service part c.archive_part.result (omega (arith, c.requires.total, c.requires.some))
     (subst (λ (n : ℕ). IsPart range n part) c.requires.total c.in-Between.ensures) c.archive_part.ensures.answered c.archive_part.ensures.refused
+
+pub returns-in-Whole-clause-some : goal.returns-in-Whole-clause-some
+returns-in-Whole-clause-some g c = c.whole_archive.ensures.some
+
+pub returns-in-Between-clause-some : goal.returns-in-Between-clause-some
+returns-in-Between-clause-some g c = c.archive_part.ensures.some
+
+pub returns-in-Beyond-clause-some : goal.returns-in-Beyond-clause-some
+returns-in-Beyond-clause-some g c = λ whole. whole_begun c.beyond.result c.beyond.ensures.writable

@@ -1,8 +1,10 @@
-use Rattle.std.proofs.Common.{◌∙◌, ℕ, ap, arith}
+use Rattle.std.proofs.Common.{◌∙◌, ℕ, sym, ap, subst, arith}
 use Rattle.http_serve.specs.Reply.{content_bytes}
 use Rattle.map_replies.specs.declared.parts.ArchiveRange.TheVariants.{Between}
 use Rattle.map_replies.specs.Parts.{part_reply}
 use Rattle.map_replies.proofs.SendingLemmas.{part_sent, part_failed}
+use Rattle.map_replies.specs.Sending.{IsBegun}
+use Rattle.map_replies.proofs.SendingLemmas.{whole_begun}
 use Rattle.map_replies.proofs.calls.Calls.archive_part.Goals as goal
 
 pub returns-in-Ok-Some-clause-answered : goal.returns-in-Ok-Some-clause-answered
@@ -25,3 +27,13 @@ returns-in-Ok-None-clause-answered g c =
     (Between c.args.first c.args.last) _ c.unread.result (c.requires.order, omega (arith, c.requires.within, c.requires.total))
     c.unread.ensures.writable c.unread.ensures.reply
     (c.in-Ok-None.ensures.failed c.in-Ok-None.field-0-is) (rw c.in-Ok-None.field-0-is at c.in-Ok-None.ensures.begun)
+
+pub returns-in-Ok-Some-clause-some : goal.returns-in-Ok-Some-clause-some
+returns-in-Ok-Some-clause-some g c =
+    λ whole. subst IsBegun (sym c.between.ensures.content) ((rw c.in-Ok-Some.field-0-is at c.in-Ok-Some.ensures.some) whole)
+
+pub returns-in-Ok-None-clause-some : goal.returns-in-Ok-None-clause-some
+returns-in-Ok-None-clause-some g c = λ whole. whole_begun c.unread.result c.unread.ensures.writable
+
+pub returns-in-Err-clause-some : goal.returns-in-Err-clause-some
+returns-in-Err-clause-some g c = λ whole. tt

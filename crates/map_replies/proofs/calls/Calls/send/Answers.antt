@@ -41,3 +41,14 @@ returns-in-Err-clause-refused g c = c.in-Err.ensures.refused
 
 pub returns-in-Err-clause-held : goal.returns-in-Err-clause-held
 returns-in-Err-clause-held g c = c.archive_bytes.ensures.held
+
+pub returns-in-Ok-Some-clause-some : goal.returns-in-Ok-Some-clause-some
+returns-in-Ok-Some-clause-some g c =
+    λ whole some. let long = rw c.in-Ok-Some.field-0-is at c.in-Ok-Some.ensures.length in
+    omega (arith, long, c.begin_size.ensures.some whole some)
+
+pub returns-in-Ok-None-clause-some : goal.returns-in-Ok-None-clause-some
+returns-in-Ok-None-clause-some g c = λ whole. tt
+
+pub returns-in-Err-clause-some : goal.returns-in-Err-clause-some
+returns-in-Err-clause-some g c = λ whole. tt

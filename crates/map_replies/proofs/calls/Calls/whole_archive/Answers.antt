@@ -1,7 +1,9 @@
-use Rattle.std.proofs.Common.{◌∙◌, ℕ, ap, subst}
+use Rattle.std.proofs.Common.{◌∙◌, ℕ, sym, ap, subst}
 use Rattle.map_replies.specs.declared.parts.ArchiveRange.TheVariants.{Whole}
 use Rattle.map_replies.specs.Sending.{Begins}
 use Rattle.map_replies.proofs.SendingLemmas.{part_sent, part_failed}
+use Rattle.map_replies.specs.Sending.{IsBegun}
+use Rattle.map_replies.proofs.SendingLemmas.{whole_begun}
 use Rattle.map_replies.proofs.calls.Calls.whole_archive.Goals as goal
 
 pub returns-in-Ok-Some-clause-answered : goal.returns-in-Ok-Some-clause-answered
@@ -23,3 +25,13 @@ returns-in-Ok-None-clause-answered g c =
     part_failed d.sectors d.honest d.history d.faults c.args.tag c.args.self.now.service c.send.new.self.service Whole _ c.unread.result tt
     c.unread.ensures.writable c.unread.ensures.reply
     (c.in-Ok-None.ensures.failed c.in-Ok-None.field-0-is) (rw c.in-Ok-None.field-0-is at c.in-Ok-None.ensures.begun)
+
+pub returns-in-Ok-Some-clause-some : goal.returns-in-Ok-Some-clause-some
+returns-in-Ok-Some-clause-some g c =
+    λ whole. subst IsBegun (sym c.whole.ensures.content) ((rw c.in-Ok-Some.field-0-is at c.in-Ok-Some.ensures.some) whole)
+
+pub returns-in-Ok-None-clause-some : goal.returns-in-Ok-None-clause-some
+returns-in-Ok-None-clause-some g c = λ whole. whole_begun c.unread.result c.unread.ensures.writable
+
+pub returns-in-Err-clause-some : goal.returns-in-Err-clause-some
+returns-in-Err-clause-some g c = λ whole. tt

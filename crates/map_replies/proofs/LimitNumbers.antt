@@ -1,0 +1,25 @@
+-- The sizes of replies, as numbers.
+use Rattle.std.proofs.Common.{◌≡◌, refl}
+use Rattle.map_replies.specs.declared.feed.TheConstants.{FEED_BYTES}
+use Rattle.map_replies.specs.declared.pages.TheConstants.{PAGE_BYTES}
+use Rattle.map_replies.specs.declared.parts.TheConstants.{FIRST_BYTES}
+use Rattle.map_replies.specs.declared.replies.TheConstants.{MAX_TEXT}
+use Rattle.map_replies.specs.declared.telling.TheConstants.{MAX_PART, MAX_STATUS}
+
+first_bytes_are : FIRST_BYTES ≡ 16384
+first_bytes_are = refl
+
+feed_bytes_are : FEED_BYTES ≡ 16384
+feed_bytes_are = refl
+
+page_bytes_are : PAGE_BYTES ≡ 65536
+page_bytes_are = refl
+
+max_text_is : MAX_TEXT ≡ 95
+max_text_is = refl
+
+max_part_is : MAX_PART ≡ 100
+max_part_is = refl
+
+max_status_is : MAX_STATUS ≡ 601
+max_status_is = refl
