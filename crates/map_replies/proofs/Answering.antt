@@ -1,18 +1,21 @@
 -- Replies that report what a call of the service did.
-use Rattle.std.proofs.Common.{◌≡◌, ◌⊎◌, inl, inr, ℕ, List, [], ◌∷◌, ◌++◌, Result, Ok, Err, refl, ap}
+use Rattle.std.proofs.Common.{◌≡◌, ◌⊎◌, inl, inr, ℕ, List, [], ◌∷◌, ◌++◌, Some, Result, Ok, Err, refl, ap}
 use Rattle.std.specs.Prelude.{IfOk, IfErr}
 use Rattle.http_serve.specs.Reply.{ReplyView, reply_view}
 use Rattle.http_serve.specs.declared.replies.Reply.{Reply}
+use Rattle.edit_json.specs.Json.{json_of}
+use Rattle.feature_model.specs.Data.{FeatureData}
 use Rattle.sector_disk.specs.Disk.{History, HasFailed}
-use Rattle.tile_service.specs.Machine.{OrMemory, got, no_memory, Happening}
+use Rattle.map_replies.specs.Bodies.{IsJson}
+use Rattle.tile_service.specs.Machine.{OrMemory, got, no_memory, look, Happening}
 use Rattle.tile_service.specs.Runs.{begin_and_steps, Takes, TakesPublication}
 use Rattle.tile_service.specs.Service.{ServiceView, status_of, TellsDevice}
 use Rattle.tile_service.specs.declared.fault.ServiceFault.TheVariants.{Device}
 use Rattle.tile_service.specs.declared.publishing_whole.Published.{Published}
 use Rattle.tile_service.specs.declared.fault.ServiceFault.{ServiceFault}
-use Rattle.map_replies.specs.Meanings.{MeansCall, MeansChange, OrNoMemory, MeansBody, MeansEdit, MeansPublish, Answers}
+use Rattle.map_replies.specs.Meanings.{MeansCall, MeansLook, MeansChange, OrNoMemory, MeansBody, MeansEdit, MeansPublish, Answers}
 use Rattle.map_replies.specs.Sending.{IsAnswered}
-use Rattle.map_replies.specs.Words.{refusal_of, shown_reply, published_reply, outcome_reply}
+use Rattle.map_replies.specs.Words.{refusal_of, found_reply, shown_reply, published_reply, outcome_reply}
 use Rattle.map_replies.specs.declared.fault.RequestFault.{RequestFault}
 use Rattle.map_replies.specs.declared.fault.RequestFault.TheVariants.{Memory}
 
@@ -60,6 +63,15 @@ module _ {D : Type 0} (sectors : D → ℕ) (honest : D → Type 0) (history : D
   shown call reply_of old new a (Ok reply) is fault takes takes_none = called call (shown_reply reply_of) old new (got a) (reply_view [] reply) is takes
   shown call reply_of old new a (Err fault) is same takes takes_none =
       called call (shown_reply reply_of) old new no_memory (refusal_of fault) (ap refusal_of same) takes_none
+
+  -- a feature is shown, and its text reads as it, if there is memory for that
+  pub looked : (id : ℕ) (old new : ServiceView D) (f : FeatureData) (r : Result Reply RequestFault)
+      → IfOk r (λ reply. reply_view [] reply ≡ found_reply (Some f)) → IfOk r (λ reply. IsJson (reply_view [] reply).content (json_of f))
+      → IfErr r (λ fault. fault ≡ Memory) → Takes sectors honest history old (look id (got (Some f))) new
+      → Takes sectors honest history old (look id no_memory) new → IsAnswered (Answers sectors honest history (MeansLook id) old new) r
+  looked id old new f (Ok reply) is reads fault takes takes_none = (look id (got (Some f)) ∷ [], (got (Some f), is, refl, reads), (new, takes, refl))
+  looked id old new f (Err fault) is reads same takes takes_none =
+      (look id no_memory ∷ [], (no_memory, ap refusal_of same, refl, tt), (new, takes_none, refl))
 
   -- the body says something, and the reply means that
   pub body_said : {A : Type 0} (Says : A → Type 0) (Has : RequestFault → Type 0) (Means : A → ReplyView → List Happening → Type 0) (a : A)

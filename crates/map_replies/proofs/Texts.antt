@@ -1,5 +1,7 @@
 -- Lengths of words, and values without floats.
 use Rattle.std.proofs.Common.{◌≡◌, ◌≤◌, ℕ, List, [], ◌∷◌, false, map, length, refl, arith}
+use Rattle.serde_json.specs.Data.{depth, items_depth, members_depth}
+use Rattle.serde_json.specs.Read.{max_depth}
 use Rattle.serde_json.specs.View.{items_of}
 use Rattle.serde_json.specs.Written.{has_float, items_have_float, members_have_float}
 use Rattle.tile_routes.specs.Methods.{allow_of, name_of}
@@ -56,7 +58,39 @@ tags_whole (t ∷ ts) = rw (value_whole t.value, tags_whole ts) refl
 pub feature_whole : (f : FeatureData) → has_float (json_of f) ≡ false
 feature_whole f = rw (shape_whole f.geometry, tags_whole f.tags) refl
 
--- ---- nor has an edit
+-- ---- nor is it deep
+
+points_shallow : (ps : List World) → items_depth (items_of (map point_json ps)) ≤ 1
+points_shallow [] = omega arith
+points_shallow (p ∷ ps) = omega (arith, points_shallow ps)
+
+lines_shallow : (ls : List (List World)) → items_depth (items_of (map points_json ls)) ≤ 2
+lines_shallow [] = omega arith
+lines_shallow (l ∷ ls) = omega (arith, points_shallow l, lines_shallow ls)
+
+polygons_shallow : (ps : List (List (List World))) → items_depth (items_of (map lines_json ps)) ≤ 3
+polygons_shallow [] = omega arith
+polygons_shallow (p ∷ ps) = omega (arith, lines_shallow p, polygons_shallow ps)
+
+shape_shallow : (g : GeometryData) → depth (shape_json (shape_of g)) ≤ 5
+shape_shallow (world_points ps) = omega (arith, points_shallow ps)
+shape_shallow (world_lines ls) = omega (arith, lines_shallow ls)
+shape_shallow (world_polygons ps) = omega (arith, polygons_shallow ps)
+
+value_shallow : (v : ValueData) → depth (value_json v) ≡ 0
+value_shallow (text_value t) = refl
+value_shallow (natural_value n) = refl
+value_shallow (negative_value z) = refl
+value_shallow (truth_value b) = refl
+
+tags_shallow : (ts : List TagData) → members_depth (tags_json ts) ≤ 0
+tags_shallow [] = omega arith
+tags_shallow (t ∷ ts) = omega (arith, value_shallow t.value, tags_shallow ts)
+
+pub feature_shallow : (f : FeatureData) → depth (json_of f) ≤ max_depth
+feature_shallow f = omega (arith, shape_shallow f.geometry, tags_shallow f.tags)
+
+-- ---- nor has an edit floats
 
 change_whole : (c : ChangeData) → has_float (asked_json (asked_of c)) ≡ false
 change_whole (put id f) = rw (feature_whole f) refl

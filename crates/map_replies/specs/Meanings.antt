@@ -1,5 +1,5 @@
 -- Which happenings of the service a reply reports: one table, for a single reply and for a connection.
-use Rattle.std.specs.Prelude.{◌≡◌, ◌≢◌, ◌<◌, ◌≤◌, ◌+◌, ◌⊎◌, ℕ, List, [], ◌∷◌, ◌++◌, length, map, All, Bool, true, false, Option, Some, None, IfSome}
+use Rattle.std.specs.Prelude.{◌≡◌, ◌≢◌, ◌<◌, ◌≤◌, ◌+◌, ◌⊎◌, ℕ, List, [], ◌∷◌, ◌++◌, length, map, All, Bool, true, false, Option, Some, None, IfSome, ⊤}
 use Rattle.std.specs.Prelude.{Result, Ok, Err, IfOk, IfErr}
 use Rattle.http_requests.specs.Fields.{NamedValue}
 use Rattle.http_requests.specs.Requests.{RequestView}
@@ -43,7 +43,8 @@ use Rattle.map_replies.specs.declared.fault.RequestFault.{RequestFault}
 use Rattle.map_replies.specs.declared.fault.RequestFault.TheVariants.{NotFound, Condition, Gone, Memory, Device as DeviceFailed, Damaged}
 use Rattle.map_replies.specs.declared.parts.ArchiveRange.{ArchiveRange}
 use Rattle.map_replies.specs.declared.parts.ArchiveRange.TheVariants.{Beyond}
-use Rattle.map_replies.specs.Bodies.{SaysFeature, SaysChanges, CheckedEdit, SaysChecked, HasBodyFault, HasBatchFault, HasCheckedFault}
+use Rattle.edit_json.specs.Json.{json_of}
+use Rattle.map_replies.specs.Bodies.{IsJson, SaysFeature, SaysChanges, CheckedEdit, SaysChecked, HasBodyFault, HasBatchFault, HasCheckedFault}
 use Rattle.map_replies.specs.Conditions.{AskView, ask_of, is_known, judged, meets, needed, range_for, refuses}
 use Rattle.map_replies.specs.declared.conditions.Needed.{Needed}
 use Rattle.map_replies.specs.declared.conditions.Needed.TheVariants.{Free}
@@ -244,12 +245,22 @@ MeansList failed old number reply happenings = ((number ≤ old.published) × Me
     ⊎ ((old.edits + 1 < number) × MeansRefusal NotFound reply happenings)
     ⊎ ((old.published < number) × (number ≤ old.edits + 1) × MeansFound failed old.edits number reply happenings)
 
+-- What is shown of a feature, read as the body of a PUT is: the feature's value.
+abbrev pub ShowsFeature : OrMemory (Option FeatureData) → (content : List ℕ) → Type 0
+ShowsFeature (got (Some f)) content = IsJson content (json_of f)
+ShowsFeature outcome content = ⊤
+
+-- the feature of an id is looked at, and shown
+abbrev pub MeansLook : ℕ → ReplyView → List Happening → Type 0
+MeansLook id reply happenings = (outcome : OrMemory (Option FeatureData)) × (reply ≡ shown_reply found_reply outcome)
+    × (happenings ≡ look id outcome ∷ []) × ShowsFeature outcome reply.content
+
 -- ---- routed requests: old and new are what the service tells of itself before and after, failed says that its disk has failed meanwhile
 
 abbrev pub MeansOnFeature : (failed : Type 0) → (version : ℕ) → Needed → ℕ → Method → List ℕ → ReplyView → List Happening → Type 0
 MeansOnFeature failed version needed id Put body = MeansPut failed version needed id body
 MeansOnFeature failed version needed id Delete body = MeansDelete failed version needed id
-MeansOnFeature failed version needed id method body = MeansCall (look id) (shown_reply found_reply)
+MeansOnFeature failed version needed id method body = MeansLook id
 
 -- The disk is asked whether it still keeps what is written, and then the service's status is told. With the fault Device the disk has
 -- failed.

@@ -8,7 +8,8 @@ ghost use Rattle.serde_json.specs.Written.{compact_text};
 ghost use Rattle.tile_service.specs.Machine.{OrMemory, tile, look, look_from, metadata};
 ghost use Rattle.tile_service.specs.Runs.{Takes};
 ghost use Rattle.tile_service.specs.Service.{status_of};
-ghost use Rattle.map_replies.specs.Meanings.{MeansCall, MeansTagged, MeansTile, MeansStatus, OrNoMemory, Answers, DiskFailed};
+ghost use Rattle.map_replies.specs.Bodies.{IsJson};
+ghost use Rattle.map_replies.specs.Meanings.{MeansCall, MeansLook, MeansTagged, MeansTile, MeansStatus, OrNoMemory, Answers, DiskFailed};
 ghost use Rattle.map_replies.specs.Sending.{IsAnswered, IsShownAs};
 ghost use Rattle.map_replies.specs.Words.{json_reply, shown_reply, content_reply, found_reply, numbered_body, numbered_reply, metadata_reply};
 ghost use Rattle.map_replies.specs.Tickets.{KeepsTickets};
@@ -29,7 +30,9 @@ use tile_routes::TileFormat;
 /// The text of a feature.
 pub(crate) fn feature_text(alloc: Global, feature: FeatureText<'_>) -> Result<Vec<u8>, AllocError>
     requires { FeatureFits (feature_view feature) }
-    ensures { IfOk result (λ text. text.items ≡ compact_text (json_of (feature_view feature.entry))) }
+    ensures text { IfOk result (λ text. text.items ≡ compact_text (json_of (feature_view feature.entry))) }
+    // Read as the body of a PUT is, it has the feature's value.
+    ensures reads { IfOk result (λ text. IsJson text.items (json_of (feature_view feature.entry))) }
 {
     let value = feature_to_json(alloc, feature)?;
     Ok(value.to_vec(alloc)?)
@@ -39,6 +42,7 @@ pub(crate) fn feature_text(alloc: Global, feature: FeatureText<'_>) -> Result<Ve
 fn feature_value(alloc: Global, feature: FeatureText<'_>) -> Result<Reply, RequestFault>
     requires { FeatureFits (feature_view feature) }
     ensures reply { IfOk result (λ reply. reply_view [] reply ≡ found_reply (Some (feature_view feature.entry))) }
+    ensures reads { IfOk result (λ reply. IsJson (reply_view [] reply).content (json_of (feature_view feature.entry))) }
     ensures writable { IfOk result IsWhole }
     ensures fault { IfErr result (λ fault. fault ≡ RequestFault.Memory) }
 {
@@ -142,7 +146,7 @@ impl<D: Sectors + Drop> Calls<D> {
 
     /// The feature of an id.
     pub(crate) fn feature(&mut self, id: u64) -> Result<Reply, RequestFault>
-        ensures answered { IsAnswered (Answers D.sectors D.honest D.history (MeansCall (look id) (shown_reply found_reply))
+        ensures answered { IsAnswered (Answers D.sectors D.honest D.history (MeansLook id)
             self.old.service self.new.service) result }
         ensures writable { IfOk result IsWhole }
         ensures held { KeepsTickets D.honest D.history self.old self.new }
