@@ -10,6 +10,8 @@ mkdir -p "$work/archive"
 python3 "$here/../../tools/scratch.py" "$work" city_bench feature_store feature_model edit_text pm_archive pm_metadata pm_verify pm_build anyhow
 cp "$here/main.rt.txt" "$work/crates/city_bench/src/main.rt"
 cp "$here/../city_features.rt.txt" "$work/crates/city_bench/src/city_features.rt"
+mkdir -p "$work/crates/city_bench/proofs/add_left"
+cp "$here/add_left.antt.txt" "$work/crates/city_bench/proofs/add_left/Invariants.antt"
 g++ -O2 -std=c++17 -o "$work/peer" "$here/peer.cpp"
 cd "$work/crates/city_bench"
 rt run -- "$work/archive" > /dev/null

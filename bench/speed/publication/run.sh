@@ -11,6 +11,8 @@ folder="$(cd "${1:-$work/disks}" && pwd)"
 python3 "$here/../../tools/scratch.py" "$work" publication_bench sector_disk feature_model edit_text feature_store tile_service anyhow
 cp "$here/main.rt.txt" "$work/crates/publication_bench/src/main.rt"
 cp "$here/../city_features.rt.txt" "$work/crates/publication_bench/src/city_features.rt"
+mkdir -p "$work/crates/publication_bench/proofs/count_left"
+cp "$here/count_left.antt.txt" "$work/crates/publication_bench/proofs/count_left/Invariants.antt"
 g++ -O2 -std=c++17 -o "$work/peer" "$here/peer.cpp"
 cd "$work/crates/publication_bench"
 rt run -- "$folder" > /dev/null
