@@ -13,7 +13,7 @@ use Rattle.tile_service.specs.Service.{PublicationView, ServiceView, IsContentOf
 use Rattle.tile_service.specs.declared.fault.ServiceFault.{ServiceFault}
 use Rattle.begin_law.specs.Begun.{IsBegunAt}
 use Rattle.begin_law.specs.Beside.{AreBeside}
-use Rattle.begin_law.specs.Prepared.{CanPrepare, prepared}
+use Rattle.tile_service.specs.Prepared.{CanPrepare, prepared}
 use Rattle.begin_law.proofs.Begun.{begun, refused}
 
 -- what there is, or else this

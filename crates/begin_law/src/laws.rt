@@ -15,7 +15,7 @@ ghost use Rattle.tile_service.specs.Service.{PublicationView, ServiceView, Publi
 ghost use Rattle.tile_service.specs.Stored.{Stored, IsMapArchive, with_edit};
 ghost use Rattle.begin_law.specs.Begun.{IsBegunAt};
 ghost use Rattle.begin_law.specs.Beside.{AreBeside, publishing};
-ghost use Rattle.begin_law.specs.Prepared.{CanPrepare, prepared};
+ghost use Rattle.tile_service.specs.Prepared.{CanPrepare, prepared};
 
 use sector_disk::Sectors;
 

@@ -8,6 +8,7 @@ pub mod Limits
 pub mod Listing
 pub mod Machine
 pub mod Opening
+pub mod Prepared
 pub mod Publishing
 pub mod Replayed
 pub mod Runs

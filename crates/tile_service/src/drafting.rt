@@ -5,6 +5,7 @@ ghost use Rattle.feature_store.specs.Moments.{IsAsOf, IsMomentOf, moment_map};
 ghost use Rattle.feature_store.specs.Store.{IsMap};
 ghost use Rattle.map_metadata.specs.Metadata.{IsMetadataOf};
 ghost use Rattle.tile_service.specs.Machine.{AnswersBegin};
+ghost use Rattle.tile_service.specs.Prepared.{CanPrepare};
 ghost use Rattle.tile_service.specs.Service.{Known, IsUp, IsMaking, IsStage, IsOwn, BeginsDrafted, drafted_now, map_then, state_of};
 ghost use Rattle.tile_service.specs.Stored.{Stored};
 ghost use Rattle.tile_service.specs.declared.fault.ServiceFault.TheVariants.{Broken, Busy, Idle, Memory};
@@ -192,6 +193,7 @@ impl<D: Sectors + Drop> Service<D> {
         requires generation { self.old.generation < 2 ^ 64 - 1 }
         ensures same { self.new ≡ record self.old { drafting = self.new.drafting } }
         ensures begins { OnOk result (self.new.drafting ≡ Some (drafted_now self.old)) }
+        ensures can { self.old.broken ≡ false → self.old.publication ≡ None → OnOk result (CanPrepare self.old) }
         ensures refused { OnErr result (self.new ≡ self.old) }
         ensures fault { IfErr result (λ fault. fault ≡ Memory) }
         ensures up { (stored : Stored) → IsUp (D.sectors self.old.disk) (D.history self.old.disk) stored self.old
@@ -251,6 +253,8 @@ impl<D: Sectors + Drop> Service<D> {
     pub fn publish_prepare(&mut self) -> Result<bool, ServiceFault>
         ensures same { self.new ≡ record self.old { drafting = self.new.drafting } }
         ensures begins { self.old.drafting ≡ None → OnOk result (self.new.drafting ≡ Some (drafted_now self.old)) }
+        // Nothing but the tiles, the space and memory then prevents the publication.
+        ensures can { self.old.drafting ≡ None → OnOk result (CanPrepare self.old) }
         ensures goes_on { IsSome self.old.drafting → OnOk result (self.new.drafting ≡ self.old.drafting) }
         ensures refused { OnErr result (self.new.drafting ≡ None) }
         ensures fault { (known : Known) → IfErr result (λ fault. AnswersBegin (state_of known self.old) (Err fault) (state_of known self.new)) }

@@ -1,4 +1,5 @@
-use Rattle.std.proofs.Common.{refl, ◌∙◌}
+use Rattle.std.proofs.Common.{◌<◌, ◌-◌, ◌^◌, refl, sym, subst, ◌∙◌}
+use Rattle.feature_store.specs.Store.{FeatureMap, IsMap}
 use Rattle.tile_service.proofs.Publications.Drafts.{up_begun}
 use Rattle.tile_service.proofs.service.Service.begin_draft.Goals as goal
 
@@ -6,3 +7,12 @@ pub returns-in-Ok-clause-up : goal.returns-in-Ok-clause-up
 returns-in-Ok-clause-up g c = rw (← c.self.view_is) (λ stored up.
     up_begun _ _ stored _ up (record { start = c.next.result; places = c.self.inside.journal.used; features = c.moment.result.features })
     c.next.ensures.0 c.next.ensures.1 refl (c.moment.ensures.features ∙ c.store-in-Ok.ensures.features))
+
+pub returns-in-Ok-clause-can : goal.returns-in-Ok-clause-can
+returns-in-Ok-clause-can g c = rw (← c.self.view_is) (λ unbroken none. record {
+  unbroken = unbroken;
+  none = none;
+  generation = subst (λ s. s.generation < 2 ^ 64 - 1) (sym c.self.view_is) c.requires.generation;
+  ring = c.self.invariant.ring;
+  is_map = subst (λ (m : FeatureMap). IsMap m) c.store.ensures.features c.content_draft.ensures.map;
+})
