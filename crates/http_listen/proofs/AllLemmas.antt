@@ -8,42 +8,45 @@ use Rattle.http_serve.specs.Reply.{ReplyView}
 use Rattle.http_serve.specs.declared.handlers.RestFault.{RestFault}
 use Rattle.http_serve.specs.declared.handlers.Ticket.{Ticket}
 use Rattle.http_listen.specs.declared.kept.Kept.{Kept}
-use Rattle.http_listen.specs.Conversations.{Act, Deed, acts_of, Does, Runs, Steps, IsTalking, AreTalking, AreApart, Puts}
+use Rattle.http_listen.specs.Conversations.{Act, Deed, acts_of, deeds_of, Runs, Steps, IsTalking, AreTalking, AreApart, Puts}
 use Rattle.http_listen.specs.Talks.{Told}
 use Rattle.http_listen.proofs.StepLemmas.{talking_on}
-
--- this act by this connection
-abbrev pub deed_of : ℕ → Act → Deed
-deed_of number act = record { number = number; act = act }
 
 cons_if : (b : Bool) (act : Act) (before after more : List Act) → after ≡ before ++ more → cond b (act ∷ after) after ≡ cond b (act ∷ before) before ++ more
 cons_if true act before after more e = ap (λ (l : List Act). act ∷ l) e
 cons_if false act before after more e = e
 
--- One deed more, of this connection.
-pub acts_of_here : (number : ℕ) (deeds : List Deed) (act : Act) → acts_of number (deeds ++ deed_of number act ∷ []) ≡ acts_of number deeds ++ act ∷ []
-acts_of_here number [] act = ap (λ (b : Bool). cond b (act ∷ []) []) (eq-eqb number number refl)
-acts_of_here number (deed ∷ deeds) act =
-    cons_if (nat_eq deed.number number) deed.act (acts_of number deeds) (acts_of number (deeds ++ deed_of number act ∷ [])) (act ∷ []) (acts_of_here number deeds act)
+-- More deeds, of this connection.
+pub acts_of_here : (number : ℕ) (deeds : List Deed) (acts : List Act) → acts_of number (deeds ++ deeds_of number acts) ≡ acts_of number deeds ++ acts
+acts_of_here number [] [] = refl
+acts_of_here number [] (act ∷ acts) =
+    ap (λ (b : Bool). cond b (act ∷ acts_of number (deeds_of number acts)) (acts_of number (deeds_of number acts))) (eq-eqb number number refl)
+    ∙ ap (λ (l : List Act). act ∷ l) (acts_of_here number [] acts)
+acts_of_here number (deed ∷ deeds) acts =
+    cons_if (nat_eq deed.number number) deed.act (acts_of number deeds) (acts_of number (deeds ++ deeds_of number acts)) acts (acts_of_here number deeds acts)
 
 cons_same : (b : Bool) (act : Act) (before after : List Act) → after ≡ before → cond b (act ∷ after) after ≡ cond b (act ∷ before) before
 cons_same true act before after e = ap (λ (l : List Act). act ∷ l) e
 cons_same false act before after e = e
 
 -- Of another one.
-pub acts_of_other : (number other : ℕ) (deeds : List Deed) (act : Act) → number ≢ other → acts_of other (deeds ++ deed_of number act ∷ []) ≡ acts_of other deeds
-acts_of_other number other [] act n = ap (λ (b : Bool). cond b (act ∷ []) []) (ne_eqb number other n)
-acts_of_other number other (deed ∷ deeds) act n =
-    cons_same (nat_eq deed.number other) deed.act (acts_of other deeds) (acts_of other (deeds ++ deed_of number act ∷ [])) (acts_of_other number other deeds act n)
+pub acts_of_other : (number other : ℕ) (deeds : List Deed) (acts : List Act) → number ≢ other
+    → acts_of other (deeds ++ deeds_of number acts) ≡ acts_of other deeds
+acts_of_other number other [] [] n = refl
+acts_of_other number other [] (act ∷ acts) n =
+    ap (λ (b : Bool). cond b (act ∷ acts_of other (deeds_of number acts)) (acts_of other (deeds_of number acts))) (ne_eqb number other n)
+    ∙ acts_of_other number other [] acts n
+acts_of_other number other (deed ∷ deeds) acts n =
+    cons_same (nat_eq deed.number other) deed.act (acts_of other deeds) (acts_of other (deeds ++ deeds_of number acts))
+    (acts_of_other number other deeds acts n)
 
 module _ {S : Type 0} (replies fails : S → RequestView → ReplyView → S → Type 0)
-    (reads : S → Ticket → (offset count : ℕ) → Result (List ℕ) RestFault → S → Type 0) (ticket_of : S → Ticket) where
-  -- One deed more leads on.
-  pub runs_on : (old middle new : S) (deeds : List Deed) (deed : Deed) → Runs replies fails reads ticket_of old deeds middle
-      → Does replies fails reads ticket_of middle deed.act new → Runs replies fails reads ticket_of old (deeds ++ deed ∷ []) new
-  runs_on old middle new [] deed runs does =
-      (new, subst (λ (s : S). Does replies fails reads ticket_of s deed.act new) runs does, refl)
-  runs_on old middle new (before ∷ deeds) deed runs does = (runs.0, runs.1, runs_on runs.0 middle new deeds deed runs.2 does)
+    (reads : S → Ticket → (offset count : ℕ) → Result (List ℕ) RestFault → S → Type 0) (ticket_of : S → Ticket) (prepares : S → S → Type 0) where
+  -- Deeds, and then other ones.
+  pub runs_both : (old middle new : S) (front back : List Deed) → Runs replies fails reads ticket_of prepares old front middle
+      → Runs replies fails reads ticket_of prepares middle back new → Runs replies fails reads ticket_of prepares old (front ++ back) new
+  runs_both old middle new [] back first then = subst (λ (s : S). Runs replies fails reads ticket_of prepares s back new) first then
+  runs_both old middle new (deed ∷ front) back first then = (first.0, first.1, runs_both first.0 middle new front back first.2 then)
 
 -- Equal values of two options.
 pub some_same : {T : Type 0} {x y : T} → Some x ≡ Some y → x ≡ y
@@ -55,14 +58,14 @@ module _ {S : Type 0} (told : S → Option Told) where
       (talking : AreTalking told first deeds old) (apart : AreApart old) (at : old key ≡ Some kept) (step : Steps told kept (act ∷ []) whole now)
       (goes_on : whole) (puts : Puts old key now new) where
     abbrev then : List Deed
-    then = deeds ++ deed_of kept.turn.number act ∷ []
+    then = deeds ++ deeds_of kept.turn.number (act ∷ [])
 
     the_same : (k : Kept S) → now ≡ k → IsTalking told (first k.turn.number) (acts_of k.turn.number then) k
     the_same k e =
         let on : IsTalking told (first kept.turn.number) (acts_of kept.turn.number deeds ++ act ∷ []) now =
         talking_on told (first kept.turn.number) (acts_of kept.turn.number deeds) (act ∷ []) whole kept now (talking key kept at) step goes_on in
         let here : IsTalking told (first kept.turn.number) (acts_of kept.turn.number then) now =
-        subst (λ (acts : List Act). IsTalking told (first kept.turn.number) acts now) (sym (acts_of_here kept.turn.number deeds act)) on in
+        subst (λ (acts : List Act). IsTalking told (first kept.turn.number) acts now) (sym (acts_of_here kept.turn.number deeds (act ∷ []))) on in
         let named : IsTalking told (first now.turn.number) (acts_of now.turn.number then) now =
         subst (λ (n : ℕ). IsTalking told (first n) (acts_of n then) now) (sym step.number) here in
         subst (λ (k : Kept S). IsTalking told (first k.turn.number) (acts_of k.turn.number then) k) e named
@@ -70,7 +73,7 @@ module _ {S : Type 0} (told : S → Option Told) where
     an_other : (other : ℕ) (k : Kept S) → other ≢ key → old other ≡ Some k → IsTalking told (first k.turn.number) (acts_of k.turn.number then) k
     an_other other k apart_from there =
         let differs : kept.turn.number ≢ k.turn.number = λ same. apart_from (apart other key k kept there at (sym same)) in
-        subst (λ (acts : List Act). IsTalking told (first k.turn.number) acts k) (sym (acts_of_other kept.turn.number k.turn.number deeds act differs))
+        subst (λ (acts : List Act). IsTalking told (first k.turn.number) acts k) (sym (acts_of_other kept.turn.number k.turn.number deeds (act ∷ []) differs))
         (talking other k there)
 
     either : (b : Bool) (other : ℕ) → nat_eq other key ≡ b → (k : Kept S) → new other ≡ Some k

@@ -1,12 +1,12 @@
 -- Laws of events one after the other, for the crates above too.
-use Rattle.std.proofs.Common.{◌≡◌, ◌+◌, ℕ, List, [], ◌∷◌, ◌++◌, Result, length, refl, subst, ap, ◌∙◌, length-append, Bool, true, false, add-zero}
+use Rattle.std.proofs.Common.{◌≡◌, ◌+◌, ℕ, List, [], ◌∷◌, ◌++◌, Result, length, refl, sym, subst, ap, ◌∙◌, length-append, Bool, true, false, add-zero, inl, inr}
 use Rattle.std.proofs.lemmas.List.Elements.{filter-append}
-use Rattle.std.specs.Prelude.{filter, Some}
+use Rattle.std.specs.Prelude.{◌⊎◌, filter, Some}
 use Rattle.http_serve.specs.declared.handlers.RestFault.{RestFault}
 use Rattle.http_serve.specs.declared.handlers.Ticket.{Ticket}
 use Rattle.http_requests.specs.Requests.{RequestView}
 use Rattle.http_serve.specs.Reply.{ReplyView}
-use Rattle.http_listen.specs.Connections.{Stretch, Event, at_stretch, at_part, is_first, Happens, Serves, NextStretch, NextPart}
+use Rattle.http_listen.specs.Connections.{Stretch, Event, at_stretch, at_part, at_preparation, is_first, Happens, Serves, NextStretch, NextAnswer, NextPart}
 use Rattle.http_listen.specs.Connections.{IsOverKnown, AreOverKnown, begun}
 
 -- Events over what is known, and then other ones.
@@ -15,29 +15,30 @@ known_both [] back known then = then
 known_both (event ∷ front) back known then = (known.0, known_both front back known.1 then)
 
 module _ {S : Type 0} (replies fails : S → RequestView → ReplyView → S → Type 0)
-    (reads : S → Ticket → (offset count : ℕ) → Result (List ℕ) RestFault → S → Type 0) where
+    (reads : S → Ticket → (offset count : ℕ) → Result (List ℕ) RestFault → S → Type 0) (prepares : S → S → Type 0) where
   -- Events, and then other events, are both lists in one.
   pub serves_both : (old : S) (front back : List Event) (middle new : S)
-      → Serves replies fails reads old front middle → Serves replies fails reads middle back new → Serves replies fails reads old (front ++ back) new
-  serves_both old [] back middle new first then = subst (λ (s : S). Serves replies fails reads s back new) first then
+      → Serves replies fails reads prepares old front middle → Serves replies fails reads prepares middle back new
+      → Serves replies fails reads prepares old (front ++ back) new
+  serves_both old [] back middle new first then = subst (λ (s : S). Serves replies fails reads prepares s back new) first then
   serves_both old (event ∷ front) back middle new first then =
       (first.0, first.1, serves_both first.0 front back middle new first.2 then)
 
   -- Two lists in one are the events of the first, and then those of the second.
   pub serves_parts : (old : S) (front back : List Event) (new : S)
-      → Serves replies fails reads old (front ++ back) new
-      → (middle : S) × Serves replies fails reads old front middle × Serves replies fails reads middle back new
+      → Serves replies fails reads prepares old (front ++ back) new
+      → (middle : S) × Serves replies fails reads prepares old front middle × Serves replies fails reads prepares middle back new
   serves_parts old [] back new both = (old, refl, both)
   serves_parts old (event ∷ front) back new both =
       let parts = serves_parts both.0 front back new both.2 in (parts.0, (both.0, both.1, parts.1), parts.2)
 
   -- events of this many connections, whose stretches are over known bytes, lead from the old state to the new one
   abbrev pub ServesCount : ℕ → S → S → Type 0
-  ServesCount count old new = (served : List Event) × Serves replies fails reads old served new × (begun served ≡ count) × AreOverKnown served
+  ServesCount count old new = (served : List Event) × Serves replies fails reads prepares old served new × (begun served ≡ count) × AreOverKnown served
 
   -- One event more leads on.
   next_serves : (event : Event) (count : ℕ) (old middle new : S) → IsOverKnown event → ServesCount count old middle
-      → Happens replies fails reads middle event new → ServesCount (count + begun (event ∷ [])) old new
+      → Happens replies fails reads prepares middle event new → ServesCount (count + begun (event ∷ [])) old new
   next_serves event count old middle new known before then =
       let one = event ∷ [] in (
         before.0 ++ one,
@@ -67,3 +68,20 @@ module _ {S : Type 0} (replies fails : S → RequestView → ReplyView → S →
   pub serves_part : (count : ℕ) (old middle new : S) → ServesCount count old middle → NextPart reads middle new → ServesCount count old new
   serves_part count old middle new before then = subst (λ n. ServesCount n old new) (add-zero count)
       (next_serves (at_part then.0 then.1 then.2 then.3) count old middle new tt before then.4)
+
+  -- One more step of the preparation of a reply.
+  serves_preparation : (count : ℕ) (old middle new : S) → ServesCount count old middle → prepares middle new → ServesCount count old new
+  serves_preparation count old middle new before then = subst (λ n. ServesCount n old new) (add-zero count)
+      (next_serves at_preparation count old middle new tt before then)
+
+  -- One more of these, and perhaps one more stretch.
+  pub serves_answer : (count : ℕ) (old middle new : S) → ServesCount count old middle → NextAnswer replies fails prepares middle new
+      → ServesCount count old new
+  serves_answer count old middle new before then = answered then.2
+    where
+      stepped : ServesCount count old then.0
+      stepped = serves_preparation count old middle then.0 before then.1
+
+      answered : (new ≡ then.0) ⊎ NextStretch replies fails then.0 new → ServesCount count old new
+      answered (inl same) = subst (λ (s : S). ServesCount count old s) (sym same) stepped
+      answered (inr stretch) = serves_again count old then.0 new stepped stretch

@@ -5,11 +5,11 @@ use Rattle.std.specs.Prelude.{◌⊎◌, nat_eq, is_some, ⊤}
 use Rattle.std.specs.declared.option.Option.{Option}
 use Rattle.http_listen.specs.declared.kept.Kept.{Kept}
 use Rattle.http_listen.specs.declared.rests.Unsent.{Unsent}
-use Rattle.http_listen.specs.Conversations.{Act, Deed, acts_of, Follows, IsTalking, AreApart}
+use Rattle.http_listen.specs.Conversations.{Act, Deed, acts_of, deeds_of, Follows, IsTalking, AreApart}
 use Rattle.http_listen.specs.Goes.{Goes, Leaves, Acts}
 use Rattle.http_listen.specs.Orders.{AreInOrder}
 use Rattle.http_listen.specs.Talks.{Told}
-use Rattle.http_listen.proofs.AllLemmas.{deed_of, some_same, acts_of_here, acts_of_other}
+use Rattle.http_listen.proofs.AllLemmas.{some_same, acts_of_here, acts_of_other}
 use Rattle.http_listen.proofs.RoomLemmas.{none_some, before_of, goes_apart, taken_goes}
 use Rattle.http_listen.proofs.StepLemmas.{none_of, talking_on, follows_both}
 
@@ -71,12 +71,12 @@ module _ {S : Type 0} (told : S → Option Told) where
     none = λ number above. l.none number (omega arith);
   }
 
-  -- An act of a connection that isn't at a key.
-  module _ (begun : ℕ) (deeds : List Deed) (old new : ℕ → Option (Kept S)) (kept : Kept S) (act : Act) (first : Option Told) (l : Ledger begun deeds old)
+  -- Acts of a connection that isn't at a key.
+  module _ (begun : ℕ) (deeds : List Deed) (old new : ℕ → Option (Kept S)) (kept : Kept S) (more : List Act) (first : Option Told) (l : Ledger begun deeds old)
       (talking : IsTalking told first (acts_of kept.turn.number deeds) kept) (fresh : (key : ℕ) (x : Kept S) → old key ≡ Some x → x.turn.number ≢ kept.turn.number)
-      (number_is : kept.turn.number ≤ begun) (acts : Acts told old kept act new) where
+      (number_is : kept.turn.number ≤ begun) (acts : Acts told old kept more new) where
     abbrev pub all : List Deed
-    all = deeds ++ deed_of kept.turn.number act ∷ []
+    all = deeds ++ deeds_of kept.turn.number more
 
     -- what is at a key then is that connection, or was there before
     either : (key : ℕ) (x : Kept S) → new key ≡ Some x → ((key ≡ acts.key) × (x ≡ acts.last)) ⊎ (old key ≡ Some x)
@@ -98,9 +98,9 @@ module _ {S : Type 0} (told : S → Option Told) where
     talks_then key x (inl here) is =
         let open_last : acts.last.turn.drops ≡ None = subst (λ (k : Kept S). k.turn.drops ≡ None) here.1 is in
         let same = acts.same open_last in
-        let on = talking_on told first (acts_of kept.turn.number deeds) (act ∷ []) (acts.ending ≡ None) kept acts.mid talking acts.steps same.0 in
+        let on = talking_on told first (acts_of kept.turn.number deeds) more (acts.ending ≡ None) kept acts.mid talking acts.steps same.0 in
         let named : IsTalking told first (acts_of kept.turn.number all) acts.mid =
-        subst (λ (a : List Act). IsTalking told first a acts.mid) (sym (acts_of_here kept.turn.number deeds act)) on in
+        subst (λ (a : List Act). IsTalking told first a acts.mid) (sym (acts_of_here kept.turn.number deeds more)) on in
         let last : IsTalking told first (acts_of kept.turn.number all) acts.last =
         subst (λ (k : Kept S). IsTalking told first (acts_of kept.turn.number all) k) (sym same.1) named in
         let numbered : IsTalking told first (acts_of acts.last.turn.number all) acts.last =
@@ -109,7 +109,7 @@ module _ {S : Type 0} (told : S → Option Told) where
     talks_then key x (inr there) is =
         let before = l.talks key x there is in
         let other : kept.turn.number ≢ x.turn.number = λ e. fresh key x there (sym e) in
-        (before.0, subst (λ (a : List Act). IsTalking told before.0 a x) (sym (acts_of_other kept.turn.number x.turn.number deeds act other)) before.1)
+        (before.0, subst (λ (a : List Act). IsTalking told before.0 a x) (sym (acts_of_other kept.turn.number x.turn.number deeds more other)) before.1)
 
     apart_then : (key other : ℕ) (x y : Kept S) → ((key ≡ acts.key) × (x ≡ acts.last)) ⊎ (old key ≡ Some x) → ((other ≡ acts.key) × (y ≡ acts.last)) ⊎ (old other ≡ Some y)
         → x.turn.number ≡ y.turn.number → key ≡ other
@@ -129,12 +129,12 @@ module _ {S : Type 0} (told : S → Option Told) where
     each_then number true e = (
       acts.steps.left,
       subst (λ (n : ℕ). Follows None (acts_of n all) acts.steps.left) (eqb-true kept.turn.number number e)
-          (subst (λ (a : List Act). Follows None a acts.steps.left) (sym (acts_of_here kept.turn.number deeds act))
-          (follows_both None kept.turn.unsent acts.steps.left (acts_of kept.turn.number deeds) (act ∷ []) talking.follows acts.steps.follows)),
+          (subst (λ (a : List Act). Follows None a acts.steps.left) (sym (acts_of_here kept.turn.number deeds more))
+          (follows_both None kept.turn.unsent acts.steps.left (acts_of kept.turn.number deeds) more talking.follows acts.steps.follows)),
     )
     each_then number false e =
         let before = l.each number in
-        (before.0, subst (λ (a : List Act). Follows None a before.0) (sym (acts_of_other kept.turn.number number deeds act (eqb-false kept.turn.number number e))) before.1)
+        (before.0, subst (λ (a : List Act). Follows None a before.0) (sym (acts_of_other kept.turn.number number deeds more (eqb-false kept.turn.number number e))) before.1)
 
     pub ledger_acts : Ledger begun all new
     ledger_acts = record {
@@ -144,13 +144,13 @@ module _ {S : Type 0} (told : S → Option Told) where
       each = λ number. each_then number (nat_eq kept.turn.number number) refl;
       none = λ number above.
           let other : kept.turn.number ≢ number = λ e. lt_irrefl number (lt_of_le_of_lt (subst (λ (n : ℕ). n ≤ begun) e number_is) above) in
-          acts_of_other kept.turn.number number deeds act other ∙ l.none number above;
+          acts_of_other kept.turn.number number deeds more other ∙ l.none number above;
     }
 
-  -- An act of a connection that was taken out.
-  pub ledger_left : (begun : ℕ) (deeds : List Deed) (old mid new : ℕ → Option (Kept S)) (kept : Kept S) (act : Act) → Ledger begun deeds old
-      → Leaves told old kept mid → Acts told mid kept act new → Ledger begun (deeds ++ deed_of kept.turn.number act ∷ []) new
-  ledger_left begun deeds old mid new kept act l out acts =
+  -- Acts of a connection that was taken out.
+  pub ledger_left : (begun : ℕ) (deeds : List Deed) (old mid new : ℕ → Option (Kept S)) (kept : Kept S) (more : List Act) → Ledger begun deeds old
+      → Leaves told old kept mid → Acts told mid kept more new → Ledger begun (deeds ++ deeds_of kept.turn.number more) new
+  ledger_left begun deeds old mid new kept more l out acts =
       let taken = ledger_goes begun deeds old mid l (taken_goes told old mid out.key out.none out.others) in
       let opened : out.before.turn.drops ≡ None = none_of out.before.turn.drops (sym out.steps.drops ∙ ap is_some out.opened) in
       let before = l.talks out.key out.before out.there opened in
@@ -163,15 +163,15 @@ module _ {S : Type 0} (told : S → Option Told) where
       λ key x at same. not_there key x at (l.apart key out.key x out.before (sym (out.others key (not_there key x at)) ∙ at) out.there (same ∙ out.steps.number)) in
       let number_is : kept.turn.number ≤ begun =
       subst (λ (n : ℕ). n ≤ begun) (sym out.steps.number) (l.within out.key out.before out.there) in
-      ledger_acts begun deeds mid new kept act before.0 taken talking fresh number_is acts
+      ledger_acts begun deeds mid new kept more before.0 taken talking fresh number_is acts
 
-  -- The first act of a new connection.
-  pub ledger_new : (begun : ℕ) (deeds : List Deed) (old new : ℕ → Option (Kept S)) (kept : Kept S) (act : Act) (first : Option Told) → Ledger begun deeds old
-      → kept.turn.number ≡ begun + 1 → IsTalking told first [] kept → Acts told old kept act new
-      → Ledger (begun + 1) (deeds ++ deed_of kept.turn.number act ∷ []) new
-  ledger_new begun deeds old new kept act first l number talking acts =
+  -- The first acts of a new connection.
+  pub ledger_new : (begun : ℕ) (deeds : List Deed) (old new : ℕ → Option (Kept S)) (kept : Kept S) (more : List Act) (first : Option Told) → Ledger begun deeds old
+      → kept.turn.number ≡ begun + 1 → IsTalking told first [] kept → Acts told old kept more new
+      → Ledger (begun + 1) (deeds ++ deeds_of kept.turn.number more) new
+  ledger_new begun deeds old new kept more first l number talking acts =
       let none : acts_of kept.turn.number deeds ≡ [] = l.none kept.turn.number (omega (arith, number)) in
       let named : IsTalking told first (acts_of kept.turn.number deeds) kept = subst (λ (a : List Act). IsTalking told first a kept) (sym none) talking in
       let fresh : (key : ℕ) (x : Kept S) → old key ≡ Some x → x.turn.number ≢ kept.turn.number =
       λ key x at same. omega (arith, number, same, l.within key x at) in
-      ledger_acts (begun + 1) deeds old new kept act first (ledger_more begun deeds old l) named fresh (omega (arith, number)) acts
+      ledger_acts (begun + 1) deeds old new kept more first (ledger_more begun deeds old l) named fresh (omega (arith, number)) acts

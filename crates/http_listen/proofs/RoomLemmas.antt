@@ -11,8 +11,8 @@ use Rattle.http_listen.specs.declared.rests.Unsent.{Unsent}
 use Rattle.http_listen.specs.declared.rooms.Found.{Found}
 use Rattle.http_listen.specs.declared.rooms.Found.TheVariants.{New, Asks, Reads, Nothing, Over}
 use Rattle.http_listen.specs.Talks.{Told, Moves}
-use Rattle.http_listen.proofs.StepLemmas.{none_of, steps_none, steps_sent}
-use Rattle.http_listen.proofs.TalkLemmas.{moves_none, moves_both}
+use Rattle.http_listen.proofs.StepLemmas.{none_of, steps_none, steps_stand}
+use Rattle.http_listen.proofs.TalkLemmas.{moves_both}
 
 -- nothing isn't something
 pub none_some : {T : Type 0} {x : T} → None ≡ Some x → ⊥
@@ -114,13 +114,7 @@ module _ {S : Type 0} (told : S → Option Told) where
   stands_on : (kept now : Kept S) → Stands kept now → GoesOnAs told kept now
   stands_on kept now s = record {
     number = s.number;
-    opened = λ e. (
-      sym s.drops ∙ e,
-      steps_sent told kept now ⊤
-          (subst (λ (x : S). Moves (told kept.stream) kept.output [] [] (told x) now.output) (sym s.stream)
-          (subst (λ (l : List ℕ). Moves (told kept.stream) kept.output [] [] (told kept.stream) l) (sym s.output) (moves_none (told kept.stream) kept.output)))
-          (record { input = s.input; number = s.number; drops = s.drops }) s.unsent,
-    );
+    opened = λ e. (sym s.drops ∙ e, steps_stand told kept now ⊤ s);
   }
 
   stands_at : (before now : Option (Kept S)) → StandsAt before now → GoesAt told before now

@@ -11,7 +11,7 @@ use Rattle.http_listen.specs.declared.kept.Kept.{Kept}
 use Rattle.http_listen.specs.declared.rests.Unsent.{Unsent}
 use Rattle.http_listen.specs.declared.turns.Next.{Next}
 use Rattle.http_listen.specs.declared.turns.Next.TheVariants.{Asks, Reads, Rests, Closes}
-use Rattle.http_listen.specs.Conversations.{Act, answered, fetched, asked, replied, fetched_bytes, IsEndedBy, IsLeft, IsNext, Follows, Conversation, Steps, IsTalking, IsSearched, GoesOn, IsRead, Turned, Stands, Beside}
+use Rattle.http_listen.specs.Conversations.{Act, answered, fetched, prepared, asked, replied, fetched_bytes, IsEndedBy, IsLeft, IsNext, Follows, Conversation, Steps, IsTalking, IsSearched, GoesOn, IsRead, Turned, Stands, Beside}
 use Rattle.http_listen.specs.Rests.{EndsAt}
 use Rattle.http_listen.specs.Talks.{Told, Grows, Moves}
 use Rattle.http_listen.proofs.TalkLemmas.{grows_none, moves_none, moves_both, moves_read, moves_added}
@@ -22,6 +22,7 @@ asked_both [] back = refl
 asked_both (answered bytes replies result ticket ∷ front) back =
     ap (λ l. bytes ++ l) (asked_both front back) ∙ sym (append_assoc bytes (asked front) (asked back))
 asked_both (fetched ticket offset count outcome ∷ front) back = asked_both front back
+asked_both (prepared ∷ front) back = asked_both front back
 
 pub replied_both : (front back : List Act) → replied (front ++ back) ≡ replied front ++ replied back
 replied_both [] back = refl
@@ -30,6 +31,7 @@ replied_both (answered bytes replies result ticket ∷ front) back =
 replied_both (fetched ticket offset count (Err fault) ∷ front) back = replied_both front back
 replied_both (fetched ticket offset count (Ok bytes) ∷ front) back =
     ap (λ l. bytes ++ l) (replied_both front back) ∙ sym (append_assoc bytes (replied front) (replied back))
+replied_both (prepared ∷ front) back = replied_both front back
 
 pub follows_both : (before between after : Option Unsent) (front back : List Act) → Follows before front between → Follows between back after
     → Follows before (front ++ back) after
@@ -122,6 +124,29 @@ module _ {S : Type 0} (told : S → Option Told) where
   -- Nothing was sent or read.
   pub steps_none : (kept : Kept S) (whole : Type 0) → Steps told kept [] whole kept
   steps_none kept whole = steps_sent kept kept whole (moves_none (told kept.stream) kept.output) (record { input = refl; number = refl; drops = refl }) refl
+
+  -- Nothing was sent or read, and something else changed.
+  pub steps_stand : (old new : Kept S) (whole : Type 0) → Stands old new → Steps told old [] whole new
+  steps_stand old new whole s = steps_sent old new whole
+      (subst (λ (x : S). Moves (told old.stream) old.output [] [] (told x) new.output) (sym s.stream)
+      (subst (λ (l : List ℕ). Moves (told old.stream) old.output [] [] (told old.stream) l) (sym s.output) (moves_none (told old.stream) old.output)))
+      (record { input = s.input; number = s.number; drops = s.drops }) s.unsent
+
+  -- First a step of the preparation of a reply was made.
+  pub steps_prepared : (old new : Kept S) (acts : List Act) (whole : Type 0) → old.turn.unsent ≡ None → Steps told old acts whole new
+      → Steps told old (prepared ∷ acts) whole new
+  steps_prepared old new acts whole none s = record {
+    number = s.number;
+    drops = s.drops;
+    given = s.given;
+    lost = s.lost;
+    cut = s.cut;
+    input = s.input;
+    moved = s.moved;
+    left = s.left;
+    follows = (None, (none, refl), subst (λ (u : Option Unsent). Follows u acts s.left) none s.follows);
+    kept = s.kept;
+  }
 
   -- What was read is the end of the input.
   pub steps_read : (old new : Kept S) (result : Next) (whole : Type 0) → (whole → GoesOn result) → IsRead told old result new → Steps told old [] whole new

@@ -1,5 +1,5 @@
 -- Connections of which one is served at a time, in stretches.
-use Rattle.std.specs.Prelude.{◌≡◌, ℕ, Bool, false, List, [], ◌∷◌, length, filter, Option, Some, IsSome, Result, Ok, Err, ⊤}
+use Rattle.std.specs.Prelude.{◌≡◌, ◌⊎◌, ℕ, Bool, false, List, [], ◌∷◌, length, filter, Option, Some, IsSome, Result, Ok, Err, ⊤}
 use Rattle.http_serve.specs.declared.connection.ServeFault.{ServeFault}
 use Rattle.http_serve.specs.declared.connection.Served.{Served}
 use Rattle.http_serve.specs.declared.handlers.RestFault.{RestFault}
@@ -24,11 +24,14 @@ pub data Event : Type 0 where
   at_stretch : Stretch → Event
   -- a read of the rest of a content that a stretch left: its ticket, an offset, how many bytes from there on, and these, or why they couldn't be read
   at_part : Ticket → (offset count : ℕ) → Result (List ℕ) RestFault → Event
+  -- a step of the preparation of a reply
+  at_preparation : Event
 
 -- it is the first stretch of a connection
 abbrev pub is_first : Event → Bool
 is_first (at_stretch s) = s.first
 is_first (at_part ticket offset count outcome) = false
+is_first at_preparation = false
 
 -- how many connections these events are of: the number of first stretches
 abbrev pub begun : List Event → ℕ
@@ -38,6 +41,7 @@ begun events = length (filter is_first events)
 abbrev pub IsOverKnown : Event → Type 0
 IsOverKnown (at_stretch s) = IsSome s.left
 IsOverKnown (at_part ticket offset count outcome) = ⊤
+IsOverKnown at_preparation = ⊤
 
 -- so it is of each of these
 abbrev pub AreOverKnown : List Event → Type 0
@@ -60,6 +64,12 @@ module _ {S : Type 0} (replies fails : S → RequestView → ReplyView → S →
   abbrev pub NextStretch : S → S → Type 0
   NextStretch old new = (result : Result Served ServeFault) × ComesTo result old new
 
+-- the same, and steps of the preparation of a reply
+module _ {S : Type 0} (replies fails : S → RequestView → ReplyView → S → Type 0) (prepares : S → S → Type 0) where
+  -- a step leads from a state to the next, and then perhaps a stretch, which answers
+  abbrev pub NextAnswer : S → S → Type 0
+  NextAnswer old new = (middle : S) × prepares old middle × ((new ≡ middle) ⊎ NextStretch replies fails middle new)
+
 -- reads of a content by its ticket
 module _ {S : Type 0} (reads : S → Ticket → (offset count : ℕ) → Result (List ℕ) RestFault → S → Type 0) where
   -- a read leads from a state to the next
@@ -68,13 +78,14 @@ module _ {S : Type 0} (reads : S → Ticket → (offset count : ℕ) → Result 
       × reads old ticket offset count outcome new
 
 module _ {S : Type 0} (replies fails : S → RequestView → ReplyView → S → Type 0)
-    (reads : S → Ticket → (offset count : ℕ) → Result (List ℕ) RestFault → S → Type 0) where
+    (reads : S → Ticket → (offset count : ℕ) → Result (List ℕ) RestFault → S → Type 0) (prepares : S → S → Type 0) where
   -- an event leads from a state to the next
   abbrev pub Happens : S → Event → S → Type 0
   Happens old (at_stretch s) new = CameTo replies fails s.result old s new
   Happens old (at_part ticket offset count outcome) new = reads old ticket offset count outcome new
+  Happens old at_preparation new = prepares old new
 
-  -- the replies and reads of these events, in order, lead from the old state to the new one
+  -- the replies, reads and preparations of these events, in order, lead from the old state to the new one
   abbrev pub Serves : S → List Event → S → Type 0
   Serves old [] new = new ≡ old
   Serves old (event ∷ events) new = (middle : S) × Happens old event middle × Serves middle events new

@@ -22,6 +22,8 @@ pub data Act : Type 0 where
   answered : (asked replies : List ℕ) → Result Served ServeFault → Ticket → Act
   -- this many bytes of a content that a reply left were read by its ticket, from an offset on, or couldn't be
   fetched : Ticket → (offset count : ℕ) → Result (List ℕ) RestFault → Act
+  -- a step was made of the preparation of its next reply
+  prepared : Act
 
 -- the bytes that were read of a content, none if they couldn't be
 abbrev pub fetched_bytes : Result (List ℕ) RestFault → List ℕ
@@ -33,18 +35,21 @@ abbrev pub asked : List Act → List ℕ
 asked [] = []
 asked (answered bytes replies result ticket ∷ acts) = bytes ++ asked acts
 asked (fetched ticket offset count outcome ∷ acts) = asked acts
+asked (prepared ∷ acts) = asked acts
 
 -- the replies to them, with what was read of their contents later
 abbrev pub replied : List Act → List ℕ
 replied [] = []
 replied (answered bytes replies result ticket ∷ acts) = replies ++ replied acts
 replied (fetched ticket offset count outcome ∷ acts) = fetched_bytes outcome ++ replied acts
+replied (prepared ∷ acts) = replied acts
 
 -- after an act a connection ends so: with the word for why a part couldn't be read, if it couldn't
 abbrev pub IsEndedBy : Act → Option (Result Served EndFault) → Type 0
 IsEndedBy (answered bytes replies result ticket) ending = ⊤
 IsEndedBy (fetched ticket offset count (Ok bytes)) ending = ⊤
 IsEndedBy (fetched ticket offset count (Err cause)) ending = ending ≡ Some (Err (cut_by cause))
+IsEndedBy prepared ending = ⊤
 
 -- what is left of a content once these bytes of it were read
 abbrev pub IsLeft : Unsent → Result (List ℕ) RestFault → Option Unsent → Type 0
@@ -52,13 +57,14 @@ IsLeft unsent (Err fault) left = ⊤
 IsLeft unsent (Ok bytes) left =
     MatchOption left (unsent.end ≤ unsent.at + length bytes) (λ next. next ≡ record unsent { at = unsent.at + length bytes })
 
--- An act is in its place, by what is left before it of the last reply's content and after it: while something is left, nothing is answered,
--- and what is read is the next bytes, no more than are left, by the ticket of that reply.
+-- An act is in its place, by what is left before it of the last reply's content and after it: while something is left, nothing is answered or
+-- prepared, and what is read is the next bytes, no more than are left, by the ticket of that reply.
 abbrev pub IsNext : Option Unsent → Act → Option Unsent → Type 0
 IsNext before (answered bytes replies result ticket) after = (before ≡ None) × (after ≡ rest_after ticket result)
 IsNext before (fetched ticket offset count outcome) after =
     (unsent : Unsent) × (before ≡ Some unsent) × (ticket ≡ unsent.ticket) × (offset ≡ unsent.at) × (count ≤ unsent.end - unsent.at)
     × IsLeft unsent outcome after
+IsNext before prepared after = (before ≡ None) × (after ≡ None)
 
 -- so is each of these
 abbrev pub Follows : Option Unsent → List Act → Option Unsent → Type 0
@@ -81,13 +87,14 @@ module _ {S : Type 0} (replies fails : S → RequestView → ReplyView → S →
   Answers old bytes out result new = (leaves : Option (List ℕ)) × CameTo replies fails result old
       (record { first = false; result = result; left = Some bytes; held = Some []; leaves = leaves; holds = Some out }) new
 
--- the same handler, with its reads and tickets
+-- the same handler, with its reads, tickets and preparations
 module _ {S : Type 0} (replies fails : S → RequestView → ReplyView → S → Type 0)
-    (reads : S → Ticket → (offset count : ℕ) → Result (List ℕ) RestFault → S → Type 0) (ticket_of : S → Ticket) where
+    (reads : S → Ticket → (offset count : ℕ) → Result (List ℕ) RestFault → S → Type 0) (ticket_of : S → Ticket) (prepares : S → S → Type 0) where
   -- an act leads from a state to the next
   abbrev pub Does : S → Act → S → Type 0
   Does old (answered bytes out result ticket) new = Answers replies fails old bytes out result new × (ticket ≡ ticket_of new)
   Does old (fetched ticket offset count outcome) new = reads old ticket offset count outcome new
+  Does old prepared new = prepares old new
 
 -- what streams told
 module _ {S : Type 0} (told : S → Option Told) where
@@ -176,13 +183,18 @@ abbrev pub acts_of : ℕ → List Deed → List Act
 acts_of number [] = []
 acts_of number (deed ∷ deeds) = cond (nat_eq deed.number number) (deed.act ∷ acts_of number deeds) (acts_of number deeds)
 
+-- these acts, done for one of them
+abbrev pub deeds_of : ℕ → List Act → List Deed
+deeds_of number [] = []
+deeds_of number (act ∷ acts) = record { number = number; act = act } ∷ deeds_of number acts
+
 -- a handler
 module _ {S : Type 0} (replies fails : S → RequestView → ReplyView → S → Type 0)
-    (reads : S → Ticket → (offset count : ℕ) → Result (List ℕ) RestFault → S → Type 0) (ticket_of : S → Ticket) where
+    (reads : S → Ticket → (offset count : ℕ) → Result (List ℕ) RestFault → S → Type 0) (ticket_of : S → Ticket) (prepares : S → S → Type 0) where
   -- All that was done, in this order, leads from a state to the next.
   abbrev pub Runs : S → List Deed → S → Type 0
   Runs old [] new = new ≡ old
-  Runs old (deed ∷ deeds) new = (middle : S) × Does replies fails reads ticket_of old deed.act middle × Runs middle deeds new
+  Runs old (deed ∷ deeds) new = (middle : S) × Does replies fails reads ticket_of prepares old deed.act middle × Runs middle deeds new
 
 -- Each of the first connections, up to this many, has a conversation. All that was done is theirs.
 pub record Conversations (count : ℕ) (first last : ℕ → Option Told) (deeds : List Deed) : Type 0 where

@@ -1,5 +1,5 @@
 -- The connections by their keys, as turns are given to them.
-use Rattle.std.specs.Prelude.{◌≡◌, ◌≢◌, ◌⊎◌, ℕ, [], ◌∷◌, Option, None, Some, Result, ⊤}
+use Rattle.std.specs.Prelude.{◌≡◌, ◌≢◌, ◌⊎◌, ℕ, List, [], Option, None, Some, Result, ⊤}
 use Rattle.http_listen.specs.declared.kept.Kept.{Kept}
 use Rattle.http_listen.specs.declared.rooms.Found.{Found}
 use Rattle.http_listen.specs.declared.rooms.Found.TheVariants.{New, Asks, Reads, Nothing, Over}
@@ -55,12 +55,12 @@ module _ {S : Type 0} (told : S → Option Told) where
     pub before : Goes old mid
     pub turn : GoesTo mid (Some found) new
 
-  -- An act of a connection that was taken out: what came of it is kept at a key, or is as it was then and goes on, or has ended.
-  pub record Acts (old : ℕ → Option (Kept S)) (kept : Kept S) (act : Act) (new : ℕ → Option (Kept S)) : Type 0 where
+  -- Acts of a connection that was taken out: what came of them is kept at a key, or is as it was then and goes on, or has ended.
+  pub record Acts (old : ℕ → Option (Kept S)) (kept : Kept S) (acts : List Act) (new : ℕ → Option (Kept S)) : Type 0 where
     pub mid : Kept S
     pub last : Kept S
     pub ending : Option (Result Served EndFault)
-    pub steps : Steps told kept (act ∷ []) (ending ≡ None) mid
+    pub steps : Steps told kept acts (ending ≡ None) mid
     pub number : last.turn.number ≡ mid.turn.number
     pub same : last.turn.drops ≡ None → (ending ≡ None) × (last ≡ mid)
     pub key : ℕ

@@ -4,12 +4,12 @@ ghost use Rattle.http_serve.specs.declared.connection.ServeFault.{ServeFault};
 ghost use Rattle.http_serve.specs.declared.connection.Served.{Served};
 ghost use Rattle.http_listen.specs.Rests.{rest_after};
 ghost use Rattle.http_listen.specs.Asked.{IsAsked};
-ghost use Rattle.http_listen.specs.Conversations.{Act, Deed, Answers, Does, IsEndedBy, Runs, Steps};
+ghost use Rattle.http_listen.specs.Conversations.{Act, Deed, Answers, Does, IsEndedBy, Runs, Stands, Steps, deeds_of};
 ghost use Rattle.http_listen.specs.Orders.{AreInOrder};
 ghost use Rattle.http_listen.specs.Goes.{Acts};
 ghost use Rattle.http_listen.specs.Places.{kept_at};
 ghost use Rattle.http_listen.specs.Talks.{Moves};
-ghost use Rattle.http_listen.specs.Connections.{Event, Serves, ComesTo, NextStretch, NextPart, AreOverKnown, begun};
+ghost use Rattle.http_listen.specs.Connections.{Event, Serves, ComesTo, NextStretch, NextAnswer, NextPart, AreOverKnown, begun};
 
 use crate::kept::{Ending, Kept, Turn};
 use crate::rests::{Unsent, add_part, once_sent};
@@ -17,7 +17,7 @@ use crate::rooms::{Found, Room, time_of};
 use crate::talks::Talks;
 use crate::waits::Waits;
 use crate::writers::ReplyWriter;
-use http_serve::{Buffers, Downloads, MAX_READS, ServeFault, Served, serve_fronts};
+use http_serve::{Buffers, Downloads, MAX_READS, Prepares, ServeFault, Served, serve_fronts};
 use std::alloc::Global;
 use std::io::Write;
 use std::net::OpenStream;
@@ -96,12 +96,12 @@ fn open<S, H, W>(
 )
 where
     S: Talks + OpenStream + Drop,
-    H: Downloads,
+    H: Prepares,
     W: Write,
     requires whole { kept.turn.unsent ≡ None }
     ensures comes { NextStretch H.replies H.fails handler.old handler.new }
-    ensures acted { (act : Act) × Does H.replies H.fails H.reads H.ticket_of handler.old act handler.new
-        × Acts S.told (kept_at room.old.places) kept act (kept_at room.new.places) }
+    ensures acted { (act : Act) × Does H.replies H.fails H.reads H.ticket_of H.prepares handler.old act handler.new
+        × Acts S.told (kept_at room.old.places) kept (act ∷ []) (kept_at room.new.places) }
 {
     let past = serve_front(buffers, kept, 0, handler);
     room.opened(past.kept, once_sent(past.outcome), log);
@@ -116,8 +116,10 @@ struct Acted<S> {
 }
 
 /// Answers the first `end` bytes of a connection's input, in a stretch of it, and begins to send the replies. Nothing waits to be sent before.
+/// The time since `start` is that of the answer.
 fn answer_front<S, H, C>(
     clock: &C,
+    start: Duration,
     buffers: &mut Buffers,
     room: &mut Room<S>,
     kept: Kept<S>,
@@ -126,17 +128,16 @@ fn answer_front<S, H, C>(
 ) -> Acted<S>
 where
     S: Talks + OpenStream + Drop,
-    H: Downloads,
+    H: Prepares,
     C: Clock,
     requires sent { kept.output ≡ [] }
     requires whole { kept.turn.unsent ≡ None }
     requires asked { IsAsked kept.input kept.turn.ended end }
     ensures comes { NextStretch H.replies H.fails handler.old handler.new }
     ensures places { room.new.places ≡ room.old.places }
-    ensures acts { (act : Act) × Does H.replies H.fails H.reads H.ticket_of handler.old act handler.new
+    ensures acts { (act : Act) × Does H.replies H.fails H.reads H.ticket_of H.prepares handler.old act handler.new
         × Steps S.told kept (act ∷ []) (result.ending ≡ None) result.kept }
 {
-    let start = time_of(clock);
     let Past { outcome, mut kept } = serve_front(buffers, kept, end, handler);
     room.spend(clock, start);
     let now = room.now(clock);
@@ -148,7 +149,54 @@ where
     Acted { now, kept, ending }
 }
 
-/// Answers the first `end` bytes of a connection's input, and keeps or ends it.
+/// A connection has another turn before it is answered. The time since `start` is that of a step of its reply's preparation.
+fn put_off<S, C>(clock: &C, start: Duration, room: &mut Room<S>, mut kept: Kept<S>) -> Acted<S>
+where
+    S: Talks + OpenStream + Drop,
+    C: Clock,
+    ensures stands { Stands kept result.kept }
+    ensures goes_on { result.ending ≡ None }
+    ensures places { room.new.places ≡ room.old.places }
+{
+    room.spend(clock, start);
+    let now = room.now(clock);
+    kept.put_off(now);
+    Acted {
+        now,
+        kept,
+        ending: None,
+    }
+}
+
+/// Makes a step of the preparation of the reply to the first `end` bytes of a connection's input, and answers them if it was the last one.
+fn prepare_front<S, H, C>(
+    clock: &C,
+    buffers: &mut Buffers,
+    room: &mut Room<S>,
+    kept: Kept<S>,
+    end: usize,
+    handler: &mut H,
+) -> Acted<S>
+where
+    S: Talks + OpenStream + Drop,
+    H: Prepares,
+    C: Clock,
+    requires sent { kept.output ≡ [] }
+    requires whole { kept.turn.unsent ≡ None }
+    requires asked { IsAsked kept.input kept.turn.ended end }
+    ensures comes { NextAnswer H.replies H.fails H.prepares handler.old handler.new }
+    ensures places { room.new.places ≡ room.old.places }
+    ensures acts { (acts : List Act) × Runs H.replies H.fails H.reads H.ticket_of H.prepares handler.old (deeds_of kept.turn.number acts) handler.new
+        × Steps S.told kept acts (result.ending ≡ None) result.kept }
+{
+    let start = time_of(clock);
+    if handler.prepare(kept.turn.number, kept.input.front(end)) {
+        return put_off(clock, start, room, kept);
+    }
+    answer_front(clock, start, buffers, room, kept, end, handler)
+}
+
+/// Prepares or answers the first `end` bytes of a connection's input, and keeps or ends it.
 fn answer<S, H, W, C>(
     clock: &C,
     buffers: &mut Buffers,
@@ -160,17 +208,17 @@ fn answer<S, H, W, C>(
 )
 where
     S: Talks + OpenStream + Drop,
-    H: Downloads,
+    H: Prepares,
     W: Write,
     C: Clock,
     requires sent { kept.output ≡ [] }
     requires whole { kept.turn.unsent ≡ None }
     requires asked { IsAsked kept.input kept.turn.ended end }
-    ensures comes { NextStretch H.replies H.fails handler.old handler.new }
-    ensures acted { (act : Act) × Does H.replies H.fails H.reads H.ticket_of handler.old act handler.new
-        × Acts S.told (kept_at room.old.places) kept act (kept_at room.new.places) }
+    ensures comes { NextAnswer H.replies H.fails H.prepares handler.old handler.new }
+    ensures acted { (acts : List Act) × Runs H.replies H.fails H.reads H.ticket_of H.prepares handler.old (deeds_of kept.turn.number acts) handler.new
+        × Acts S.told (kept_at room.old.places) kept acts (kept_at room.new.places) }
 {
-    let Acted { now, kept, ending } = answer_front(clock, buffers, room, kept, end, handler);
+    let Acted { now, kept, ending } = prepare_front(clock, buffers, room, kept, end, handler);
     room.keep_or_end(now, kept, ending, log);
 }
 
@@ -184,14 +232,14 @@ fn read_part<S, H, C>(
 ) -> Acted<S>
 where
     S: Talks + OpenStream + Drop,
-    H: Downloads,
+    H: Prepares,
     C: Clock,
     requires sent { kept.output ≡ [] }
     requires rest { kept.turn.unsent ≡ Some unsent }
     ensures reads { NextPart H.reads handler.old handler.new }
     ensures places { room.new.places ≡ room.old.places }
     // If the part can't be read, the connection ends with the word for why.
-    ensures acts { (act : Act) × Does H.replies H.fails H.reads H.ticket_of handler.old act handler.new
+    ensures acts { (act : Act) × Does H.replies H.fails H.reads H.ticket_of H.prepares handler.old act handler.new
         × Steps S.told kept (act ∷ []) (result.ending ≡ None) result.kept × IsEndedBy act result.ending }
 {
     let start = time_of(clock);
@@ -214,14 +262,14 @@ fn send_part<S, H, W, C>(
 )
 where
     S: Talks + OpenStream + Drop,
-    H: Downloads,
+    H: Prepares,
     W: Write,
     C: Clock,
     requires sent { kept.output ≡ [] }
     requires rest { kept.turn.unsent ≡ Some unsent }
     ensures reads { NextPart H.reads handler.old handler.new }
-    ensures acted { (act : Act) × Does H.replies H.fails H.reads H.ticket_of handler.old act handler.new
-        × Acts S.told (kept_at room.old.places) kept act (kept_at room.new.places) }
+    ensures acted { (act : Act) × Does H.replies H.fails H.reads H.ticket_of H.prepares handler.old act handler.new
+        × Acts S.told (kept_at room.old.places) kept (act ∷ []) (kept_at room.new.places) }
 {
     let Acted { now, kept, ending } = read_part(clock, room, kept, unsent, handler);
     room.keep_or_end(now, kept, ending, log);
@@ -236,6 +284,10 @@ where
 /// memory and sent as the peer takes them. The rest of a content is read part by part, 64 KiB each, once the peer has taken what comes
 /// before; other requests are answered between two parts. While replies wait, or the rest of one, no further request of the connection is
 /// read or answered.
+///
+/// The handler may prepare a reply in steps. In a round each connection that is ready has one turn, and the turn of one whose reply is being
+/// prepared is one step. Between two rounds new connections are accepted. Until its reply nothing more is read of such a connection, its peer's
+/// time doesn't run, and it isn't ended to make room for others.
 ///
 /// Between two requests a connection holds no buffers. Otherwise it has at most `http_requests::MAX_REQUEST` bytes of input, and of its replies
 /// what its peer hasn't taken yet; a buffer takes at most twice as much as it has. Of a content that is read in parts one part is in memory.
@@ -280,19 +332,22 @@ pub fn serve_on<L, H, W, C>(
 where
     L: Waits,
     L::Stream: Talks + OpenStream,
-    H: Downloads,
+    H: Prepares,
     W: Write,
     C: Clock,
-    ensures all { OnOk result ((served : List Event) × Serves H.replies H.fails H.reads handler.old served handler.new × (begun served ≡ connections)) }
-    ensures fewer { OnErr result ((served : List Event) × Serves H.replies H.fails H.reads handler.old served handler.new × (begun served < connections)) }
+    ensures all { OnOk result ((served : List Event) × Serves H.replies H.fails H.reads H.prepares handler.old served handler.new
+        × (begun served ≡ connections)) }
+    ensures fewer { OnErr result ((served : List Event) × Serves H.replies H.fails H.reads H.prepares handler.old served handler.new
+        × (begun served < connections)) }
     // The bytes of each stretch are known, so what was read is: the requests that were answered are its bytes.
-    ensures known { OnOk result ((served : List Event) × Serves H.replies H.fails H.reads handler.old served handler.new
+    ensures known { OnOk result ((served : List Event) × Serves H.replies H.fails H.reads H.prepares handler.old served handler.new
         × (begun served ≡ connections) × AreOverKnown served) }
-    ensures fewer_known { OnErr result ((served : List Event) × Serves H.replies H.fails H.reads handler.old served handler.new
+    ensures fewer_known { OnErr result ((served : List Event) × Serves H.replies H.fails H.reads H.prepares handler.old served handler.new
         × (begun served < connections) × AreOverKnown served) }
-    // What is done is done for the connections, each by its number. Of one of them nothing is answered while something of its last reply's content
-    // is left, and what is read of that is its next bytes, by that reply's ticket.
-    ensures named { (deeds : List Deed) × Runs H.replies H.fails H.reads H.ticket_of handler.old deeds handler.new × AreInOrder connections deeds }
+    // What is done is done for the connections, each by its number. Of one of them nothing is answered or prepared while something of its last
+    // reply's content is left, and what is read of that is its next bytes, by that reply's ticket.
+    ensures named { (deeds : List Deed) × Runs H.replies H.fails H.reads H.ticket_of H.prepares handler.old deeds handler.new
+        × AreInOrder connections deeds }
 {
     let mut room = Room::new(alloc, listener.max_held(), listener.max_reads());
     let mut buffers = Buffers::new(alloc);

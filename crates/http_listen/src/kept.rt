@@ -234,6 +234,15 @@ impl<S> Kept<S> {
         self.turn.since = now;
     }
 
+    /// Another step is to be made before the first bytes of its input are answered. It is found with them again in its next turn, and
+    /// its peer isn't waited for until then.
+    pub(crate) fn put_off(&mut self, now: Duration)
+        ensures { Stands self.old self.new }
+    {
+        self.turn.searches = true;
+        self.turn.since = now;
+    }
+
     /// The first `end` bytes of the input were answered.
     pub(crate) fn answered(
         &mut self,

@@ -11,7 +11,9 @@ mod tags;
 mod writes;
 
 pub use connection::{End, MAX_READS, ServeFault, Served, serve_fronts, serve_with};
-pub use handlers::{ContentFault, Downloads, Handler, PART_SIZE, Request, RestFault, Ticket};
+pub use handlers::{
+    ContentFault, Downloads, Handler, PART_SIZE, Prepares, Request, RestFault, Ticket,
+};
 pub use http_requests::{Fields, READ_SPACE};
 pub use http_values::Status;
 pub use replies::{Content, ContentRange, EntityTag, MAX_WORD, Reply, Tag, WeakTag};

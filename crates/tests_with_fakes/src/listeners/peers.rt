@@ -4,12 +4,14 @@ ghost use Rattle.http_serve.specs.Reply.{IsWhole};
 use crate::wanted::same;
 use http_listen::{SystemListener, serve_on};
 use http_serve::{
-    Content, ContentFault, Downloads, Handler, Reply, Request, RestFault, Status, Ticket,
+    Content, ContentFault, Downloads, Handler, Prepares, Reply, Request, RestFault, Status, Ticket,
 };
 use std::io::{Read, Write};
 use std::net::{Ipv4Addr, Shutdown, SocketAddr, TcpListener, TcpStream};
 
 const GET: &str = "GET / HTTP/1.1\r\nhost: a\r\n\r\n";
+
+const POST: &str = "POST / HTTP/1.1\r\nhost: a\r\ncontent-length: 0\r\n\r\n";
 
 const TWO_GETS: &str = "GET / HTTP/1.1\r\nhost: a\r\n\r\nGET / HTTP/1.1\r\nhost: a\r\n\r\n";
 
@@ -20,6 +22,8 @@ const FIRST_AND_THIRD: &str =
     "HTTP/1.1 200 OK\r\ncontent-length: 1\r\n\r\n0HTTP/1.1 200 OK\r\ncontent-length: 1\r\n\r\n2";
 
 const SECOND: &str = "HTTP/1.1 200 OK\r\ncontent-length: 1\r\n\r\n1";
+
+const THIRD: &str = "HTTP/1.1 200 OK\r\ncontent-length: 1\r\n\r\n2";
 
 const SECOND_LAST: &str = "HTTP/1.1 200 OK\r\ncontent-length: 1\r\nconnection: close\r\n\r\n1";
 
@@ -36,7 +40,7 @@ struct Row {
     log: &'static str,
 }
 
-static ROWS: [Row; 3] = [
+static ROWS: [Row; 4] = [
     Row {
         name: "a_peer_reads_its_replies",
         asks_again: false,
@@ -67,6 +71,13 @@ static ROWS: [Row; 3] = [
         peers: &[(GET, FIRST_AND_THIRD), (GET, SECOND)],
         log: "connection 2: 1 requests, closed\nconnection 1: 2 requests, closed\n",
     },
+    // The reply to the first one is prepared in a step before, and the second one is answered in between.
+    Row {
+        name: "others_are_answered_while_a_reply_is_prepared",
+        asks_again: false,
+        peers: &[(POST, THIRD), (GET, SECOND)],
+        log: "connection 2: 1 requests, closed\nconnection 1: 1 requests, closed\n",
+    },
 ];
 
 /// The ticket of handlers whose contents are whole.
@@ -77,10 +88,12 @@ const NO_TICKET: Ticket = Ticket {
     first: 0,
 };
 
-/// Answers with how many answers there were before. Has a peer ask once more and end where the second request is answered, if it is given one.
+/// Answers with how many answers and steps there were before. Has a peer ask once more and end where the second request is answered, if it is
+/// given one. The first POST takes a step.
 #[derive(Clone, Copy)]
 struct Counter<'a> {
     answers: u64,
+    has_stepped: bool,
     asker: Option<&'a TcpStream>,
 }
 
@@ -149,6 +162,19 @@ impl Downloads for Counter<'_> {
     }
 }
 
+impl Prepares for Counter<'_> {
+    ghost prepares = { λ _ _. Unit {0} };
+
+    fn prepare(&mut self, _connection: u64, asked: &[u8]) -> bool {
+        if self.has_stepped || !asked.starts_with(b"POST".as_slice()) {
+            return false;
+        }
+        self.has_stepped = true;
+        self.answers = self.answers.saturating_add(1);
+        true
+    }
+}
+
 /// Whether the peers of a row that wait at a listener are served to the end.
 fn serves_at(
     rt: &HostRuntime,
@@ -162,7 +188,11 @@ fn serves_at(
     } else {
         None
     };
-    let mut handler = Counter { answers: 0, asker };
+    let mut handler = Counter {
+        answers: 0,
+        has_stepped: false,
+        asker,
+    };
     let count = row.peers.len() as u64;
     match SystemListener::new(rt, rt.alloc(), listener, 8) {
         Ok(mut listener) => {
