@@ -14,7 +14,7 @@ use Rattle.tile_service.proofs.Runs.States.{takes_states}
 use Rattle.map_replies.specs.declared.service.MapReplies.{MapReplies}
 use Rattle.tile_service.specs.Service.{status_of}
 use Rattle.map_replies.specs.Meanings.{Means, DiskFailed}
-use Rattle.map_replies.specs.State.{access_of, tags_of, settings_of, asked_service, ServiceReplies, ServiceFails, ServiceReads}
+use Rattle.map_replies.specs.State.{access_of, tags_of, settings_of, asked_service, KeepsArchivesOn, ServiceReplies, ServiceFails, ServiceReads}
 use Rattle.map_replies.specs.State.{Course, course, Tells, TellsCut, TellsRead}
 use Rattle.map_replies.specs.Tickets.{KeepsTickets}
 use Rattle.map_replies.proofs.Passing.{Passes, passes_none, passes_all, passes_read}
@@ -45,6 +45,7 @@ module _ {D : Type 0} (sectors : D → ℕ) (honest : D → Type 0) (history : D
           refl,
           subst (λ (s : MapReplies D). settings_of new ≡ settings_of s) (sym here) is.1,
           subst (λ (s : MapReplies D). KeepsTickets honest history s.calls new.calls) (sym here) is.2,
+          subst (λ (s : MapReplies D). KeepsArchivesOn s request reply new) (sym here) is.3,
         ),
         (refl, passes_all sectors honest history (asked_service first) (asked_service old) (asked_service new) so.run is.0.0 along.1 is.0.2),
       )

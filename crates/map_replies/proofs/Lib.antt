@@ -10,6 +10,7 @@ mod FeedLemmas
 mod ListedReplies
 mod ListLemmas
 mod NumberedEdits
+mod OldestLemmas
 mod Pushed
 mod Routed
 mod SendingLemmas

@@ -1,5 +1,6 @@
 -- The reply to a request, by what was done for its path and its method.
-use Rattle.std.proofs.Common.{◌≡◌, ℕ, List, [], Result, Ok, Err, length, refl, sym, subst}
+use Rattle.std.proofs.Common.{◌≡◌, inl, inr, ℕ, List, [], Result, Ok, Err, length, refl, sym, ap, subst, ◌∙◌}
+use Rattle.std.proofs.lemmas.Bool.{false≢true}
 use Rattle.http_requests.specs.Requests.{RequestView}
 use Rattle.http_serve.specs.Reply.{ReplyView, IsReply, InParts, IsWhole, reply_view}
 use Rattle.http_serve.specs.declared.replies.Reply.{Reply}
@@ -16,7 +17,7 @@ use Rattle.map_replies.specs.Conditions.{AskView, ask_of}
 use Rattle.map_replies.specs.Meanings.{AnswersMethod, asked_for}
 use Rattle.map_replies.specs.Sending.{IsAnsweredInParts, SendsMethod}
 use Rattle.map_replies.specs.State.{access_of, tags_of, asked_service, sending_size, ServiceReplies, ServiceSends}
-use Rattle.map_replies.specs.Tickets.{KeepsTickets}
+use Rattle.map_replies.specs.Tickets.{KeepsTickets, KeepsOldest, KeepsArchives, asks_to_step}
 use Rattle.map_replies.specs.Words.{refusal_of}
 use Rattle.map_replies.proofs.SendingLemmas.{whole_is, sent_size}
 
@@ -44,16 +45,39 @@ module _ {D : Type 0} (sectors : D → ℕ) (honest : D → Type 0) (history : D
     abbrev SendsAs : Asked → Result Method RouteFault → ReplyView → Type 0
     SendsAs a m view = SendsMethod sectors honest history faults a m the_ask (asked_service old) calls.sending calls.service view
 
+    -- which archives can be read then, by the path and whatever bytes are read for the reply
+    keeps_on : (status : ℕ) (result : Reply) → (reply_view [] result).status ≡ status → KeepsArchives target (Ok result) old.calls calls
+        → KeepsOldest (asked_for (access_of old) request) status old.calls calls
+    keeps_on status result is keeps =
+        subst (λ (n : ℕ). KeepsOldest (asked_for (access_of old) request) n old.calls calls) is
+        (subst (λ (a : Asked). KeepsOldest a (reply_view [] result).status old.calls calls) target_is keeps)
+
+    -- a reply in parts is of the archive, and no step is asked for
+    keeps_in_parts : (result : Reply) (view : ReplyView) → SendsAs target method view → KeepsArchives target (Ok result) old.calls calls
+        → calls.oldest ≡ old.calls.oldest
+    keeps_in_parts result view sent (inl same) = same
+    keeps_in_parts result view sent (inr made) = absurd (false≢true (ap asks_to_step (sym sent.3.0) ∙ made.0))
+
     -- it was made
     pub replied : (result : Reply) → IsAnsweredInParts (AnswersAs target method) (SendsAs target method) (Ok result)
-        → Replied old request result (record old { calls = calls })
-    replied result told = (
+        → KeepsArchives target (Ok result) old.calls calls → Replied old request result (record old { calls = calls })
+    replied result told keeps = (
       told.0,
       told.1,
-      (by_path (λ a m. AnswersAs a m told.0) request.method target _ method method_is target_is told.2, refl, held),
+      (
+        by_path (λ a m. AnswersAs a m told.0) request.method target _ method method_is target_is told.2,
+        refl,
+        held,
+        keeps_on told.0.status result (sym (ap (λ (v : ReplyView). v.status) told.1.0)) keeps,
+      ),
       in_parts result.content _ _
           (λ sent. (
-            (by_path (λ a m. SendsAs a m told.0) request.method target _ method method_is target_is sent, refl, held),
+            (
+              by_path (λ a m. SendsAs a m told.0) request.method target _ method method_is target_is sent,
+              refl,
+              held,
+              keeps_in_parts result told.0 sent keeps,
+            ),
             sent_size sectors honest history faults _ _ (asked_service old) _ calls.service told.0 sent.3.1.1,
           ))
           told.3,
@@ -62,12 +86,13 @@ module _ {D : Type 0} (sectors : D → ℕ) (honest : D → Type 0) (history : D
     -- it is a refusal
     pub refused : (fault : RequestFault) (result : Reply) → IsWhole result → reply_view [] result ≡ refusal_of fault
         → IsAnsweredInParts (AnswersAs target method) (SendsAs target method) (Err fault)
-        → Replied old request result (record old { calls = calls })
-    refused fault result whole is told =
+        → KeepsArchives target (Err fault) old.calls calls → Replied old request result (record old { calls = calls })
+    refused fault result whole is told same =
         whole_is (λ view. ServiceReplies sectors honest history faults old request view (record old { calls = calls })) _ result whole (
           subst (λ (view : ReplyView). AnswersAs (asked_for (access_of old) request) (method_on request.method (asked_for (access_of old) request)) view)
               (sym is)
               (by_path (λ a m. AnswersAs a m (refusal_of fault)) request.method target _ method method_is target_is told),
           refl,
           held,
+          inl same,
         )

@@ -14,7 +14,7 @@ use Rattle.map_replies.specs.declared.service.Settings.{Settings}
 use Rattle.map_replies.specs.Conditions.{ask_of}
 use Rattle.map_replies.specs.Meanings.{Means, asked_for, DiskFailed, Replies}
 use Rattle.map_replies.specs.Sending.{SendsMethod}
-use Rattle.map_replies.specs.Tickets.{ticket_for, KeepsTickets, ReadsRest}
+use Rattle.map_replies.specs.Tickets.{ticket_for, KeepsOldest, KeepsTickets, ReadsRest}
 use Rattle.tile_routes.specs.Methods.{method_on}
 use Rattle.tile_routes.specs.declared.access.Access.{Access}
 
@@ -45,13 +45,18 @@ sending_size s = sent_by s.calls
 abbrev pub sending_ticket : {D : Type 0} → MapReplies D → Ticket
 sending_ticket s = ticket_for s.calls
 
+-- the archives that could be read can be read after this reply too, but for what it published
+abbrev pub KeepsArchivesOn : {D : Type 0} → MapReplies D → RequestView → ReplyView → MapReplies D → Type 0
+KeepsArchivesOn old request reply new = KeepsOldest (asked_for (access_of old) request) reply.status old.calls new.calls
+
 -- over a disk with these sectors, this honesty, this history and this count of faults
 module _ {D : Type 0} (sectors : D → ℕ) (honest : D → Type 0) (history : D → History) (faults : D → ℕ) where
-  -- one reply to one request; the same paths are served as before, with the same tags, and tickets are held that were
+  -- One reply to one request. The same paths are served as before, with the same tags; tickets are held that were, and archives can be read
+  -- that could.
   abbrev pub ServiceReplies : MapReplies D → RequestView → ReplyView → MapReplies D → Type 0
   ServiceReplies old request reply new =
       Replies sectors honest history faults (access_of old) (tags_of old) (asked_service old) request reply (asked_service new) × (settings_of new ≡ settings_of old)
-      × KeepsTickets honest history old.calls new.calls
+      × KeepsTickets honest history old.calls new.calls × KeepsArchivesOn old request reply new
 
   -- the same for a reply whose content is being read in parts: the request is for the archive
   abbrev pub ServiceSends : MapReplies D → RequestView → ReplyView → MapReplies D → Type 0
@@ -59,7 +64,7 @@ module _ {D : Type 0} (sectors : D → ℕ) (honest : D → Type 0) (history : D
       SendsMethod sectors honest history faults (asked_for (access_of old) request)
       (method_on request.method (asked_for (access_of old) request)) (ask_of (tags_of old) request)
       (asked_service old) new.calls.sending (asked_service new) reply
-      × (settings_of new ≡ settings_of old) × KeepsTickets honest history old.calls new.calls
+      × (settings_of new ≡ settings_of old) × KeepsTickets honest history old.calls new.calls × (new.calls.oldest ≡ old.calls.oldest)
 
   -- the same for a reply whose content couldn't be read to its end: the disk has failed
   abbrev pub ServiceFails : MapReplies D → RequestView → ReplyView → MapReplies D → Type 0
@@ -82,14 +87,14 @@ course replies run = record { replies = replies; run = run }
 
 module _ {D : Type 0} (sectors : D → ℕ) (honest : D → Type 0) (history : D → History) (faults : D → ℕ) where
   -- One reply to one request: it reports happenings, the service takes them all, and they are appended to the run. The same paths are
-  -- served as before, with the same tags, and tickets are held that were.
+  -- served as before, with the same tags; tickets are held that were, and archives can be read that could.
   abbrev pub Tells : Course D → RequestView → ReplyView → Course D → Type 0
   Tells old request reply new = (happenings : List Happening)
       × Means (access_of old.replies) (tags_of old.replies) (DiskFailed faults (asked_service old.replies) (asked_service new.replies))
       (status_of (asked_service old.replies)) (status_of (asked_service new.replies)) request reply happenings
       × TakesAll sectors honest history (asked_service old.replies) happenings (asked_service new.replies)
       × (new.run ≡ old.run ++ happenings) × (settings_of new.replies ≡ settings_of old.replies)
-      × KeepsTickets honest history old.replies.calls new.replies.calls
+      × KeepsTickets honest history old.replies.calls new.replies.calls × KeepsArchivesOn old.replies request reply new.replies
 
   -- the same for a reply whose content couldn't be read to its end: the disk has failed
   abbrev pub TellsCut : Course D → RequestView → ReplyView → Course D → Type 0

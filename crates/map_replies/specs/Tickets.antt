@@ -1,5 +1,7 @@
 -- The rest of a download, which is read by its ticket between other replies.
-use Rattle.std.specs.Prelude.{◌≡◌, ◌≤◌, ◌+◌, ◌↔◌, ℕ, List, length, slice_range, IfOk, Result, Ok, Err}
+use Rattle.std.specs.Prelude.{◌≡◌, ◌≤◌, ◌+◌, ◌↔◌, ◌⊎◌, ℕ, Bool, true, false, List, [], length, slice_range, IfOk, Result, Ok, Err}
+use Rattle.http_serve.specs.Reply.{reply_view}
+use Rattle.http_serve.specs.declared.replies.Reply.{Reply}
 use Rattle.http_serve.specs.declared.handlers.RestFault.{RestFault}
 use Rattle.http_serve.specs.declared.handlers.RestFault.TheVariants.{Failed, Gone}
 use Rattle.http_serve.specs.declared.handlers.Ticket.{Ticket}
@@ -7,12 +9,15 @@ use Rattle.sector_disk.specs.Asked.{OnlyReads}
 use Rattle.sector_disk.specs.Disk.{History, HasFailed}
 use Rattle.generations.specs.Areas.{IsSize}
 use Rattle.published_tiles.specs.declared.place.ArchivePlace.{ArchivePlace}
+use Rattle.tile_routes.specs.Paths.{Asked, asked_action}
+use Rattle.tile_routes.specs.declared.target.Action.TheVariants.{Publish, PublishStep}
 use Rattle.tile_service.specs.Service.{ServiceView, IsUp, IsPlaceIn, HasArchive, archive_of}
 use Rattle.tile_service.specs.Stored.{Stored}
 use Rattle.tile_service.specs.Tickets.{IsHeld}
 use Rattle.tile_service.specs.declared.fault.ServiceFault.{ServiceFault}
 use Rattle.tile_service.specs.declared.fault.ServiceFault.TheVariants.{Device}
 use Rattle.map_replies.specs.declared.calls.Calls.{Calls}
+use Rattle.map_replies.specs.declared.fault.RequestFault.{RequestFault}
 
 -- where the archive of a ticket is
 abbrev pub place_of : Ticket → ArchivePlace
@@ -40,6 +45,26 @@ abbrev pub oldest_after : {A : Type 0} → Result A ServiceFault → (oldest gen
 oldest_after (Ok done) oldest generation = generation
 oldest_after (Err Device) oldest generation = generation
 oldest_after (Err fault) oldest generation = oldest
+
+-- it asks for steps of a publication, or for a whole one
+abbrev pub asks_to_step : Asked → Bool
+asks_to_step (asked_action Publish) = true
+asks_to_step (asked_action PublishStep) = true
+asks_to_step asked = false
+
+-- What was asked for may have written an area: the status of the reply is that of a success, or the service is broken by it.
+abbrev pub MayHaveWritten : {D : Type 0} → (status : ℕ) → (old new : Calls D) → Type 0
+MayHaveWritten status old new = (status ≡ 200) ⊎ ((status ≡ 500) × (old.service.broken ≡ false) × (new.service.broken ≡ true))
+
+-- Archives that can be read can be read afterwards too, unless steps of a publication were made: then those from the generation before it on.
+abbrev pub KeepsOldest : {D : Type 0} → Asked → (status : ℕ) → (old new : Calls D) → Type 0
+KeepsOldest asked status old new = (new.oldest ≡ old.oldest)
+    ⊎ ((asks_to_step asked ≡ true) × MayHaveWritten status old new × (new.oldest ≡ old.service.generation))
+
+-- the same by what a call returned: one that is refused writes nothing
+abbrev pub KeepsArchives : {D : Type 0} → Asked → Result Reply RequestFault → (old new : Calls D) → Type 0
+KeepsArchives asked (Ok reply) old new = KeepsOldest asked (reply_view [] reply).status old new
+KeepsArchives asked (Err fault) old new = new.oldest ≡ old.oldest
 
 -- a ticket that is held is held afterwards too
 abbrev pub KeepsTickets : {D : Type 0} (honest : D → Type 0) (history : D → History) → (old new : Calls D) → Type 0

@@ -46,6 +46,7 @@ impl<D: Sectors + Drop> Calls<D> {
         ensures length { IfOk result (λ content. IfSome content (λ bytes. length bytes.items ≡ count)) }
         ensures refused { IfErr result (λ fault. (self.new.service ≡ self.old.service) × (fault ≡ RequestFault.Memory)) }
         ensures held { KeepsTickets D.honest D.history self.old self.new }
+        ensures oldest { self.new.oldest ≡ self.old.oldest }
     {
         let Ok(mut bytes) = vec![in self.alloc; 0; count as usize] else {
             return Err(RequestFault::Memory);
@@ -69,6 +70,7 @@ impl<D: Sectors + Drop> Calls<D> {
         ensures refused { IfErr result (λ fault. (self.new.service ≡ self.old.service) × (fault ≡ RequestFault.Memory)) }
         ensures some { bare ≡ false → IfOk result (λ content. IfSome content IsBegun) }
         ensures held { KeepsTickets D.honest D.history self.old self.new }
+        ensures oldest { self.new.oldest ≡ self.old.oldest }
     {
         match self.archive_bytes(first, begin_size(first, length, bare)) {
             Ok(Some(begun)) => {
@@ -109,6 +111,7 @@ impl<D: Sectors + Drop> Calls<D> {
         ensures refused { IfErr result (λ fault. (self.new.service ≡ self.old.service) × (fault ≡ RequestFault.Memory)) }
         ensures some { bare ≡ false → IfOk result (λ reply. IsBegun reply.content) }
         ensures held { KeepsTickets D.honest D.history self.old self.new }
+        ensures oldest { self.new.oldest ≡ self.old.oldest }
     {
         match self.send(0, total, bare) {
             Ok(Some(content)) => Ok(parts::whole(tag, content)),
@@ -135,6 +138,7 @@ impl<D: Sectors + Drop> Calls<D> {
         ensures refused { IfErr result (λ fault. (self.new.service ≡ self.old.service) × (fault ≡ RequestFault.Memory)) }
         ensures some { bare ≡ false → IfOk result (λ reply. IsBegun reply.content) }
         ensures held { KeepsTickets D.honest D.history self.old self.new }
+        ensures oldest { self.new.oldest ≡ self.old.oldest }
     {
         match self.send(first, last + 1 - first, bare) {
             Ok(Some(content)) => Ok(parts::between(first, last, total, tag, content)),
@@ -163,6 +167,7 @@ impl<D: Sectors + Drop> Calls<D> {
         ensures words { IfOk result (λ reply. HasShortWords (head_view reply)) }
         ensures some { bare ≡ false → IfOk result (λ reply. IsBegun reply.content) }
         ensures held { KeepsTickets D.honest D.history self.old self.new }
+        ensures oldest { self.new.oldest ≡ self.old.oldest }
     {
         match part_of(range, total) {
             ArchiveRange::Whole => self.whole_archive(total, tag, bare),
@@ -184,6 +189,7 @@ impl<D: Sectors + Drop> Calls<D> {
         ensures words { IfOk result (λ reply. HasShortWords (head_view reply)) }
         ensures some { method ≢ Head → IfOk result (λ reply. IsBegun reply.content) }
         ensures held { KeepsTickets D.honest D.history self.old self.new }
+        ensures oldest { self.new.oldest ≡ self.old.oldest }
     {
         let tag = self.archive_tag();
         if tag.length == 0 {
@@ -211,6 +217,7 @@ impl<D: Sectors + Drop> Calls<D> {
         ensures size { sent_by self.new ≡ sent_by self.old }
         ensures length { length part.new ≡ length part.old }
         ensures held { KeepsTickets D.honest D.history self.old self.new }
+        ensures oldest { self.new.oldest ≡ self.old.oldest }
     {
         if part.is_empty() {
             return Ok(());

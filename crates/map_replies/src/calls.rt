@@ -1,13 +1,13 @@
 //! What is asked of the service at each path.
-ghost use Rattle.std.specs.Prelude.{Ok, IfOk};
+ghost use Rattle.std.specs.Prelude.{◌≡◌, Ok, IfOk};
 ghost use Rattle.http_serve.specs.Reply.{head_view, HasShortWords, IsWhole};
-ghost use Rattle.tile_routes.specs.Paths.{asked_view};
+ghost use Rattle.tile_routes.specs.Paths.{asked_action, asked_view};
 ghost use Rattle.tile_routes.specs.Targets.{asked_of};
 ghost use Rattle.tile_service.specs.Service.{status_of};
 ghost use Rattle.map_replies.specs.Conditions.{ask_view};
 ghost use Rattle.map_replies.specs.Meanings.{MeansOnFeature, MeansView, MeansAction, Answers, AnswersAllowed, AnswersMethod, DiskFailed};
 ghost use Rattle.map_replies.specs.Sending.{IsAnswered, IsAnsweredInParts, SendsAllowed, SendsMethod};
-ghost use Rattle.map_replies.specs.Tickets.{KeepsTickets};
+ghost use Rattle.map_replies.specs.Tickets.{KeepsArchives, KeepsTickets};
 
 use crate::conditions::{Ask, Needed};
 use crate::fault::RequestFault;
@@ -44,6 +44,7 @@ impl<D: Sectors + Drop> Calls<D> {
             self.old.service self.new.service) result }
         ensures writable { IfOk result IsWhole }
         ensures held { KeepsTickets D.honest D.history self.old self.new }
+        ensures oldest { self.new.oldest ≡ self.old.oldest }
     {
         match method {
             Method::Put => self.put(id, needed, body),
@@ -63,6 +64,7 @@ impl<D: Sectors + Drop> Calls<D> {
             (ask_view ask.entry) self.old.service self.new.sending self.new.service) result }
         ensures words { IfOk result (λ reply. HasShortWords (head_view reply)) }
         ensures held { KeepsTickets D.honest D.history self.old self.new }
+        ensures oldest { self.new.oldest ≡ self.old.oldest }
     {
         match view {
             View::Metadata => self.metadata(),
@@ -79,6 +81,7 @@ impl<D: Sectors + Drop> Calls<D> {
             self.old.service self.new.service) result }
         ensures writable { IfOk result IsWhole }
         ensures held { KeepsTickets D.honest D.history self.old self.new }
+        ensures oldest { KeepsArchives (asked_action action) result self.old self.new }
     {
         match action {
             Action::Edits => self.batch(body),
@@ -106,6 +109,7 @@ impl<D: Sectors + Drop> Calls<D> {
             (ask_view ask.entry) self.old.service self.new.sending self.new.service) result }
         ensures words { IfOk result (λ reply. HasShortWords (head_view reply)) }
         ensures held { KeepsTickets D.honest D.history self.old self.new }
+        ensures oldest { KeepsArchives (asked_of target) result self.old self.new }
     {
         match target {
             Target::Tile(at, format) => self.tile(at, format, ask),
@@ -135,6 +139,7 @@ impl<D: Sectors + Drop> Calls<D> {
             (ask_view ask.entry) self.old.service self.new.sending self.new.service) result }
         ensures words { IfOk result (λ reply. HasShortWords (head_view reply)) }
         ensures held { KeepsTickets D.honest D.history self.old self.new }
+        ensures oldest { KeepsArchives (asked_of target) result self.old self.new }
     {
         if ask.refuses(method) {
             return Err(RequestFault::Condition);
@@ -157,6 +162,7 @@ impl<D: Sectors + Drop> Calls<D> {
             (ask_view ask.entry) self.old.service self.new.sending self.new.service) result }
         ensures words { IfOk result (λ reply. HasShortWords (head_view reply)) }
         ensures held { KeepsTickets D.honest D.history self.old self.new }
+        ensures oldest { KeepsArchives (asked_of target) result self.old self.new }
     {
         match method {
             Ok(method) => self.unless_refused(target, method, ask, body),

@@ -30,6 +30,7 @@ impl<D: Sectors + Drop> Calls<D> {
             self.old.service self.new.service (reply_view [] result) }
         ensures writable { IsWhole result }
         ensures held { KeepsTickets D.honest D.history self.old self.new }
+        ensures oldest { self.new.oldest ≡ self.old.oldest }
     {
         if let Some(id) = self.service.first_changed(all) {
             return replies::changed(text, id);
@@ -46,6 +47,7 @@ impl<D: Sectors + Drop> Calls<D> {
             self.old.service self.new.service) result }
         ensures writable { IfOk result IsWhole }
         ensures held { KeepsTickets D.honest D.history self.old self.new }
+        ensures oldest { self.new.oldest ≡ self.old.oldest }
     {
         let (changes, seen) = match checked_in(self.alloc, body) {
             Ok(found) => found,

@@ -46,6 +46,7 @@ impl<D: Sectors + Drop> Calls<D> {
             self.old.service self.new.service) result }
         ensures writable { IfOk result IsWhole }
         ensures held { KeepsTickets D.honest D.history self.old self.new }
+        ensures oldest { self.new.oldest ≡ self.old.oldest }
     {
         let feature = match feature_in(self.alloc, body) {
             Ok(feature) => feature,
@@ -69,6 +70,7 @@ impl<D: Sectors + Drop> Calls<D> {
             self.old.service self.new.service) result }
         ensures writable { IfOk result IsWhole }
         ensures held { KeepsTickets D.honest D.history self.old self.new }
+        ensures oldest { self.new.oldest ≡ self.old.oldest }
     {
         let changes = match changes_in(self.alloc, body) {
             Ok(changes) => changes,
@@ -88,6 +90,7 @@ impl<D: Sectors + Drop> Calls<D> {
             self.old.service self.new.service) result }
         ensures writable { IfOk result IsWhole }
         ensures held { KeepsTickets D.honest D.history self.old self.new }
+        ensures oldest { self.new.oldest ≡ self.old.oldest }
     {
         let Ok(text) = replies::outcome_space(self.alloc) else {
             return Err(RequestFault::Memory);

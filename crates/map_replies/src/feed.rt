@@ -228,6 +228,7 @@ impl<D: Sectors + Drop> Calls<D> {
             self.old.service self.new.service) result }
         ensures writable { IfOk result IsWhole }
         ensures held { KeepsTickets D.honest D.history self.old self.new }
+        ensures oldest { self.new.oldest ≡ self.old.oldest }
     {
         if number <= self.service.published() {
             return Err(RequestFault::Gone);

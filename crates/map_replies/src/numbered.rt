@@ -33,6 +33,7 @@ impl<D: Sectors + Drop> Calls<D> {
             self.old.service self.new.service (reply_view [] result) }
         ensures writable { IsWhole result }
         ensures held { KeepsTickets D.honest D.history self.old self.new }
+        ensures oldest { self.new.oldest ≡ self.old.oldest }
     {
         let last = self.service.last();
         if !is_next(last, number) {
@@ -50,6 +51,7 @@ impl<D: Sectors + Drop> Calls<D> {
             self.old.service self.new.service) result }
         ensures writable { IfOk result IsWhole }
         ensures held { KeepsTickets D.honest D.history self.old self.new }
+        ensures oldest { self.new.oldest ≡ self.old.oldest }
     {
         let changes = match changes_in(self.alloc, body) {
             Ok(changes) => changes,

@@ -119,6 +119,7 @@ impl<D: Sectors + Drop> Calls<D> {
         ensures answered { IsAnswered (Answers D.sectors D.honest D.history (MeansPage id) self.old.service self.new.service) result }
         ensures writable { IfOk result IsWhole }
         ensures held { KeepsTickets D.honest D.history self.old self.new }
+        ensures oldest { self.new.oldest ≡ self.old.oldest }
     {
         match page_body(self.alloc, &self.service, id) {
             Ok(text) => Ok(replies::json(text)),

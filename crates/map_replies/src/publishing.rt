@@ -1,12 +1,14 @@
 //! Requests to publish. Memory for the reply is allocated first, so that the outcome is always reported.
 ghost use Rattle.std.specs.Prelude.{◌≡◌, IfOk};
 ghost use Rattle.http_serve.specs.Reply.{IsWhole};
+ghost use Rattle.tile_routes.specs.Paths.{asked_action};
+ghost use Rattle.tile_routes.specs.declared.target.Action.TheVariants.{Publish, PublishStep};
 ghost use Rattle.tile_service.specs.Machine.{begin, step, cancel};
 ghost use Rattle.tile_service.specs.Service.{status_of};
 ghost use Rattle.map_replies.specs.Meanings.{MeansCall, MeansChange, OrNoMemory, MeansPublish, Answers, DiskFailed};
 ghost use Rattle.map_replies.specs.Sending.{IsAnswered};
 ghost use Rattle.map_replies.specs.Words.{left_reply, cancel_reply};
-ghost use Rattle.map_replies.specs.Tickets.{KeepsTickets, oldest_after};
+ghost use Rattle.map_replies.specs.Tickets.{KeepsArchives, KeepsTickets, oldest_after};
 
 use crate::calls::Calls;
 use crate::fault::RequestFault;
@@ -34,6 +36,7 @@ impl<D: Sectors + Drop> Calls<D> {
             self.old.service self.new.service) result }
         ensures writable { IfOk result IsWhole }
         ensures held { KeepsTickets D.honest D.history self.old self.new }
+        ensures oldest { KeepsArchives (asked_action Publish) result self.old self.new }
     {
         let Ok(text) = replies::outcome_space(self.alloc) else {
             return Err(RequestFault::Memory);
@@ -50,6 +53,7 @@ impl<D: Sectors + Drop> Calls<D> {
             self.old.service self.new.service) result }
         ensures writable { IfOk result IsWhole }
         ensures held { KeepsTickets D.honest D.history self.old self.new }
+        ensures oldest { self.new.oldest ≡ self.old.oldest }
     {
         let Ok(text) = replies::outcome_space(self.alloc) else {
             return Err(RequestFault::Memory);
@@ -65,6 +69,7 @@ impl<D: Sectors + Drop> Calls<D> {
             self.old.service self.new.service) result }
         ensures writable { IfOk result IsWhole }
         ensures held { KeepsTickets D.honest D.history self.old self.new }
+        ensures oldest { KeepsArchives (asked_action PublishStep) result self.old self.new }
     {
         let Ok(text) = replies::outcome_space(self.alloc) else {
             return Err(RequestFault::Memory);
@@ -81,6 +86,7 @@ impl<D: Sectors + Drop> Calls<D> {
             self.old.service self.new.service) result }
         ensures writable { IfOk result IsWhole }
         ensures held { KeepsTickets D.honest D.history self.old self.new }
+        ensures oldest { self.new.oldest ≡ self.old.oldest }
     {
         let Ok(text) = replies::outcome_space(self.alloc) else {
             return Err(RequestFault::Memory);

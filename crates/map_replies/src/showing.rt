@@ -89,6 +89,7 @@ impl<D: Sectors + Drop> Calls<D> {
             × IsShownAs (content_reply format) outcome result }
         ensures writable { IfOk result IsWhole }
         ensures held { KeepsTickets D.honest D.history self.old self.new }
+        ensures oldest { self.new.oldest ≡ self.old.oldest }
     {
         let Ok(content) = self.service.tile(at) else {
             return Err(RequestFault::Memory);
@@ -111,6 +112,7 @@ impl<D: Sectors + Drop> Calls<D> {
             (MeansTagged start fields.now at.z at.x at.y format) self.old.service self.new.service) result }
         ensures writable { IfOk result IsWhole }
         ensures held { KeepsTickets D.honest D.history self.old self.new }
+        ensures oldest { self.new.oldest ≡ self.old.oldest }
     {
         let tag = WeakTag {
             start,
@@ -137,6 +139,7 @@ impl<D: Sectors + Drop> Calls<D> {
             (MeansTile ask.entry.tags ask.entry.fields.now at.z at.x at.y format) self.old.service self.new.service) result }
         ensures writable { IfOk result IsWhole }
         ensures held { KeepsTickets D.honest D.history self.old self.new }
+        ensures oldest { self.new.oldest ≡ self.old.oldest }
     {
         match ask.tags {
             None => self.cut_tile(at, format),
@@ -150,6 +153,7 @@ impl<D: Sectors + Drop> Calls<D> {
             self.old.service self.new.service) result }
         ensures writable { IfOk result IsWhole }
         ensures held { KeepsTickets D.honest D.history self.old self.new }
+        ensures oldest { self.new.oldest ≡ self.old.oldest }
     {
         match self.service.feature(id) {
             Some(feature) => feature_value(self.alloc, feature),
@@ -163,6 +167,7 @@ impl<D: Sectors + Drop> Calls<D> {
             self.old.service self.new.service) result }
         ensures writable { IfOk result IsWhole }
         ensures held { KeepsTickets D.honest D.history self.old self.new }
+        ensures oldest { self.new.oldest ≡ self.old.oldest }
     {
         match self.service.feature_from(id) {
             Some((number, feature)) => numbered_value(self.alloc, number, feature),
@@ -177,6 +182,7 @@ impl<D: Sectors + Drop> Calls<D> {
             self.old.service self.new.service) result }
         ensures writable { IfOk result IsWhole }
         ensures held { KeepsTickets D.honest D.history self.old self.new }
+        ensures oldest { self.new.oldest ≡ self.old.oldest }
     {
         let Ok(text) = telling::status_space(self.alloc) else {
             return Err(RequestFault::Memory);
@@ -192,6 +198,7 @@ impl<D: Sectors + Drop> Calls<D> {
             self.old.service self.new.service) result }
         ensures writable { IfOk result IsWhole }
         ensures held { KeepsTickets D.honest D.history self.old self.new }
+        ensures oldest { self.new.oldest ≡ self.old.oldest }
     {
         match self.service.metadata() {
             Ok(text) => Ok(replies::shared_json(text)),

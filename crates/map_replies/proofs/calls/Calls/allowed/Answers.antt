@@ -1,4 +1,6 @@
+use Rattle.tile_routes.specs.Targets.{asked_of}
 use Rattle.map_replies.proofs.SendingLemmas.{whole_answer, whole_words}
+use Rattle.map_replies.proofs.OldestLemmas.{archives_stay}
 use Rattle.map_replies.proofs.calls.Calls.allowed.Goals as goal
 
 pub returns-in-Tile-clause-answered : goal.returns-in-Tile-clause-answered
@@ -79,3 +81,27 @@ returns-in-EditsAt-clause-words g c = whole_words c.numbered_batch.result c.numb
 
 pub returns-in-EditsAt-clause-held : goal.returns-in-EditsAt-clause-held
 returns-in-EditsAt-clause-held g c = c.numbered_batch.ensures.held
+
+pub returns-in-Tile-clause-oldest : goal.returns-in-Tile-clause-oldest
+returns-in-Tile-clause-oldest g c = archives_stay (asked_of c.args.target) c.tile.result _ _ c.tile.ensures.oldest
+
+pub returns-in-Feature-clause-oldest : goal.returns-in-Feature-clause-oldest
+returns-in-Feature-clause-oldest g c = archives_stay (asked_of c.args.target) c.on_feature.result _ _ c.on_feature.ensures.oldest
+
+pub returns-in-FeatureFrom-clause-oldest : goal.returns-in-FeatureFrom-clause-oldest
+returns-in-FeatureFrom-clause-oldest g c = archives_stay (asked_of c.args.target) c.feature_from.result _ _ c.feature_from.ensures.oldest
+
+pub returns-in-EditsFrom-clause-oldest : goal.returns-in-EditsFrom-clause-oldest
+returns-in-EditsFrom-clause-oldest g c = archives_stay (asked_of c.args.target) c.edits_from.result _ _ c.edits_from.ensures.oldest
+
+pub returns-in-View-clause-oldest : goal.returns-in-View-clause-oldest
+returns-in-View-clause-oldest g c = archives_stay (asked_of c.args.target) c.on_view.result _ _ c.on_view.ensures.oldest
+
+pub returns-in-FeaturePage-clause-oldest : goal.returns-in-FeaturePage-clause-oldest
+returns-in-FeaturePage-clause-oldest g c = archives_stay (asked_of c.args.target) c.feature_page.result _ _ c.feature_page.ensures.oldest
+
+pub returns-in-EditsAt-clause-oldest : goal.returns-in-EditsAt-clause-oldest
+returns-in-EditsAt-clause-oldest g c = archives_stay (asked_of c.args.target) c.numbered_batch.result _ _ c.numbered_batch.ensures.oldest
+
+pub returns-in-Action-clause-oldest : goal.returns-in-Action-clause-oldest
+returns-in-Action-clause-oldest g c = rw c.in-Action.is c.on_action.ensures.oldest

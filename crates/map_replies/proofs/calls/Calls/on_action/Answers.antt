@@ -1,3 +1,5 @@
+use Rattle.tile_routes.specs.Paths.{asked_action}
+use Rattle.map_replies.proofs.OldestLemmas.{archives_stay}
 use Rattle.map_replies.proofs.calls.Calls.on_action.Goals as goal
 
 pub returns-in-Edits-clause-answered : goal.returns-in-Edits-clause-answered
@@ -53,3 +55,21 @@ returns-in-PublishCancel-clause-writable g c = c.publish_cancel.ensures.writable
 
 pub returns-in-PublishCancel-clause-held : goal.returns-in-PublishCancel-clause-held
 returns-in-PublishCancel-clause-held g c = c.publish_cancel.ensures.held
+
+pub returns-in-Edits-clause-oldest : goal.returns-in-Edits-clause-oldest
+returns-in-Edits-clause-oldest g c = archives_stay (asked_action c.args.action) c.batch.result _ _ c.batch.ensures.oldest
+
+pub returns-in-CheckedEdits-clause-oldest : goal.returns-in-CheckedEdits-clause-oldest
+returns-in-CheckedEdits-clause-oldest g c = archives_stay (asked_action c.args.action) c.checked_batch.result _ _ c.checked_batch.ensures.oldest
+
+pub returns-in-PublishBegin-clause-oldest : goal.returns-in-PublishBegin-clause-oldest
+returns-in-PublishBegin-clause-oldest g c = archives_stay (asked_action c.args.action) c.publish_begin.result _ _ c.publish_begin.ensures.oldest
+
+pub returns-in-PublishCancel-clause-oldest : goal.returns-in-PublishCancel-clause-oldest
+returns-in-PublishCancel-clause-oldest g c = archives_stay (asked_action c.args.action) c.publish_cancel.result _ _ c.publish_cancel.ensures.oldest
+
+pub returns-in-Publish-clause-oldest : goal.returns-in-Publish-clause-oldest
+returns-in-Publish-clause-oldest g c = rw c.in-Publish.is c.publish.ensures.oldest
+
+pub returns-in-PublishStep-clause-oldest : goal.returns-in-PublishStep-clause-oldest
+returns-in-PublishStep-clause-oldest g c = rw c.in-PublishStep.is c.publish_step.ensures.oldest

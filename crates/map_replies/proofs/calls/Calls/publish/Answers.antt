@@ -3,6 +3,7 @@ use Rattle.std.proofs.Common.{ℕ, ap, sym, subst, ◌∙◌}
 use Rattle.tile_service.specs.Tickets.{IsHeld}
 use Rattle.map_replies.specs.Tickets.{oldest_after}
 use Rattle.map_replies.proofs.TicketLemmas.{held_stepped}
+use Rattle.map_replies.proofs.OldestLemmas.{published_oldest, breaks_in_run}
 use Rattle.tile_service.proofs.Archive.Tickets.{held_step, run_rises}
 use Rattle.map_replies.proofs.calls.Calls.publish.Goals as goal
 
@@ -23,3 +24,13 @@ returns-clause-held g c =
     (held_stepped d.sectors d.honest d.history c.publish-outcome.result place first c.args.self.now.oldest old _ call.refused
     (held_step d.sectors d.honest d.history place first c.args.self.now.oldest old held _ call.size
     (run_rises d.sectors d.honest d.history old _ _ call.run.run) call.disk.was_honest call.area) held)
+
+pub returns-clause-oldest : goal.returns-clause-oldest
+returns-clause-oldest g c =
+    let d = g.D.Sectors in
+    let call = c.publish-outcome.ensures in
+    published_oldest c.publish-outcome.result c.published.result c.args.self.now
+    (record c.args.self.now { service = c.publish-outcome.new.self; oldest = c.oldest_after-self.result }) c.published.ensures.reply
+    (c.oldest_after-self.ensures
+    ∙ ap (λ p. oldest_after c.publish-outcome.result c.args.self.now.oldest p.generation) c.archive-generation.ensures.is)
+    (λ device. breaks_in_run d.sectors d.honest d.history c.args.self.now.service c.publish-outcome.new.self c.publish-outcome.result device call.run)

@@ -1,4 +1,4 @@
-use Rattle.std.proofs.Common.{◌≡◌, [], Result, Ok, Err, refl, sym, ap, subst, ◌∙◌}
+use Rattle.std.proofs.Common.{◌≡◌, inl, [], Result, Ok, Err, refl, sym, ap, subst, ◌∙◌}
 use Rattle.tile_routes.specs.declared.fault.RouteFault.{RouteFault}
 use Rattle.tile_routes.specs.declared.fault.RouteFault.TheVariants as routes
 use Rattle.tile_routes.specs.declared.method.Method.{Method}
@@ -32,3 +32,6 @@ returns-in-Err-NotAllowed-clause-answered g c =
     (SendsMethod d.sectors d.honest d.history d.faults asked m ask old sending old) (Ok c.not_allowed.result))
     _ _ c.in-Err-NotAllowed.is same
     (whole_is _ _ c.not_allowed.result c.not_allowed.ensures.writable ([], (c.not_allowed.ensures.reply, refl), refl))
+
+pub returns-in-Err-NotAllowed-clause-oldest : goal.returns-in-Err-NotAllowed-clause-oldest
+returns-in-Err-NotAllowed-clause-oldest g c = inl refl

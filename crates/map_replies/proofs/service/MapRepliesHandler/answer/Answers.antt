@@ -20,7 +20,7 @@ returns-in-Ok-clause-replied g c =
     c.request.view_is
     (replied d.sectors d.honest d.history d.faults old request c.respond.new.self _ _ c.method-method.ensures
     (c.granted-target.ensures.asked ∙ ap (granted old.settings.access) c.target.ensures.asked) c.respond.ensures.held c.in-Ok.reply
-    c.in-Ok.ensures.answered)
+    c.in-Ok.ensures.answered c.in-Ok.ensures.oldest)
 
 pub returns-in-Err-clause-replied : goal.returns-in-Err-clause-replied
 returns-in-Err-clause-replied g c =
@@ -38,4 +38,4 @@ returns-in-Err-clause-replied g c =
     c.request.view_is
     (refused d.sectors d.honest d.history d.faults old request c.respond.new.self _ _ c.method-method.ensures
     (c.granted-target.ensures.asked ∙ ap (granted old.settings.access) c.target.ensures.asked) c.respond.ensures.held c.in-Err.fault c.refusal.result
-    c.refusal.ensures.writable c.refusal.ensures.reply c.in-Err.ensures.answered)
+    c.refusal.ensures.writable c.refusal.ensures.reply c.in-Err.ensures.answered c.in-Err.ensures.oldest)

@@ -1,4 +1,4 @@
-use Rattle.std.proofs.Common.{◌+◌}
+use Rattle.std.proofs.Common.{inl, ◌+◌, ◌∙◌}
 use Rattle.tile_service.specs.Machine.{read}
 use Rattle.tile_service.specs.Runs.{Takes}
 use Rattle.http_serve.specs.Parts.{read_outcome}
@@ -20,8 +20,8 @@ returns-clause-read g c =
     (λ takes unfailed old request reply is.
     let more = sends_more d.sectors d.honest d.history d.faults _ _ (ask_of (tags_of old) request) request.body (asked_service old) sending now
     next reply is.0 c.read_sent.new.self.sending c.args.offset _ c.read_sent.new.part call.sending call.length c.requires.within unfailed takes in (
-      (more.0, is.1, λ place first held. call.held place first (is.2 place first held)),
-      (more.1, is.1, λ place first held. call.held place first (is.2 place first held)),
+      (more.0, is.1, λ place first held. call.held place first (is.2 place first held), call.oldest ∙ is.3),
+      (more.1, is.1, λ place first held. call.held place first (is.2 place first held), inl (call.oldest ∙ is.3)),
     ))
 
 pub returns-clause-unread : goal.returns-clause-unread
@@ -31,4 +31,7 @@ returns-clause-unread g c =
     let fails = sends_fails d.sectors d.honest d.history d.faults _ _ (ask_of (tags_of old) request) request.body (asked_service old)
     c.args.self.now.calls.sending (asked_service c.args.self.now) c.read_sent.new.self.service reply is.0
     _ (read_outcome c.read_sent.result c.read_sent.new.part) c.read_sent.ensures.read failed in
-    ((fails.0, is.1, λ place first held. c.read_sent.ensures.held place first (is.2 place first held)), fails.1))
+    (
+      (fails.0, is.1, λ place first held. c.read_sent.ensures.held place first (is.2 place first held), inl (c.read_sent.ensures.oldest ∙ is.3)),
+      fails.1,
+    ))
