@@ -346,4 +346,32 @@ def listen_second(script, slow, other, last):
     listen(script, slow, other, second, log=log, time=last)
 
 
+# ---- publications that are prepared
+
+DONE = request("GET", "/features/9")
+
+
+def preparations(script):
+    script.say("A beginning is prepared by a tile at a time, and others are answered in between: the archive is of the map as it was when it was asked for.")
+    with_point(script)
+    one = Peer((0, BEGIN), (10, STEP), (20, GET_ARCHIVE), (30, END), answered=[BEGIN, STEP, GET_ARCHIVE], last=20)
+    other = Peer((0, EDIT + DONE), (29, END), answered=[EDIT, DONE])
+    listen(script, one, other, order=[0, 1, 1, 0, 0], log=logged((2, 2, "closed"), (1, 3, "closed")), time=30)
+    script.note("Edits that are acknowledged before it is read are in it.")
+    both = Peer((0, request("DELETE", "/features/7") + BEGIN + STEP + GET_ARCHIVE), (1, END), answered=[request("DELETE", "/features/7"), BEGIN, STEP, GET_ARCHIVE])
+    listen(script, both, Peer((0, put(8)), (2, END), answered=[put(8)]), order=[0, 1, 0, 0, 0], log=logged((1, 4, "closed"), (2, 1, "closed")), time=2)
+    script.note("A second beginning waits for the first one, which it doesn't overtake, and then is refused; the first one is cancelled.")
+    with_point(script)
+    first = Peer((0, BEGIN), (10, CANCEL), (30, END), answered=[BEGIN, CANCEL], last=10)
+    second = Peer((0, EDIT + BEGIN), (20, BEGIN), (21, END), answered=[EDIT, BEGIN, BEGIN], last=20)
+    listen(script, first, second, order=[0, 1, 1, 0, 1], log=logged((2, 3, "closed"), (1, 2, "closed")), time=30)
+    script.note("Any other call of a publication drops what is prepared, and it is made anew, of the map of then.")
+    for asked in (CANCEL, STEP, PUBLISH):
+        with_point(script)
+        first = Peer((0, BEGIN), (10, STEP), (20, GET_ARCHIVE), (30, END), answered=[BEGIN, STEP, GET_ARCHIVE], last=20)
+        second = Peer((0, EDIT + asked + request("DELETE", "/features/9")), (31, END), answered=[EDIT, asked, request("DELETE", "/features/9")])
+        listen(script, first, second, order=[1, 1, 0, 1, 0, 0], log=logged((1, 3, "closed"), (2, 3, "closed")), time=31)
+
+
 BLOCKS = [no_descriptor, accepts_that_fail, so_many_are_open, turns, slow_readers, all_hold_too_much, so_many_reads, cut_anywhere, byte_by_byte, stages, paces, downloads]
+BLOCKS.append(preparations)

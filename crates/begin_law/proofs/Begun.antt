@@ -17,7 +17,7 @@ use Rattle.begin_law.proofs.Late.{late}
 
 module _ {D : Type 0} (sectors : D → ℕ) (honest : D → Type 0) (history : D → History) where
   -- the beginning is a call of the service as it was then
-  begun_then : (old : ServiceView D) (p : PublicationView) → IsBegunAt old p
+  pub begun_then : (old : ServiceView D) (p : PublicationView) → IsBegunAt old p
       → Takes sectors honest history old (begin (Ok (sectors_taken p.content + 1))) (with_publication old p)
   begun_then old p is =
       begin_step sectors honest history old (with_publication old p) (Ok (sectors_taken p.content + 1))
@@ -35,14 +35,16 @@ module _ {D : Type 0} (sectors : D → ℕ) (honest : D → Type 0) (history : D
       late sectors honest history p is.written old new (sectors_taken p.content + 1) happenings is.none beside (begun_then old p is) all
 
   -- A beginning that finds no content is refused as the service was then.
+  pub refused_then : (old : ServiceView D) (fault : ServiceFault) → old.broken ≡ false → old.publication ≡ None → old.generation < 2 ^ 64 - 1
+      → HasNoContent old.features (area_sectors old.size) fault → Takes sectors honest history old (begin (Err fault)) old
+  refused_then old fault unbroken none generation has =
+      begin_step sectors honest history old old (Err fault)
+      (λ known. begin_refused (state_of known old) fault unbroken
+      (record { none = ap (option_map (going_of known.publishing)) none; generation = generation }) has)
+      refl (λ stored up. up)
+
   pub refused : (old new : ServiceView D) (fault : ServiceFault) (happenings : List Happening) → old.broken ≡ false → old.publication ≡ None
       → old.generation < 2 ^ 64 - 1 → HasNoContent old.features (area_sectors old.size) fault
       → TakesAll sectors honest history old happenings new → TakesAll sectors honest history old (begin (Err fault) ∷ happenings) new
-  refused old new fault happenings unbroken none generation has all = (
-    old,
-    begin_step sectors honest history old old (Err fault)
-        (λ known. begin_refused (state_of known old) fault unbroken
-        (record { none = ap (option_map (going_of known.publishing)) none; generation = generation }) has)
-        refl (λ stored up. up),
-    all,
-  )
+  refused old new fault happenings unbroken none generation has all =
+      (old, refused_then old fault unbroken none generation has, all)

@@ -146,7 +146,7 @@ module _ (p : PublicationView) (fresh : p.written ≡ 0) (n : ℕ) (stored : Sto
       (subst (λ (s : List ℕ). sectors_of (length s) + sectors_of (length p.content.archive) ≤ area_sectors n) (sym is.snapshot_is) can.area)
       (subst (λ (g : ℕ). suc g < 2 ^ 64) (sym generation) can.generation))
 
-  publishes_on : (happening : Happening) → IsBeside happening → (q : Option PublicationView) (now : History)
+  pub publishes_on : (happening : Happening) → IsBeside happening → (q : Option PublicationView) (now : History)
       → Publishes n (stored_after n stored q happening) now p
   publishes_on (edit call e (Ok number)) b q now = again (with_edit stored e) now refl (drafted_on n stored e drafted is_drafted)
   publishes_on (edit call e (Err fault)) b q now = again stored now refl is_drafted
@@ -165,11 +165,11 @@ module _ (p : PublicationView) (fresh : p.written ≡ 0) (n : ℕ) (stored : Sto
 -- ---- calls
 
 module _ {D : Type 0} (sectors : D → ℕ) (honest : D → Type 0) (history : D → History) (p : PublicationView) (fresh : p.written ≡ 0) where
-  abbrev with_it : ServiceView D → ServiceView D
+  abbrev pub with_it : ServiceView D → ServiceView D
   with_it s = with_publication s p
 
   -- without the publication the service continues as well
-  up_bare : (n : ℕ) (h : History) (stored : Stored) (s : ServiceView D) → s.publication ≡ None → IsUp n h stored (with_it s) → IsUp n h stored s
+  pub up_bare : (n : ℕ) (h : History) (stored : Stored) (s : ServiceView D) → s.publication ≡ None → IsUp n h stored (with_it s) → IsUp n h stored s
   up_bare n h stored s none up =
       subst (λ (v : ServiceView D). IsUp n h stored v) (ap (λ (o : Option PublicationView). record s { publication = o }) (sym none))
       (up_with n h stored (with_it s) up None tt)
@@ -234,7 +234,7 @@ module _ {D : Type 0} (sectors : D → ℕ) (honest : D → Type 0) (history : D
   numbered_beside (read at outcome) s told = tt
   numbered_beside (list_edits number bytes outcome) s told = tt
 
-  takes_beside : (old new : ServiceView D) (happening : Happening) → old.publication ≡ None → IsBeside happening
+  pub takes_beside : (old new : ServiceView D) (happening : Happening) → old.publication ≡ None → IsBeside happening
       → Takes sectors honest history old happening new → Takes sectors honest history (with_it old) happening (with_it new)
   takes_beside old new happening none b t = record {
     machine = λ known. machine_beside (IsTrusted sectors honest history old new) (IsTrusted sectors honest history (with_it old) (with_it new))
@@ -269,7 +269,7 @@ module _ {D : Type 0} (sectors : D → ℕ) (honest : D → Type 0) (history : D
         (publishes_on p fresh old.size stored (history old.disk) up.publication happening b (Some p) (history new.disk)));
   }
 
-  none_still : (old new : ServiceView D) (happening : Happening) → old.publication ≡ None → IsBeside happening
+  pub none_still : (old new : ServiceView D) (happening : Happening) → old.publication ≡ None → IsBeside happening
       → Takes sectors honest history old happening new → new.publication ≡ None
   none_still old new happening none b t =
       unmapped (going_of []) new.publication

@@ -1,4 +1,4 @@
 mod Beginnings
-mod Begun
-mod Late
+pub mod Begun
+pub mod Late
 mod Prepared

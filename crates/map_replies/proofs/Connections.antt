@@ -14,12 +14,10 @@ use Rattle.tile_service.proofs.Runs.States.{takes_states}
 use Rattle.map_replies.specs.declared.service.MapReplies.{MapReplies}
 use Rattle.tile_service.specs.Service.{status_of}
 use Rattle.map_replies.specs.Meanings.{Means, DiskFailed}
-use Rattle.map_replies.specs.State.{access_of, tags_of, settings_of, asked_service, KeepsArchivesOn, ServiceReplies, ServiceFails, ServiceReads}
-use Rattle.map_replies.specs.State.{Course, course, Tells, TellsCut, TellsRead}
+use Rattle.map_replies.specs.State.{access_of, tags_of, settings_of, asked_service, KeepsArchivesOn, ServiceReplies, ServiceFails}
+use Rattle.map_replies.specs.State.{Course, course, Tells, TellsCut}
 use Rattle.map_replies.specs.Tickets.{KeepsTickets}
-use Rattle.map_replies.proofs.Passing.{Passes, passes_none, passes_all, passes_read}
-use Rattle.http_serve.specs.declared.handlers.RestFault.{RestFault}
-use Rattle.http_serve.specs.declared.handlers.Ticket.{Ticket}
+use Rattle.map_replies.proofs.Passing.{Passes, passes_none, passes_all}
 use Rattle.map_replies.proofs.Along.{served_along, fault_along}
 
 module _ {D : Type 0} (sectors : D → ℕ) (honest : D → Type 0) (history : D → History) (faults : D → ℕ) where
@@ -65,22 +63,6 @@ module _ {D : Type 0} (sectors : D → ℕ) (honest : D → Type 0) (history : D
               (subst (λ (s : MapReplies D). DiskFailed faults (asked_service s) (asked_service new)) here is.1),
         ),
         one.2,
-      )
-
-  -- a read of a download between two replies
-  pub read_told : (first old : MapReplies D) (so : Course D) (ticket : Ticket) (offset count : ℕ) (outcome : Result (List ℕ) RestFault)
-      (new : MapReplies D)
-      → GoesAlong first old so → ServiceReads sectors honest history faults old ticket offset count outcome new
-      → (more : Course D) × TellsRead sectors honest history faults so ticket offset count outcome more × GoesAlong first new more
-  read_told first old so ticket offset count outcome new along is =
-      let here : so.replies ≡ old = ap (λ (c : Course D). c.replies) along.0 in (
-        course new so.run,
-        (subst (λ (s : MapReplies D). ServiceReads sectors honest history faults s ticket offset count outcome new) (sym here) is, refl),
-        (
-          refl,
-          passes_read sectors honest history (asked_service first) (asked_service old) (asked_service new) so.run along.1
-              is.0.same is.0.disk is.0.up,
-        ),
       )
 
   -- ---- a connection whose contents are read by its replies alone

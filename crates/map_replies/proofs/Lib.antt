@@ -1,5 +1,6 @@
 pub mod Along
 mod Answering
+mod Apart
 mod CheckedEdits
 mod ConditionLemmas
 pub mod Connections
@@ -7,11 +8,15 @@ pub mod Passing
 mod TicketLemmas
 mod PartLemmas
 mod FeedLemmas
+pub mod Goes
+mod LateBeginnings
 mod ListedReplies
 mod ListLemmas
 mod NumberedEdits
+pub mod Meanwhiles
 mod OldestLemmas
 mod Pushed
+mod ReadyLemmas
 mod Routed
 mod SendingLemmas
 mod StandbyLaws

@@ -1,4 +1,4 @@
--- A run by the states of the service, where downloads are read between its calls.
+-- A run by the states of the service, where downloads are read between its calls, and a publication is prepared.
 use Rattle.std.proofs.Common.{◌≡◌, ⊎_elim, ℕ, suc, ◌<◌, ◌≤◌, ◌+◌, List, [], ◌∷◌, ◌++◌, length, refl, sym, ◌∙◌, ap, subst, arith, append_assoc}
 use Rattle.std.proofs.lemmas.Bool.{cases_eq}
 use Rattle.std.proofs.lemmas.List.{append-nil}
@@ -23,9 +23,9 @@ module _ {D : Type 0} (sectors : D → ℕ) (honest : D → Type 0) (history : D
   read_none : (s : ServiceView D) → Read s s
   read_none s = record { same = refl; disk = reads_none s.disk }
 
-  read_on : (old middle new : ServiceView D) → Read old middle → Read middle new → Read old new
+  pub read_on : (old middle new : ServiceView D) → Read old middle → Read middle new → Read old new
   read_on old middle new first then = record {
-    same = then.same ∙ ap (λ (s : ServiceView D). record s { disk = new.disk }) first.same;
+    same = then.same ∙ ap (λ (s : ServiceView D). record s { disk = new.disk; drafting = new.drafting }) first.same;
     disk = reads_on first.disk then.disk;
   }
 
@@ -139,7 +139,7 @@ module _ {D : Type 0} (sectors : D → ℕ) (honest : D → Type 0) (history : D
   -- ---- one read more
 
   module _ (first now new : ServiceView D) (events : List Happening) (so : Passes first events now)
-      (same : new ≡ record now { disk = new.disk }) (disk : OnlyReads sectors honest history now.disk new.disk)
+      (same : new ≡ record now { disk = new.disk; drafting = new.drafting }) (disk : OnlyReads sectors honest history now.disk new.disk)
       (still_up : (stored : Stored) → IsUp (sectors now.disk) (history now.disk) stored now → honest new.disk
       → IsUp (sectors new.disk) (history new.disk) stored new) where
     abbrev then_from : ℕ → ServiceView D

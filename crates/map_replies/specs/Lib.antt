@@ -6,6 +6,7 @@ pub mod Meanings
 pub mod Moments
 pub mod Pages
 pub mod Parts
+pub mod Preparing
 pub mod Sending
 pub mod Served
 pub mod Standby

@@ -1,4 +1,4 @@
--- A run by the states of the service, where downloads are read between its calls.
+-- A run by the states of the service, where downloads are read between its calls, and a publication is prepared.
 use Rattle.std.specs.Prelude.{◌≡◌, ◌<◌, ◌≤◌, ℕ, suc, List, length}
 use Rattle.sector_disk.specs.Asked.{OnlyReads}
 use Rattle.sector_disk.specs.Disk.{History}
@@ -9,13 +9,13 @@ use Rattle.tile_service.specs.Stored.{Stored}
 
 -- over a disk with these sectors, this honesty and this history
 module _ {D : Type 0} (sectors : D → ℕ) (honest : D → Type 0) (history : D → History) where
-  -- Nothing happened to the service but reads of its disk.
+  -- Nothing happened to the service but reads of its disk, and steps that prepare a publication.
   pub record WasRead (old new : ServiceView D) : Type 0 where
-    pub same : new ≡ record old { disk = new.disk }
+    pub same : new ≡ record old { disk = new.disk; drafting = new.drafting }
     pub disk : OnlyReads sectors honest history old.disk new.disk
 
   -- The happenings in order, each from one state of the service to the next: `at k` is the state when the first k calls had returned, and
-  -- `from k` that in which the next one begins, once downloads were read. What a crash leaves is by the histories of the disks `at k`.
+  -- `from k` that in which the next one begins, once downloads were read or a publication was prepared. What a crash leaves is by the histories of the disks `at k`.
   pub record TakesBetweenReads (old : ServiceView D) (happenings : List Happening) (new : ServiceView D) : Type 0 where
     pub at : ℕ → ServiceView D
     pub from : ℕ → ServiceView D

@@ -99,8 +99,3 @@ module _ {D : Type 0} (sectors : D → ℕ) (honest : D → Type 0) (history : D
   -- the same for a reply whose content couldn't be read to its end: the disk has failed
   abbrev pub TellsCut : Course D → RequestView → ReplyView → Course D → Type 0
   TellsCut old request reply new = Tells old request reply new × DiskFailed faults (asked_service old.replies) (asked_service new.replies)
-
-  -- bytes of a ticket's content were read, or couldn't be: nothing happens
-  abbrev pub TellsRead : Course D → Ticket → (offset count : ℕ) → Result (List ℕ) RestFault → Course D → Type 0
-  TellsRead old ticket offset count outcome new =
-      ServiceReads sectors honest history faults old.replies ticket offset count outcome new.replies × (new.run ≡ old.run)

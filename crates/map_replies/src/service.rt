@@ -1,6 +1,9 @@
 //! The replies of a map.
-ghost use Rattle.std.specs.Prelude.{◌≡◌};
+ghost use Rattle.std.specs.Prelude.{◌≡◌, length};
+ghost use Rattle.http_serve.specs.Reply.{ReplyView, IsReply, InParts, HasShortWords, head_view};
 ghost use Rattle.http_serve.specs.declared.connection.TheConstants.{MAX_READS};
+ghost use Rattle.tile_routes.specs.Targets.{asked_of};
+ghost use Rattle.map_replies.specs.Meanings.{asked_for};
 ghost use Rattle.map_replies.specs.Served.{ServesMap};
 
 use crate::calls::Calls;
@@ -14,7 +17,7 @@ use http_serve::{
 use sector_disk::Sectors;
 use std::alloc::Global;
 use std::io::{Read, Write};
-use tile_routes::{Access, Routes};
+use tile_routes::{Access, Routes, Target};
 use tile_service::Service;
 
 /// How a map is served.
@@ -33,11 +36,11 @@ pub struct Settings {
 pub struct MapReplies<D: Sectors + Drop> {
     routes: Routes,
     settings: Settings,
-    calls: Calls<D>,
+    pub(crate) calls: Calls<D>,
 }
 
 impl<D: Sectors + Drop> MapReplies<D> {
-    ghost use Rattle.map_replies.specs.State.{asked_service, settings_of};
+    ghost use Rattle.map_replies.specs.State.{access_of, asked_service, settings_of, sending_size, ServiceReplies, ServiceSends};
 
     /// The handler of requests for those of these routes that the settings name, over this service.
     pub fn new(
@@ -65,6 +68,35 @@ impl<D: Sectors + Drop> MapReplies<D> {
         }
     }
 
+    /// What a request asks for, where its path is served.
+    pub(crate) fn target(&self, request: &Request<'_>) -> Target
+        ensures { asked_of result ≡ asked_for (access_of self.now) request.now }
+    {
+        self.routes
+            .target(request.path)
+            .granted(self.settings.access)
+    }
+
+    /// Answers a request that asks for this.
+    pub(crate) fn answer_at(&mut self, target: Target, request: &Request<'_>) -> Reply
+        requires asked { asked_of target ≡ asked_for (access_of self.old) request.now }
+        ensures replied { (reply : ReplyView) × IsReply result reply
+            × ServiceReplies D.sectors D.honest D.history D.faults self.old request.now reply self.new
+            × InParts result.content (ServiceSends D.sectors D.honest D.history D.faults self.old request.now reply self.new
+            × (sending_size self.new ≡ length reply.content)) }
+        ensures writable { HasShortWords (head_view result) }
+    {
+        let method = target.method(request.method);
+        let ask = Ask {
+            fields: &request.fields,
+            tags: self.settings.tags,
+        };
+        match self.calls.respond(target, method, ask, request.body) {
+            Ok(reply) => reply,
+            Err(fault) => replies::refusal(fault),
+        }
+    }
+
     /// Returns the service.
     pub fn into_service(self) -> Service<D>
         ensures { result ≡ asked_service self }
@@ -85,19 +117,8 @@ impl<D: Sectors + Drop> Handler for MapReplies<D> {
     ghost size = { sending_size };
 
     fn answer(&mut self, request: &Request<'_>) -> Reply {
-        let target = self
-            .routes
-            .target(request.path)
-            .granted(self.settings.access);
-        let method = target.method(request.method);
-        let ask = Ask {
-            fields: &request.fields,
-            tags: self.settings.tags,
-        };
-        match self.calls.respond(target, method, ask, request.body) {
-            Ok(reply) => reply,
-            Err(fault) => replies::refusal(fault),
-        }
+        let target = self.target(request);
+        self.answer_at(target, request)
     }
 
     fn read_content(&mut self, offset: u64, part: &mut [u8]) -> Result<(), ContentFault> {

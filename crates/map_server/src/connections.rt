@@ -1,13 +1,14 @@
 //! The connections of a listener to one map.
-ghost use Rattle.std.specs.Prelude.{◌≡◌, ◌<◌, List, [], OnOk, OnErr};
+ghost use Rattle.std.specs.Prelude.{◌≡◌, ◌<◌, ℕ, List, [], Option, None, OnOk, OnErr};
 ghost use Rattle.http_listen.specs.Connections.{AreOverKnown, Event, Serves, begun};
 ghost use Rattle.map_replies.specs.Moments.{TakesBetweenReads};
-ghost use Rattle.map_replies.specs.State.{asked_service, Tells, TellsCut, TellsRead, course};
+ghost use Rattle.map_replies.specs.Preparing.{TellsMeanwhile, TellsMeanwhileCut, TellsMeanwhileRead, TellsPrepared};
+ghost use Rattle.map_replies.specs.Preparing.{inner_service, meanwhile, without_draft};
 ghost use Rattle.tile_service.specs.Machine.{Happening};
 ghost use Rattle.tile_service.specs.Runs.{TakesRun};
 
 use http_listen::{ListenFault, Talks, Waits, serve_on};
-use map_replies::MapReplies;
+use map_replies::PreparingReplies;
 use sector_disk::Sectors;
 use std::alloc::Global;
 use std::io::Write;
@@ -24,7 +25,7 @@ pub fn serve_map_on<D, L, W, C>(
     alloc: Global,
     listener: &mut L,
     connections: u64,
-    service: &mut MapReplies<D>,
+    service: &mut PreparingReplies<D>,
     log: &mut W,
 ) -> Result<(), ListenFault>
 where
@@ -34,19 +35,23 @@ where
     W: Write,
     C: Clock,
     // The replies of all stretches, in order, report one run of the service. A crash at any moment leaves some first edits of it: all
-    // that were acknowledged by then, on whatever connection, and none asked for later. Reads of downloads between them add nothing to it,
-    // and what a crash leaves is told by the states that the calls left.
+    // that were acknowledged by then, on whatever connection, and none asked for later. Reads of downloads between them add nothing to it, nor
+    // does the preparation of a publication, whose beginning stands in the run where its map was fixed. What a crash leaves is told by the
+    // states that the calls left.
     // The bytes of each stretch are known; that they came from an accepted stream is in no clause.
     ensures all { OnOk result ((served : List Event) × (begun served ≡ connections) × AreOverKnown served × (run : List Happening)
-        × Serves (Tells D.sectors D.honest D.history D.faults) (TellsCut D.sectors D.honest D.history D.faults)
-        (TellsRead D.sectors D.honest D.history D.faults) (course service.old []) served (course service.new run)
-        × TakesRun D.sectors D.honest D.history (asked_service service.old) run (asked_service service.new)
-        × TakesBetweenReads D.sectors D.honest D.history (asked_service service.old) run (asked_service service.new)) }
+        × (fixed : Option ℕ) × Serves (TellsMeanwhile D.sectors D.honest D.history D.faults) (TellsMeanwhileCut D.sectors D.honest D.history D.faults)
+        (TellsMeanwhileRead D.sectors D.honest D.history D.faults) (TellsPrepared D.sectors D.honest D.history D.faults)
+        (meanwhile (without_draft service.old) [] None) served (meanwhile service.new run fixed)
+        × TakesRun D.sectors D.honest D.history (inner_service service.old) run (inner_service service.new)
+        × TakesBetweenReads D.sectors D.honest D.history (inner_service service.old) run (inner_service service.new)) }
     ensures fewer { OnErr result ((served : List Event) × (begun served < connections) × AreOverKnown served × (run : List Happening)
-        × Serves (Tells D.sectors D.honest D.history D.faults) (TellsCut D.sectors D.honest D.history D.faults)
-        (TellsRead D.sectors D.honest D.history D.faults) (course service.old []) served (course service.new run)
-        × TakesRun D.sectors D.honest D.history (asked_service service.old) run (asked_service service.new)
-        × TakesBetweenReads D.sectors D.honest D.history (asked_service service.old) run (asked_service service.new)) }
+        × (fixed : Option ℕ) × Serves (TellsMeanwhile D.sectors D.honest D.history D.faults) (TellsMeanwhileCut D.sectors D.honest D.history D.faults)
+        (TellsMeanwhileRead D.sectors D.honest D.history D.faults) (TellsPrepared D.sectors D.honest D.history D.faults)
+        (meanwhile (without_draft service.old) [] None) served (meanwhile service.new run fixed)
+        × TakesRun D.sectors D.honest D.history (inner_service service.old) run (inner_service service.new)
+        × TakesBetweenReads D.sectors D.honest D.history (inner_service service.old) run (inner_service service.new)) }
 {
+    service.forget();
     serve_on(clock, alloc, listener, connections, service, log)
 }

@@ -1,7 +1,8 @@
 //! The connections of a port.
-ghost use Rattle.std.specs.Prelude.{◌≡◌, ◌≤◌, List, [], IfSome, OnOk};
+ghost use Rattle.std.specs.Prelude.{◌≡◌, ◌≤◌, ℕ, List, [], Option, None, IfSome, OnOk};
 ghost use Rattle.http_listen.specs.Connections.{AreOverKnown, Event, Serves, begun};
-ghost use Rattle.map_replies.specs.State.{asked_service, Tells, TellsCut, TellsRead, course};
+ghost use Rattle.map_replies.specs.Preparing.{TellsMeanwhile, TellsMeanwhileCut, TellsMeanwhileRead, TellsPrepared};
+ghost use Rattle.map_replies.specs.Preparing.{inner_service, meanwhile, without_draft};
 ghost use Rattle.tile_service.specs.Machine.{Happening};
 ghost use Rattle.tile_service.specs.Runs.{TakesRun};
 
@@ -14,7 +15,7 @@ use clap::ArgMatches;
 use generations::StoreFault;
 use http_listen::{ListenFault, SystemListener};
 use libc::net::listen;
-use map_replies::MapReplies;
+use map_replies::PreparingReplies;
 use map_server::serve_map_on;
 use sector_disk::Sectors;
 use std::cell::Cell;
@@ -78,14 +79,15 @@ fn listener_on(rt: &HostRuntime, port: u16) -> Result<SystemListener, CommandFau
 fn serve_log<D: Sectors + Drop, W: Write>(
     rt: &HostRuntime,
     asked: Listening,
-    service: &mut MapReplies<D>,
+    service: &mut PreparingReplies<D>,
     looks: &Looks<'_>,
     log: &mut W,
 ) -> Result<(), CommandFault>
     ensures all { OnOk result ((served : List Event) × (begun served ≡ asked.connections) × AreOverKnown served × (run : List Happening)
-        × Serves (Tells D.sectors D.honest D.history D.faults) (TellsCut D.sectors D.honest D.history D.faults)
-        (TellsRead D.sectors D.honest D.history D.faults) (course service.old []) served (course service.new run)
-        × TakesRun D.sectors D.honest D.history (asked_service service.old) run (asked_service service.new)) }
+        × (fixed : Option ℕ) × Serves (TellsMeanwhile D.sectors D.honest D.history D.faults) (TellsMeanwhileCut D.sectors D.honest D.history D.faults)
+        (TellsMeanwhileRead D.sectors D.honest D.history D.faults) (TellsPrepared D.sectors D.honest D.history D.faults)
+        (meanwhile (without_draft service.old) [] None) served (meanwhile service.new run fixed)
+        × TakesRun D.sectors D.honest D.history (inner_service service.old) run (inner_service service.new)) }
 {
     let cause: Cell<Cause> = Cell::new(None);
     let mut listener = Halting {
@@ -113,13 +115,14 @@ fn serve_log<D: Sectors + Drop, W: Write>(
 pub(crate) fn serve_connections<D: Sectors + Drop>(
     rt: &HostRuntime,
     asked: Listening,
-    service: &mut MapReplies<D>,
+    service: &mut PreparingReplies<D>,
     looks: &Looks<'_>,
 ) -> Result<(), CommandFault>
     ensures all { OnOk result ((served : List Event) × (begun served ≡ asked.connections) × AreOverKnown served × (run : List Happening)
-        × Serves (Tells D.sectors D.honest D.history D.faults) (TellsCut D.sectors D.honest D.history D.faults)
-        (TellsRead D.sectors D.honest D.history D.faults) (course service.old []) served (course service.new run)
-        × TakesRun D.sectors D.honest D.history (asked_service service.old) run (asked_service service.new)) }
+        × (fixed : Option ℕ) × Serves (TellsMeanwhile D.sectors D.honest D.history D.faults) (TellsMeanwhileCut D.sectors D.honest D.history D.faults)
+        (TellsMeanwhileRead D.sectors D.honest D.history D.faults) (TellsPrepared D.sectors D.honest D.history D.faults)
+        (meanwhile (without_draft service.old) [] None) served (meanwhile service.new run fixed)
+        × TakesRun D.sectors D.honest D.history (inner_service service.old) run (inner_service service.new)) }
 {
     match LineWriter::new(rt.alloc(), rt.stderr()) {
         Ok(mut log) => serve_log(rt, asked, service, looks, &mut log),

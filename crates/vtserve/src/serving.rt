@@ -3,7 +3,7 @@
 use crate::fault::CommandFault;
 use crate::listening::{Listening, serve_connections};
 use crate::looks::Looks;
-use map_replies::{MapReplies, serve_map};
+use map_replies::{MapReplies, PreparingReplies, serve_map};
 use sector_disk::Sectors;
 use std::time::{SystemTime, UNIX_EPOCH};
 
@@ -27,23 +27,31 @@ pub(crate) fn run_number(rt: &HostRuntime) -> Option<u64> {
     }
 }
 
+/// Serves a connection from standard input and output.
+fn serve_streams<D: Sectors + Drop>(
+    rt: &HostRuntime,
+    map: &mut MapReplies<D>,
+    looks: &Looks<'_>,
+) -> Result<(), CommandFault> {
+    looks.begin();
+    match serve_map(rt.alloc(), &mut rt.stdin(), &mut rt.stdout(), map) {
+        Ok(_) => Ok(()),
+        Err(fault) => Err(CommandFault::Connection(fault)),
+    }
+}
+
 /// Serves a map, over a disk file that is watched meanwhile, and closes its disk.
 pub(crate) fn serve<D: Sectors + Drop>(
     rt: &HostRuntime,
-    mut map: MapReplies<D>,
+    map: MapReplies<D>,
     peers: Peers,
     looks: &Looks<'_>,
 ) -> Result<(), CommandFault> {
+    let mut map = PreparingReplies::new(map);
     let served = match peers {
-        Peers::Streams => {
-            looks.begin();
-            match serve_map(rt.alloc(), &mut rt.stdin(), &mut rt.stdout(), &mut map) {
-                Ok(_) => Ok(()),
-                Err(fault) => Err(CommandFault::Connection(fault)),
-            }
-        }
+        Peers::Streams => serve_streams(rt, map.replies_mut(), looks),
         Peers::Port(asked) => serve_connections(rt, asked, &mut map, looks),
     };
-    drop(map.into_service().into_disk());
+    drop(map.into_replies().into_service().into_disk());
     served
 }

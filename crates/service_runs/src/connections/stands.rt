@@ -2,7 +2,7 @@
 use super::lines::{Failing, Line, NONE, failing_in};
 use crate::commands::pair_in;
 use generations::{FIRST_VERSION, StoreFault, format_version};
-use map_replies::{MapReplies, Settings};
+use map_replies::{PreparingReplies, Settings};
 use map_server::{fresh_service, opened_service};
 use script_bytes::Answer;
 use sector_disk::{FailingCalls, FaultyDisk, MemoryDisk, SECTOR_BYTES, Sectors};
@@ -12,7 +12,7 @@ use tile_routes::Access;
 use tile_service::Service;
 
 /// What answers.
-pub(crate) type Map = MapReplies<FaultyDisk<MemoryDisk>>;
+pub(crate) type Map = PreparingReplies<FaultyDisk<MemoryDisk>>;
 
 /// A disk, or what answers over it. It ends by `end` alone.
 pub(crate) enum Stand {
@@ -22,7 +22,7 @@ pub(crate) enum Stand {
 
 /// The disk below.
 fn disk_of(map: Map) -> MemoryDisk {
-    map.into_service().into_disk().into_disk()
+    map.into_replies().into_service().into_disk().into_disk()
 }
 
 impl Stand {
@@ -76,7 +76,7 @@ fn open(
         settings,
     ) {
         Ok(map) => {
-            replace(stand, Stand::Open(map));
+            replace(stand, Stand::Open(PreparingReplies::new(map)));
             answer.say("open");
         }
         Err((disk, fault)) => match disk {

@@ -29,7 +29,13 @@ pub(crate) struct Bounds {
 fn talk(alloc: Global, map: &mut Map, pieces: Pieces<'_>, bounds: Bounds) -> Outcome {
     let mut reader = pieces;
     let mut writer = Narrow::new(alloc, bounds.narrowness);
-    let result = serve_map_turns(alloc, &mut reader, &mut writer, map, bounds.turns);
+    let result = serve_map_turns(
+        alloc,
+        &mut reader,
+        &mut writer,
+        map.replies_mut(),
+        bounds.turns,
+    );
     Outcome {
         result,
         reply: writer.taken,

@@ -1,17 +1,20 @@
-use Rattle.map_server.proofs.Chains.{stretches_run}
+use Rattle.std.proofs.Common.{subst}
+use Rattle.map_server.proofs.Chains.{ServiceServes, stretches_run}
 use Rattle.map_server.proofs.Told.{told_ok, told_err}
 use Rattle.map_server.proofs.connections.serve_map_on.Goals as goal
 
 pub returns-clause-all : goal.returns-clause-all
 returns-clause-all g c = told_ok c.serve_on.result _ _
     (λ is. let d = g.D.Sectors in
-    let told = stretches_run d.sectors d.honest d.history d.faults c.args.service.now is.0 c.serve_on.new.handler is.1 in
-    (is.0, is.2, is.3, told.0, told.1, told.2, told.3))
+    let told = stretches_run d.sectors d.honest d.history d.faults c.args.service.now is.0 c.serve_on.new.handler
+    (subst (λ s. ServiceServes d.sectors d.honest d.history d.faults s is.0 c.serve_on.new.handler) c.forget.ensures is.1) in
+    (is.0, is.2, is.3, told.0, told.1, told.2, told.3, told.4))
     c.serve_on.ensures.known
 
 pub returns-clause-fewer : goal.returns-clause-fewer
 returns-clause-fewer g c = told_err c.serve_on.result _ _
     (λ is. let d = g.D.Sectors in
-    let told = stretches_run d.sectors d.honest d.history d.faults c.args.service.now is.0 c.serve_on.new.handler is.1 in
-    (is.0, is.2, is.3, told.0, told.1, told.2, told.3))
+    let told = stretches_run d.sectors d.honest d.history d.faults c.args.service.now is.0 c.serve_on.new.handler
+    (subst (λ s. ServiceServes d.sectors d.honest d.history d.faults s is.0 c.serve_on.new.handler) c.forget.ensures is.1) in
+    (is.0, is.2, is.3, told.0, told.1, told.2, told.3, told.4))
     c.serve_on.ensures.fewer_known

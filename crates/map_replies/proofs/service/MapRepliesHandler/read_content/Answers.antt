@@ -30,8 +30,7 @@ returns-clause-unread g c =
     err_on c.read_sent.result _ _ c.read_sent.ensures.failed (λ fault failed old request reply is.
     let fails = sends_fails d.sectors d.honest d.history d.faults _ _ (ask_of (tags_of old) request) request.body (asked_service old)
     c.args.self.now.calls.sending (asked_service c.args.self.now) c.read_sent.new.self.service reply is.0
-    _ (read_outcome c.read_sent.result c.read_sent.new.part) c.read_sent.ensures.read failed in
-    (
+    _ (read_outcome c.read_sent.result c.read_sent.new.part) c.read_sent.ensures.read failed in (
       (fails.0, is.1, λ place first held. c.read_sent.ensures.held place first (is.2 place first held), inl (c.read_sent.ensures.oldest ∙ is.3)),
       fails.1,
     ))

@@ -1,8 +1,10 @@
-use Rattle.std.proofs.Common.{◌∙◌, ap, subst}
+use Rattle.std.proofs.Common.{◌≡◌, sym, subst}
 use Rattle.http_requests.specs.Requests.{RequestView}
-use Rattle.tile_routes.specs.Paths.{granted}
+use Rattle.tile_routes.specs.Targets.{asked_of}
+use Rattle.map_replies.specs.Meanings.{asked_for}
+use Rattle.map_replies.specs.State.{access_of}
 use Rattle.map_replies.proofs.Routed.{Replied, replied, refused}
-use Rattle.map_replies.proofs.service.MapRepliesHandler.answer.Goals as goal
+use Rattle.map_replies.proofs.service.MapReplies.answer_at.Goals as goal
 
 pub returns-in-Ok-clause-replied : goal.returns-in-Ok-clause-replied
 returns-in-Ok-clause-replied g c =
@@ -19,7 +21,7 @@ returns-in-Ok-clause-replied g c =
     subst (λ (r : RequestView). Replied d.sectors d.honest d.history d.faults old r c.in-Ok.reply (record old { calls = c.respond.new.self }))
     c.request.view_is
     (replied d.sectors d.honest d.history d.faults old request c.respond.new.self _ _ c.method-method.ensures
-    (c.granted-target.ensures.asked ∙ ap (granted old.settings.access) c.target.ensures.asked) c.respond.ensures.held c.in-Ok.reply
+    (subst (λ (r : RequestView). asked_of c.args.target ≡ asked_for (access_of old) r) (sym c.request.view_is) c.requires.asked) c.respond.ensures.held c.in-Ok.reply
     c.in-Ok.ensures.answered c.in-Ok.ensures.oldest)
 
 pub returns-in-Err-clause-replied : goal.returns-in-Err-clause-replied
@@ -37,5 +39,5 @@ returns-in-Err-clause-replied g c =
     subst (λ (r : RequestView). Replied d.sectors d.honest d.history d.faults old r c.refusal.result (record old { calls = c.respond.new.self }))
     c.request.view_is
     (refused d.sectors d.honest d.history d.faults old request c.respond.new.self _ _ c.method-method.ensures
-    (c.granted-target.ensures.asked ∙ ap (granted old.settings.access) c.target.ensures.asked) c.respond.ensures.held c.in-Err.fault c.refusal.result
+    (subst (λ (r : RequestView). asked_of c.args.target ≡ asked_for (access_of old) r) (sym c.request.view_is) c.requires.asked) c.respond.ensures.held c.in-Err.fault c.refusal.result
     c.refusal.ensures.writable c.refusal.ensures.reply c.in-Err.ensures.answered c.in-Err.ensures.oldest)

@@ -1,0 +1,402 @@
+-- What happens to the service of a listener, reply by reply, and what a publication in the making is of.
+use Rattle.std.proofs.Common.{◌≡◌, inl, inr, ◌⊎◌, ℕ, List, [], ◌∷◌, ◌++◌, length, Bool, true, false, Option, Some, None, Result, Ok, Err, refl, sym, ap, subst, ◌∙◌, append_assoc}
+use Rattle.std.proofs.lemmas.Bool.{false≢true}
+use Rattle.std.proofs.lemmas.List.{append-nil}
+use Rattle.std.specs.Option.{is_some}
+use Rattle.http_requests.specs.Requests.{RequestView}
+use Rattle.http_serve.specs.Reply.{ReplyView}
+use Rattle.http_serve.specs.declared.handlers.RestFault.{RestFault}
+use Rattle.http_serve.specs.declared.handlers.Ticket.{Ticket}
+use Rattle.sector_disk.specs.Asked.{OnlyReads}
+use Rattle.sector_disk.specs.Disk.{History}
+use Rattle.sector_disk.proofs.AskedLaws.{reads_none}
+use Rattle.tile_routes.specs.Methods.{method_on}
+use Rattle.tile_service.specs.Drafted.{DraftedView}
+use Rattle.tile_service.specs.Machine.{Happening, begin}
+use Rattle.tile_service.specs.Prepared.{CanPrepare, prepared}
+use Rattle.tile_service.specs.Runs.{TakesAll}
+use Rattle.tile_service.specs.Service.{PublicationView, ServiceView, KeepsDraft, BeginsDrafted, drafted_now, status_of}
+use Rattle.tile_service.specs.declared.fault.ServiceFault.{ServiceFault}
+use Rattle.begin_law.specs.Beside.{AreBeside}
+use Rattle.map_replies.specs.declared.calls.Calls.{Calls}
+use Rattle.map_replies.specs.declared.service.MapReplies.{MapReplies}
+use Rattle.map_replies.specs.declared.preparing.PreparingReplies.{PreparingReplies}
+use Rattle.map_replies.specs.Conditions.{ask_of}
+use Rattle.map_replies.specs.Meanings.{DiskFailed, asked_for}
+use Rattle.map_replies.specs.Preparing.{IsMadeReady, BeginsLate, PreparingReplied, PreparingFails, PreparingReads, PreparingStep, Meanwhile, meanwhile, without_draft}
+use Rattle.map_replies.specs.Preparing.{IsToBegin, TellsMeanwhile, TellsMeanwhileCut, TellsMeanwhileRead, TellsPrepared, is_to_publish, inner_service}
+use Rattle.map_replies.specs.Words.{left_reply}
+use Rattle.map_replies.specs.State.{access_of, tags_of, asked_service, settings_of, ServiceReplies}
+use Rattle.map_replies.proofs.Apart.{AreApart, apart_on, method_apart}
+use Rattle.map_replies.proofs.Goes.{Goes, Rests, rests_none, rests_undrafted, goes_all, goes_on, goes_rest, draft_after, all_beside}
+use Rattle.map_replies.proofs.LateBeginnings.{late_begun, late_refused}
+
+-- what there is, or else this
+abbrev got_or : DraftedView → Option DraftedView → DraftedView
+got_or other None = other
+got_or other (Some d) = d
+
+-- there is none
+is_none : (o : Option DraftedView) (d : DraftedView) → o ≡ Some d → o ≡ None → ⊥
+is_none o d is none = false≢true (ap is_some (sym none ∙ is))
+
+-- what is known of the place where its map was fixed, while there is one
+abbrev fixed_now : Option DraftedView → Option ℕ → Option ℕ
+fixed_now None fixed = None
+fixed_now (Some d) fixed = fixed
+
+fixed_stays : (o : Option DraftedView) (fixed : Option ℕ) → (fixed_now o fixed ≡ fixed) ⊎ (fixed_now o fixed ≡ None)
+fixed_stays None fixed = inr refl
+fixed_stays (Some d) fixed = inl refl
+
+fixed_there : (o : Option DraftedView) (d : DraftedView) (fixed : Option ℕ) → o ≡ Some d → fixed_now o fixed ≡ fixed
+fixed_there None d fixed is = absurd (false≢true (ap is_some is))
+fixed_there (Some e) d fixed is = refl
+
+module _ {D : Type 0} (sectors : D → ℕ) (honest : D → Type 0) (history : D → History) (faults : D → ℕ) where
+  -- ---- a publication in the making
+
+  -- The publication in the making is of the map after the first of these happenings, so many of them, and no call of a publication came since.
+  pub record Drafts (first now : ServiceView D) (run : List Happening) (fixed : ℕ) : Type 0 where
+    pub before : List Happening
+    pub after : List Happening
+    pub is : run ≡ before ++ after
+    pub count : fixed ≡ length before
+    pub then : ServiceView D
+    pub can : CanPrepare then
+    pub goes : Goes sectors honest history first before (prepared then)
+    pub since : Goes sectors honest history (prepared then) after now
+    pub apart : AreApart after
+    pub draft : now.drafting ≡ Some (drafted_now then)
+
+  -- if there is one
+  abbrev pub IfDrafts : (first now : ServiceView D) → List Happening → Option ℕ → Type 0
+  IfDrafts first now run fixed = (d : DraftedView) → now.drafting ≡ Some d → (n : ℕ) × (fixed ≡ Some n) × Drafts first now run n
+
+  -- the map was fixed now
+  drafts_now : (first then now : ServiceView D) (run : List Happening) → Goes sectors honest history first run then
+      → Rests sectors honest history then now → CanPrepare then → now ≡ prepared then → Drafts first now run (length run)
+  drafts_now first then now run goes rests can same = record {
+    before = run;
+    after = [];
+    is = sym (append-nil run);
+    count = refl;
+    then = then;
+    can = can;
+    goes = subst (λ (s : ServiceView D). Goes sectors honest history first run s) same
+        (goes_rest sectors honest history first then now run goes rests);
+    since = subst (λ (s : ServiceView D). Rests sectors honest history (prepared then) s) (sym same) (rests_none sectors honest history (prepared then));
+    apart = tt;
+    draft = ap (λ (s : ServiceView D). s.drafting) same;
+  }
+
+  -- calls came that have nothing to do with publications
+  drafts_on : (first now new : ServiceView D) (run more : List Happening) (n : ℕ) → Drafts first now run n → AreApart more
+      → Goes sectors honest history now more new → new.drafting ≡ now.drafting → Drafts first new (run ++ more) n
+  drafts_on first now new run more n so apart goes same = record {
+    before = so.before;
+    after = so.after ++ more;
+    is = ap (λ (l : List Happening). l ++ more) so.is ∙ append_assoc so.before so.after more;
+    count = so.count;
+    then = so.then;
+    can = so.can;
+    goes = so.goes;
+    since = goes_on sectors honest history (prepared so.then) now new so.after more so.since goes;
+    apart = apart_on so.after more so.apart apart;
+    draft = same ∙ so.draft;
+  }
+
+  -- nothing came but reads
+  drafts_rest : (first now new : ServiceView D) (run : List Happening) (n : ℕ) → Drafts first now run n
+      → Rests sectors honest history now new → new.drafting ≡ now.drafting → Drafts first new run n
+  drafts_rest first now new run n so rests same = record {
+    before = so.before;
+    after = so.after;
+    is = so.is;
+    count = so.count;
+    then = so.then;
+    can = so.can;
+    goes = so.goes;
+    since = goes_rest sectors honest history (prepared so.then) now new so.after so.since rests;
+    apart = so.apart;
+    draft = same ∙ so.draft;
+  }
+
+  -- ---- one thing after the other
+
+  pub record GoesMeanwhile (first now : PreparingReplies D) (so : Meanwhile D) : Type 0 where
+    pub here : so ≡ meanwhile now so.run so.fixed
+    pub goes : Goes sectors honest history (inner_service first) so.run (inner_service now)
+    pub drafts : IfDrafts (inner_service first) (inner_service now) so.run so.fixed
+
+  -- in the beginning nothing is in the making
+  pub goes_from : (first : PreparingReplies D) → GoesMeanwhile first (without_draft first) (meanwhile (without_draft first) [] None)
+  goes_from first = record {
+    here = refl;
+    goes = rests_undrafted sectors honest history (inner_service first);
+    drafts = λ d is. absurd (is_none None d is refl);
+  }
+
+  -- ---- a reply
+
+  module _ (first old new : PreparingReplies D) (run : List Happening) (fixed : Option ℕ) (request : RequestView) (reply : ReplyView)
+      (goes : Goes sectors honest history (inner_service first) run (inner_service old))
+      (drafts : IfDrafts (inner_service first) (inner_service old) run fixed) where
+    abbrev before : ServiceView D
+    before = inner_service old
+
+    abbrev now : ServiceView D
+    now = inner_service new
+
+    -- what is told now
+    module _ (ready : MapReplies D) (made : IsMadeReady old.replies request ready)
+        (is : ServiceReplies sectors honest history faults ready request reply new.replies) where
+      abbrev happenings : List Happening
+      happenings = is.0.0
+
+      abbrev next : Meanwhile D
+      next = meanwhile new (run ++ happenings) (fixed_now now.drafting fixed)
+
+      ready_rests : IsMadeReady old.replies request ready → Rests sectors honest history before (asked_service ready)
+      ready_rests (inl same) =
+          subst (λ (r : MapReplies D). Rests sectors honest history before (asked_service r)) (sym same.0) (rests_none sectors honest history before)
+      ready_rests (inr same) =
+          subst (λ (r : MapReplies D). Rests sectors honest history before (asked_service r)) (sym same) (rests_undrafted sectors honest history before)
+
+      more : Goes sectors honest history before happenings now
+      more = goes_all sectors honest history before (asked_service ready) now happenings (ready_rests made) is.0.2
+
+      kept : KeepsDraft (asked_service ready).drafting now.drafting
+      kept = draft_after sectors honest history (asked_service ready) now happenings is.0.2
+
+      -- nothing that has to do with a publication was asked for
+      other : ready ≡ old.replies → is_to_publish old.replies request ≡ false → AreApart happenings
+      other same unasked = method_apart (DiskFailed faults (asked_service ready) now) (status_of (asked_service ready)) (status_of now)
+          (asked_for (access_of ready) request) (method_on request.method (asked_for (access_of ready) request)) (ask_of (tags_of ready) request) request.body
+          (ap (λ (r : MapReplies D). is_to_publish r request) same ∙ unasked) reply happenings is.0.1
+
+      next_drafts : IsMadeReady old.replies request ready → KeepsDraft (asked_service ready).drafting now.drafting
+          → IfDrafts (inner_service first) now (run ++ happenings) (fixed_now now.drafting fixed)
+      next_drafts (inl same) (inl stays) d there =
+          let as_before : now.drafting ≡ before.drafting = stays ∙ ap (λ (r : MapReplies D). (asked_service r).drafting) same.0 in
+          let so_far = drafts d (sym as_before ∙ there) in (
+            so_far.0,
+            fixed_there now.drafting d fixed there ∙ so_far.1,
+            drafts_on (inner_service first) before now run happenings so_far.0 so_far.2 (other same.0 same.1) more as_before,
+          )
+      next_drafts (inr same) (inl stays) d there =
+          absurd (is_none now.drafting d there (stays ∙ ap (λ (r : MapReplies D). (asked_service r).drafting) same))
+      next_drafts made (inr gone) d there = absurd (is_none now.drafting d there gone)
+
+      goes_next : GoesMeanwhile first new next
+      goes_next = record {
+        here = refl;
+        goes = goes_on sectors honest history (inner_service first) before now run happenings goes more;
+        drafts = next_drafts made kept;
+      }
+
+      told_now : (then : Meanwhile D) × TellsMeanwhile sectors honest history faults (meanwhile old run fixed) request reply then
+          × GoesMeanwhile first new then
+      told_now =
+          (next, inl (ready, made, (happenings, is.0.1, is.0.2, refl, is.1, is.2, is.3), fixed_stays now.drafting fixed), goes_next)
+
+    -- what is told of a reply that was cut short because the disk failed
+    told_cut : PreparingFails sectors honest history faults old request reply new
+        → (then : Meanwhile D) × TellsMeanwhileCut sectors honest history faults (meanwhile old run fixed) request reply then
+        × GoesMeanwhile first new then
+    told_cut is =
+        let so = is.1.0 in (
+          next old.replies (inl (refl, is.0)) so,
+          (((so.0.0, so.0.1, so.0.2, refl, so.1, so.2, so.3), is.1.1), fixed_stays now.drafting fixed),
+          goes_next old.replies (inl (refl, is.0)) so,
+        )
+
+    -- the late answer to a beginning
+    module _ (outcome : Result ℕ ServiceFault) (late : BeginsLate old.replies.calls outcome new.replies.calls)
+        (so : (n : ℕ) × (fixed ≡ Some n) × Drafts (inner_service first) before run n) where
+      abbrev dr : Drafts (inner_service first) before run so.0
+      dr = so.2
+
+      abbrev with_publication : ServiceView D
+      with_publication = record before { publication = now.publication }
+
+      -- the draft is that of the map that was fixed
+      is_drafted : BeginsDrafted before.size (drafted_now dr.then) outcome now.publication
+      is_drafted = subst (λ (d : DraftedView). BeginsDrafted before.size d outcome now.publication)
+          (ap (got_or late.ready.draft) (sym late.ready.is ∙ dr.draft)) late.begins
+
+      begun : (o : Result ℕ ServiceFault) → BeginsDrafted before.size (drafted_now dr.then) o now.publication
+          → Goes sectors honest history (prepared dr.then) (begin o ∷ dr.after) with_publication
+      begun (Ok left) is = late_begun sectors honest history dr.then before dr.after dr.can dr.since left now.publication
+          (all_beside sectors honest history (prepared dr.then) before dr.after dr.apart dr.since late.ready.unbroken).1 is
+      begun (Err fault) is =
+          subst (λ (o : Option PublicationView). Goes sectors honest history (prepared dr.then) (begin (Err fault) ∷ dr.after)
+          (record before { publication = o })) (late.ready.none ∙ sym is.0)
+          (late_refused sectors honest history dr.then before dr.after dr.can dr.since fault now.publication is)
+
+      dropped : Rests sectors honest history with_publication now
+      dropped = subst (λ (s : ServiceView D). Rests sectors honest history with_publication s) (sym (ap (λ (c : Calls D). c.service) late.same))
+          (rests_undrafted sectors honest history with_publication)
+
+      abbrev late_run : List Happening
+      late_run = dr.before ++ begin outcome ∷ dr.after
+
+      late_goes : GoesMeanwhile first new (meanwhile new late_run None)
+      late_goes = record {
+        here = refl;
+        goes = goes_on sectors honest history (inner_service first) (prepared dr.then) now dr.before (begin outcome ∷ dr.after) dr.goes
+            (goes_rest sectors honest history (prepared dr.then) with_publication now (begin outcome ∷ dr.after) (begun outcome is_drafted) dropped);
+        drafts = λ d is. absurd (is_none now.drafting d is (ap (λ (c : Calls D). c.service.drafting) late.same));
+      }
+
+    told_late : (outcome : Result ℕ ServiceFault) → IsToBegin old.replies request → reply ≡ left_reply outcome
+        → new.replies ≡ record old.replies { calls = new.replies.calls } → BeginsLate old.replies.calls outcome new.replies.calls
+        → (then : Meanwhile D) × TellsMeanwhile sectors honest history faults (meanwhile old run fixed) request reply then
+        × GoesMeanwhile first new then
+    told_late outcome asked is same late =
+        let so = drafts late.ready.draft late.ready.is in (
+          meanwhile new (late_run outcome late so) None,
+          inr (
+            asked,
+            outcome,
+            is,
+            so.2.before,
+            so.2.after,
+            so.2.is,
+            so.1 ∙ ap (λ (n : ℕ). Some n) so.2.count,
+            refl,
+            refl,
+            ap (λ (r : MapReplies D). settings_of r) same,
+          ),
+          late_goes outcome late so,
+        )
+
+    told : PreparingReplied sectors honest history faults old request reply new
+        → (then : Meanwhile D) × TellsMeanwhile sectors honest history faults (meanwhile old run fixed) request reply then
+        × GoesMeanwhile first new then
+    told (inl is) = told_now is.0 is.1 is.2
+    told (inr is) = told_late is.0 is.1 is.2 is.3 is.4
+
+  -- ---- by whatever was told so far
+
+  -- what holds of the state with its own run holds of it
+  of_here : (first old : PreparingReplies D) (so : Meanwhile D) (P : Meanwhile D → Type 0) → GoesMeanwhile first old so
+      → P (meanwhile old so.run so.fixed) → P so
+  of_here first old so P along holds = subst P (sym along.here) holds
+
+  pub replied : (first old : PreparingReplies D) (so : Meanwhile D) (request : RequestView) (reply : ReplyView) (new : PreparingReplies D)
+      → GoesMeanwhile first old so → PreparingReplied sectors honest history faults old request reply new
+      → (then : Meanwhile D) × TellsMeanwhile sectors honest history faults so request reply then × GoesMeanwhile first new then
+  replied first old so request reply new along is =
+      of_here first old so
+      (λ (m : Meanwhile D). (then : Meanwhile D) × TellsMeanwhile sectors honest history faults m request reply then × GoesMeanwhile first new then)
+      along (told first old new so.run so.fixed request reply along.goes along.drafts is)
+
+  pub cut : (first old : PreparingReplies D) (so : Meanwhile D) (request : RequestView) (reply : ReplyView) (new : PreparingReplies D)
+      → GoesMeanwhile first old so → PreparingFails sectors honest history faults old request reply new
+      → (then : Meanwhile D) × TellsMeanwhileCut sectors honest history faults so request reply then × GoesMeanwhile first new then
+  cut first old so request reply new along is =
+      of_here first old so
+      (λ (m : Meanwhile D). (then : Meanwhile D) × TellsMeanwhileCut sectors honest history faults m request reply then × GoesMeanwhile first new then)
+      along (told_cut first old new so.run so.fixed request reply along.goes along.drafts is)
+
+  -- ---- a read of a download
+
+  pub read_told : (first old : PreparingReplies D) (so : Meanwhile D) (ticket : Ticket) (offset count : ℕ) (outcome : Result (List ℕ) RestFault)
+      (new : PreparingReplies D) → GoesMeanwhile first old so → PreparingReads sectors honest history faults old ticket offset count outcome new
+      → (then : Meanwhile D) × TellsMeanwhileRead sectors honest history faults so ticket offset count outcome then × GoesMeanwhile first new then
+  read_told first old so ticket offset count outcome new along is =
+      let before : ServiceView D = inner_service old in
+      let now : ServiceView D = inner_service new in
+      let same : now.drafting ≡ before.drafting = ap (λ (s : ServiceView D). s.drafting) is.0.same in
+      let rests : Rests sectors honest history before now = record {
+        read = record {
+          same = is.0.same ∙ ap (λ (d : Option DraftedView). record before { disk = now.disk; drafting = d }) (sym same);
+          disk = is.0.disk;
+        };
+        up = is.0.up;
+      } in
+      of_here first old so
+      (λ (m : Meanwhile D). (then : Meanwhile D) × TellsMeanwhileRead sectors honest history faults m ticket offset count outcome then
+      × GoesMeanwhile first new then) along (
+        meanwhile new so.run so.fixed,
+        (is, refl, refl),
+        record {
+          here = refl;
+          goes = goes_rest sectors honest history (inner_service first) before now so.run along.goes rests;
+          drafts = λ d there. let so_far = along.drafts d (sym same ∙ there) in
+              (so_far.0, so_far.1, drafts_rest (inner_service first) before now so.run so_far.0 so_far.2 rests same);
+        },
+      )
+
+  -- ---- a step of a preparation
+
+  module _ (first old new : PreparingReplies D) (run : List Happening) (fixed : Option ℕ)
+      (goes : Goes sectors honest history (inner_service first) run (inner_service old))
+      (drafts : IfDrafts (inner_service first) (inner_service old) run fixed) (is : PreparingStep sectors honest history faults old new) where
+    abbrev then : ServiceView D
+    then = inner_service old
+
+    abbrev there : ServiceView D
+    there = inner_service new
+
+    service_same : there ≡ record then { drafting = there.drafting }
+    service_same = ap (λ (r : MapReplies D). asked_service r) is.same
+
+    disk_same : there.disk ≡ then.disk
+    disk_same = ap (λ (s : ServiceView D). s.disk) service_same
+
+    prepared_rests : Rests sectors honest history then there
+    prepared_rests = record {
+      read = record {
+        same = service_same ∙ ap (λ (d : D). record then { disk = d; drafting = there.drafting }) (sym disk_same);
+        disk = subst (λ (d : D). OnlyReads sectors honest history then.disk d) (sym disk_same) (reads_none then.disk);
+      };
+      up = λ stored up is_honest. is.up stored up;
+    }
+
+    now_goes : Goes sectors honest history (inner_service first) run there
+    now_goes = goes_rest sectors honest history (inner_service first) then there run goes prepared_rests
+
+    abbrev Told : Type 0
+    Told = (next : Meanwhile D) × TellsPrepared sectors honest history faults (meanwhile old run fixed) next × GoesMeanwhile first new next
+
+    told_prepared : (there.drafting ≡ then.drafting) ⊎ (there.drafting ≡ None)
+        ⊎ (CanPrepare then × (there.drafting ≡ Some (drafted_now then))) → Told
+    told_prepared (inl same) = (
+      meanwhile new run fixed,
+      (is, refl, inl (inl refl)),
+      record {
+        here = refl;
+        goes = now_goes;
+        drafts = λ d some. let so_far = drafts d (sym same ∙ some) in
+            (so_far.0, so_far.1, drafts_rest (inner_service first) then there run so_far.0 so_far.2 prepared_rests same);
+      },
+    )
+    told_prepared (inr (inl none)) = (
+      meanwhile new run None,
+      (is, refl, inl (inr refl)),
+      record { here = refl; goes = now_goes; drafts = λ d some. absurd (is_none there.drafting d some none) },
+    )
+    told_prepared (inr (inr fixes)) = (
+      meanwhile new run (Some (length run)),
+      (is, refl, inr refl),
+      record {
+        here = refl;
+        goes = now_goes;
+        drafts = λ d some. (
+          length run,
+          refl,
+          drafts_now (inner_service first) then there run goes prepared_rests fixes.0
+              (service_same ∙ ap (λ (o : Option DraftedView). record then { drafting = o }) fixes.1),
+        );
+      },
+    )
+
+  pub prepared_told : (first old : PreparingReplies D) (so : Meanwhile D) (new : PreparingReplies D) → GoesMeanwhile first old so
+      → PreparingStep sectors honest history faults old new
+      → (next : Meanwhile D) × TellsPrepared sectors honest history faults so next × GoesMeanwhile first new next
+  prepared_told first old so new along is =
+      of_here first old so
+      (λ (m : Meanwhile D). (next : Meanwhile D) × TellsPrepared sectors honest history faults m next × GoesMeanwhile first new next)
+      along (told_prepared first old new so.run so.fixed along.goes along.drafts is is.draft)

@@ -1,0 +1,187 @@
+-- When a publication in the making can begin, and what it is then.
+use Rattle.std.proofs.Common.{◌≡◌, ◌⊎◌, inl, inr, ℕ, List, Bool, true, false, Option, Some, None, Result, Ok, Err, refl, sym, ap, subst, ◌∙◌}
+use Rattle.std.specs.Prelude.{IfSome, IsSome, OnOk, OnErr}
+use Rattle.std.proofs.lemmas.Bool.{false≢true}
+use Rattle.std.specs.Option.{is_some, option_map}
+use Rattle.http_requests.specs.Requests.{RequestView}
+use Rattle.http_serve.specs.Reply.{ReplyView}
+use Rattle.sector_disk.specs.Disk.{History}
+use Rattle.tile_routes.specs.Methods.{method_on}
+use Rattle.tile_routes.specs.Paths.{Asked, asked_action}
+use Rattle.tile_routes.specs.declared.fault.RouteFault.{RouteFault}
+use Rattle.tile_routes.specs.declared.method.Method.{Method}
+use Rattle.tile_routes.specs.declared.method.Method.TheVariants.{Post}
+use Rattle.tile_routes.specs.declared.target.Action.TheVariants.{PublishBegin}
+use Rattle.tile_service.specs.Drafted.{DraftedView}
+use Rattle.tile_service.specs.Prepared.{CanPrepare}
+use Rattle.tile_service.specs.Service.{PublicationView, ServiceView, IsUp, BeginsDrafted, drafted_now}
+use Rattle.tile_service.specs.Stored.{Stored}
+use Rattle.tile_service.specs.declared.fault.ServiceFault.{ServiceFault}
+use Rattle.map_replies.specs.declared.calls.Calls.{Calls}
+use Rattle.map_replies.specs.declared.parts.Sending.{Sending}
+use Rattle.map_replies.specs.declared.preparing.PreparingReplies.{PreparingReplies}
+use Rattle.map_replies.specs.declared.service.MapReplies.{MapReplies}
+use Rattle.map_replies.specs.Conditions.{AskView}
+use Rattle.map_replies.specs.Meanings.{asked_for}
+use Rattle.map_replies.specs.Preparing.{IsReady, IsToBegin, BeginsLate, PreparingStep, asks_to_publish, inner_service}
+use Rattle.map_replies.specs.Sending.{SendsMethod}
+use Rattle.map_replies.specs.State.{access_of, asked_service}
+
+none_there : {A B : Type 0} (f : A → B) (o : Option A) → is_some (option_map f o) ≡ false → o ≡ None
+none_there f None is = refl
+none_there f (Some a) is = absurd (false≢true (sym is))
+
+one_there : {A B : Type 0} (f : A → B) (o : Option A) → is_some (option_map f o) ≡ true → (a : A) × (o ≡ Some a)
+one_there f None is = absurd (false≢true is)
+one_there f (Some a) is = (a, refl)
+
+same_there : {A B : Type 0} (f : A → B) (o : Option A) → is_some (option_map f o) ≡ is_some o
+same_there f None = refl
+same_there f (Some a) = refl
+
+of_draft : (size : ℕ) (o : Option DraftedView) (d : DraftedView) (outcome : Result ℕ ServiceFault) (publication : Option PublicationView)
+    → o ≡ Some d → IfSome o (λ e. BeginsDrafted size e outcome publication) → BeginsDrafted size d outcome publication
+of_draft size o d outcome publication is begins =
+    subst (λ (q : Option DraftedView). IfSome q (λ e. BeginsDrafted size e outcome publication)) is begins
+
+module _ {D : Type 0} where
+  -- by what the service tells of itself
+  pub ready_of : {A B C : Type 0} (service : ServiceView D) (left_of : PublicationView → A) (places_of : DraftedView → B) (places : C → B)
+      (left : Option A) (told : Option C) → service.broken ≡ false → left ≡ option_map left_of service.publication → is_some left ≡ false
+      → option_map places told ≡ option_map places_of service.drafting → is_some told ≡ true → IsReady service
+  ready_of service left_of places_of places left told unbroken left_is none told_is some =
+      let there = one_there places_of service.drafting
+      (ap is_some (sym told_is) ∙ same_there places told ∙ some) in record {
+        unbroken = unbroken;
+        none = none_there left_of service.publication (ap is_some (sym left_is) ∙ none);
+        draft = there.0;
+        is = there.1;
+      }
+
+  pub begins_late : (old new : Calls D) (outcome : Result ℕ ServiceFault) (ready : IsReady old.service)
+      → new ≡ record old { service = new.service }
+      → new.service ≡ record old.service { publication = new.service.publication; drafting = None }
+      → (old.service.broken ≡ false → old.service.publication ≡ None
+      → IfSome old.service.drafting (λ d. BeginsDrafted old.service.size d outcome new.service.publication)) → BeginsLate old outcome new
+  begins_late old new outcome ready same service begins = record {
+    ready = ready;
+    begins = of_draft old.service.size old.service.drafting ready.draft outcome new.service.publication ready.is (begins ready.unbroken ready.none);
+    same = same ∙ ap (λ (s : ServiceView D). record old { service = s }) service;
+  }
+
+-- ---- a request for a call of a publication
+
+module _ {D : Type 0} where
+  pub to_begin : (old : MapReplies D) (request : RequestView) (asked : Asked) (name : List ℕ) → asked ≡ asked_for (access_of old) request
+      → name ≡ request.method → (asked ≡ asked_action PublishBegin) × (method_on name asked ≡ Ok Post) → IsToBegin old request
+  to_begin old request asked name is same begins = (
+    sym is ∙ begins.0,
+    subst (λ (a : Asked). method_on request.method a ≡ Ok Post) is (subst (λ (n : List ℕ). method_on n asked ≡ Ok Post) same begins.1),
+  )
+
+module _ {D : Type 0} (sectors : D → ℕ) (honest : D → Type 0) (history : D → History) (faults : D → ℕ) where
+  -- none is answered with the archive
+  pub sends_nothing : (asked target : Asked) (method : Result Method RouteFault) (ask : AskView) (old : ServiceView D) (sending : Sending)
+      (new : ServiceView D) (view : ReplyView) → asked ≡ target → asks_to_publish target ≡ true
+      → SendsMethod sectors honest history faults asked method ask old sending new view → ⊥
+  sends_nothing asked target method ask old sending new view same publishes sent =
+      false≢true (sym (ap asks_to_publish (sym same ∙ sent.3.0)) ∙ publishes)
+
+-- ---- outcomes
+
+pub on_ok : {A E : Type 0} (r : Result A E) (P Q : Type 0) → (P → Q) → OnOk r P → OnOk r Q
+on_ok (Ok a) P Q f is = f is
+on_ok (Err e) P Q f is = tt
+
+pub on_err : {A E : Type 0} (r : Result A E) (P Q : Type 0) → (P → Q) → OnErr r P → OnErr r Q
+on_err (Ok a) P Q f is = tt
+on_err (Err e) P Q f is = f is
+
+-- ---- a step of a preparation
+
+module _ {D : Type 0} where
+  -- what it does to the publication in the making
+  abbrev Drafted : (old new : ServiceView D) → Type 0
+  Drafted old new = (new.drafting ≡ old.drafting) ⊎ (new.drafting ≡ None) ⊎ (CanPrepare old × (new.drafting ≡ Some (drafted_now old)))
+
+  drafted_by_step : {A E : Type 0} (r : Result A E) (old new : ServiceView D) (draft : Option DraftedView) → old.drafting ≡ draft
+      → (old.drafting ≡ None → OnOk r (new.drafting ≡ Some (drafted_now old))) → (old.drafting ≡ None → OnOk r (CanPrepare old))
+      → (IsSome old.drafting → OnOk r (new.drafting ≡ old.drafting)) → OnErr r (new.drafting ≡ None) → Drafted old new
+  drafted_by_step (Err e) old new draft is begins can goes_on refused = inr (inl refused)
+  drafted_by_step (Ok a) old new None is begins can goes_on refused = inr (inr (can is, begins is))
+  drafted_by_step (Ok a) old new (Some d) is begins can goes_on refused =
+      inl (goes_on (subst (λ (o : Option DraftedView). IsSome o) (sym is) refl))
+
+module _ {D : Type 0} (sectors : D → ℕ) (honest : D → Type 0) (history : D → History) (faults : D → ℕ) where
+  abbrev Step : (old new : PreparingReplies D) → Type 0
+  Step = PreparingStep sectors honest history faults
+
+  -- the same replies, with another service
+  abbrev with_service : PreparingReplies D → ServiceView D → MapReplies D
+  with_service old service = record old.replies { calls = record old.replies.calls { service = service } }
+
+  pub prepares_nothing : (old new : PreparingReplies D) → new.replies ≡ old.replies → Step old new
+  prepares_nothing old new same = record {
+    same = same ∙ ap (λ (o : Option DraftedView). with_service old (record (inner_service old) { drafting = o }))
+        (sym (ap (λ (r : MapReplies D). (asked_service r).drafting) same));
+    draft = inl (ap (λ (r : MapReplies D). (asked_service r).drafting) same);
+    up = λ stored up. subst (λ (s : ServiceView D). IsUp (sectors s.disk) (history s.disk) stored s)
+        (sym (ap (λ (r : MapReplies D). asked_service r) same)) up;
+  }
+
+  -- the publication in the making is dropped
+  pub prepares_dropped : (old new : PreparingReplies D) → new.replies ≡ with_service old (inner_service new)
+      → inner_service new ≡ record (inner_service old) { drafting = None }
+      → ((stored : Stored) → IsUp (sectors (inner_service old).disk) (history (inner_service old).disk) stored (inner_service old)
+      → IsUp (sectors (inner_service new).disk) (history (inner_service new).disk) stored (inner_service new)) → Step old new
+  prepares_dropped old new replies service up = record {
+    same = replies ∙ ap (with_service old) (service ∙ ap (λ (o : Option DraftedView). record (inner_service old) { drafting = o })
+        (sym (ap (λ (s : ServiceView D). s.drafting) service)));
+    draft = inr (inl (ap (λ (s : ServiceView D). s.drafting) service));
+    up = up;
+  }
+
+  pub prepares_by : {A E : Type 0} (old new : PreparingReplies D) (r : Result A E) → new.replies ≡ with_service old (inner_service new)
+      → inner_service new ≡ record (inner_service old) { drafting = (inner_service new).drafting }
+      → ((inner_service old).drafting ≡ None → OnOk r ((inner_service new).drafting ≡ Some (drafted_now (inner_service old))))
+      → ((inner_service old).drafting ≡ None → OnOk r (CanPrepare (inner_service old)))
+      → (IsSome (inner_service old).drafting → OnOk r ((inner_service new).drafting ≡ (inner_service old).drafting))
+      → OnErr r ((inner_service new).drafting ≡ None)
+      → ((stored : Stored) → IsUp (sectors (inner_service old).disk) (history (inner_service old).disk) stored (inner_service old)
+      → IsUp (sectors (inner_service new).disk) (history (inner_service new).disk) stored (inner_service new)) → Step old new
+  prepares_by old new r replies same begins can goes_on refused up = record {
+    same = replies ∙ ap (with_service old) same;
+    draft = drafted_by_step r (inner_service old) (inner_service new) (inner_service old).drafting refl begins can goes_on refused;
+    up = up;
+  }
+
+  -- two steps are one
+  module _ (old middle new : PreparingReplies D) (first : Step old middle) (then : Step middle new) where
+    service_same : inner_service middle ≡ record (inner_service old) { drafting = (inner_service middle).drafting }
+    service_same = ap (λ (r : MapReplies D). asked_service r) first.same
+
+    can_before : CanPrepare (inner_service middle) → CanPrepare (inner_service old)
+    can_before can =
+        let at = subst (λ (s : ServiceView D). CanPrepare s) service_same can in
+        record { unbroken = at.unbroken; none = at.none; generation = at.generation; ring = at.ring; is_map = at.is_map }
+
+    both_drafted : Drafted (inner_service middle) (inner_service new) → Drafted (inner_service old) (inner_service middle)
+        → Drafted (inner_service old) (inner_service new)
+    both_drafted (inl same) (inl as_before) = inl (same ∙ as_before)
+    both_drafted (inl same) (inr (inl none)) = inr (inl (same ∙ none))
+    both_drafted (inl same) (inr (inr is)) = inr (inr (is.0, same ∙ is.1))
+    both_drafted (inr (inl none)) before = inr (inl none)
+    both_drafted (inr (inr is)) before =
+        inr (inr (can_before is.0, is.1 ∙ ap (λ (s : ServiceView D). Some (drafted_now s)) service_same))
+
+    pub steps_on : Step old new
+    steps_on = record {
+      same = then.same ∙ ap (λ (r : MapReplies D). record r {
+        calls = record r.calls {
+          service =
+              record (asked_service r) { drafting = (inner_service new).drafting };
+        };
+      }) first.same;
+      draft = both_drafted then.draft first.draft;
+      up = λ stored up. then.up stored (first.up stored up);
+    }

@@ -1,0 +1,163 @@
+-- Replies between which a publication is prepared: its map is fixed as it is asked for, and its tiles are made while other requests are answered.
+-- The beginning of the publication stands in the run where its map was fixed, though its answer comes later.
+use Rattle.std.specs.Prelude.{◌≡◌, ◌⊎◌, ℕ, Bool, true, false, List, [], ◌∷◌, ◌++◌, length, Option, Some, None, Result, Ok}
+use Rattle.http_requests.specs.Requests.{RequestView}
+use Rattle.http_serve.specs.Reply.{ReplyView}
+use Rattle.http_serve.specs.declared.handlers.RestFault.{RestFault}
+use Rattle.http_serve.specs.declared.handlers.Ticket.{Ticket}
+use Rattle.sector_disk.specs.Disk.{History}
+use Rattle.tile_routes.specs.Methods.{method_on}
+use Rattle.tile_routes.specs.Paths.{Asked, asked_action}
+use Rattle.tile_routes.specs.declared.method.Method.TheVariants.{Post}
+use Rattle.tile_routes.specs.declared.target.Action.TheVariants.{Publish, PublishBegin, PublishStep, PublishCancel}
+use Rattle.tile_service.specs.Drafted.{DraftedView}
+use Rattle.tile_service.specs.Machine.{Happening, begin}
+use Rattle.tile_service.specs.Prepared.{CanPrepare}
+use Rattle.tile_service.specs.Service.{ServiceView, IsUp, BeginsDrafted, drafted_now}
+use Rattle.tile_service.specs.Stored.{Stored}
+use Rattle.tile_service.specs.declared.fault.ServiceFault.{ServiceFault}
+use Rattle.map_replies.specs.declared.calls.Calls.{Calls}
+use Rattle.map_replies.specs.declared.preparing.PreparingReplies.{PreparingReplies}
+use Rattle.map_replies.specs.declared.service.MapReplies.{MapReplies}
+use Rattle.map_replies.specs.Meanings.{asked_for}
+use Rattle.map_replies.specs.State.{access_of, asked_service, settings_of, sending_size, sending_ticket, ServiceReplies, ServiceSends, ServiceFails, ServiceReads}
+use Rattle.map_replies.specs.State.{course, Tells, TellsCut}
+use Rattle.map_replies.specs.Words.{left_reply}
+
+-- it asks for a call of a publication
+abbrev pub asks_to_publish : Asked → Bool
+asks_to_publish (asked_action Publish) = true
+asks_to_publish (asked_action PublishBegin) = true
+asks_to_publish (asked_action PublishStep) = true
+asks_to_publish (asked_action PublishCancel) = true
+asks_to_publish asked = false
+
+-- the same of a request to these replies
+abbrev pub is_to_publish : {D : Type 0} → MapReplies D → RequestView → Bool
+is_to_publish replies request = asks_to_publish (asked_for (access_of replies) request)
+
+-- it asks for the beginning of a publication by steps
+abbrev pub IsToBegin : {D : Type 0} → MapReplies D → RequestView → Type 0
+IsToBegin replies request = (asked_for (access_of replies) request ≡ asked_action PublishBegin)
+    × (method_on request.method (asked_for (access_of replies) request) ≡ Ok Post)
+
+-- the service, without a publication in the making
+abbrev pub undrafted : {D : Type 0} → ServiceView D → ServiceView D
+undrafted service = record service { drafting = None }
+
+abbrev pub undrafted_calls : {D : Type 0} → Calls D → Calls D
+undrafted_calls calls = record calls { service = undrafted calls.service }
+
+-- A call of a publication drops the one in the making; before any other request nothing is done.
+abbrev pub IsMadeReady : {D : Type 0} → MapReplies D → RequestView → MapReplies D → Type 0
+IsMadeReady old request ready = ((ready ≡ old) × (is_to_publish old request ≡ false))
+    ⊎ (ready ≡ record old { calls = undrafted_calls old.calls })
+
+-- A publication is in the making, and nothing but its map prevents its beginning.
+pub record IsReady {D : Type 0} (service : ServiceView D) : Type 0 where
+  pub unbroken : service.broken ≡ false
+  pub none : service.publication ≡ None
+  pub draft : DraftedView
+  pub is : service.drafting ≡ Some draft
+
+-- It begins, of the map that was fixed for it, or its map is refused; then nothing is in the making.
+pub record BeginsLate {D : Type 0} (old : Calls D) (outcome : Result ℕ ServiceFault) (new : Calls D) : Type 0 where
+  pub ready : IsReady old.service
+  pub begins : BeginsDrafted old.service.size ready.draft outcome new.service.publication
+  pub same : new ≡ record old { service = record (undrafted old.service) { publication = new.service.publication } }
+
+-- what is asked of the service by these replies
+abbrev pub inner_service : {D : Type 0} → PreparingReplies D → ServiceView D
+inner_service s = asked_service s.replies
+
+-- the same replies, without a publication in the making
+abbrev pub without_draft : {D : Type 0} → PreparingReplies D → PreparingReplies D
+without_draft s = record s { replies = record s.replies { calls = undrafted_calls s.replies.calls } }
+
+abbrev pub inner_size : {D : Type 0} → PreparingReplies D → ℕ
+inner_size s = sending_size s.replies
+
+abbrev pub inner_ticket : {D : Type 0} → PreparingReplies D → Ticket
+inner_ticket s = sending_ticket s.replies
+
+-- over a disk with these sectors, this honesty, this history and this count of faults
+module _ {D : Type 0} (sectors : D → ℕ) (honest : D → Type 0) (history : D → History) (faults : D → ℕ) where
+  -- one reply to one request, or the late answer to a beginning
+  abbrev pub PreparingReplied : PreparingReplies D → RequestView → ReplyView → PreparingReplies D → Type 0
+  PreparingReplied old request reply new =
+      ((ready : MapReplies D) × IsMadeReady old.replies request ready × ServiceReplies sectors honest history faults ready request reply new.replies)
+      ⊎ ((outcome : Result ℕ ServiceFault) × IsToBegin old.replies request × (reply ≡ left_reply outcome)
+      × (new.replies ≡ record old.replies { calls = new.replies.calls }) × BeginsLate old.replies.calls outcome new.replies.calls)
+
+  -- the same for a reply whose content is being read in parts: it asks for no call of a publication
+  abbrev pub PreparingSends : PreparingReplies D → RequestView → ReplyView → PreparingReplies D → Type 0
+  PreparingSends old request reply new = (is_to_publish old.replies request ≡ false)
+      × ServiceSends sectors honest history faults old.replies request reply new.replies
+
+  -- the same for a reply whose content couldn't be read to its end
+  abbrev pub PreparingFails : PreparingReplies D → RequestView → ReplyView → PreparingReplies D → Type 0
+  PreparingFails old request reply new = (is_to_publish old.replies request ≡ false)
+      × ServiceFails sectors honest history faults old.replies request reply new.replies
+
+  -- bytes of a ticket's content were read, or couldn't be
+  abbrev pub PreparingReads : PreparingReplies D → Ticket → (offset count : ℕ) → Result (List ℕ) RestFault → PreparingReplies D → Type 0
+  PreparingReads old ticket offset count outcome new =
+      ServiceReads sectors honest history faults old.replies ticket offset count outcome new.replies
+
+  -- A step of the preparation of a publication. Nothing else changes: the publication in the making goes on, or is dropped, or begins and is of
+  -- the map of now, and nothing but the tiles, the space and memory then prevents its publication.
+  pub record PreparingStep (old new : PreparingReplies D) : Type 0 where
+    pub same : new.replies
+        ≡ record old.replies { calls = record old.replies.calls { service = record (inner_service old) { drafting = (inner_service new).drafting } } }
+    pub draft : ((inner_service new).drafting ≡ (inner_service old).drafting) ⊎ ((inner_service new).drafting ≡ None)
+        ⊎ (CanPrepare (inner_service old) × ((inner_service new).drafting ≡ Some (drafted_now (inner_service old))))
+    pub up : (stored : Stored) → IsUp (sectors (inner_service old).disk) (history (inner_service old).disk) stored (inner_service old)
+        → IsUp (sectors (inner_service new).disk) (history (inner_service new).disk) stored (inner_service new)
+
+-- ---- a listener
+
+-- The request handler of a listener, what has happened to its service so far, and how many of these happenings came before the map of the
+-- publication in the making was fixed, if there is one.
+pub record Meanwhile (D : Type 0) : Type 0 where
+  pub replies : PreparingReplies D
+  pub run : List Happening
+  pub fixed : Option ℕ
+
+abbrev pub meanwhile : {D : Type 0} → PreparingReplies D → List Happening → Option ℕ → Meanwhile D
+meanwhile replies run fixed = record { replies = replies; run = run; fixed = fixed }
+
+-- the map of the publication in the making is the same, or there is none any more
+abbrev pub StaysFixed : {D : Type 0} → Meanwhile D → Meanwhile D → Type 0
+StaysFixed old new = (new.fixed ≡ old.fixed) ⊎ (new.fixed ≡ None)
+
+module _ {D : Type 0} (sectors : D → ℕ) (honest : D → Type 0) (history : D → History) (faults : D → ℕ) where
+  -- One reply to one request: it tells what happens now.
+  abbrev pub TellsNow : Meanwhile D → RequestView → ReplyView → Meanwhile D → Type 0
+  TellsNow old request reply new = (ready : MapReplies D) × IsMadeReady old.replies.replies request ready
+      × Tells sectors honest history faults (course ready old.run) request reply (course new.replies.replies new.run) × StaysFixed old new
+
+  -- The late answer to a beginning. It stands in the run where the map of the publication was fixed: the archive has what was
+  -- acknowledged before, and nothing that was requested later.
+  abbrev pub TellsLate : Meanwhile D → RequestView → ReplyView → Meanwhile D → Type 0
+  TellsLate old request reply new = IsToBegin old.replies.replies request × (outcome : Result ℕ ServiceFault) × (reply ≡ left_reply outcome)
+      × (before : List Happening) × (after : List Happening) × (old.run ≡ before ++ after) × (old.fixed ≡ Some (length before))
+      × (new.run ≡ before ++ begin outcome ∷ after) × (new.fixed ≡ None)
+      × (settings_of new.replies.replies ≡ settings_of old.replies.replies)
+
+  abbrev pub TellsMeanwhile : Meanwhile D → RequestView → ReplyView → Meanwhile D → Type 0
+  TellsMeanwhile old request reply new = TellsNow old request reply new ⊎ TellsLate old request reply new
+
+  -- the same for a reply whose content couldn't be read to its end: the disk has failed
+  abbrev pub TellsMeanwhileCut : Meanwhile D → RequestView → ReplyView → Meanwhile D → Type 0
+  TellsMeanwhileCut old request reply new =
+      TellsCut sectors honest history faults (course old.replies.replies old.run) request reply (course new.replies.replies new.run) × StaysFixed old new
+
+  -- bytes of a ticket's content were read, or couldn't be: nothing happens
+  abbrev pub TellsMeanwhileRead : Meanwhile D → Ticket → (offset count : ℕ) → Result (List ℕ) RestFault → Meanwhile D → Type 0
+  TellsMeanwhileRead old ticket offset count outcome new =
+      PreparingReads sectors honest history faults old.replies ticket offset count outcome new.replies × (new.run ≡ old.run) × (new.fixed ≡ old.fixed)
+
+  -- a step of a preparation: nothing happens, but the map of a publication may be fixed now
+  abbrev pub TellsPrepared : Meanwhile D → Meanwhile D → Type 0
+  TellsPrepared old new = PreparingStep sectors honest history faults old.replies new.replies × (new.run ≡ old.run)
+      × (StaysFixed old new ⊎ (new.fixed ≡ Some (length old.run)))

@@ -1,0 +1,254 @@
+//! The replies of a map between which a publication is prepared: its map is fixed as it is asked for, its tiles are made one by one while other
+//! requests are answered, and then it begins.
+ghost use Rattle.std.specs.Prelude.{◌≡◌, ◌≤◌, true, [], length, vec_capacity, IsTrue, IfSome, None, Ok};
+ghost use Rattle.http_serve.specs.Reply.{ReplyView, IsReply, InParts, IsWhole, HasShortWords, head_view, reply_view};
+ghost use Rattle.tile_routes.specs.Methods.{method_on};
+ghost use Rattle.tile_routes.specs.Paths.{asked_action};
+ghost use Rattle.tile_routes.specs.Targets.{asked_of};
+ghost use Rattle.tile_routes.specs.declared.method.Method.TheVariants.{Post};
+ghost use Rattle.tile_routes.specs.declared.target.Action.TheVariants.{PublishBegin};
+ghost use Rattle.map_replies.specs.declared.replies.TheConstants.{MAX_TEXT};
+ghost use Rattle.map_replies.specs.Meanings.{asked_for};
+ghost use Rattle.map_replies.specs.Preparing.{asks_to_publish, without_draft, inner_size, BeginsLate, IsReady, PreparingReplied, PreparingSends, PreparingStep};
+ghost use Rattle.map_replies.specs.State.{access_of};
+ghost use Rattle.map_replies.specs.Words.{left_reply};
+
+use crate::calls::Calls;
+use crate::replies;
+use crate::service::MapReplies;
+use http_serve::{ContentFault, Downloads, Handler, Prepares, Reply, Request, RestFault, Ticket};
+use sector_disk::Sectors;
+use std::alloc::AllocError;
+use tile_routes::{Action, Method, Target};
+
+/// The first bytes of a request for the beginning of a publication.
+const BEGINNING: &[u8] = b"POST /publish/begin";
+
+/// The request handler of a listener: the replies of a map, where a publication is prepared between other replies.
+#[derive(Drop)]
+pub struct PreparingReplies<D: Sectors + Drop> {
+    pub(crate) replies: MapReplies<D>,
+    /// The number of the connection whose publication is in the making.
+    owner: u64,
+    /// Whether that connection had a turn since another one asked for a publication.
+    goes_on: bool,
+}
+
+/// Whether a call of a publication is asked for.
+fn is_to_publish(target: Target) -> bool
+    ensures { result ≡ asks_to_publish (asked_of target) }
+{
+    match target {
+        Target::Action(action) => match action {
+            Action::Publish | Action::PublishBegin | Action::PublishStep | Action::PublishCancel =>
+                true,
+            Action::Edits | Action::CheckedEdits => false,
+        },
+        Target::Tile(..)
+        | Target::Feature(_)
+        | Target::FeatureFrom(_)
+        | Target::FeaturePage(_)
+        | Target::EditsFrom(_)
+        | Target::EditsAt(_)
+        | Target::View(_)
+        | Target::Nothing => false,
+    }
+}
+
+/// Whether the beginning of a publication by steps is asked for.
+fn is_to_begin(target: Target, method: &[u8]) -> bool
+    ensures { IsTrue result → (asked_of target ≡ asked_action PublishBegin) × (method_on method.now (asked_of target) ≡ Ok Post) }
+{
+    match target {
+        Target::Action(Action::PublishBegin) => match target.method(method) {
+            Ok(Method::Post) => true,
+            Ok(Method::Get | Method::Head | Method::Put | Method::Delete) | Err(_) => false,
+        },
+        _ => false,
+    }
+}
+
+impl<D: Sectors + Drop> Calls<D> {
+    /// Whether a publication is in the making and none is under way, in a service that isn't broken.
+    fn is_ready(&self) -> bool
+        ensures { IsTrue result → IsReady self.now.service }
+    {
+        let status = self.service.status();
+        if status.broken {
+            return false;
+        }
+        if status.left.is_some() {
+            return false;
+        }
+        self.service.drafting().is_some()
+    }
+
+    /// Begins the publication that is in the making, with this memory for the reply.
+    fn begin_ready(&mut self, text: Vec<u8>) -> Reply
+        requires ready { IsReady self.old.service }
+        requires empty { text.items ≡ [] }
+        requires room { MAX_TEXT ≤ vec_capacity text }
+        ensures writable { IsWhole result }
+        ensures begins { (outcome : _) × (reply_view [] result ≡ left_reply outcome) × BeginsLate self.old outcome self.new }
+    {
+        let outcome = self.service.publish_drafted();
+        replies::left(text, outcome)
+    }
+}
+
+impl<D: Sectors + Drop> PreparingReplies<D> {
+    /// The handler over the replies of a map.
+    pub fn new(replies: MapReplies<D>) -> PreparingReplies<D>
+        ensures { result.replies ≡ replies }
+    {
+        PreparingReplies {
+            replies,
+            owner: 0,
+            goes_on: false,
+        }
+    }
+
+    /// The replies of the map, without what is prepared between them.
+    pub fn replies_mut(&mut self) -> &mut MapReplies<D> {
+        &mut self.replies
+    }
+
+    /// Drops the publication in the making, if there is one.
+    pub fn forget(&mut self)
+        ensures { self.new ≡ without_draft self.old }
+    {
+        self.replies.calls.service.publish_drop();
+    }
+
+    /// Returns the replies of the map.
+    pub fn into_replies(self) -> MapReplies<D>
+        ensures { result ≡ self.replies }
+    {
+        self.replies
+    }
+
+    /// Whether the publication in the making is that of another connection, which still has its turns. That of one which has none any more is
+    /// dropped.
+    fn waits_for_another(&mut self, connection: u64) -> bool
+        ensures { PreparingStep D.sectors D.honest D.history D.faults self.old self.new }
+    {
+        if self.owner == connection || self.replies.calls.service.drafting().is_none() {
+            return false;
+        }
+        if self.goes_on {
+            self.goes_on = false;
+            return true;
+        }
+        self.replies.calls.service.publish_drop();
+        false
+    }
+
+    /// Memory for the late answer to a beginning, if that is what is asked for and a publication in the making can begin.
+    fn room_to_begin(&self, target: Target, method: &[u8]) -> Option<Vec<u8>>
+        ensures asked { IfSome result (λ _. (asked_of target ≡ asked_action PublishBegin) × (method_on method.now (asked_of target) ≡ Ok Post)) }
+        ensures ready { IfSome result (λ _. IsReady self.now.replies.calls.service) }
+        ensures empty { IfSome result (λ text. text.items ≡ []) }
+        ensures room { IfSome result (λ text. MAX_TEXT ≤ vec_capacity text) }
+    {
+        if !is_to_begin(target, method) {
+            return None;
+        }
+        if !self.replies.calls.is_ready() {
+            return None;
+        }
+        match replies::outcome_space(self.replies.calls.alloc) {
+            Ok(text) => Some(text),
+            Err(AllocError) => None,
+        }
+    }
+
+    /// Answers a request for a call of a publication, and drops the one in the making before.
+    fn answer_without_draft(&mut self, target: Target, request: &Request<'_>) -> Reply
+        requires asked { asked_of target ≡ asked_for (access_of self.old.replies) request.now }
+        requires publishes { asks_to_publish (asked_of target) ≡ true }
+        ensures replied { (reply : ReplyView) × IsReply result reply
+            × PreparingReplied D.sectors D.honest D.history D.faults self.old request.now reply self.new
+            × InParts result.content (PreparingSends D.sectors D.honest D.history D.faults self.old request.now reply self.new
+            × (inner_size self.new ≡ length reply.content)) }
+        ensures writable { HasShortWords (head_view result) }
+    {
+        self.replies.calls.service.publish_drop();
+        self.replies.answer_at(target, request)
+    }
+
+    /// Answers a request for a call of a publication. One that is in the making is dropped, unless it begins.
+    fn answer_publishing(&mut self, target: Target, request: &Request<'_>) -> Reply
+        requires asked { asked_of target ≡ asked_for (access_of self.old.replies) request.now }
+        requires publishes { asks_to_publish (asked_of target) ≡ true }
+        ensures replied { (reply : ReplyView) × IsReply result reply
+            × PreparingReplied D.sectors D.honest D.history D.faults self.old request.now reply self.new
+            × InParts result.content (PreparingSends D.sectors D.honest D.history D.faults self.old request.now reply self.new
+            × (inner_size self.new ≡ length reply.content)) }
+        ensures writable { HasShortWords (head_view result) }
+    {
+        match self.room_to_begin(target, request.method) {
+            Some(text) => self.replies.calls.begin_ready(text),
+            None => self.answer_without_draft(target, request),
+        }
+    }
+}
+
+impl<D: Sectors + Drop> Handler for PreparingReplies<D> {
+    ghost use Rattle.map_replies.specs.Preparing.{PreparingReplied, PreparingSends, PreparingFails, inner_size};
+
+    ghost replies = { PreparingReplied D.sectors D.honest D.history D.faults };
+
+    ghost sends = { PreparingSends D.sectors D.honest D.history D.faults };
+
+    ghost fails = { PreparingFails D.sectors D.honest D.history D.faults };
+
+    ghost size = { inner_size };
+
+    fn answer(&mut self, request: &Request<'_>) -> Reply {
+        let target = self.replies.target(request);
+        if is_to_publish(target) {
+            self.answer_publishing(target, request)
+        } else {
+            self.replies.answer_at(target, request)
+        }
+    }
+
+    fn read_content(&mut self, offset: u64, part: &mut [u8]) -> Result<(), ContentFault> {
+        self.replies.read_content(offset, part)
+    }
+}
+
+impl<D: Sectors + Drop> Downloads for PreparingReplies<D> {
+    ghost use Rattle.map_replies.specs.Preparing.{PreparingReads, inner_ticket};
+
+    ghost reads = { PreparingReads D.sectors D.honest D.history D.faults };
+
+    ghost ticket_of = { inner_ticket };
+
+    fn ticket(&self) -> Ticket {
+        self.replies.ticket()
+    }
+
+    fn read_rest(&mut self, ticket: Ticket, offset: u64, part: &mut [u8]) -> Result<(), RestFault> {
+        self.replies.read_rest(ticket, offset, part)
+    }
+}
+
+impl<D: Sectors + Drop> Prepares for PreparingReplies<D> {
+    ghost prepares = { PreparingStep D.sectors D.honest D.history D.faults };
+
+    fn prepare(&mut self, connection: u64, asked: &[u8]) -> bool {
+        if !asked.starts_with(BEGINNING) {
+            return false;
+        }
+        if self.waits_for_another(connection) {
+            return true;
+        }
+        self.owner = connection;
+        self.goes_on = true;
+        match self.replies.calls.service.publish_prepare() {
+            Ok(goes_on) => goes_on,
+            Err(_) => false,
+        }
+    }
+}
