@@ -77,8 +77,9 @@ def asked(words):
 
 
 def collect_rarely():
-    """Has Python look for cycles of objects rarely. Values of JSON have none, and looking takes half the time in which 40,000 features are read."""
-    gc.set_threshold(100_000, 50, 100)
+    """Has Python look for cycles of objects rarely. Values of JSON have none, 40,000 features are 600,000 objects, and looking as often as Python does by
+    itself takes half the time in which they are read."""
+    gc.set_threshold(1_000_000, 50, 100)
 
 
 def main(line):

@@ -18,6 +18,7 @@ TOP = os.path.join(HERE, "..", "..")
 sys.path[:0] = [HERE, os.path.join(TOP, "tests", "clients"), TOP]
 import city_features  # noqa: E402
 from stand import Server  # noqa: E402
+from vtmap.client.client import FROM, PAGE, Client  # noqa: E402
 from vtmap.command_line import collect_rarely  # noqa: E402
 
 FEATURES, POINTS_FROM = 40449, city_features.FEATURES
@@ -27,6 +28,18 @@ HOUR = 3600
 ZOOM, COLUMNS, ROWS, EVERY = 14, 8, 5, 10
 # How many zooms above the tiles are whose tags the page looks at, and how often (web/view.js, page.js).
 TAGS_UP, EVERY_LOOK = 2, 30
+
+
+class Counting(Client):
+    """vtmap's client, which counts its requests and measures how long it waits for a reply."""
+
+    requests, longest = 0, 0
+
+    def once(self, *request):
+        since = time.monotonic()
+        reply = super().once(*request)
+        self.requests, self.longest = self.requests + 1, max(self.longest, time.monotonic() - since)
+        return reply
 
 
 class Kept:
@@ -93,34 +106,17 @@ def feed(server, kept):
         kept.ask("DELETE", f"/features/{10**6 + number}")
 
 
-def listed(server, kept, path, following):
-    """Lists the map by requests that each say where the next one begins. Prints what that takes; returns the features."""
-    before, mine, began, found, first, count = processor(server), time.process_time(), time.monotonic(), [], 0, 0
-    waits = []
-    while first is not None:
-        since = time.monotonic()
-        status, _, content = kept.ask("GET", f"{path}/{first}")
-        waits.append(time.monotonic() - since)
-        count += 1
-        rows, first = following(status, content)
-        found += rows
-    print(f"{len(found):,} features by {path}: {time.monotonic() - began:.2f} s, {processor(server) - before:.2f} s of a processor by the server and "
-          f"{time.process_time() - mine:.2f} s by this client, {count:,} requests, the longest {max(waits) * 1000:.0f} ms", flush=True)
+def listed(server, by_pages):
+    """Lists the map by vtmap's client, page by page or feature by feature. Prints what that takes; returns the features."""
+    client = Counting(server.url)
+    client.has_pages = by_pages
+    before, mine, began = processor(server), time.process_time(), time.monotonic()
+    found = list(client.features())
+    took, used, mine = time.monotonic() - began, processor(server) - before, time.process_time() - mine
+    print(f"{len(found):,} features by {PAGE if by_pages else FROM}: {took:.2f} s, {used:.2f} s of a processor by the server and {mine:.2f} s by vtmap's "
+          f"client, {client.requests:,} requests, the longest wait {client.longest * 1000:.0f} ms", flush=True)
+    client.close()
     return found
-
-
-def page(_, content):
-    """The features of a page, and where the next one begins."""
-    found = json.loads(content)
-    return [(row["id"], row["feature"]) for row in found["features"]], found["next"]
-
-
-def single(status, content):
-    """One feature, and where the next one may begin."""
-    if status != 200:
-        return [], None
-    found = json.loads(content)
-    return [(found["id"], found["feature"])], found["id"] + 1
 
 
 def at_rest(kept):
@@ -154,7 +150,7 @@ def main():
         fill(kept)
         print(f"{FEATURES:,} features, load {os.getloadavg()[0]:.0f} on {os.cpu_count()} processors")
         feed(server, kept)
-        same = listed(server, kept, "/admin/features/page", page) == listed(server, kept, "/admin/features/from", single)
+        same = listed(server, True) == listed(server, False)
         print(f"the lists are {'equal' if same else 'NOT EQUAL'}")
         paths, tags = at_rest(kept)
         path = max(paths, key=lambda one: len(kept.ask("GET", one)[2]))

@@ -10,6 +10,9 @@ from between import Between
 from import_stand import has_gdal, row, written
 from stand import EXAMPLES, TOP, VTMAP, Nginx, Server, curl, feature
 
+sys.path.append(TOP)
+from vtmap.client.client import Client  # noqa: E402
+
 NAMES = ["import", "update", "checkout", "checkin", "wfs", "save", "load", "publish", "watch", "delete-layer", "qgis", "follow", "log", "undo", "draw"]
 OLD = {
     "import_features.py": "vtmap import",
@@ -65,21 +68,33 @@ def addresses(cases, folder):
 def listings(cases, folder):
     """A list of a large map is a few requests, which nginx doesn't log; of an older server one for each feature."""
     nginx = shutil.which("nginx", path=os.environ.get("PATH", "") + ":/usr/sbin")
-    out, seen = os.path.join(folder, "listed.jsonl"), []
+    out, seen, lost = os.path.join(folder, "listed.jsonl"), [], set()
     with Server(folder, "listings", 65536) as server:
         for at in range(0, 600, 60):
             changes = ",".join(f'{{"put":{number},"feature":{feature(tags={"name": str(number)})}}}' for number in range(at, at + 60))
             curl(server.url + "/edits", "-X", "POST", body=f'{{"changes":[{changes}]}}')
 
-        def listed(name, instead=lambda *_: None):
-            with Between(server, instead=instead) as between:
+        def loses(_, path):
+            if path in lost or not path.startswith("/admin/features/page/"):
+                return False
+            lost.add(path)
+            return True
+
+        def listed(name, **more):
+            with Between(server, **more) as between:
                 told = ran(*VTMAP, "save", out, "--url", between.url)
             seen.append(len(between.asked))
             cases.show(f"toolbox: a list of 600 features, {name}", told, (0, "600 features saved\n"))
 
         listed("by pages")
-        listed("of a server without pages", lambda _, path: (404, b"NotFound\n") if path.startswith("/admin/features/page/") else None)
+        listed("of a server without pages", instead=lambda _, path: (404, b"NotFound\n") if path.startswith("/admin/features/page/") else None)
         cases.show("toolbox: and how many requests that takes", (seen[0] < 5, seen[1] > 600), (True, True))
+        listed("whose pages are each lost once", loses=loses)
+        cases.show("toolbox: and how many requests that takes", seen[2] - seen[0], len(lost))
+        client = Client(server.url)
+        found = [(number, client.feature(number) == one) for number, one in client.features()]
+        client.close()
+        cases.show("toolbox: other requests while a list is read", found == [(number, True) for number in range(600)], True)
         if nginx:
             with Nginx(nginx, folder, server) as front:
                 ran(*VTMAP, "save", out, "--url", front.url)

@@ -9,6 +9,7 @@ that version. If no reply to an edit comes, the server is asked whether it was m
 """
 import http.client
 import json
+import operator
 import re
 import select
 import urllib.parse
@@ -26,6 +27,10 @@ CHECKED, PLAIN, FEED, PAGE, FROM = "/admin/edits", "/edits", "/admin/edits/from"
 # Requests that change nothing, and may be sent again. How often an edit is sent that isn't made.
 READS = ("GET", "HEAD")
 TRIES = 3
+# The end of a page of features that another one follows, and the most bytes that are looked at for it.
+NEXT = re.compile(rb'"next":(\d+)}\s*\Z')
+LONGEST_END = 40
+ID_AND_FEATURE = operator.itemgetter("id", "feature")
 # Statuses of a batch that its features, or their number, may be the cause of.
 OF_ITS_FEATURES = (400, 404, 413, 507)
 NO_BATCHES = {
@@ -67,6 +72,8 @@ class Client:
         self.url, self.person = address(url)
         self.address = urllib.parse.urlunsplit(self.url).rstrip("/")
         self.connection = self.tag_of_reply = None
+        # The request that is sent, and whose reply isn't read yet.
+        self.ahead = None
         # Whether a batch has been accepted; the first change of those that were sent last and aren't known to be made.
         self.has_batches = False
         self.last = None
@@ -81,7 +88,7 @@ class Client:
         """The status and the content of the reply to one request. On a kept connection that the server has closed it is sent again if it only
         reads; what changes something may have been done (`Lost`)."""
         fields = {**self.person, **(fields or ({"Content-Type": "application/json"} if body else {}))}
-        if self.connection and is_ended(self.connection):
+        if self.connection and (self.ahead != (method, path) if self.ahead else is_ended(self.connection)):
             self.close()
         was_kept = self.connection is not None
         try:
@@ -98,7 +105,9 @@ class Client:
             if not self.connection:
                 self.connect()
             is_sent = True
-            self.connection.request(method, self.url.path.rstrip("/") + path, body, fields)
+            if not self.ahead:
+                self.connection.request(method, self.url.path.rstrip("/") + path, body, fields)
+            self.ahead = None
             reply = self.connection.getresponse()
             self.tag_of_reply = reply.headers.get("etag")
             return reply.status, reply.read()
@@ -120,7 +129,16 @@ class Client:
         """Ends the kept connection."""
         if self.connection:
             self.connection.close()
-        self.connection = None
+        self.connection = self.ahead = None
+
+    def send_ahead(self, path):
+        """Sends a GET whose reply is read when it is asked for: meanwhile the server makes it. Any other request gives it up."""
+        if self.connection and not is_ended(self.connection):
+            try:
+                self.connection.request("GET", self.url.path.rstrip("/") + path, b"", self.person)
+                self.ahead = "GET", path
+            except (OSError, http.client.HTTPException):
+                self.close()
 
     def tag(self, path):
         """The entity tag of what is at a path, or None."""
@@ -129,9 +147,14 @@ class Client:
 
     def found(self, path):
         """The JSON of a reply 200, or None of the server's own reply 404."""
+        content = self.content(path)
+        return None if content is None else self.value(content)
+
+    def content(self, path):
+        """The content of a reply 200, or None of the server's own reply 404."""
         status, content = self.ask("GET", path)
         if status == 200:
-            return self.value(content)
+            return content
         if (status, word(content)) != (404, "NotFound"):
             self.stop_at(status, content)
             raise Stopped(f"GET {path}: {status} {word(content)}")
@@ -156,19 +179,24 @@ class Client:
         return self.found(f"/features/{number}")
 
     def features(self, first=0, end=NUMBER_END):
-        """Each feature of the map with its id, from a first id to one before the end, in ascending order."""
+        """Each feature of the map with its id, from a first id to one before the end, in ascending order. While those of a page are read, the
+        server makes the next page: it may lack an edit that is made meanwhile."""
         while first is not None and first < end:
-            rows, first = self.page(first)
-            for row in rows:
-                if row["id"] >= end:
-                    return
-                yield row["id"], row["feature"]
+            rows, first = self.page(first, end)
+            if rows and rows[-1]["id"] >= end:
+                rows, first = [row for row in rows if row["id"] < end], None
+            yield from map(ID_AND_FEATURE, rows)
 
-    def page(self, first):
-        """The features from an id on that one reply has, and the id of the next one, None if there is none. An older server has one in a reply."""
+    def page(self, first, end):
+        """The features from an id on that one reply has, and the id of the next one, None if there is none. An older server has one in a reply.
+        If that id is before the end, the next page is asked for before this one is parsed."""
         if self.has_pages:
-            page = self.found(f"{PAGE}/{first}")
-            if page is not None:
+            content = self.content(f"{PAGE}/{first}")
+            if content is not None:
+                following = NEXT.search(content[-LONGEST_END:])
+                if following and int(following[1]) < end:
+                    self.send_ahead(f"{PAGE}/{int(following[1])}")
+                page = self.value(content)
                 return page["features"], page["next"]
             self.has_pages = False
         row = self.found(f"{FROM}/{first}")
