@@ -30,6 +30,7 @@ from imports import imports
 from killed_servers import kills
 from large_imports import large
 from lost_replies import lost_replies
+from meanwhile import meanwhile
 from ogc import ogc
 from operation import operation
 from page_tools import page_tools
@@ -94,6 +95,7 @@ def main():
         "endings": endings,
         "doors": doors,
         "steps": steps,
+        "meanwhile": meanwhile,
         "standby": standby,
         "long-follow": long_follow,
         "takeover": takeover,

@@ -1,0 +1,92 @@
+"""The part `meanwhile` of run.py: what is served while a publication is prepared."""
+import http.client
+import json
+import os
+import random
+import select
+import socket
+
+from stand import JSON, Server, curl, feature, refusal, same, status_of, wanted
+
+POINTS, BATCH = 4096, 32
+BEGIN = b"POST /publish/begin HTTP/1.1\r\nhost: x\r\n\r\n"
+
+
+def fill(server):
+    """Puts points at all zooms, by chance: many tiles."""
+    chance = random.Random(7)
+    for first in range(0, POINTS, BATCH):
+        places = [[chance.randrange(2**32), chance.randrange(2**32)] for _ in range(BATCH)]
+        made = [{"put": first + at, "feature": json.loads(feature(last=8, geometry={"points": [place]}))} for at, place in enumerate(places)]
+        reply = curl(server.url + "/edits", body=json.dumps({"changes": made}))
+    return reply
+
+
+def named(server, number, layer):
+    """Puts a point that is alone in its layer."""
+    return curl(f"{server.url}/features/{number}", "-X", "PUT", body=feature(layer=layer))
+
+
+def layers(archive):
+    """The layers that the metadata of an archive name."""
+    at, size = (int.from_bytes(archive[place:place + 8], "little") for place in (24, 32))
+    return {row["id"] for row in json.loads(archive[at:at + size])["vector_layers"]}
+
+
+def answer(asker):
+    """Status and content of the reply that comes next."""
+    reply = http.client.HTTPResponse(asker)
+    reply.begin()
+    return reply.status, reply.read()
+
+
+def others(server, asker):
+    """How many looks and edits were answered before anything came for who asks, and whether each was right."""
+    count, right = 0, True
+    while not select.select([asker], [], [], 0)[0]:
+        number = POINTS + 10 + count
+        right = right and status_of(named(server, number, "meanwhile")) == 200 and status_of(curl(f"{server.url}/features/{number}")) == 200
+        count += 1
+    return count, right
+
+
+def published(server):
+    """Makes the steps that are left, and reads the archive."""
+    while json.loads(curl(server.url + "/publish/step", "-X", "POST")[2])["left"]:
+        pass
+    return curl(server.url + "/map.pmtiles")[2]
+
+
+def meanwhile(cases, folder):
+    """A publication that is prepared by a tile at a time, between which edits and looks are answered."""
+    with Server(folder, "meanwhile", 65536) as server:
+        same(cases, "4,096 points", fill(server), wanted(200, JSON, f'{{"edit":{POINTS // BATCH}}}'))
+        named(server, POINTS, "before")
+        with socket.create_connection(("127.0.0.1", server.port)) as asker, socket.create_connection(("127.0.0.1", server.port)) as second:
+            asker.sendall(BEGIN)
+            count, right = others(server, asker)
+            cases.show("edits and looks are answered while a publication is prepared", (count > 1, right), (True, True))
+            status, told = answer(asker)
+            cases.show("its beginning is answered", (status, list(json.loads(told))), (200, ["left"]))
+            archive = published(server)
+            cases.show("its archive has what was acknowledged before, and nothing later", layers(archive) & {"before", "meanwhile"}, {"before"})
+            asker.sendall(BEGIN)
+            second.sendall(BEGIN)
+            found = sorted([answer(asker), answer(second)])
+            cases.show("of two beginnings one is refused", ([status for status, _ in found], found[1][1]), ([200, 409], b"Busy\n"))
+            cases.show("its archive has the edits since", layers(published(server)) & {"before", "meanwhile"}, {"before", "meanwhile"})
+            asker.sendall(BEGIN)
+            same(cases, "a cancellation of what is prepared", curl(server.url + "/publish/cancel", "-X", "POST"), refusal(409, "Idle"))
+            cases.show("the beginning goes on", answer(asker)[0], 200)
+            curl(server.url + "/publish/cancel", "-X", "POST")
+            second.sendall(BEGIN)
+        with socket.create_connection(("127.0.0.1", server.port)) as asker:
+            asker.sendall(BEGIN)
+            status, told = answer(asker)
+            if (status, told) == (409, b"Busy\n"):
+                # (who is gone had asked first, and its publication began: it is anybody's to cancel)
+                same(cases, "a publication whose asker is gone", curl(server.url + "/publish/cancel", "-X", "POST"), wanted(204))
+                asker.sendall(BEGIN)
+                status, told = answer(asker)
+            cases.show("another one publishes after who asked is gone", status, 200)
+    os.remove(server.disk)
