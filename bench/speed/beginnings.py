@@ -1,10 +1,11 @@
 #!/usr/bin/env python3
-"""How long the beginning of a publication holds up everybody, its peak of memory beside the archive, and a start after it.
+"""How long the beginning of a publication takes and how long others wait meanwhile, its peak of memory beside the archive, and a start after it.
 
     python3 bench/speed/beginnings.py [PROGRAM]    PROGRAM is crates/vtserve/out/vtserve, which `rt ci` leaves there
 
 Two maps, put by batches over HTTP: the city of city_features.py, and 100,000 points with five tags, at random in 5 by 4 tiles of zoom 12. Each
-is published three times and the server started five times; all are printed.
+is published three times, beside a reader that asks for a feature again and again, and three times at once, and the server started five times; all
+are printed.
 """
 import http.client
 import json
@@ -15,6 +16,7 @@ import socket
 import subprocess
 import sys
 import tempfile
+import threading
 import time
 
 HERE = os.path.dirname(os.path.abspath(__file__))
@@ -71,15 +73,52 @@ def put_all(connection, feature, count):
         posted(connection, "/edits", json.dumps({"changes": changes}, separators=(",", ":")))
 
 
-def published(connection):
-    """A publication by steps: how long its beginning took, and the bytes of the archive."""
-    _, begin = posted(connection, "/publish/begin")
+class Reader(threading.Thread):
+    """A reader that asks for a feature again and again: the longest that it waited for a reply."""
+
+    def __init__(self, port):
+        super().__init__(daemon=True)
+        self.connection, self.longest, self.is_over = http.client.HTTPConnection("127.0.0.1", port), 0, False
+
+    def run(self):
+        while not self.is_over:
+            since = time.monotonic()
+            self.connection.request("GET", "/features/1")
+            self.connection.getresponse().read()
+            self.longest = max(self.longest, time.monotonic() - since)
+            time.sleep(0.001)
+
+    def __enter__(self):
+        self.start()
+        return self
+
+    def __exit__(self, *fault):
+        self.is_over = True
+        self.join()
+
+
+def published(connection, port):
+    """A publication by steps: how long its beginning took, how long a reader waited meanwhile at most, and the bytes of the archive."""
+    with Reader(port) as reader:
+        _, begin = posted(connection, "/publish/begin")
     while posted(connection, "/publish/step")[0]["left"]:
         pass
     connection.request("HEAD", "/map.pmtiles")
     reply = connection.getresponse()
     reply.read()
-    return begin, int(reply.getheader("content-length"))
+    return begin, reader.longest, int(reply.getheader("content-length"))
+
+
+def alone(connection):
+    """How long a beginning takes beside nobody. It is cancelled."""
+    _, begin = posted(connection, "/publish/begin")
+    connection.request("POST", "/publish/cancel")
+    connection.getresponse().read()
+    return begin
+
+
+def in_ms(times):
+    return ", ".join(f"{took * 1000:.0f}" for took in times)
 
 
 def measured(name, feature, count, sectors, folder):
@@ -89,18 +128,21 @@ def measured(name, feature, count, sectors, folder):
     connection = http.client.HTTPConnection("127.0.0.1", port)
     put_all(connection, feature, count)
     rest = memory_of(server, "VmRSS")
-    first, archive = published(connection)
-    peak = memory_of(server, "VmHWM")
-    begins = [first] + [published(connection)[0] for _ in range(2)]
+    first = published(connection, port)
+    peak, archive = memory_of(server, "VmHWM"), first[2]
+    each = [first] + [published(connection, port) for _ in range(2)]
+    lone = [alone(connection) for _ in range(3)]
+    whole = [posted(connection, "/publish")[1] for _ in range(3)]
     ended(server)
-    print(f"{name}: beginnings of {', '.join(f'{begin * 1000:.0f}' for begin in begins)} ms; at rest {rest} KB, at the first peak {peak} KB: "
-          f"above rest {(peak - rest) * 1024 / archive:.2f} times the archive of {archive} bytes")
+    print(f"{name}: beginnings of {in_ms(one[0] for one in each)} ms beside a reader, who waits {in_ms(one[1] for one in each)} ms at most; of {in_ms(lone)} ms "
+          f"beside nobody; whole publications of {in_ms(whole)} ms")
+    print(f"{name}: at rest {rest} KB, at the first peak {peak} KB: above rest {(peak - rest) * 1024 / archive:.2f} times the archive of {archive} bytes")
     starts = []
     for _ in range(5):
         server, _, took = started(disk)
         ended(server)
         starts.append(took)
-    print(f"{name}: starts of {', '.join(f'{start * 1000:.0f}' for start in starts)} ms")
+    print(f"{name}: starts of {in_ms(starts)} ms")
 
 
 def main():
