@@ -1,5 +1,6 @@
 -- All that was done for the connections of a listener, and what is open of them.
-use Rattle.std.proofs.Common.{◌≡◌, ◌≢◌, ℕ, ◌+◌, ◌<◌, ◌≤◌, List, [], ◌∷◌, ◌++◌, Bool, true, false, None, Some, refl, sym, ap, subst, ◌∙◌, inl, inr, lt_irrefl, lt_of_le_of_lt, arith}
+use Rattle.std.proofs.Common.{◌≡◌, ◌≢◌, ℕ, ◌+◌, ◌<◌, ◌≤◌, List, [], ◌∷◌, ◌++◌, Bool, true, false, None, Some, refl, sym, ap, subst, ◌∙◌, inl, inr}
+use Rattle.std.proofs.Common.{lt_irrefl, lt_of_le_of_lt, arith}
 use Rattle.std.proofs.lemmas.Bool.{eqb-true, eqb-false}
 use Rattle.std.specs.Prelude.{◌⊎◌, nat_eq, is_some, ⊤}
 use Rattle.std.specs.declared.option.Option.{Option}
@@ -7,7 +8,6 @@ use Rattle.http_listen.specs.declared.kept.Kept.{Kept}
 use Rattle.http_listen.specs.declared.rests.Unsent.{Unsent}
 use Rattle.http_listen.specs.Conversations.{Act, Deed, acts_of, deeds_of, Follows, IsTalking, AreApart}
 use Rattle.http_listen.specs.Goes.{Goes, Leaves, Acts}
-use Rattle.http_listen.specs.Orders.{AreInOrder}
 use Rattle.http_listen.specs.Talks.{Told}
 use Rattle.http_listen.proofs.AllLemmas.{some_same, acts_of_here, acts_of_other}
 use Rattle.http_listen.proofs.RoomLemmas.{none_some, before_of, goes_apart, taken_goes}
@@ -36,10 +36,6 @@ module _ {S : Type 0} (told : S → Option Told) where
     each = λ number. (None, refl);
     none = λ number above. refl;
   }
-
-  -- What was done is in order.
-  pub ledger_orders : (begun count : ℕ) (deeds : List Deed) (places : ℕ → Option (Kept S)) → Ledger begun deeds places → begun ≤ count → AreInOrder count deeds
-  ledger_orders begun count deeds places l few = record { each = l.each; theirs = λ number above. l.none number (omega arith) }
 
   -- Turns without an act.
   pub ledger_goes : (begun : ℕ) (deeds : List Deed) (old new : ℕ → Option (Kept S)) → Ledger begun deeds old → Goes told old new → Ledger begun deeds new
@@ -73,7 +69,8 @@ module _ {S : Type 0} (told : S → Option Told) where
 
   -- Acts of a connection that isn't at a key.
   module _ (begun : ℕ) (deeds : List Deed) (old new : ℕ → Option (Kept S)) (kept : Kept S) (more : List Act) (first : Option Told) (l : Ledger begun deeds old)
-      (talking : IsTalking told first (acts_of kept.turn.number deeds) kept) (fresh : (key : ℕ) (x : Kept S) → old key ≡ Some x → x.turn.number ≢ kept.turn.number)
+      (talking : IsTalking told first (acts_of kept.turn.number deeds) kept)
+      (fresh : (key : ℕ) (x : Kept S) → old key ≡ Some x → x.turn.number ≢ kept.turn.number)
       (number_is : kept.turn.number ≤ begun) (acts : Acts told old kept more new) where
     abbrev pub all : List Deed
     all = deeds ++ deeds_of kept.turn.number more
@@ -111,7 +108,8 @@ module _ {S : Type 0} (told : S → Option Told) where
         let other : kept.turn.number ≢ x.turn.number = λ e. fresh key x there (sym e) in
         (before.0, subst (λ (a : List Act). IsTalking told before.0 a x) (sym (acts_of_other kept.turn.number x.turn.number deeds more other)) before.1)
 
-    apart_then : (key other : ℕ) (x y : Kept S) → ((key ≡ acts.key) × (x ≡ acts.last)) ⊎ (old key ≡ Some x) → ((other ≡ acts.key) × (y ≡ acts.last)) ⊎ (old other ≡ Some y)
+    apart_then : (key other : ℕ) (x y : Kept S) → ((key ≡ acts.key) × (x ≡ acts.last)) ⊎ (old key ≡ Some x) → ((other ≡ acts.key) × (y ≡ acts.last))
+        ⊎ (old other ≡ Some y)
         → x.turn.number ≡ y.turn.number → key ≡ other
     apart_then key other x y (inl p) (inl q) e = p.0 ∙ sym q.0
     apart_then key other x y (inl p) (inr q) e =
@@ -133,8 +131,11 @@ module _ {S : Type 0} (told : S → Option Told) where
           (follows_both None kept.turn.unsent acts.steps.left (acts_of kept.turn.number deeds) more talking.follows acts.steps.follows)),
     )
     each_then number false e =
-        let before = l.each number in
-        (before.0, subst (λ (a : List Act). Follows None a before.0) (sym (acts_of_other kept.turn.number number deeds more (eqb-false kept.turn.number number e))) before.1)
+        let before = l.each number in (
+          before.0,
+          subst (λ (a : List Act). Follows None a before.0)
+              (sym (acts_of_other kept.turn.number number deeds more (eqb-false kept.turn.number number e))) before.1,
+        )
 
     pub ledger_acts : Ledger begun all new
     ledger_acts = record {
@@ -160,13 +161,15 @@ module _ {S : Type 0} (told : S → Option Told) where
       (subst (λ (a : List Act). IsTalking told before.0 a kept) (no_more (acts_of out.before.turn.number deeds)) on) in
       let not_there : (key : ℕ) (x : Kept S) → mid key ≡ Some x → key ≢ out.key = λ key x at e. none_some (sym out.none ∙ ap mid (sym e) ∙ at) in
       let fresh : (key : ℕ) (x : Kept S) → mid key ≡ Some x → x.turn.number ≢ kept.turn.number =
-      λ key x at same. not_there key x at (l.apart key out.key x out.before (sym (out.others key (not_there key x at)) ∙ at) out.there (same ∙ out.steps.number)) in
+      λ key x at same. not_there key x at (l.apart key out.key x out.before (sym (out.others key (not_there key x at)) ∙ at) out.there
+      (same ∙ out.steps.number)) in
       let number_is : kept.turn.number ≤ begun =
       subst (λ (n : ℕ). n ≤ begun) (sym out.steps.number) (l.within out.key out.before out.there) in
       ledger_acts begun deeds mid new kept more before.0 taken talking fresh number_is acts
 
   -- The first acts of a new connection.
-  pub ledger_new : (begun : ℕ) (deeds : List Deed) (old new : ℕ → Option (Kept S)) (kept : Kept S) (more : List Act) (first : Option Told) → Ledger begun deeds old
+  pub ledger_new : (begun : ℕ) (deeds : List Deed) (old new : ℕ → Option (Kept S)) (kept : Kept S) (more : List Act) (first : Option Told)
+      → Ledger begun deeds old
       → kept.turn.number ≡ begun + 1 → IsTalking told first [] kept → Acts told old kept more new
       → Ledger (begun + 1) (deeds ++ deeds_of kept.turn.number more) new
   ledger_new begun deeds old new kept more first l number talking acts =

@@ -42,7 +42,14 @@ module _ {S : Type 0} (replies : S → RequestView → ReplyView → S → Type 
       bytes = s.bytes;
       rest = s.rest;
       read = s.read;
-      carries = record { requests = s.carries.requests; out = s.carries.out; begins = s.carries.begins; answers = s.carries.answers; written = refl; counted = s.carries.counted };
+      carries = record {
+        requests = s.carries.requests;
+        out = s.carries.out;
+        begins = s.carries.begins;
+        answers = s.carries.answers;
+        written = refl;
+        counted = s.carries.counted;
+      };
       none = s.none;
     },
   )
@@ -61,7 +68,14 @@ module _ {S : Type 0} (replies : S → RequestView → ReplyView → S → Type 
             middle = b.middle;
             rest = b.rest;
             between = Some b.carries.out;
-            carries = record { requests = b.carries.requests; out = b.carries.out; begins = b.carries.begins; answers = b.carries.answers; written = refl; counted = b.carries.counted };
+            carries = record {
+              requests = b.carries.requests;
+              out = b.carries.out;
+              begins = b.carries.begins;
+              answers = b.carries.answers;
+              written = refl;
+              counted = b.carries.counted;
+            };
             next = b.next;
             count = b.count;
             replied = b.replied;

@@ -1,7 +1,8 @@
 -- The connections by their keys, as turns are given to them.
-use Rattle.std.proofs.Common.{◌≡◌, ◌≢◌, ℕ, List, [], ◌++◌, Bool, true, false, None, Some, refl, sym, ap, subst, ◌∙◌, append_assoc, append-nil, true≢false, inl, inr, ⊎_elim}
+use Rattle.std.proofs.Common.{◌≡◌, ◌≢◌, ℕ, List, [], ◌++◌, Bool, true, false, None, Some, refl, sym, ap, subst, ◌∙◌, append_assoc, append-nil}
+use Rattle.std.proofs.Common.{true≢false, inl, inr, ⊎_elim}
 use Rattle.std.proofs.lemmas.Bool.{eqb-true, eqb-false}
-use Rattle.std.specs.Prelude.{◌⊎◌, nat_eq, is_some, ⊤, IsSome}
+use Rattle.std.specs.Prelude.{◌⊎◌, nat_eq, is_some, ⊤}
 use Rattle.std.specs.declared.option.Option.{Option}
 use Rattle.http_listen.specs.declared.kept.Kept.{Kept}
 use Rattle.http_listen.specs.Conversations.{Steps, AreApart, Stands}
@@ -60,10 +61,6 @@ module _ {S : Type 0} (told : S → Option Told) where
         (open_before, subst (λ (k : Kept S). Steps told before [] ⊤ k) (sym same) (steps_whole before kept _ s ((is e).0, open_before)));
   }
 
-  -- One that has ended, or is as it was.
-  pub ended_on : (before last : Kept S) → last.turn.number ≡ before.turn.number → IsSome last.turn.drops → GoesOnAs told before last
-  ended_on before last number ended = record { number = number; opened = λ e. absurd (true≢false (sym ended ∙ ap is_some e)) }
-
   -- Turns without an act, one after the other.
   pub steps_both : (old mid new : Kept S) → Steps told old [] ⊤ mid → Steps told mid [] ⊤ new → Steps told old [] ⊤ new
   steps_both old mid new s t =
@@ -78,7 +75,8 @@ module _ {S : Type 0} (told : S → Option Told) where
         lost = t.lost;
         cut = t.cut;
         input = sym (append_assoc old.input s.given t.given) ∙ ap (λ l. l ++ t.given) input ∙ t.input;
-        moved = moves_both (told old.stream) (told mid.stream) (told new.stream) old.output mid.output (new.output ++ t.cut) s.given t.given [] [] moved t.moved;
+        moved = moves_both (told old.stream) (told mid.stream) (told new.stream) old.output mid.output
+            (new.output ++ t.cut) s.given t.given [] [] moved t.moved;
         left = t.left;
         follows = t.follows ∙ (s.kept tt).2 ∙ s.follows;
         kept = t.kept;
@@ -133,10 +131,6 @@ module _ {S : Type 0} (told : S → Option Told) where
   finds_none old new (Reads kept unsent) f h goes = absurd (h kept unsent refl)
   finds_none old new Nothing f h goes = record { mid = new; before = goes; turn = goes_none new }
   finds_none old new Over f h goes = record { mid = new; before = goes; turn = goes_none new }
-
-  -- The same connections.
-  pub same_goes : (old new : ℕ → Option (Kept S)) → ((key : ℕ) → new key ≡ old key) → Goes told old new
-  same_goes old new same key = subst (λ (x : Option (Kept S)). GoesAt told (old key) x) (sym (same key)) (goes_at_same (old key))
 
   -- A connection at a key got its turn, and was put back there, or wasn't.
   module _ (old mid new : ℕ → Option (Kept S)) (key : ℕ) (before last : Kept S) (there : old key ≡ Some before) (none : mid key ≡ None)

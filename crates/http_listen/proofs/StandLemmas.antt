@@ -49,7 +49,3 @@ module _ {S : Type 0} where
   -- After the events of a wait.
   pub all_stand_events : (events : List Event) (old new : ℕ → Option (Kept S)) → ((key : ℕ) → new key ≡ after_events key events (old key)) → AllStand old new
   all_stand_events events old new same key = subst (λ (x : Option (Kept S)). StandsAt (old key) x) (sym (same key)) (stand_events key events (old key))
-
-  -- The same connections.
-  pub all_stand_same : (old new : ℕ → Option (Kept S)) → ((key : ℕ) → new key ≡ old key) → AllStand old new
-  all_stand_same old new same key = subst (λ (x : Option (Kept S)). StandsAt (old key) x) (sym (same key)) (stand_same (old key))

@@ -1,11 +1,11 @@
 -- What follows from what a stream told.
-use Rattle.std.proofs.Common.{◌≡◌, ℕ, List, [], ◌∷◌, ◌++◌, None, Some, refl, sym, ap, ◌∙◌, append_assoc, append-nil, length, take, drop, take-append-drop}
+use Rattle.std.proofs.Common.{◌≡◌, ℕ, List, [], ◌++◌, None, Some, refl, sym, ap, ◌∙◌, append_assoc, append-nil, length, take, drop, take-append-drop}
 use Rattle.std.proofs.lemmas.List.{append_cancel_left}
 use lib.Seq.{take-append_seam}
 use Rattle.std.specs.declared.option.Option.{Option}
 use Rattle.std.specs.Prelude.{get_or}
-use Rattle.std.specs.Io.KnownBytes.{Appends, Keeps}
-use Rattle.http_listen.specs.Talks.{Told, Grows, Moves, noted, notes}
+use Rattle.std.specs.Io.KnownBytes.{Appends}
+use Rattle.http_listen.specs.Talks.{Told, Grows, Moves, notes}
 
 -- Nothing was given or taken.
 pub grows_none : (a : Option Told) → Grows a [] [] a
@@ -27,10 +27,6 @@ moves_both (Some a) (Some b) (Some c) w v u g h m n p q = (
   q.1 ∙ sym (append_assoc b.taken v n) ∙ ap (λ l. l ++ n) p.1 ∙ append_assoc a.taken (w ++ m) n ∙ ap (λ l. a.taken ++ l) (append_assoc w m n),
 )
 
--- The first leaves what is to come.
-pub moves_on : (a b c : Option Told) (w v u m : List ℕ) → Moves a w [] [] b v → Moves b v [] m c u → Moves a w [] m c u
-moves_on a b c w v u m p q = moves_both a b c w v u [] [] [] m p q
-
 -- A read, whatever waits.
 pub moves_read : (a b : Option Told) (w g : List ℕ) → Grows a g [] b → Moves a w g [] b w
 moves_read None b w g p = tt
@@ -47,32 +43,10 @@ moves_sent (Some a) (Some b) w n p = (
   ap (λ l. l ++ drop n w) p.1 ∙ append_assoc a.taken (take n w) (drop n w) ∙ ap (λ l. a.taken ++ l) (take-append-drop n w ∙ sym (append-nil w)),
 )
 
--- A write of other bytes, while none wait.
-pub moves_passed : (a b : Option Told) (bs : List ℕ) → Grows a [] bs b → Moves a [] [] bs b []
-moves_passed None b bs p = tt
-moves_passed (Some a) None bs p = absurd p
-moves_passed (Some a) (Some b) bs p = (p.0, append-nil b.taken ∙ p.1)
-
 -- More bytes wait.
 pub moves_added : (a : Option Told) (w m : List ℕ) → Moves a w [] m a (w ++ m)
 moves_added None w m = tt
 moves_added (Some t) w m = (sym (append-nil t.given), refl)
-
--- A writer that has both in one list.
-pub moves_noted : (a b : Option Told) (w v m : List ℕ) → Moves a w [] m b v → Appends (notes a w) (notes b v) m
-moves_noted None b w v m p = tt
-moves_noted (Some a) None w v m p = absurd p
-moves_noted (Some a) (Some b) w v m p =
-    let same : b.given ≡ a.given = p.0 ∙ append-nil a.given in
-    ap (λ l. length l ∷ (l ++ (b.taken ++ v))) same
-    ∙ ap (λ l. length a.given ∷ (a.given ++ l)) (p.1 ∙ sym (append_assoc a.taken w m))
-    ∙ ap (λ l. length a.given ∷ l) (sym (append_assoc a.given (a.taken ++ w) m))
-
--- The same without more bytes.
-pub moves_same : (a b : Option Told) (w v : List ℕ) → Moves a w [] [] b v → Keeps (notes a w) (notes b v)
-moves_same None b w v p = tt
-moves_same (Some a) None w v p = absurd p
-moves_same (Some a) (Some b) w v p = moves_noted (Some a) (Some b) w v [] p ∙ append-nil (noted w a)
 
 -- the first element, and the others
 abbrev first : List ℕ → ℕ

@@ -20,7 +20,7 @@ use Rattle.httparse.specs.Grammar.{trim_ows}
 use Rattle.http_requests.specs.declared.fields.TheConstants.{MAX_BODY}
 use Rattle.http_requests.specs.declared.refusals.Refusal.{Refusal}
 use Rattle.http_requests.specs.declared.refusals.Refusal.TheVariants.{Host, Coding, Expect, Length, Body}
-use Rattle.http_requests.specs.Fields.{NamedValue, values_of, limited, stated_length, only_value, is_numeral, is_word, members}
+use Rattle.http_requests.specs.Fields.{NamedValue, values_of, limited, stated_length, is_numeral, is_word, members}
 use Rattle.http_requests.specs.Fields.{framing, body_length, is_hosted, has_field}
 
 -- more fields
@@ -56,17 +56,6 @@ two_values word bytes fields i v w so =
     ∙ values-append word (map (header_bytes bytes) (take i fields)) (map (header_bytes bytes) (drop i fields)) in
     let whole = ap length (parts ∙ ap (λ (t : List (List ℕ)). t ++ values_of word (map (header_bytes bytes) (drop i fields))) so) in
     omega arith
-
--- more than one value states no length, and is no range
-often_refused : (values : List (List ℕ)) → 1 < length values → stated_length values ≡ Err Length
-often_refused [] h = absurd (omega arith)
-often_refused (v ∷ []) h = absurd (omega arith)
-often_refused (v ∷ w ∷ more) h = refl
-
-often_none : (values : List (List ℕ)) → 1 < length values → only_value values ≡ None
-often_none [] h = absurd (omega arith)
-often_none (v ∷ []) h = absurd (omega arith)
-often_none (v ∷ w ∷ more) h = refl
 
 -- if a test doesn't refuse, the result is that of the other branch
 taken : (b : Bool) (r : Result ℕ Refusal) (e : Refusal) (n : ℕ) → cond b r (Err e) ≡ Ok n → r ≡ Ok n

@@ -6,7 +6,7 @@ use Rattle.std.proofs.Common.{Option, None, Some}
 use Rattle.http_requests.specs.Frame.{IsMissing}
 use Rattle.std.proofs.lemmas.List.{append-nil, take-append-drop, drop-drop, length-take, length-take-le, length-map}
 use Rattle.httparse.specs.Grammar.{RequestHead, IsRequestHead, ReadsRequest, print_request, HasNoRequest}
-use Rattle.httparse.specs.Spans.{IsHeaderWithin, IsRequestAt, IsRequestWithin, RequestOverflows, header_bytes, name_and_value}
+use Rattle.httparse.specs.Spans.{IsHeaderWithin, IsRequestAt, IsRequestWithin, header_bytes, name_and_value}
 use Rattle.httparse.specs.declared.spans.HeaderSpan.{HeaderSpan}
 use Rattle.httparse.specs.declared.spans.RequestSpans.{RequestSpans}
 use Rattle.httparse.proofs.GrammarLemmas.{request_unique, request_prefix_free, ReadsRequest-append}
@@ -26,15 +26,6 @@ IsHead-append bytes more head rest is = record {
   size = is.size;
   fields = is.fields;
 }
-
--- what follows doesn't change the head
-IsHead_unique : (bytes more : List ℕ) (h k : RequestHead) (r q : List ℕ) → IsHead bytes h r → IsHead (bytes ++ more) k q
-    → (h ≡ k) × (r ++ more ≡ q)
-IsHead_unique bytes more h k r q x y = request_prefix_free bytes more h k r q x.reads y.reads
-
--- an error, or too many fields
-overflows_no_head : (bytes : List ℕ) → RequestOverflows 32 bytes → (more : List ℕ) → HasNoHead (bytes ++ more)
-overflows_no_head bytes over more head rest is = let many = over more head rest is.reads in let few = is.fields in absurd (omega arith)
 
 -- a head that ends after the limit
 pub long_no_head : (bytes : List ℕ) (h : RequestHead) (r : List ℕ) → ReadsRequest bytes h r → 8192 < length (print_request h)
@@ -61,9 +52,6 @@ full_no_head bytes none full more head rest is =
         let tails : b ++ more ≡ a ++ rest = cc in
         let ih = front a b more rest (omega arith) tails in
         cc
-
-none_no_head : (bytes : List ℕ) → HasNoRequest bytes → HasNoHead bytes
-none_no_head bytes none head rest is = none head rest is.reads
 
 print_request_some : (h : RequestHead) → IsRequestHead h → 0 < length (print_request h)
 unfolding print_request
@@ -206,10 +194,6 @@ headless_missing bytes none few = record {
     same : (more : List ℕ) → length more ≡ 0 → HasNoHead (bytes ++ more)
     same [] e = subst HasNoHead (sym (append-nil bytes)) none
     same (x ∷ more) e = absurd (omega arith)
-
--- the same by the parser's result
-partial_missing : (bytes : List ℕ) → HasNoRequest bytes → length bytes < 8192 → IsMissing bytes NO_HEAD (length bytes + 1)
-partial_missing bytes none few = headless_missing bytes (λ head rest is. none head rest is.reads) few
 
 -- bytes that are refused begin with no request
 pub refused_none : (bytes : List ℕ) (head : Option RequestHead) (refusal : Refusal) (m : Request) (r : List ℕ)

@@ -1,5 +1,5 @@
 -- For what answers requests.
-use Rattle.std.proofs.Common.{◌≡◌, List, ℕ, [], refl, ap, length}
+use Rattle.std.proofs.Common.{◌≡◌, List, ℕ, [], refl, ap}
 use Rattle.http_serve.specs.declared.replies.Content.{Content}
 use Rattle.http_serve.specs.declared.replies.Content.TheVariants.{Empty, Fixed, Whole, Shared, Parts}
 use Rattle.http_serve.specs.declared.replies.Reply.{Reply}
@@ -25,14 +25,6 @@ shown_reply reply parts fits = (
   ap (λ (bytes : List ℕ). record (reply_view [] reply) { content = bytes }) (same_bytes reply.content parts),
   same_fits reply.content parts fits,
 )
-
--- they are all of its content
-shown_size : (content : Content) (parts : List ℕ) → InParts content (length parts ≡ length (content_bytes parts content))
-shown_size Empty parts = tt
-shown_size (Fixed text) parts = tt
-shown_size (Whole bytes) parts = tt
-shown_size (Shared bytes) parts = tt
-shown_size (Parts first size) parts = refl
 
 fits_none : (content : Content) (parts : List ℕ) → InParts content ⊥ → FitsParts parts content
 fits_none Empty parts none = tt

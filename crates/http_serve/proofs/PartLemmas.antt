@@ -1,6 +1,6 @@
 -- Contents part by part.
 use Rattle.std.proofs.Common.{◌≡◌, ℕ, ◌+◌, ◌-◌, ◌<◌, ◌≤◌, List, [], ◌++◌, Bool, true, false, Option, take, drop, length, refl, sym, ap, ◌∙◌, subst, arith}
-use Rattle.std.proofs.Common.{append_assoc, length-append, length-drop, Global}
+use Rattle.std.proofs.Common.{append_assoc, length-drop, Global}
 use Rattle.std.specs.Prelude.{cond, not, min, ◌||◌, Vec, Result, Ok, Err, IfErr}
 use Rattle.std.proofs.lemmas.Bool.{false≢true}
 use Rattle.std.proofs.Math.Seq.{take-add}
@@ -58,26 +58,6 @@ part_cut xs offset at count u v w n behind within so_far some more =
     )
 
 -- ---- a reply whose content is being read
-
--- the reply with a part that was read is a later reply
-part_later : (reply : ReplyView) (offset : ℕ) (part : List ℕ) → offset + length part ≤ length reply.content
-    → IsLater offset reply (with_part offset part reply)
-part_later reply offset part within =
-    let kept : List ℕ = take offset reply.content in
-    let behind : List ℕ = drop (offset + length part) reply.content in
-    let kept_size : length kept ≡ offset = length-take-le offset reply.content (omega (arith, within)) in
-    record {
-      same = refl;
-      size = omega (
-        arith,
-        within,
-        kept_size,
-        length-append (kept ++ part) behind,
-        length-append kept part,
-        length-drop (offset + length part) reply.content,
-      );
-      front = ap (take offset) (append_assoc kept part behind) ∙ take_at kept (part ++ behind) offset kept_size;
-    }
 
 pub part_there : (reply : ReplyView) (offset : ℕ) (part : List ℕ) → offset + length part ≤ length reply.content
     → take (length part) (drop offset (with_part offset part reply).content) ≡ part

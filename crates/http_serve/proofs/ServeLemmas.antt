@@ -82,7 +82,8 @@ pub record IsSoFar {S : Type 0} (replies : S → RequestView → ReplyView → S
 
 -- what a reply leaves that was cut
 pub cut_breaks : {S : Type 0} (replies fails : S → RequestView → ReplyView → S → Type 0) (old : S) (bytes : List ℕ) (held : Option (List ℕ)) (before : ℕ)
-    (middle : S) (input : List ℕ) (holds : Option (List ℕ)) (so_far : ℕ) (spans : List HeaderSpan) (frame : Frame) (request : Request) (reply : ReplyView) (n : ℕ) (new : S)
+    (middle : S) (input : List ℕ) (holds : Option (List ℕ)) (so_far : ℕ) (spans : List HeaderSpan) (frame : Frame) (request : Request)
+    (reply : ReplyView) (n : ℕ) (new : S)
     (now : Option (List ℕ)) (fault : SendFault)
     → Carries replies old bytes held before middle input holds so_far → IsFrameOf input spans frame request
     → GivesOrFails (Err fault) (replies middle (request_view_at input spans frame) reply new) (fails middle (request_view_at input spans frame) reply new)
@@ -100,7 +101,8 @@ cut_breaks replies fails old bytes held before middle input holds so_far spans f
 
 -- and where the rest of its content was left
 pub cut_left : {S : Type 0} (replies sends : S → RequestView → ReplyView → S → Type 0) (old : S) (bytes : List ℕ) (held : Option (List ℕ)) (before : ℕ)
-    (middle : S) (input : List ℕ) (holds : Option (List ℕ)) (so_far : ℕ) (spans : List HeaderSpan) (frame : Frame) (request : Request) (new : S) (now : Option (List ℕ))
+    (middle : S) (input : List ℕ) (holds : Option (List ℕ)) (so_far : ℕ) (spans : List HeaderSpan) (frame : Frame) (request : Request) (new : S)
+    (now : Option (List ℕ))
     (fault : SendFault) → Carries replies old bytes held before middle input holds so_far → IsFrameOf input spans frame request
     → IfRest (Err fault) (λ from size. (reply : ReplyView) × replies middle (request_view_at input spans frame) reply new
     × sends middle (request_view_at input spans frame) reply new × IsStopped (reply_at input frame reply) reply.content from size holds now)

@@ -2,7 +2,7 @@
 use Rattle.std.proofs.Common.{◌≡◌, ℕ, suc, ◌+◌, ◌-◌, ◌<◌, ◌≤◌, ◌^◌, List, [], ◌∷◌, ◌++◌, true, false, length, take, drop, get_or}
 use Rattle.std.proofs.Common.{drop-cons, length-append, length-drop, take_all, refl, sym, ◌∙◌, ap, subst, arith}
 use Rattle.std.specs.Prelude.{Bool, cond, nat_lt, nat_eq, Option, Some, None, MatchOption, ◌↔◌, codes}
-use Rattle.std.specs.Cmp.Lexicographic.{pointwise, same_text, other_text}
+use Rattle.std.specs.Cmp.Lexicographic.{pointwise, same_text}
 use Rattle.std.proofs.lemmas.List.{append_cancel_left, take-append-drop}
 use Rattle.std.proofs.lemmas.List.Quantifiers.{position-Some}
 use Rattle.std.specs.List.{list_all, position, position_or_len}
@@ -14,7 +14,6 @@ use Rattle.std.proofs.Math.Seq.{take-append_seam, drop-append-add}
 use Rattle.http_values.specs.Ranges.{is_numeral, is_dash, IsPosition, AreAround, AreEnds, IsRange}
 use Rattle.http_values.specs.declared.ranges.ByteRange.{ByteRange}
 use Rattle.std.proofs.lemmas.Option.{none-some}
-use Rattle.std.proofs.lemmas.Bool.{true≢false}
 
 -- ---- digits
 
@@ -39,10 +38,6 @@ numeral_fits text is =
     let numeral = of_numeral text is in
     let short : digits_value 10 text < 10 ^ 18 = digits_value_short own_model text 18 (all_digits text numeral.2) numeral.1 in
     omega (arith, short)
-
--- what a text that is no numeral writes
-pub no_position : (text : List ℕ) (position : ℕ) → is_numeral text ≡ false → ¬ (IsPosition text position)
-no_position text position not is = true≢false (sym is.0 ∙ not)
 
 -- what the number of a numeral is
 pub read_position : (text : List ℕ) (o : Option ℕ) → is_numeral text ≡ true
@@ -127,10 +122,6 @@ pub behind_unit : (value text : List ℕ) → pointwise nat_eq (take 6 value) (c
 behind_unit value text is rest =
     sym (take-append-drop 6 value) ∙ (ap (λ (t : List ℕ). t ++ drop 6 value) (same_text (take 6 value) (codes "bytes=") (sym is))
     ∙ ap (λ (t : List ℕ). codes "bytes=" ++ t) (sym rest))
-
--- a value without the unit asks for no range
-pub no_unit : (value : List ℕ) (first last : ℕ) → pointwise nat_eq (take 6 value) (codes "bytes=") ≡ false → ¬ (IsRange value first last)
-no_unit value first last not is = other_text (take 6 value) (codes "bytes=") (sym not) (ap (take 6) is.1 ∙ take-append_seam (codes "bytes=") is.0)
 
 -- ---- at most one
 

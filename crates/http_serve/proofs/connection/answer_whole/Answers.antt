@@ -65,14 +65,16 @@ returns-in-Err-answer_one-clause-err g c =
     let input = c.requests.session.input.waiting in
     let found = subst (λ (t : List ℕ). IsNext t c.find_next.new.fields (Whole frame)) c.waiting.ensures c.in-Whole.ensures.next in
     let told = subst (λ (t : List ℕ). (reply : ReplyView)
-    × GivesOrFails (Err c.in-Err-answer_one.fault) (g.H.Handler.replies c.requests.handler (request_view_at t c.find_next.new.fields frame) reply c.answer_one.new.handler)
+    × GivesOrFails (Err c.in-Err-answer_one.fault) (g.H.Handler.replies c.requests.handler
+    (request_view_at t c.find_next.new.fields frame) reply c.answer_one.new.handler)
     (g.H.Handler.fails c.requests.handler (request_view_at t c.find_next.new.fields frame) reply c.answer_one.new.handler)
     × ((n : ℕ) × (n < length (reply_at t frame reply))
     × Appends (g.W.Write.contents c.requests.writer) (g.W.Write.contents c.answer_one.new.writer) (take n (reply_at t frame reply))))
     c.waiting-waiting.ensures c.in-Err-answer_one.ensures.reply in
     subst (λ (fault : ServeFault). IsBroken g.H.Handler.replies g.H.Handler.fails c.args.handler.now c.args.session.now.input.waiting
     (g.W.Write.contents c.args.writer.now) c.args.requests fault c.answer_one.new.handler (g.W.Write.contents c.answer_one.new.writer)) (sym c.after.ensures)
-    (cut_breaks g.H.Handler.replies g.H.Handler.fails _ _ _ c.args.requests _ input _ c.requests.requests c.find_next.new.fields frame found.0 told.0 told.2.0 _ _
+    (cut_breaks g.H.Handler.replies g.H.Handler.fails _ _ _ c.args.requests _ input _ c.requests.requests c.find_next.new.fields frame found.0 told.0
+    told.2.0 _ _
     c.in-Err-answer_one.fault c.requests.invariant.carries found.1 told.1 told.2.1 told.2.2)
 
 pub returns-in-Err-answer_one-clause-content : goal.returns-in-Err-answer_one-clause-content
