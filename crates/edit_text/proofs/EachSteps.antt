@@ -11,6 +11,11 @@ module _ {A : Type 0} (part : Front A) where
       let less : suc more - 1 ≡ more = omega arith in
       rw less refl
 
+  -- what is read first, and the others in the bytes after it
+  pub each_next : (count : ℕ) (bytes : List ℕ) (x : A) (rest : List ℕ) → 0 < count → x ≡ (part bytes).0 → rest ≡ (part bytes).1
+      → (each_in part count bytes).0 ≡ x ∷ (each_in part (count - 1) rest).0
+  each_next count bytes x rest l first behind = rw (first, behind) (each_first count bytes l)
+
   pub each_none : (count : ℕ) (bytes : List ℕ) → count ≡ 0 → (each_in part count bytes).0 ≡ []
   unfolding each_in
   each_none zero bytes e = refl

@@ -24,6 +24,7 @@ pub mod SamePolygons
 pub mod ShapeCodecs
 pub mod Spelled
 pub mod StoredTexts
+pub mod TagTexts
 pub mod TagCodecs
 pub mod Texts
 pub mod Trust

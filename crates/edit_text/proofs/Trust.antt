@@ -7,7 +7,7 @@ use Rattle.reader.specs.Reading.{repeated}
 use Rattle.reader.proofs.Steps.{then_ok, pass_ok, guard_ok, same_value}
 use Rattle.edit_text.specs.declared.fault.TextFault.TheVariants.{Cut, Bad}
 use Rattle.edit_text.specs.Reading.{Part, then_read, read_as, read_if, next_at, many_at, front_at, text_at}
-use Rattle.edit_text.specs.Trusted.{Front, each_in, utf8_in}
+use Rattle.edit_text.specs.Trusted.{Front, each_in}
 
 abbrev pub Trusts : {A : Type 0} → (List ℕ → Part A) → Front A → Type 0
 Trusts {A = A} read part = (bytes : List ℕ) (x : A × List ℕ) → read bytes ≡ Ok x → part bytes ≡ x
@@ -79,10 +79,6 @@ front_found n bytes x e =
     enough : (a b : ℕ) → nat_lt a b ≡ false → b ≤ a
     enough a b e = grind (arith, nat_tests)
 
-pub trust_text : (len : ℕ) → Trusts (text_at len) (λ bytes. (utf8_in (take len bytes), drop len bytes))
-unfolding text_at utf8_in
-trust_text len bytes x e =
-    let p = passed_if is_utf8 (front_at len bytes) x e in
-    let f = front_found len bytes x p.0 in
-    let is : is_utf8 (take len bytes) ≡ true = ap (λ q. is_utf8 q.0) f.1 ∙ p.1 in
-    ap (λ b. (cond b (take len bytes) [], drop len bytes)) is ∙ f.1
+pub trust_text : (len : ℕ) → Trusts (text_at len) (λ bytes. (take len bytes, drop len bytes))
+unfolding text_at
+trust_text len bytes x e = (front_found len bytes x (passed_if is_utf8 (front_at len bytes) x e).0).1

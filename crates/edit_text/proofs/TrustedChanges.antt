@@ -4,10 +4,13 @@ use Rattle.std.specs.Prelude.{IsOk}
 use Rattle.std.proofs.lemmas.Bool.{ne_eqb}
 use Rattle.feature_model.specs.declared.limits.TheConstants.{NUMBER_END}
 use Rattle.feature_model.specs.Data.{ChangeData, put, delete}
+use Rattle.feature_model.specs.Types.{FeatureFitsTypes, ChangeFitsTypes, IsChange}
 use Rattle.edit_text.specs.Decoding.{BeginsWithChange, BeginsAsPut}
 use Rattle.edit_text.specs.Reading.{read_as, byte_at, eight_at, number_at, is_new, next_number_at, feature_at, put_at, change_behind, change_at}
 use Rattle.edit_text.specs.Trusted.{byte_in, number_in, feature_in, put_in, delete_in, change_of, change_in}
 use Rattle.edit_text.proofs.ChangeCodecs.{codec_change}
+use Rattle.edit_text.proofs.Codecs.{AreBytes}
+use Rattle.edit_text.proofs.EditCodecs.{one_from}
 use Rattle.edit_text.proofs.Laws.{table_from}
 use Rattle.edit_text.proofs.Trust.{Trusts, trust_if, trust_as, trust_then, trust_cond, trust_last}
 use Rattle.edit_text.proofs.TrustedShapes.{trust_feature}
@@ -50,12 +53,34 @@ change_shown bytes c begins =
     let rest = begins.1.0 in
     ap (λ r. r.0) (trust_change [] bytes (c, rest) (ap (change_at []) begins.1.1 ∙ (codec_change []).reads c rest (table_from c begins.0)))
 
+-- ---- what the types promise of the change at the start
+
+pub types_of : (c : ChangeData) → IsChange c → ChangeFitsTypes c
+types_of (put id f) is = is.1
+types_of (delete id) is = tt
+
+pub begins_types : (bytes : List ℕ) (c : ChangeData) → BeginsWithChange c bytes → ChangeFitsTypes (change_in bytes).0
+begins_types bytes c begins = subst ChangeFitsTypes (sym (change_shown bytes c begins)) (types_of c begins.0)
+
+-- of one that is read after others
+pub read_types : (done : List ChangeData) (bytes rest : List ℕ) → AreBytes bytes → (d : ChangeData) × (change_at done bytes ≡ Ok (d, rest))
+    → ChangeFitsTypes (change_in bytes).0
+read_types done bytes rest are read =
+    let is = ((codec_change done).found bytes read.0 rest are read.1).0 in
+    let shown = ap (λ r. r.0) (trust_change done bytes (read.0, rest) read.1) in
+    subst ChangeFitsTypes (sym shown) (one_from done read.0 is).0.1
+
 -- ---- a change by its kind
 
 pub in_put : (bytes : List ℕ) → (byte_in bytes).0 ≡ 1
     → (change_in bytes).0 ≡ put (number_in (byte_in bytes).1).0 (feature_in (number_in (byte_in bytes).1).1).0
 unfolding change_in change_of put_in
 in_put bytes is = let rest = (byte_in bytes).1 in ap (λ k. (cond (k == 1) (put_in rest) (delete_in rest)).0) is
+
+-- what the types promise of its feature
+pub put_types : (bytes : List ℕ) → (byte_in bytes).0 ≡ 1 → ChangeFitsTypes (change_in bytes).0
+    → FeatureFitsTypes (feature_in (number_in (byte_in bytes).1).1).0
+put_types bytes is types = subst ChangeFitsTypes (in_put bytes is) types
 
 pub in_delete : (bytes : List ℕ) → (byte_in bytes).0 ≢ 1 → (change_in bytes).0 ≡ delete (number_in (byte_in bytes).1).0
 unfolding change_in change_of delete_in

@@ -7,7 +7,7 @@ use Rattle.feature_model.specs.Data.{text_value, natural_value, negative_value, 
 use Rattle.reader.proofs.Steps.{then_ok, same_value}
 use Rattle.edit_text.specs.Reading.{read_as, read_if, byte_at, front_at, two_at, eight_at, text_at, name_at, long_text_at, negative_at}
 use Rattle.edit_text.specs.Reading.{value_behind, value_at, is_next_key, tag_at, tags_at}
-use Rattle.edit_text.specs.Trusted.{byte_in, count_in, number_in, utf8_in, name_in, long_text_in, value_of, value_in, tag_in, tags_in, each_in}
+use Rattle.edit_text.specs.Trusted.{byte_in, count_in, number_in, name_in, long_text_in, value_of, value_in, tag_in, tags_in, each_in}
 use Rattle.edit_text.proofs.Trust.{Trusts, trust_if, trust_as, trust_then, trust_cond, trust_last, trust_many, front_found, trust_text}
 
 pub trust_byte : Trusts byte_at byte_in
@@ -45,14 +45,14 @@ pub trust_name : Trusts name_at name_in
 unfolding name_at name_in
 trust_name =
     trust_then (λ bytes. read_if (λ len. nat_le 1 len && nat_le len MAX_NAME_BYTES) (byte_at bytes)) byte_in text_at
-    (λ len bytes. (utf8_in (take len bytes), drop len bytes))
+    (λ len bytes. (take len bytes, drop len bytes))
     (trust_if (λ len. nat_le 1 len && nat_le len MAX_NAME_BYTES) byte_at byte_in trust_byte) trust_text
 
 trust_long_text : Trusts long_text_at long_text_in
 unfolding long_text_at long_text_in
 trust_long_text =
     trust_then (λ bytes. read_if (λ len. nat_le len MAX_TEXT_BYTES) (two_at bytes)) count_in text_at
-    (λ len bytes. (utf8_in (take len bytes), drop len bytes))
+    (λ len bytes. (take len bytes, drop len bytes))
     (trust_if (λ len. nat_le len MAX_TEXT_BYTES) two_at count_in trust_two) trust_text
 
 -- ---- tags

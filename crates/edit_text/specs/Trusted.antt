@@ -1,5 +1,5 @@
 -- What is at the start of bytes that are known to be a text, and the bytes after it. Of other bytes something is said, and no fault.
-use Rattle.std.specs.Prelude.{ℕ, zero, suc, ◌*◌, ◌==◌, true, false, if◌then◌else◌, List, [], ◌∷◌, take, drop}
+use Rattle.std.specs.Prelude.{ℕ, zero, suc, ◌*◌, ◌==◌, ◌&&◌, Bool, true, false, if◌then◌else◌, List, [], ◌∷◌, take, drop}
 use Rattle.std.specs.Int.{w16, w32, w64, from_le_bytes, cast_signed}
 use Rattle.std.specs.Str.{is_utf8}
 use Rattle.feature_model.specs.declared.feature.World.{World}
@@ -26,14 +26,11 @@ unfoldable pub number_in : Front ℕ
 number_in (a ∷ b ∷ c ∷ d ∷ e ∷ f ∷ g ∷ h ∷ rest) = (from_le_bytes w64 (a ∷ b ∷ c ∷ d ∷ e ∷ f ∷ g ∷ h ∷ []), rest)
 number_in bytes = (0, bytes)
 
-unfoldable pub utf8_in : List ℕ → List ℕ
-utf8_in bytes = if is_utf8 bytes then bytes else []
-
 unfoldable pub name_in : Front (List ℕ)
-name_in bytes = let len = byte_in bytes in (utf8_in (take len.0 len.1), drop len.0 len.1)
+name_in bytes = let len = byte_in bytes in (take len.0 len.1, drop len.0 len.1)
 
 unfoldable pub long_text_in : Front (List ℕ)
-long_text_in bytes = let len = count_in bytes in (utf8_in (take len.0 len.1), drop len.0 len.1)
+long_text_in bytes = let len = count_in bytes in (take len.0 len.1, drop len.0 len.1)
 
 -- ---- geometry
 
@@ -93,6 +90,20 @@ tag_in bytes = let key = name_in bytes in let value = value_in key.1 in (record 
 
 unfoldable pub tags_in : Front (List TagData)
 tags_in bytes = let count = byte_in bytes in each_in tag_in count.0 count.1
+
+-- the texts of tags are UTF-8: a value that is a text, a key and its value, and all of them
+unfoldable pub has_text : ValueData → Bool
+has_text (text_value bytes) = is_utf8 bytes
+has_text (natural_value n) = true
+has_text (negative_value z) = true
+has_text (truth_value b) = true
+
+unfoldable pub has_texts : TagData → Bool
+has_texts t = is_utf8 t.key && has_text t.value
+
+unfoldable pub have_texts : List TagData → Bool
+have_texts [] = true
+have_texts (t ∷ ts) = has_texts t && have_texts ts
 
 -- ---- features
 

@@ -25,14 +25,14 @@ pub struct FeatureText<'a> {
 
 impl<'a> FeatureText<'a> {
     ghost use Rattle.std.specs.Prelude.{◌≡◌, ℕ};
-    ghost use Rattle.feature_model.specs.Data.{FeatureData, put};
-    ghost use Rattle.edit_text.specs.Decoding.{BeginsWithChange};
+    ghost use Rattle.feature_model.specs.Types.{FeatureFitsTypes};
     ghost use Rattle.edit_text.specs.Trusted.{feature_in, feature_of_text};
     ghost use Rattle.edit_text.specs.Views.{feature_view};
 
     /// The feature at the start.
     #[tactic(auto, unfolding(crate::specs::Trusted::feature_in))]
     pub(crate) fn front(bytes: &'a [u8]) -> Self
+        requires { FeatureFitsTypes (feature_in bytes.now).0 }
         ensures { feature_view result ≡ (feature_in bytes.entry.now).0 }
     {
         let (layer, rest) = name_in(bytes);
@@ -49,19 +49,13 @@ impl<'a> FeatureText<'a> {
         }
     }
 
-    /// What bytes show as the text of a change that sets a feature.
+    /// The feature that the text of a change sets.
     #[tactic(auto, unfolding(crate::specs::Trusted::feature_of_text))]
-    fn in_text(text: &'a [u8]) -> Self
+    pub(crate) fn of(text: &'a [u8]) -> Self
+        requires { FeatureFitsTypes (feature_of_text text.now) }
         ensures { feature_view result ≡ feature_of_text text.entry.now }
     {
         let (_, rest) = split(text, HEAD_LEN);
         FeatureText::front(rest)
-    }
-
-    /// The feature that the text of a change sets. Bytes may follow the text. Of other bytes it shows some feature.
-    pub fn of(text: &'a [u8]) -> Self
-        ensures { (id : ℕ) (f : FeatureData) → BeginsWithChange (put id f) text.entry.now → feature_view result ≡ f }
-    {
-        FeatureText::in_text(text)
     }
 }

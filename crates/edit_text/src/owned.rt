@@ -3,6 +3,7 @@
 ghost use Rattle.std.specs.Prelude.{◌≡◌, ℕ, map, IfOk, MatchResult};
 ghost use Rattle.std.specs.String.{string_bytes};
 ghost use Rattle.feature_model.specs.Data.{feature_data, geometry_data, value_data, tag_data, change_data};
+ghost use Rattle.feature_model.specs.Types.{ChangeFitsTypes};
 ghost use Rattle.edit_text.specs.Decoding.{BeginsAsPut};
 ghost use Rattle.edit_text.specs.Trusted.{change_in};
 ghost use Rattle.edit_text.specs.Views.{points_view, lines_view, polygons_view, geometry_view, value_view, tag_view, tags_view, feature_view};
@@ -119,6 +120,7 @@ pub fn to_feature(alloc: Global, feature: FeatureText<'_>) -> Result<Feature, Al
 /// The change at the start of bytes that begin with its text. Only a Put allocates.
 #[tactic(auto, unfolding(crate::specs::Trusted::change_in))]
 pub(crate) fn to_change(alloc: Global, bytes: &[u8]) -> Result<Change, AllocError>
+    requires { ChangeFitsTypes (change_in bytes.now).0 }
     ensures { MatchResult result (λ c. change_data c ≡ (change_in bytes.now).0) (λ _. BeginsAsPut bytes.now) }
 {
     let (kind, rest) = byte_in(bytes);

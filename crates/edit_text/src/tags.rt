@@ -1,5 +1,8 @@
 //! Tags in the bytes of a text.
 
+ghost use Rattle.std.specs.Prelude.{IsTrue};
+ghost use Rattle.edit_text.specs.Trusted.{each_in, tag_in, have_texts};
+
 use crate::trusted_numbers::{byte_in, number_in};
 use crate::trusted_texts::{long_text_in, name_in};
 use feature_model::{FALSE_KIND, NATURAL_KIND, NEGATIVE_KIND, TEXT_KIND};
@@ -23,12 +26,13 @@ pub struct TagText<'a> {
 
 impl<'a> ValueText<'a> {
     ghost use Rattle.std.specs.Prelude.{◌≡◌, ℕ};
-    ghost use Rattle.edit_text.specs.Trusted.{value_of, value_in};
+    ghost use Rattle.edit_text.specs.Trusted.{value_of, value_in, has_text};
     ghost use Rattle.edit_text.specs.Views.{value_view};
 
     /// The value of this kind, and the bytes after it.
     #[tactic(auto, unfolding(crate::specs::Trusted::value_of))]
     fn of_kind(kind: u8, bytes: &'a [u8]) -> (Self, &'a [u8])
+        requires { IsTrue (has_text (value_of kind bytes.now).0) }
         ensures value { value_view result.0 ≡ (value_of kind bytes.entry.now).0 }
         ensures rest { result.1.now ≡ (value_of kind bytes.entry.now).1 }
     {
@@ -53,6 +57,7 @@ impl<'a> ValueText<'a> {
     /// The value at the start of bytes, whose first one is its kind, and the bytes after it.
     #[tactic(auto, unfolding(crate::specs::Trusted::value_in))]
     fn front(bytes: &'a [u8]) -> (Self, &'a [u8])
+        requires { IsTrue (has_text (value_in bytes.now).0) }
         ensures value { value_view result.0 ≡ (value_in bytes.entry.now).0 }
         ensures rest { result.1.now ≡ (value_in bytes.entry.now).1 }
     {
@@ -63,12 +68,13 @@ impl<'a> ValueText<'a> {
 
 impl<'a> TagText<'a> {
     ghost use Rattle.std.specs.Prelude.{◌≡◌, ℕ};
-    ghost use Rattle.edit_text.specs.Trusted.{tag_in};
+    ghost use Rattle.edit_text.specs.Trusted.{has_texts};
     ghost use Rattle.edit_text.specs.Views.{tag_view};
 
     /// The tag at the start of bytes, and the bytes after it.
     #[tactic(auto, unfolding(crate::specs::Trusted::tag_in))]
     fn front(bytes: &'a [u8]) -> (Self, &'a [u8])
+        requires { IsTrue (has_texts (tag_in bytes.now).0) }
         ensures tag { tag_view result.0 ≡ (tag_in bytes.entry.now).0 }
         ensures rest { result.1.now ≡ (tag_in bytes.entry.now).1 }
     {
@@ -78,21 +84,24 @@ impl<'a> TagText<'a> {
     }
 }
 
-/// Tags, with strictly ascending keys.
+/// Tags, with strictly ascending keys. Their texts are UTF-8, so that none is tested again.
 #[derive(Clone, Copy)]
 pub struct Tags<'a> {
     count: u8,
     rest: &'a [u8],
+    ghost texts: { IsTrue (have_texts (each_in tag_in count rest.now).0) },
 }
 
 impl<'a> Tags<'a> {
-    ghost use Rattle.std.specs.Prelude.{◌≡◌, ℕ, length};
+    ghost use Rattle.std.specs.Prelude.{◌≡◌, ℕ, length, All};
+    ghost use Rattle.feature_model.specs.Types.{TagFitsTypes};
     ghost use Rattle.edit_text.specs.Trusted.{tags_in};
     ghost use Rattle.edit_text.specs.Views.{tags_view};
 
     /// The tags at the start.
     #[tactic(auto, unfolding(crate::specs::Trusted::tags_in))]
     pub(crate) fn front(bytes: &'a [u8]) -> Self
+        requires { All TagFitsTypes (tags_in bytes.now).0 }
         ensures { tags_view result ≡ (tags_in bytes.entry.now).0 }
     {
         let (count, rest) = byte_in(bytes);

@@ -40,13 +40,13 @@ pub cuts_both : (es fs : FeatureMap) (name : List ℕ) (z x y : ℕ) → cuts_of
 cuts_both es fs name z x y = filter_map-append (cut_for name z x y) es fs
 
 -- what a tile shows of the features that were looked up, and of one more
-pub found_more : (xs : List Found) (i : ℕ) (d : Found) (name : List ℕ) (z x y : ℕ) → i < length xs
+pub found_more : (xs : List Found) (i : ℕ) (one : Found) (name : List ℕ) (z x y : ℕ) → i < length xs → one ≡ get_or xs i one
     → cuts_of (map found_data (take (i + 1) xs)) name z x y
-    ≡ cuts_of (map found_data (take i xs)) name z x y ++ cuts_of (found_data (get_or xs i d) ∷ []) name z x y
-found_more xs i d name z x y lt =
-    ap (λ t. cuts_of (map found_data t) name z x y) (take_more xs i d lt)
-    ∙ ap (λ es. cuts_of es name z x y) (map-append found_data (take i xs) (get_or xs i d ∷ []))
-    ∙ cuts_both (map found_data (take i xs)) (found_data (get_or xs i d) ∷ []) name z x y
+    ≡ cuts_of (map found_data (take i xs)) name z x y ++ cuts_of (found_data one ∷ []) name z x y
+found_more xs i one name z x y lt is =
+    ap (λ t. cuts_of (map found_data t) name z x y) (take_more xs i one lt ∙ ap (λ f. take i xs ++ f ∷ []) (sym is))
+    ∙ ap (λ es. cuts_of es name z x y) (map-append found_data (take i xs) (one ∷ []))
+    ∙ cuts_both (map found_data (take i xs)) (found_data one ∷ []) name z x y
 
 -- numbers of which none is left
 none_left : (n : ℕ) (empty : Bool) → empty ≡ (n == 0) → empty ≡ true → n ≡ 0

@@ -1,7 +1,10 @@
 use Rattle.std.proofs.Common.{length, sym, ap, ◌∙◌}
 use Rattle.feature_model.specs.Spelled.{spelled_change}
-use Rattle.edit_text.proofs.TrustedChanges.{change_shown}
+use Rattle.edit_text.proofs.TrustedChanges.{begins_types, change_shown}
 use Rattle.edit_text.proofs.decoding.decode_change.Goals as goal
+
+pub to_change-requires : goal.to_change-requires
+to_change-requires c = let found = c.in_ok-len.ensures.found in begins_types c.args.bytes.now found.0 found.1
 
 pub returns-clause-found : goal.returns-clause-found
 returns-clause-found c =
