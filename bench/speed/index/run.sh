@@ -1,6 +1,6 @@
 #!/bin/bash
-# Measures how long an index of boxes takes for an insert, a removal and a query, and a look at each entry: makes a scratch repository with copies of
-# the product's crates, outside of this one, and runs main.rt.txt there.
+# Measures how long an index of boxes takes for an insert, a removal and a query, a look at each entry, and to be built at once: makes a
+# scratch repository with copies of the product's crates, outside of this one, and runs main.rt.txt there.
 set -euo pipefail
 here="$(cd "$(dirname "$0")" && pwd)"
 work="$(mktemp -d)"

@@ -1,7 +1,7 @@
 -- Lists of entries with their keys.
 use Rattle.std.proofs.Common.{◌≡◌, ℕ, ◌+◌, ◌<◌, List, [], ◌∷◌, ◌++◌, length, map, get_or, set, take, sym, ap, subst, ◌∙◌, append_assoc, arith}
 use Rattle.std.specs.List.Sorted.{IsPermutation}
-use Rattle.std.proofs.lemmas.List.{length-append, map-append, take_more, take_more_set}
+use Rattle.std.proofs.lemmas.List.{length-append, length-map, map-append, take-append-le, take_all, take_more, take_more_set}
 use Rattle.std.proofs.lemmas.List.Sorted.{IsPermutation-map, length_permutation}
 
 module _ {K X : Type 0} where
@@ -38,3 +38,12 @@ module _ {K X : Type 0} where
 
   pub halves_len : (ks front back : List (K × X)) (m : K × X) → IsPermutation ks (front ++ m ∷ back) → length front + (1 + length back) ≡ length ks
   halves_len ks front back m halves = omega (arith, length-append front (m ∷ back), length_permutation ks (front ++ m ∷ back) halves)
+
+  -- all are written and sorted, at the start of what has no more than them
+  pub sorted_all : (ks rest sorted : List (K × X)) (xs : List X) (n : ℕ) → entries_of ks ≡ xs → n ≡ length xs
+      → IsPermutation (take n (ks ++ rest)) sorted → IsPermutation xs (entries_of sorted)
+  sorted_all ks rest sorted xs n is len moved =
+      let same : length ks ≡ n = omega (arith, len, ap length is, length-map ks (λ k. k.1)) in
+      let whole : take n (ks ++ rest) ≡ ks = take-append-le n ks rest (omega (arith, same)) ∙ take_all n ks (omega (arith, same)) in
+      subst (λ es. IsPermutation es (entries_of sorted)) is
+      (IsPermutation-map (λ k. k.1) ks sorted (subst (λ front. IsPermutation front sorted) whole moved))

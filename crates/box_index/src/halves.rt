@@ -9,10 +9,10 @@ use crate::entry::IndexEntry;
 use crate::span::NOWHERE;
 
 /// An entry with its key.
-type Keyed = (CurveKey, IndexEntry);
+pub(crate) type Keyed = (CurveKey, IndexEntry);
 
 /// What is overwritten.
-const UNUSED: Keyed = (
+pub(crate) const UNUSED: Keyed = (
     CurveKey::FIRST,
     IndexEntry {
         id: 0,
@@ -21,7 +21,7 @@ const UNUSED: Keyed = (
 );
 
 /// Writes the entries with their keys.
-fn write_keyed(keyed: &mut [Keyed], entries: &[IndexEntry])
+pub(crate) fn write_keyed(keyed: &mut [Keyed], entries: &[IndexEntry])
     requires { length keyed.old ≡ length entries.now }
     ensures { map (λ k. k.1) keyed.new ≡ entries.now }
 {
@@ -31,7 +31,7 @@ fn write_keyed(keyed: &mut [Keyed], entries: &[IndexEntry])
 }
 
 /// Appends the entries without their keys.
-fn append(entries: &mut Vec<IndexEntry>, keyed: &[Keyed])
+pub(crate) fn append(entries: &mut Vec<IndexEntry>, keyed: &[Keyed])
     requires { vec_len entries.old + length keyed.now ≤ vec_capacity entries.old }
     ensures items { entries.new.items ≡ entries.old.items ++ map (λ k. k.1) keyed.now }
     ensures len { vec_len entries.new ≡ vec_len entries.old + length keyed.now }
