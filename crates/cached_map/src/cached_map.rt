@@ -186,6 +186,14 @@ impl CachedMap {
         self.touched.stale(number)
     }
 
+    /// Builds the index of the map's boxes, if there is none. Memory that was reserved for edits may be gone. The only error is out of memory.
+    pub fn index(&mut self) -> Result<(), AllocError>
+        ensures same { self.new ≡ record self.old { spare = self.new.spare } }
+        ensures unchanged { OnErr result (self.new ≡ self.old) }
+    {
+        self.store.index()
+    }
+
     /// The changes as the map keeps them, and memory for each feature that they set, so that an edit of them allocates nothing. The only
     /// error is out of memory.
     pub fn prepare(&mut self, changes: &[Change]) -> Result<Vec<Prepared>, AllocError>

@@ -1,8 +1,8 @@
 -- How a store keeps its map.
-use Rattle.std.specs.Prelude.{◌≡◌, ℕ, List, All, map, min}
+use Rattle.std.specs.Prelude.{◌≡◌, ℕ, List, All, map}
 use Rattle.feature_model.specs.Data.{FeatureData}
 use Rattle.feature_store.specs.declared.store.Store.TheInside.{Inside}
-use Rattle.feature_store.specs.Indexed.{IsIndexed}
+use Rattle.feature_store.specs.Indexed.{IsIndexedBy, spare_with}
 use Rattle.feature_store.specs.Store.{FeatureMap, StoreView, IsMap}
 
 -- a feature, and the number that its text gives it to
@@ -25,12 +25,12 @@ entries_data es = map entry_data es
 abbrev pub IsOwn : ℕ × Stored → Type 0
 IsOwn e = e.1.0 ≡ e.0
 
--- the features by number, and for how many more both the numbers and the index have room
+-- the features by number, and for how many more both the numbers and the index, if there is one, have room
 abbrev pub store_view : Inside → StoreView
-store_view s = record { features = entries_data s.features.entries; spare = min s.features.spare s.index.spare }
+store_view s = record { features = entries_data s.features.entries; spare = spare_with s.features.spare s.index }
 
--- the index has what the map has
+-- the index, if there is one, has what the map has
 pub record IsStore (s : Inside) : Type 0 where
   pub is_map : IsMap (entries_data s.features.entries)
   pub own : All IsOwn s.features.entries
-  pub indexed : IsIndexed (entries_data s.features.entries) s.index.entries
+  pub indexed : IsIndexedBy (entries_data s.features.entries) s.index

@@ -56,7 +56,7 @@ fn append_entries(
 }
 
 /// Appends the boxes of blocks of entries.
-fn append_blocks(
+pub(crate) fn append_blocks(
     boxes: &mut Vec<IndexEntry>,
     blocks: &[Block<StoredFeature>],
 ) -> Result<(), AllocError>

@@ -9,6 +9,7 @@ mod feature_boxes;
 mod gathered;
 mod indexed;
 mod keeping;
+mod late_index;
 mod layers;
 mod limit;
 mod moment;

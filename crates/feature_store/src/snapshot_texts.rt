@@ -67,14 +67,14 @@ fn read_entry(alloc: Global, text: &[u8]) -> Result<(StoredFeature, &[u8]), Snap
     }
 }
 
-/// The map whose snapshot this is, in one pass.
+/// The map whose snapshot this is, in one pass, without an index.
 #[tactic(auto, using(crate::proofs::Snapshots::all_read))]
 pub(crate) fn read_map(alloc: Global, text: &[u8]) -> Result<Store, SnapshotFault>
     requires { length text.now < TEXTS_END }
     ensures map { IfOk result (λ store. snapshot store.features ≡ text.now) }
     ensures fault { IfErr result (λ fault. (fault ≡ Memory) ⊎ ((fault ≡ Bad) × IsNoSnapshot text.now)) }
 {
-    let mut store = Store::new(alloc);
+    let mut store = Store::without_index(alloc);
     let mut end = 0;
     let mut rest = text;
     while !rest.is_empty() {

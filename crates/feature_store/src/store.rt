@@ -8,6 +8,7 @@ ghost use Rattle.edit_text.specs.Views.{feature_view};
 ghost use Rattle.number_map.specs.Blocks.{joined};
 ghost use Rattle.tile_cutter.specs.WorldBox.{bounding_box};
 ghost use Rattle.feature_store.specs.Content.{IsTileContent};
+ghost use Rattle.feature_store.specs.Indexed.{ShowsAll};
 ghost use Rattle.feature_store.specs.Inside.{stored_data, entries_data};
 ghost use Rattle.feature_store.specs.Layers.{layers};
 ghost use Rattle.feature_store.specs.Moments.{IsAsOf};
@@ -20,7 +21,9 @@ ghost use Rattle.feature_store.specs.Store.{IsMap, HasRoom, feature_at, box_at, 
 use crate::all_tiles::{Tiles, tile_of_numbers};
 use crate::cutter::Cutter;
 use crate::fault::SnapshotFault;
-use crate::indexed::{index_entry, numbers_near, set_entry, take_entry};
+use crate::feature_boxes::FeatureBoxes;
+use crate::indexed::{index_entry, numbers_near};
+use crate::late_index::{index_of, set_box, take_box};
 use crate::limit::TEXTS_END;
 use crate::moment::Moment;
 use crate::placed::PlacedBoxes;
@@ -37,11 +40,12 @@ use std::marker::Model;
 /// A map from numbers to features that keep the limits of a feature. Each is kept as its text, as the journal and a snapshot
 /// have it. The texts of all of them are fewer than `TEXTS_END` bytes together.
 ///
-/// An index has the bounding box and the zooms of each feature, so that a tile looks at those near it alone.
+/// An index has the bounding box and the zooms of each feature, so that a tile looks at those near it alone. The map of a snapshot has
+/// none until `index` builds it at once, which takes less time than an entry for each feature in turn.
 #[derive(Drop)]
 pub struct Store {
     features: NumberMap<StoredFeature>,
-    index: BoxIndex,
+    index: Option<BoxIndex>,
     alloc: Global,
 }
 
@@ -64,9 +68,32 @@ impl Store {
     {
         Store {
             features: NumberMap::new(alloc),
-            index: BoxIndex::new(alloc),
+            index: Some(BoxIndex::new(alloc)),
             alloc,
         }
+    }
+
+    /// The empty map, without an index.
+    pub(crate) fn without_index(alloc: Global) -> Store
+        ensures { result.features ≡ [] }
+    {
+        Store {
+            features: NumberMap::new(alloc),
+            index: None,
+            alloc,
+        }
+    }
+
+    /// Builds the index of all features, if there is none. Room that was made before may be gone. The only error is out of memory.
+    pub fn index(&mut self) -> Result<(), AllocError>
+        ensures map { self.new.features ≡ self.old.features }
+        ensures unchanged { OnErr result (self.new ≡ self.old) }
+    {
+        if self.index.is_none() {
+            let index = index_of(self.alloc, self.features.len(), self.features.blocks())?;
+            self.index = Some(index);
+        }
+        Ok(())
     }
 
     /// How many features there are. The text of each has at most `MAX_EDIT_BYTES`.
@@ -123,7 +150,10 @@ impl Store {
         ensures unchanged { OnErr result (self.new ≡ self.old) }
     {
         self.features.room()?;
-        self.index.room()
+        match &mut self.index {
+            Some(index) => index.room(),
+            None => Ok(()),
+        }
     }
 
     /// Makes room for each feature that the changes set, so that they can be made without memory, one after the other. It fails only if
@@ -136,7 +166,10 @@ impl Store {
     {
         let count = count_puts(changes);
         self.features.room_for(count)?;
-        self.index.room_for(count)
+        match &mut self.index {
+            Some(index) => index.room_for(count),
+            None => Ok(()),
+        }
     }
 
     /// The changes as the map keeps them, with room for each feature that they set, so that they can be made without memory, one after
@@ -169,7 +202,7 @@ impl Store {
         let entry = index_entry(id, stored.view());
         let after = entry.span.bounds;
         let replaced = self.features.insert(id, stored);
-        let before = set_entry(&mut self.index, entry, replaced.as_ref());
+        let before = set_box(&mut self.index, entry, replaced.as_ref());
         (PlacedBoxes { before, after }, replaced)
     }
 
@@ -220,7 +253,7 @@ impl Store {
         ensures others { (n : ℕ) → n ≢ id → feature_at self.new.features n ≡ feature_at self.old.features n }
     {
         let removed = self.features.remove(id);
-        let bounds = take_entry(&mut self.index, id, removed.as_ref());
+        let bounds = take_box(&mut self.index, id, removed.as_ref());
         (bounds, removed)
     }
 
@@ -256,6 +289,18 @@ impl Store {
         bounds
     }
 
+    /// The numbers of the features whose bounding box meets the box of a tile, and that have its zoom. Without an index it looks at each
+    /// feature. The only error is out of memory.
+    fn numbers_near(&self, at: TileAt) -> Result<Vec<u64>, AllocError>
+        requires { at.z ≤ MAX_ZOOM }
+        ensures { IfOk result (λ numbers. ShowsAll self.now.features at.z at.x at.y numbers.items) }
+    {
+        match &self.index {
+            Some(index) => numbers_near(self.alloc, index, at),
+            None => FeatureBoxes::of(self.alloc, &self.features)?.numbers_near(self.alloc, at),
+        }
+    }
+
     /// The bytes of a tile (Mapbox Vector Tile 2.1), or `None` if it shows nothing. The names of its layers ascend byte by byte, and
     /// the features of a layer by number, each with its number as id (4.1 and 4.2). A layer of which the tile shows nothing is left
     /// out; above the greatest zoom there is none.
@@ -268,7 +313,7 @@ impl Store {
         if at.z > MAX_ZOOM {
             return Ok(None);
         }
-        let numbers = numbers_near(self.alloc, &self.index, at)?;
+        let numbers = self.numbers_near(at)?;
         let mut cutter = Cutter::new(self.alloc);
         let now = Moment::of(self.alloc, &self.features);
         tile_of_numbers(self.alloc, &mut cutter, &self.features, &now, &numbers, at)
@@ -309,7 +354,8 @@ impl Store {
         Ok(text)
     }
 
-    /// The map of a snapshot, in one pass over its fewer than `TEXTS_END` bytes.
+    /// The map of a snapshot, in one pass over its fewer than `TEXTS_END` bytes. It has no index: `index` builds it, best when other edits
+    /// of an opening are made.
     ///
     /// # Errors
     ///

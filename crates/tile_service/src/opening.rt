@@ -192,8 +192,8 @@ fn load<D: Sectors>(alloc: Global, disk: &mut D) -> Result<Found, StoreFault>
 }
 
 impl<D: Sectors + Drop> Service<D> {
-    /// Opens a disk: reads its live root, the map of its snapshot and the journal, and replays the journal's edits. It syncs and
-    /// reads, and writes nothing. On error it returns the disk.
+    /// Opens a disk: reads its live root, the map of its snapshot and the journal, replays the journal's edits, and then builds the index
+    /// of the boxes, once for all features. It syncs and reads, and writes nothing. On error it returns the disk.
     ///
     /// # Errors
     ///

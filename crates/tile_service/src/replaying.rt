@@ -1,5 +1,5 @@
 //! The map after the edits in the journal.
-ghost use Rattle.std.specs.Prelude.{◌≡◌, ◌<◌, ◌+◌, ◌^◌, ℕ, length, map, IfOk, IfErr, OnOk};
+ghost use Rattle.std.specs.Prelude.{◌≡◌, ◌⊎◌, ◌↔◌, ◌<◌, ◌+◌, ◌^◌, ℕ, length, map, IfOk, IfErr, OnOk};
 ghost use Rattle.cached_map.specs.Cached.{WasMap, AreReadRight};
 ghost use Rattle.edit_journal.specs.Records.{record_data, records_of};
 ghost use Rattle.edit_text.specs.Recorded.{RecordedEdit};
@@ -21,6 +21,17 @@ use feature_store::{Prepared, read_record};
 use generations::{StoreFault, What};
 use std::alloc::{AllocError, Global};
 
+/// Why a record isn't read as an edit: `Damaged(Text)` if it is the record of none.
+fn fault_of(fault: TextFault) -> StoreFault
+    ensures either { (result ≡ Memory) ⊎ (result ≡ Damaged Text) }
+    ensures memory { (result ≡ Memory) ↔ (fault ≡ TextFault.Memory) }
+{
+    match fault {
+        TextFault::Memory => StoreFault::Memory,
+        TextFault::Cut | TextFault::Bad => StoreFault::Damaged(What::Text),
+    }
+}
+
 /// The changes of a record's edit, as the map keeps them.
 fn changes_in(alloc: Global, recorded: &Record) -> Result<Vec<Prepared>, StoreFault>
     ensures edit { IfOk result (λ v. IsRecordFor (record_data recorded.now) (recorded_in recorded.now.version (map prepared_data v.items))) }
@@ -28,8 +39,7 @@ fn changes_in(alloc: Global, recorded: &Record) -> Result<Vec<Prepared>, StoreFa
 {
     match read_record(alloc, recorded.version, &recorded.text) {
         Ok(changes) => Ok(changes),
-        Err(TextFault::Memory) => Err(StoreFault::Memory),
-        Err(TextFault::Cut | TextFault::Bad) => Err(StoreFault::Damaged(What::Text)),
+        Err(fault) => Err(fault_of(fault)),
     }
 }
 
@@ -73,9 +83,37 @@ fn replay_one(alloc: Global, map: &mut CachedMap, recorded: &Record) -> Result<(
     make(map, changes)
 }
 
-/// Reads the edits of records and applies them to the map in order, with consecutive numbers. `Damaged(Text)`: one of them is the
-/// record of no edit. `Memory`: an allocation failed. After an error the edits before the faulty record are applied. Each record is
-/// freed as soon as its edit is applied.
+/// Applies the edits of records to the map in order, with consecutive numbers. Each record is freed as soon as its edit is applied.
+fn replay_each(alloc: Global, map: &mut CachedMap, records: Vec<Record>) -> Result<(), StoreFault>
+    requires texts { length (snapshot map.old.features) + bytes_of (records_of records.items) < TEXTS_END }
+    requires numbers { map.old.last + length records.items < 2 ^ 64 }
+    requires now { WasMap map.old.features map.old.touched map.old.last map.old.last map.old.features }
+    ensures made { OnOk result (AreMade (records_of records.items) map.old map.new) }
+    ensures last { OnOk result (map.new.last ≡ map.old.last + length records.items) }
+    ensures reads { AreReadRight map.old.features map.old.touched map.old.last map.old.kept
+        → OnOk result (AreReadRight map.new.features map.new.touched map.new.last map.new.kept) }
+    ensures fault { IfErr result (IsReplayFault (records_of records.items)) }
+{
+    for recorded in records {
+        replay_one(alloc, map, &recorded)?;
+    }
+    Ok(())
+}
+
+/// Builds the index of the map's boxes, if it has none.
+fn index(map: &mut CachedMap) -> Result<(), StoreFault>
+    ensures same { map.new ≡ record map.old { spare = map.new.spare } }
+    ensures fault { IfErr result (λ fault. fault ≡ Memory) }
+{
+    match map.index() {
+        Ok(()) => Ok(()),
+        Err(AllocError) => Err(StoreFault::Memory),
+    }
+}
+
+/// Reads the edits of records and applies them to the map in order, with consecutive numbers. The index of the boxes is built at the end,
+/// once. `Damaged(Text)`: one of them is the record of no edit. `Memory`: an allocation failed. After an error the edits before the faulty
+/// record are applied.
 pub(crate) fn replay(
     alloc: Global,
     map: &mut CachedMap,
@@ -90,8 +128,8 @@ pub(crate) fn replay(
         → OnOk result (AreReadRight map.new.features map.new.touched map.new.last map.new.kept) }
     ensures fault { IfErr result (IsReplayFault (records_of records.items)) }
 {
-    for recorded in records {
-        replay_one(alloc, map, &recorded)?;
+    match replay_each(alloc, map, records) {
+        Ok(()) => index(map),
+        Err(fault) => Err(fault),
     }
-    Ok(())
 }

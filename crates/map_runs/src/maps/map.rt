@@ -231,16 +231,17 @@ fn snapshot(answer: &mut Answer, store: &Store) {
     }
 }
 
-/// Takes a map in the map's place. Its last edit keeps the number.
+/// Takes a map in the map's place, with an index. Its last edit keeps the number.
 fn replace(answer: &mut Answer, map: &mut CachedMap, store: Store) {
     let count = store.len();
-    match CachedMap::new(answer.alloc(), store, map.last()) {
-        Ok(restored) => {
-            drop(mem::replace(map, restored));
-            write!(answer, "{count} features");
-        }
-        Err(_) => answer.refuse(),
+    let Ok(mut restored) = CachedMap::new(answer.alloc(), store, map.last()) else {
+        return answer.refuse();
+    };
+    if restored.index().is_err() {
+        return answer.refuse();
     }
+    drop(mem::replace(map, restored));
+    write!(answer, "{count} features");
 }
 
 /// The same of the map of a snapshot.

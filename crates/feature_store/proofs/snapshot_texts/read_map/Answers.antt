@@ -10,7 +10,7 @@ use Rattle.feature_store.proofs.snapshot_texts.read_map.Goals as goal
 
 pub loop-rest-init : goal.loop-rest-init
 loop-rest-init c =
-    rw c.new-store.ensures record { read = none_read c.args.text.now; end = λ id. (λ least. All-nil (λ e. e.0 < id), λ behind. omega arith) }
+    rw c.without_index-store.ensures record { read = none_read c.args.text.now; end = λ id. (λ least. All-nil (λ e. e.0 < id), λ behind. omega arith) }
 
 pub returns-in_err-stored-clause-fault : goal.returns-in_err-stored-clause-fault
 returns-in_err-stored-clause-fault c =

@@ -22,7 +22,7 @@ invariant_of-self c =
     (subst (λ (v : StoreView). length (snapshot (with_feature v.features c.args.stored.0 f)) < TEXTS_END) (sym c.self.view_is) c.requires.texts) in
     let before = ap (option_map stored_data) (c.as_ref.ensures.value ∙ c.insert-replaced.ensures.before) ∙ sym (feature_found es id) in
     let entry = c.index_entry-entry.ensures ∙ ap (λ g. index_entry (id, g)) c.view.ensures in
-    let indexed = c.set_entry-before.ensures.indexed (entries_data es) id f entry c.self.invariant.is_map.ascending before c.self.invariant.indexed in
+    let indexed = c.set_box-before.ensures.indexed (entries_data es) id f entry c.self.invariant.is_map.ascending before c.self.invariant.indexed in
     let set : entries_data c.insert-replaced.new.self.entries ≡ with_feature (entries_data es) id f =
     ap entries_data c.insert-replaced.ensures.entries ∙ set_is es id c.args.stored in
     record {
@@ -35,7 +35,7 @@ pub returns-clause-before : goal.returns-clause-before
 returns-clause-before c =
     let es = c.self.inside.features.entries in
     rw (← c.self.view_is)
-    (c.set_entry-before.ensures.bounds ∙ box_found es c.id-id.result _ (c.as_ref.ensures.value ∙ c.insert-replaced.ensures.before)
+    (c.set_box-before.ensures.bounds ∙ box_found es c.id-id.result _ (c.as_ref.ensures.value ∙ c.insert-replaced.ensures.before)
     ∙ ap (box_at (entries_data es)) c.id-id.ensures.number)
 
 pub returns-clause-replaced : goal.returns-clause-replaced

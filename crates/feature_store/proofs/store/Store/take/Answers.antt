@@ -16,20 +16,20 @@ invariant_of-self c =
     record {
       is_map = rw removed (map_without (entries_data es) c.args.id c.self.invariant.is_map);
       own = rw c.remove-removed.ensures.entries (own_removed es c.args.id c.self.invariant.own);
-      indexed = rw removed (c.take_entry-bounds.ensures.indexed (entries_data es) before c.self.invariant.indexed);
+      indexed = rw removed (c.take_box-bounds.ensures.indexed (entries_data es) before c.self.invariant.indexed);
     }
 
 pub returns-clause-bounds : goal.returns-clause-bounds
 returns-clause-bounds c =
     rw (← c.self.view_is)
-    (c.take_entry-bounds.ensures.bounds ∙ box_found c.self.inside.features.entries c.args.id _ (c.as_ref.ensures.value ∙ c.remove-removed.ensures.removed))
+    (c.take_box-bounds.ensures.bounds ∙ box_found c.self.inside.features.entries c.args.id _ (c.as_ref.ensures.value ∙ c.remove-removed.ensures.removed))
 
 pub returns-clause-found : goal.returns-clause-found
 returns-clause-found c =
     let es = c.self.inside.features.entries in
     let id = c.args.id in
-    let bounds = c.take_entry-bounds.ensures.bounds ∙ box_found es id _ (c.as_ref.ensures.value ∙ c.remove-removed.ensures.removed) in
-    let same : is_some c.take_entry-bounds.result ≡ is_some (feature_at (entries_data es) id) = ap is_some bounds ∙ is_some_box (entries_data es) id in
+    let bounds = c.take_box-bounds.ensures.bounds ∙ box_found es id _ (c.as_ref.ensures.value ∙ c.remove-removed.ensures.removed) in
+    let same : is_some c.take_box-bounds.result ≡ is_some (feature_at (entries_data es) id) = ap is_some bounds ∙ is_some_box (entries_data es) id in
     rw (← c.self.view_is) (λ found. sym same ∙ found, λ there. same ∙ there)
 
 pub returns-clause-removed : goal.returns-clause-removed

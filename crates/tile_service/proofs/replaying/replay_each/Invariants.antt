@@ -5,7 +5,7 @@ use Rattle.feature_store.specs.Store.{snapshot}
 use Rattle.feature_store.specs.declared.limit.TheConstants.{TEXTS_END}
 use Rattle.edit_journal.specs.Records.{records_of}
 use Rattle.tile_service.specs.Replayed.{AreMade, bytes_of}
-use Rattle.tile_service.proofs.replaying.replay.Given as goal
+use Rattle.tile_service.proofs.replaying.replay_each.Given as goal
 
 abbrev pub invariant-loop-recorded : goal.invariant-loop-recorded
 invariant-loop-recorded l = record {
