@@ -1,5 +1,5 @@
 //! The records in use, read again from the disk, from one of them on.
-ghost use Rattle.std.specs.Prelude.{◌≡◌, ◌≢◌, ◌↔◌, ◌≤◌, ◌<◌, ◌+◌, ◌-◌, ◌^◌, ◌∷◌, ℕ, List, length, take, drop, IfOk, IfErr, IsTrue, MatchResult};
+ghost use Rattle.std.specs.Prelude.{◌≡◌, ◌≢◌, ◌↔◌, ◌≤◌, ◌<◌, ◌+◌, ◌-◌, ◌^◌, ◌∷◌, ℕ, List, length, take, drop, Ok, Err, IfOk, IfErr, IsTrue, MatchOption, MatchResult};
 ghost use Rattle.sector_disk.specs.Asked.{OnlyReads, TellsFailure};
 ghost use Rattle.sector_disk.specs.Disk.{seen};
 ghost use Rattle.edit_journal.specs.Records.{RecordData, record_data, records_of, IsRecordLength, AreUpTo, parts_of};
@@ -37,6 +37,16 @@ fn is_before<D: Sectors>(
     Ok(number_in(&sector) < number)
 }
 
+/// The record that was read. `Damaged`: there is none.
+fn needed(found: Option<Record>) -> Result<Record, JournalFault>
+    ensures { MatchOption found (result ≡ Err Damaged) (λ r. result ≡ Ok r) }
+{
+    match found {
+        Some(record) => Ok(record),
+        None => Err(JournalFault::Damaged),
+    }
+}
+
 /// Reads the record after the others. `Damaged`: it isn't there.
 fn read_next<D: Sectors>(
     alloc: Global,
@@ -54,9 +64,9 @@ fn read_next<D: Sectors>(
         → journal.now.used ≡ places_of (take count records) → journal.now.last ≡ journal.now.edits + count → count < length records
         → MatchResult result (λ r. drop count records ≡ record_data r ∷ drop (count + 1) records) (λ fault. fault ≢ Damaged) }
 {
-    match read_record(alloc, journal, disk, most)? {
-        Some(record) => Ok(record),
-        None => Err(JournalFault::Damaged),
+    match read_record(alloc, journal, disk, most) {
+        Ok(found) => needed(found),
+        Err(fault) => Err(fault),
     }
 }
 
