@@ -1,5 +1,6 @@
+mod Digits
 mod Inserts
 mod Keys
 mod Methods
-mod Parts
+mod TileParts
 mod Texts

@@ -2,3 +2,4 @@ pub mod Number
 pub mod Paths
 pub mod Targets
 pub mod Methods
+pub mod Parts

@@ -9,9 +9,13 @@ use Rattle.feature_model.specs.declared.limits.TheConstants.{NUMBER_END}
 abbrev pub has_leading_zero : List ℕ → Bool
 has_leading_zero text = nat_lt 1 (length text) && (slice_index text 0 == 48)
 
+-- one byte or more, and no leading zero
+abbrev pub begins_plain : List ℕ → Bool
+begins_plain text = not ((length text == 0) || has_leading_zero text)
+
 -- one digit or more, without a leading zero
 abbrev pub is_plain_number : List ℕ → Bool
-is_plain_number text = not ((length text == 0) || has_leading_zero text) && list_all is_ascii_digit text
+is_plain_number text = begins_plain text && list_all is_ascii_digit text
 
 -- the number of a feature that a text writes in decimal
 abbrev pub number_of : List ℕ → Option ℕ

@@ -142,11 +142,6 @@ part_named name parts = text_or_nothing (named name parts)
     text_or_nothing None = []
     text_or_nothing (Some text) = text
 
--- the part of this name that was found before, or else the first one of these
-abbrev pub or_named : Option (List ℕ) → List ℕ → List (List ℕ × List ℕ) → Option (List ℕ)
-or_named (Some text) name parts = Some text
-or_named None name parts = named name parts
-
 -- what the parts of a path on a route ask for
 abbrev pub asked_on : Route → List (List ℕ × List ℕ) → Asked
 asked_on routes.Tile parts =

@@ -5,6 +5,7 @@ mod access;
 mod fault;
 mod method;
 mod number;
+mod parts;
 mod routes;
 mod target;
 

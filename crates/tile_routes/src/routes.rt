@@ -1,17 +1,16 @@
 //! The table of the paths that are served, and what a path asks for.
-ghost use Rattle.std.specs.Prelude.{◌≡◌, ℕ, List, [], ◌∷◌, map, true, false, IfOk, IfErr, MatchOption};
+ghost use Rattle.std.specs.Prelude.{◌≡◌, [], map, true, false, IfOk, IfErr, MatchOption};
 ghost use Rattle.std.specs.List.{list_all};
 ghost use Rattle.std.specs.Char.{is_ascii};
-ghost use Rattle.std.specs.Option.{option_map};
 ghost use Rattle.matchit.specs.Seek.{first};
 ghost use Rattle.matchit.specs.Params.{AllText};
-ghost use Rattle.tile_routes.specs.Paths.{served_rows, with_routes, AllFit, asked_on, part_named, or_named, asked_at, asked_by};
+ghost use Rattle.tile_routes.specs.Parts.{IfTile, tile_parts};
+ghost use Rattle.tile_routes.specs.Paths.{served_rows, with_routes, AllFit, asked_on, part_named, asked_at, asked_by};
 ghost use Rattle.tile_routes.specs.Targets.{asked_of, IsInRange, parts_of, row_path};
-ghost use Rattle.tile_routes.specs.declared.routes.Route.TheVariants.{Tile};
 
+use crate::parts::requested_tile;
 use crate::target::{
     Action, Target, View, edits_target, feature_target, from_target, numbered_target, page_target,
-    tile_target,
 };
 use matchit::{InsertError, Params, Router};
 use std::alloc::{AllocError, Global};
@@ -103,10 +102,8 @@ fn ascii_text(bytes: &[u8]) -> Option<&str>
     if !are_ascii(bytes) {
         return None;
     }
-    match str::from_utf8(bytes) {
-        Ok(text) => Some(text),
-        Err(_) => None,
-    }
+    // SAFETY: ASCII is UTF-8.
+    Some(unsafe { str::from_utf8_unchecked(bytes) })
 }
 
 /// The part of a path with this name, or no bytes if there is none.
@@ -120,56 +117,15 @@ fn part<'p>(params: &Params<'_, 'p>, name: &str) -> &'p [u8]
     }
 }
 
-/// The first part with this name, after one part more with a name of its own.
-fn first_named<'p>(
-    before: Option<&'p [u8]>,
-    wanted: &str,
-    name: &str,
-    part: &'p str,
-) -> Option<&'p [u8]>
-    ensures { (rest : List (List ℕ × List ℕ)) → or_named (option_map (λ b. b.now) before.entry) wanted.now ((name.now, part.entry.now) ∷ rest)
-        ≡ or_named (option_map (λ b. b.now) result) wanted.now rest }
-{
-    match before {
-        Some(found) => Some(found),
-        None if name == wanted => Some(part.as_bytes()),
-        None => None,
-    }
-}
-
-/// The bytes that were found, or none.
-fn or_none(found: Option<&[u8]>) -> &[u8]
-    ensures { MatchOption found.entry (result.now ≡ []) (λ part. result.now ≡ part.now) }
-{
-    match found {
-        Some(part) => part,
-        None => b"",
-    }
-}
-
-/// The tile that the parts of a path ask for, in one pass over them.
-fn requested_tile(params: &Params<'_, '_>) -> Target
-    requires { AllText (parts_of params.now) }
-    ensures asked { asked_of result ≡ asked_on Tile (parts_of params.now) }
-    ensures range { IsInRange result }
-{
-    let (mut z, mut x, mut y) = (None, None, None);
-    for (name, part) in params.iter() {
-        z = first_named(z, "z", name, part);
-        x = first_named(x, "x", name, part);
-        y = first_named(y, "y", name, part);
-    }
-    tile_target(or_none(z), or_none(x), or_none(y))
-}
-
-/// What the parts of a path on this route ask for.
-fn route_target(route: Route, params: &Params<'_, '_>) -> Target
-    requires { AllText (parts_of params.now) }
+/// What a path on this route asks for, whose parts these are.
+fn route_target(route: Route, params: &Params<'_, '_>, path: &[u8]) -> Target
+    requires text { AllText (parts_of params.now) }
+    requires tile { IfTile route (parts_of params.now ≡ tile_parts path.now) }
     ensures asked { asked_of result ≡ asked_on route (parts_of params.now) }
     ensures range { IsInRange result }
 {
     match route {
-        Route::Tile => requested_tile(params),
+        Route::Tile => requested_tile(path),
         Route::Feature => feature_target(part(params, "id")),
         Route::FeatureFrom => from_target(part(params, "id")),
         Route::FeaturePage => page_target(part(params, "id")),
@@ -197,7 +153,7 @@ impl Routes {
         ensures range { IsInRange result }
     {
         match self.router.at(path) {
-            Ok(found) => route_target(*found.value, &found.params),
+            Ok(found) => route_target(*found.value, &found.params, path.as_bytes()),
             Err(_) => Target::Nothing,
         }
     }
