@@ -1,5 +1,6 @@
 -- Laws of events one after the other, for the crates above too.
-use Rattle.std.proofs.Common.{◌≡◌, ◌+◌, ℕ, List, [], ◌∷◌, ◌++◌, Result, length, refl, sym, subst, ap, ◌∙◌, length-append, Bool, true, false, add-zero, inl, inr}
+use Rattle.std.proofs.Common.{◌≡◌, ◌+◌, ℕ, zero, suc, List, [], ◌∷◌, ◌++◌, Result, length, refl, sym, subst, ap, ◌∙◌}
+use Rattle.std.proofs.Common.{length-append, Bool, true, false, add-zero, inl, inr}
 use Rattle.std.proofs.lemmas.List.Elements.{filter-append}
 use Rattle.std.specs.Prelude.{◌⊎◌, filter, Some}
 use Rattle.http_serve.specs.declared.handlers.RestFault.{RestFault}
@@ -7,7 +8,7 @@ use Rattle.http_serve.specs.declared.handlers.Ticket.{Ticket}
 use Rattle.http_requests.specs.Requests.{RequestView}
 use Rattle.http_serve.specs.Reply.{ReplyView}
 use Rattle.http_listen.specs.Connections.{Stretch, Event, at_stretch, at_part, at_preparation, is_first, Happens, Serves, NextStretch, NextAnswer, NextPart}
-use Rattle.http_listen.specs.Connections.{IsOverKnown, AreOverKnown, begun}
+use Rattle.http_listen.specs.Connections.{IsOverKnown, AreOverKnown, AreSteps, begun}
 
 -- Events over what is known, and then other ones.
 known_both : (front back : List Event) → AreOverKnown front → AreOverKnown back → AreOverKnown (front ++ back)
@@ -74,14 +75,20 @@ module _ {S : Type 0} (replies fails : S → RequestView → ReplyView → S →
   serves_preparation count old middle new before then = subst (λ n. ServesCount n old new) (add-zero count)
       (next_serves at_preparation count old middle new tt before then)
 
-  -- One more of these, and perhaps one more stretch.
+  -- Several of these.
+  serves_steps : (steps count : ℕ) (old middle new : S) → ServesCount count old middle → AreSteps prepares steps middle new → ServesCount count old new
+  serves_steps zero count old middle new before same = subst (λ (s : S). ServesCount count old s) (sym same) before
+  serves_steps (suc more) count old middle new before then =
+      serves_steps more count old then.0 new (serves_preparation count old middle then.0 before then.1) then.2
+
+  -- Several of these, and perhaps one more stretch.
   pub serves_answer : (count : ℕ) (old middle new : S) → ServesCount count old middle → NextAnswer replies fails prepares middle new
       → ServesCount count old new
-  serves_answer count old middle new before then = answered then.2
+  serves_answer count old middle new before then = answered then.3
     where
-      stepped : ServesCount count old then.0
-      stepped = serves_preparation count old middle then.0 before then.1
+      stepped : ServesCount count old then.1
+      stepped = serves_steps then.0 count old middle then.1 before then.2
 
-      answered : (new ≡ then.0) ⊎ NextStretch replies fails then.0 new → ServesCount count old new
+      answered : (new ≡ then.1) ⊎ NextStretch replies fails then.1 new → ServesCount count old new
       answered (inl same) = subst (λ (s : S). ServesCount count old s) (sym same) stepped
-      answered (inr stretch) = serves_again count old then.0 new stepped stretch
+      answered (inr stretch) = serves_again count old then.1 new stepped stretch

@@ -1,5 +1,6 @@
 -- Steps of one connection, and its conversation.
-use Rattle.std.proofs.Common.{false, ◌≡◌, ℕ, List, [], ◌∷◌, ◌++◌, None, Some, Result, Ok, Err, refl, sym, ap, subst, ◌∙◌, append_assoc, append-nil, take, drop, take-append-drop, true≢false}
+use Rattle.std.proofs.Common.{false, ◌≡◌, ℕ, zero, suc, List, [], ◌∷◌, ◌++◌, None, Some, Result, Ok, Err, refl, sym, ap, subst, ◌∙◌, append_assoc, append-nil}
+use Rattle.std.proofs.Common.{take, drop, take-append-drop, true≢false}
 use Rattle.std.specs.Prelude.{◌≤◌, ◌+◌, ◌-◌, length, ⊤, is_some, IfOk, IfErr, OnErr, MatchOption}
 use Rattle.std.specs.declared.option.Option.{Option}
 use Rattle.http_serve.specs.declared.connection.ServeFault.{ServeFault}
@@ -11,9 +12,11 @@ use Rattle.http_listen.specs.declared.kept.Kept.{Kept}
 use Rattle.http_listen.specs.declared.rests.Unsent.{Unsent}
 use Rattle.http_listen.specs.declared.turns.Next.{Next}
 use Rattle.http_listen.specs.declared.turns.Next.TheVariants.{Asks, Reads, Rests, Closes}
-use Rattle.http_listen.specs.Conversations.{Act, answered, fetched, prepared, asked, replied, fetched_bytes, IsEndedBy, IsLeft, IsNext, Follows, Conversation, Steps, IsTalking, IsSearched, GoesOn, IsRead, Turned, Stands, Beside}
+use Rattle.http_listen.specs.Conversations.{Act, answered, fetched, prepared, asked, replied, fetched_bytes, IsEndedBy, IsLeft, IsNext, Follows}
+use Rattle.http_listen.specs.Conversations.{Conversation, Steps, IsTalking, IsSearched, GoesOn, IsRead, Turned, Stands, Beside}
 use Rattle.http_listen.specs.Rests.{EndsAt}
 use Rattle.http_listen.specs.Talks.{Told, Grows, Moves}
+use Rattle.http_listen.proofs.Preparations.{prepared_first}
 use Rattle.http_listen.proofs.TalkLemmas.{grows_none, moves_none, moves_both, moves_read, moves_added}
 
 -- Acts, and then other ones.
@@ -92,7 +95,8 @@ module _ {S : Type 0} (told : S → Option Told) where
         rest = new.input ++ s.lost;
         waits = new.output ++ s.cut;
         moved = subst (λ (l : List ℕ). Moves first [] l (replied (acts ++ more)) (told new.stream) (new.output ++ s.cut)) given
-            (subst (λ (l : List ℕ). Moves first [] ((asked acts ++ old.input) ++ s.given) l (told new.stream) (new.output ++ s.cut)) (sym (replied_both acts more)) both);
+            (subst (λ (l : List ℕ). Moves first [] ((asked acts ++ old.input) ++ s.given) l (told new.stream) (new.output ++ s.cut))
+            (sym (replied_both acts more)) both);
         left = s.left;
         follows = follows_both None old.turn.unsent s.left acts more t.follows s.follows;
       }
@@ -148,6 +152,13 @@ module _ {S : Type 0} (told : S → Option Told) where
     kept = s.kept;
   }
 
+  -- First several of these were made.
+  pub steps_before : (steps : ℕ) (old new : Kept S) (acts : List Act) (whole : Type 0) → old.turn.unsent ≡ None → Steps told old acts whole new
+      → Steps told old (prepared_first steps acts) whole new
+  steps_before zero old new acts whole none s = s
+  steps_before (suc more) old new acts whole none s =
+      steps_prepared old new (prepared_first more acts) whole none (steps_before more old new acts whole none s)
+
   -- What was read is the end of the input.
   pub steps_read : (old new : Kept S) (result : Next) (whole : Type 0) → (whole → GoesOn result) → IsRead told old result new → Steps told old [] whole new
   steps_read old new result whole goes_on r = record {
@@ -164,7 +175,8 @@ module _ {S : Type 0} (told : S → Option Told) where
     kept = λ w. (r.kept (goes_on w), refl, r.unsent);
   }
 
-  pub turned_read : (old new : Kept S) (result : Next) → IsRead told old result new → IsSearched new.input new.turn.ended result → old.output ≡ [] → old.turn.unsent ≡ None
+  pub turned_read : (old new : Kept S) (result : Next) → IsRead told old result new → IsSearched new.input new.turn.ended result → old.output ≡ []
+      → old.turn.unsent ≡ None
       → old.turn.drops ≡ None → Turned told old result new
   turned_read old new (Asks end) r s output unsent drops =
       (steps_read old new (Asks end) ⊤ (λ _. tt) r, r.output ∙ output, r.unsent ∙ unsent, none_of new.turn.drops (r.drops ∙ ap is_some drops), s.is)

@@ -1,5 +1,5 @@
 -- Connections of which one is served at a time, in stretches.
-use Rattle.std.specs.Prelude.{◌≡◌, ◌⊎◌, ℕ, Bool, false, List, [], ◌∷◌, length, filter, Option, Some, IsSome, Result, Ok, Err, ⊤}
+use Rattle.std.specs.Prelude.{◌≡◌, ◌⊎◌, ℕ, zero, suc, Bool, false, List, [], ◌∷◌, length, filter, Option, Some, IsSome, Result, Ok, Err, ⊤}
 use Rattle.http_serve.specs.declared.connection.ServeFault.{ServeFault}
 use Rattle.http_serve.specs.declared.connection.Served.{Served}
 use Rattle.http_serve.specs.declared.handlers.RestFault.{RestFault}
@@ -64,11 +64,16 @@ module _ {S : Type 0} (replies fails : S → RequestView → ReplyView → S →
   abbrev pub NextStretch : S → S → Type 0
   NextStretch old new = (result : Result Served ServeFault) × ComesTo result old new
 
--- the same, and steps of the preparation of a reply
+-- this many steps of the preparation of a reply, one after the other, lead from a state to the next
+abbrev pub AreSteps : {S : Type 0} (prepares : S → S → Type 0) → ℕ → S → S → Type 0
+AreSteps prepares zero old new = new ≡ old
+AreSteps {S} prepares (suc more) old new = (middle : S) × prepares old middle × AreSteps prepares more middle new
+
+-- the same, and replies
 module _ {S : Type 0} (replies fails : S → RequestView → ReplyView → S → Type 0) (prepares : S → S → Type 0) where
-  -- a step leads from a state to the next, and then perhaps a stretch, which answers
+  -- steps lead from a state to the next, and then perhaps a stretch, which answers
   abbrev pub NextAnswer : S → S → Type 0
-  NextAnswer old new = (middle : S) × prepares old middle × ((new ≡ middle) ⊎ NextStretch replies fails middle new)
+  NextAnswer old new = (steps : ℕ) × (middle : S) × AreSteps prepares steps old middle × ((new ≡ middle) ⊎ NextStretch replies fails middle new)
 
 -- reads of a content by its ticket
 module _ {S : Type 0} (reads : S → Ticket → (offset count : ℕ) → Result (List ℕ) RestFault → S → Type 0) where

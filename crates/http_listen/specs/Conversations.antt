@@ -1,5 +1,6 @@
 -- The conversation of one connection: what is done for it, one act after the other, and what its stream told.
-use Rattle.std.specs.Prelude.{◌≡◌, ◌≢◌, ◌<◌, ◌≤◌, ◌+◌, ◌-◌, ℕ, Bool, nat_eq, cond, All, List, [], ◌∷◌, ◌++◌, length, Option, None, Some, is_some, Result, Ok, Err, MatchOption, ⊤, false}
+use Rattle.std.specs.Prelude.{◌≡◌, ◌≢◌, ◌<◌, ◌≤◌, ◌+◌, ◌-◌, ℕ, Bool, nat_eq, cond, All, List, [], ◌∷◌, ◌++◌, length, Option, None, Some, is_some}
+use Rattle.std.specs.Prelude.{Result, Ok, Err, MatchOption, ⊤, false}
 use Rattle.http_serve.specs.declared.connection.ServeFault.{ServeFault}
 use Rattle.http_serve.specs.declared.connection.Served.{Served}
 use Rattle.http_serve.specs.declared.handlers.RestFault.{RestFault}

@@ -9,7 +9,7 @@ ghost use Rattle.http_listen.specs.Orders.{AreInOrder};
 ghost use Rattle.http_listen.specs.Goes.{Acts};
 ghost use Rattle.http_listen.specs.Places.{kept_at};
 ghost use Rattle.http_listen.specs.Talks.{Moves};
-ghost use Rattle.http_listen.specs.Connections.{Event, Serves, ComesTo, NextStretch, NextAnswer, NextPart, AreOverKnown, begun};
+ghost use Rattle.http_listen.specs.Connections.{Event, Serves, ComesTo, NextStretch, NextAnswer, NextPart, AreOverKnown, AreSteps, begun};
 
 use crate::kept::{Ending, Kept, Turn};
 use crate::rests::{Unsent, add_part, once_sent};
@@ -17,7 +17,9 @@ use crate::rooms::{Found, Room, time_of};
 use crate::talks::Talks;
 use crate::waits::Waits;
 use crate::writers::ReplyWriter;
-use http_serve::{Buffers, Downloads, MAX_READS, Prepares, ServeFault, Served, serve_fronts};
+use http_serve::{
+    Buffers, Downloads, MAX_READS, Preparation, Prepares, ServeFault, Served, serve_fronts,
+};
 use std::alloc::Global;
 use std::io::Write;
 use std::net::OpenStream;
@@ -34,6 +36,9 @@ pub enum ListenFault {
 
 /// The maximum number of turns: more than there ever are.
 const MAX_TURNS: u64 = u64::MAX;
+
+/// The maximum number of steps of a preparation in one turn, also where the clock stands still.
+const MAX_STEPS: u64 = 4_096;
 
 /// Sets up the stream of a new connection: small replies aren't delayed, and no call waits. What the system refuses to set is left as
 /// it is.
@@ -149,7 +154,7 @@ where
     Acted { now, kept, ending }
 }
 
-/// A connection has another turn before it is answered. The time since `start` is that of a step of its reply's preparation.
+/// A connection has another turn before it is answered. The time since `start` is that of steps of its reply's preparation.
 fn put_off<S, C>(clock: &C, start: Duration, room: &mut Room<S>, mut kept: Kept<S>) -> Acted<S>
 where
     S: Talks + OpenStream + Drop,
@@ -168,7 +173,33 @@ where
     }
 }
 
-/// Makes a step of the preparation of the reply to the first `end` bytes of a connection's input, and answers them if it was the last one.
+/// Makes steps of the preparation of the reply to these bytes of a connection, one at least, until they have taken this long since `start` or
+/// one has to wait for other connections. It is true while steps may be left.
+fn prepare_for<H: Prepares, C: Clock>(
+    clock: &C,
+    start: Duration,
+    longest: Duration,
+    number: u64,
+    asked: &[u8],
+    handler: &mut H,
+) -> bool
+    ensures { (steps : ℕ) × AreSteps H.prepares steps handler.old handler.new }
+{
+    'steps: for _step in 0..MAX_STEPS {
+        match handler.prepare(number, asked) {
+            Preparation::Ready => return false,
+            Preparation::Waits => return true,
+            Preparation::GoesOn => {}
+        }
+        if time_of(clock).saturating_sub(start) >= longest {
+            return true;
+        }
+    }
+    true
+}
+
+/// Makes steps of the preparation of the reply to the first `end` bytes of a connection's input, as many as fit in its turn, and answers them if
+/// none is left.
 fn prepare_front<S, H, C>(
     clock: &C,
     buffers: &mut Buffers,
@@ -190,7 +221,14 @@ where
         × Steps S.told kept acts (result.ending ≡ None) result.kept }
 {
     let start = time_of(clock);
-    if handler.prepare(kept.turn.number, kept.input.front(end)) {
+    if prepare_for(
+        clock,
+        start,
+        room.preparing_time,
+        kept.turn.number,
+        kept.input.front(end),
+        handler,
+    ) {
         return put_off(clock, start, room, kept);
     }
     answer_front(clock, start, buffers, room, kept, end, handler)
@@ -285,9 +323,9 @@ where
 /// before; other requests are answered between two parts. While replies wait, or the rest of one, no further request of the connection is
 /// read or answered.
 ///
-/// The handler may prepare a reply in steps. In a round each connection that is ready has one turn, and the turn of one whose reply is being
-/// prepared is one step. Between two rounds new connections are accepted. Until its reply nothing more is read of such a connection, its peer's
-/// time doesn't run, and it isn't ended to make room for others.
+/// The handler may prepare a reply in steps. In a round each connection that is ready has one turn, and the turn of one whose reply is
+/// being prepared is as many steps as begin within `Waits::preparing_time`, at least one. Between two rounds new connections are accepted.
+/// Until its reply nothing more is read of such a connection, its peer's time doesn't run, and it isn't ended to make room for others.
 ///
 /// Between two requests a connection holds no buffers. Otherwise it has at most `http_requests::MAX_REQUEST` bytes of input, and of its replies
 /// what its peer hasn't taken yet; a buffer takes at most twice as much as it has. Of a content that is read in parts one part is in memory.
@@ -349,7 +387,12 @@ where
     ensures named { (deeds : List Deed) × Runs H.replies H.fails H.reads H.ticket_of H.prepares handler.old deeds handler.new
         × AreInOrder connections deeds }
 {
-    let mut room = Room::new(alloc, listener.max_held(), listener.max_reads());
+    let mut room = Room::new(
+        alloc,
+        listener.max_held(),
+        listener.max_reads(),
+        listener.preparing_time(),
+    );
     let mut buffers = Buffers::new(alloc);
     let mut begun = 0;
     'turns: for _turn in 0..MAX_TURNS {

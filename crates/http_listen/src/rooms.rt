@@ -61,6 +61,8 @@ pub(crate) struct Room<S> {
     max_held: usize,
     /// How many reads each of them may make.
     max_reads: u64,
+    /// How long a turn goes on with steps of the preparation of a reply.
+    pub(crate) preparing_time: Duration,
     /// What each read is made into. It has nothing of an earlier one that anybody reads.
     piece: [u8; PIECE],
     /// How many of those that may have their turn have it before the next wait.
@@ -86,14 +88,21 @@ pub(crate) struct Room<S> {
 }
 
 impl<S> Room<S> {
-    /// No connection is open. All together may hold this many bytes, and each may make this many reads.
-    pub(crate) fn new(alloc: Global, max_held: usize, max_reads: u64) -> Self
+    /// No connection is open. All together may hold this many bytes, each may make this many reads, and a turn goes on this long with steps
+    /// of a preparation.
+    pub(crate) fn new(
+        alloc: Global,
+        max_held: usize,
+        max_reads: u64,
+        preparing_time: Duration,
+    ) -> Self
         ensures { (key : ℕ) → kept_at result.places key ≡ None }
     {
         Room {
             places: Places::new(alloc),
             max_held,
             max_reads,
+            preparing_time,
             piece: [0; PIECE],
             round: 0,
             accepts: 0,

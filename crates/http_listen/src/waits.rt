@@ -13,6 +13,9 @@ pub const MAX_KEPT: usize = 16_384;
 /// How many bytes of requests and replies all connections hold at most: 256 MiB.
 pub const MAX_HELD: usize = 268_435_456;
 
+/// How many milliseconds a turn goes on with steps of a preparation.
+pub const PREPARING_MILLISECONDS: u64 = 1;
+
 /// What a stream has become ready for.
 #[derive(Clone, Copy, Debug)]
 pub struct Change {
@@ -49,6 +52,11 @@ pub trait Waits {
     /// How many reads of a connection may return bytes.
     fn max_reads(&self) -> u64 {
         MAX_READS
+    }
+
+    /// How long a connection's turn goes on with steps of the preparation of its reply. The step that exceeds it is the turn's last one.
+    fn preparing_time(&self) -> Duration {
+        Duration::from_millis(PREPARING_MILLISECONDS)
     }
 
     /// Reports from now on when the stream of the connection at this key can be read, and if `sends`, when it takes bytes. What it is

@@ -127,14 +127,25 @@ pub trait Downloads: Handler {
         ensures length { length part.new ≡ length part.old };
 }
 
+/// What the preparation of a reply came to by a call.
+#[derive(Clone, Copy, Debug)]
+pub enum Preparation {
+    /// The request is to be answered.
+    Ready,
+    /// A step was made, and others are left.
+    GoesOn,
+    /// Nothing can be done before other connections had their turns.
+    Waits,
+}
+
 /// A handler that may prepare a reply in steps, between which other requests are answered.
 pub trait Prepares: Downloads {
     /// In the first state a step of the preparation of a reply was made, and the second state follows.
     ghost prepares: { Self → Self → Type 0 };
 
-    /// Makes the next step of the preparation of the reply to `asked`, which are the next bytes to be answered on the connection of this number: one
-    /// whole request, or bytes that get a refusal. Returns whether another step is to be made before they are answered. Connections that it is
-    /// asked for have their turns one after the other; one that ends isn't asked for again.
-    fn prepare(&mut self, connection: u64, asked: &[u8]) -> bool
+    /// Makes the next step of the preparation of the reply to `asked`, which are the next bytes to be answered on the connection of this number:
+    /// one whole request, or bytes that get a refusal. After `GoesOn` it may be asked again in the same turn of the connection, after `Waits`
+    /// only in a later one. Connections that it is asked for have their turns one after the other; one that ends isn't asked for again.
+    fn prepare(&mut self, connection: u64, asked: &[u8]) -> Preparation
         ensures { prepares self.old self.new };
 }

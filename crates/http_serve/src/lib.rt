@@ -12,7 +12,7 @@ mod writes;
 
 pub use connection::{End, MAX_READS, ServeFault, Served, serve_fronts, serve_with};
 pub use handlers::{
-    ContentFault, Downloads, Handler, PART_SIZE, Prepares, Request, RestFault, Ticket,
+    ContentFault, Downloads, Handler, PART_SIZE, Preparation, Prepares, Request, RestFault, Ticket,
 };
 pub use http_requests::{Fields, READ_SPACE};
 pub use http_values::Status;

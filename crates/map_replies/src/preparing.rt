@@ -16,13 +16,15 @@ ghost use Rattle.map_replies.specs.Words.{left_reply};
 use crate::calls::Calls;
 use crate::replies;
 use crate::service::MapReplies;
-use http_serve::{ContentFault, Downloads, Handler, Prepares, Reply, Request, RestFault, Ticket};
+use http_serve::{
+    ContentFault, Downloads, Handler, Preparation, Prepares, Reply, Request, RestFault, Ticket,
+};
 use sector_disk::Sectors;
 use std::alloc::AllocError;
 use tile_routes::{Action, Method, Target};
 
 /// The first bytes of a request for the beginning of a publication.
-const BEGINNING: &[u8] = b"POST /publish/begin";
+const BEGINNING: &[u8] = b"POST /publish/begin ";
 
 /// The request handler of a listener: the replies of a map, where a publication is prepared between other replies.
 #[derive(Drop)]
@@ -65,6 +67,15 @@ fn is_to_begin(target: Target, method: &[u8]) -> bool
             Ok(Method::Get | Method::Head | Method::Put | Method::Delete) | Err(_) => false,
         },
         _ => false,
+    }
+}
+
+/// What a preparation came to by a step, after which tiles may be left.
+fn after_step(goes_on: bool) -> Preparation {
+    if goes_on {
+        Preparation::GoesOn
+    } else {
+        Preparation::Ready
     }
 }
 
@@ -237,18 +248,18 @@ impl<D: Sectors + Drop> Downloads for PreparingReplies<D> {
 impl<D: Sectors + Drop> Prepares for PreparingReplies<D> {
     ghost prepares = { PreparingStep D.sectors D.honest D.history D.faults };
 
-    fn prepare(&mut self, connection: u64, asked: &[u8]) -> bool {
+    fn prepare(&mut self, connection: u64, asked: &[u8]) -> Preparation {
         if !asked.starts_with(BEGINNING) {
-            return false;
+            return Preparation::Ready;
         }
         if self.waits_for_another(connection) {
-            return true;
+            return Preparation::Waits;
         }
         self.owner = connection;
         self.goes_on = true;
         match self.replies.calls.service.publish_prepare() {
-            Ok(goes_on) => goes_on,
-            Err(_) => false,
+            Ok(goes_on) => after_step(goes_on),
+            Err(_) => Preparation::Ready,
         }
     }
 }

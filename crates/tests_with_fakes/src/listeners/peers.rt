@@ -4,7 +4,8 @@ ghost use Rattle.http_serve.specs.Reply.{IsWhole};
 use crate::wanted::same;
 use http_listen::{SystemListener, serve_on};
 use http_serve::{
-    Content, ContentFault, Downloads, Handler, Prepares, Reply, Request, RestFault, Status, Ticket,
+    Content, ContentFault, Downloads, Handler, Preparation, Prepares, Reply, Request, RestFault,
+    Status, Ticket,
 };
 use std::io::{Read, Write};
 use std::net::{Ipv4Addr, Shutdown, SocketAddr, TcpListener, TcpStream};
@@ -13,7 +14,11 @@ const GET: &str = "GET / HTTP/1.1\r\nhost: a\r\n\r\n";
 
 const POST: &str = "POST / HTTP/1.1\r\nhost: a\r\ncontent-length: 0\r\n\r\n";
 
+const PUT: &str = "PUT / HTTP/1.1\r\nhost: a\r\ncontent-length: 0\r\n\r\n";
+
 const TWO_GETS: &str = "GET / HTTP/1.1\r\nhost: a\r\n\r\nGET / HTTP/1.1\r\nhost: a\r\n\r\n";
+
+const FIRST: &str = "HTTP/1.1 200 OK\r\ncontent-length: 1\r\n\r\n0";
 
 const FIRST_AND_SECOND: &str =
     "HTTP/1.1 200 OK\r\ncontent-length: 1\r\n\r\n0HTTP/1.1 200 OK\r\ncontent-length: 1\r\n\r\n1";
@@ -40,7 +45,7 @@ struct Row {
     log: &'static str,
 }
 
-static ROWS: [Row; 4] = [
+static ROWS: [Row; 5] = [
     Row {
         name: "a_peer_reads_its_replies",
         asks_again: false,
@@ -71,11 +76,18 @@ static ROWS: [Row; 4] = [
         peers: &[(GET, FIRST_AND_THIRD), (GET, SECOND)],
         log: "connection 2: 1 requests, closed\nconnection 1: 2 requests, closed\n",
     },
-    // The reply to the first one is prepared in a step before, and the second one is answered in between.
+    // The reply to the first one is prepared until the second one is answered, so it gives way to it.
     Row {
         name: "others_are_answered_while_a_reply_is_prepared",
         asks_again: false,
         peers: &[(POST, THIRD), (GET, SECOND)],
+        log: "connection 2: 1 requests, closed\nconnection 1: 1 requests, closed\n",
+    },
+    // The preparation for the first one waits for others, so it isn't asked for again before the second one had its turn.
+    Row {
+        name: "who_waits_has_a_turn_after_others",
+        asks_again: false,
+        peers: &[(PUT, SECOND), (GET, FIRST)],
         log: "connection 2: 1 requests, closed\nconnection 1: 1 requests, closed\n",
     },
 ];
@@ -88,12 +100,12 @@ const NO_TICKET: Ticket = Ticket {
     first: 0,
 };
 
-/// Answers with how many answers and steps there were before. Has a peer ask once more and end where the second request is answered, if it is
-/// given one. The first POST takes a step.
+/// Answers with how many answers there were before. Has a peer ask once more and end where the second request is answered, if it is given one.
+/// A POST that comes first is prepared until another request was answered, which counts as an answer. The first PUT waits for others once.
 #[derive(Clone, Copy)]
 struct Counter<'a> {
     answers: u64,
-    has_stepped: bool,
+    has_waited: bool,
     asker: Option<&'a TcpStream>,
 }
 
@@ -165,13 +177,16 @@ impl Downloads for Counter<'_> {
 impl Prepares for Counter<'_> {
     ghost prepares = { λ _ _. Unit {0} };
 
-    fn prepare(&mut self, _connection: u64, asked: &[u8]) -> bool {
-        if self.has_stepped || !asked.starts_with(b"POST".as_slice()) {
-            return false;
+    fn prepare(&mut self, _connection: u64, asked: &[u8]) -> Preparation {
+        if asked.starts_with(b"PUT".as_slice()) && !self.has_waited {
+            self.has_waited = true;
+            return Preparation::Waits;
         }
-        self.has_stepped = true;
-        self.answers = self.answers.saturating_add(1);
-        true
+        if self.answers > 1 || !asked.starts_with(b"POST".as_slice()) {
+            return Preparation::Ready;
+        }
+        self.answers = 1;
+        Preparation::GoesOn
     }
 }
 
@@ -190,7 +205,7 @@ fn serves_at(
     };
     let mut handler = Counter {
         answers: 0,
-        has_stepped: false,
+        has_waited: false,
         asker,
     };
     let count = row.peers.len() as u64;

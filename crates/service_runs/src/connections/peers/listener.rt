@@ -157,6 +157,11 @@ impl<'a> Waits for Listener<'a> {
         self.room.reads
     }
 
+    // Each step is a turn, so that others come in between: the clock stands still meanwhile.
+    fn preparing_time(&self) -> Duration {
+        Duration::ZERO
+    }
+
     fn watch(&mut self, stream: &Self::Stream, key: usize, sends: bool) -> io::Result<()> {
         let peer = stream.peer;
         if peer.plan.is_unwatched {

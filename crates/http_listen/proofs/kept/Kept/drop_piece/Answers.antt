@@ -17,4 +17,5 @@ returns-in-Err g c =
     let same = c.may_read_again.ensures in
     let told = g.S.Talks.told in
     steps_dropped told c.args.self.now c.may_read_again.new.self []
-    (subst (λ s. Grows (told c.args.self.now.stream) [] [] (told s)) (sym same.stream) c.in-Err.ensures.told) same.input same.output same.number (ap is_some same.drops)
+    (subst (λ s. Grows (told c.args.self.now.stream) [] [] (told s)) (sym same.stream) c.in-Err.ensures.told) same.input same.output same.number
+    (ap is_some same.drops)

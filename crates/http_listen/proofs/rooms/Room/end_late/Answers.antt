@@ -10,7 +10,8 @@ pub looks-preserved : goal.looks-preserved
 looks-preserved g c =
     elim c.if-deadline-time.branch [
       | then-deadline-time w ↦ rw w.self-is (
-          goes_both g.S.Talks.told (kept_at c.args.self.now.places) (kept_at c.looks.self.places) (kept_at w.end_at.new.self.places) c.looks.invariant w.end_at.ensures
+          goes_both g.S.Talks.told (kept_at c.args.self.now.places) (kept_at c.looks.self.places)
+          (kept_at w.end_at.new.self.places) c.looks.invariant w.end_at.ensures
           )
       | else-deadline-time w ↦ rw w.self-is c.looks.invariant
     ]
