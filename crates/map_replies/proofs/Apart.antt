@@ -12,7 +12,8 @@ use Rattle.tile_routes.specs.declared.target.Action.TheVariants as actions
 use Rattle.tile_routes.specs.declared.target.View.{View}
 use Rattle.tile_routes.specs.declared.target.View.TheVariants as views
 use Rattle.tile_routes.specs.declared.target.TileFormat.{TileFormat}
-use Rattle.tile_routes.specs.Paths.{Asked, asked_tile, asked_feature, asked_from, asked_page, asked_edits, asked_numbered, asked_view, asked_action, asked_nothing}
+use Rattle.tile_routes.specs.Paths.{Asked, asked_tile, asked_feature, asked_from, asked_page, asked_edits, asked_numbered, asked_view, asked_action}
+use Rattle.tile_routes.specs.Paths.{asked_nothing}
 use Rattle.edit_text.specs.Recorded.{RecordedEdit}
 use Rattle.feature_model.specs.Data.{EditData, put, delete}
 use Rattle.tile_service.specs.Machine.{Happening, Call, single, batched, recorded_in, recorded_change, edit, begin, step, cancel, check}

@@ -1,5 +1,6 @@
 -- What happens to the service of a listener, reply by reply, and what a publication in the making is of.
-use Rattle.std.proofs.Common.{◌≡◌, inl, inr, ◌⊎◌, ℕ, List, [], ◌∷◌, ◌++◌, length, Bool, true, false, Option, Some, None, Result, Ok, Err, refl, sym, ap, subst, ◌∙◌, append_assoc}
+use Rattle.std.proofs.Common.{◌≡◌, inl, inr, ◌⊎◌, ℕ, List, [], ◌∷◌, ◌++◌, length, Bool, true, false, Option, Some, None, Result, Ok, Err, refl, sym}
+use Rattle.std.proofs.Common.{ap, subst, ◌∙◌, append_assoc}
 use Rattle.std.proofs.lemmas.Bool.{false≢true}
 use Rattle.std.proofs.lemmas.List.{append-nil}
 use Rattle.std.specs.Option.{is_some}
@@ -16,6 +17,7 @@ use Rattle.tile_service.specs.Machine.{Happening, begin}
 use Rattle.tile_service.specs.Prepared.{CanPrepare, prepared}
 use Rattle.tile_service.specs.Runs.{TakesAll}
 use Rattle.tile_service.specs.Service.{PublicationView, ServiceView, KeepsDraft, BeginsDrafted, drafted_now, status_of}
+use Rattle.tile_service.specs.Tickets.{IsHeld}
 use Rattle.tile_service.specs.declared.fault.ServiceFault.{ServiceFault}
 use Rattle.begin_law.specs.Beside.{AreBeside}
 use Rattle.map_replies.specs.declared.calls.Calls.{Calls}
@@ -23,13 +25,16 @@ use Rattle.map_replies.specs.declared.service.MapReplies.{MapReplies}
 use Rattle.map_replies.specs.declared.preparing.PreparingReplies.{PreparingReplies}
 use Rattle.map_replies.specs.Conditions.{ask_of}
 use Rattle.map_replies.specs.Meanings.{DiskFailed, asked_for}
-use Rattle.map_replies.specs.Preparing.{IsMadeReady, BeginsLate, PreparingReplied, PreparingFails, PreparingReads, PreparingStep, Meanwhile, meanwhile, without_draft}
+use Rattle.map_replies.specs.Preparing.{IsMadeReady, BeginsLate, PreparingReplied, PreparingFails, PreparingReads, PreparingStep, Meanwhile}
+use Rattle.map_replies.specs.Preparing.{meanwhile, without_draft}
 use Rattle.map_replies.specs.Preparing.{IsToBegin, TellsMeanwhile, TellsMeanwhileCut, TellsMeanwhileRead, TellsPrepared, is_to_publish, inner_service}
+use Rattle.map_replies.specs.Tickets.{KeepsTickets}
 use Rattle.map_replies.specs.Words.{left_reply}
 use Rattle.map_replies.specs.State.{access_of, tags_of, asked_service, settings_of, ServiceReplies}
 use Rattle.map_replies.proofs.Apart.{AreApart, apart_on, method_apart}
 use Rattle.map_replies.proofs.Goes.{Goes, Rests, rests_none, rests_undrafted, goes_all, goes_on, goes_rest, draft_after, all_beside}
 use Rattle.map_replies.proofs.LateBeginnings.{late_begun, late_refused}
+use Rattle.map_replies.proofs.TicketLemmas.{held_unasked}
 
 -- what there is, or else this
 abbrev got_or : DraftedView → Option DraftedView → DraftedView
@@ -249,6 +254,16 @@ module _ {D : Type 0} (sectors : D → ℕ) (honest : D → Type 0) (history : D
         drafts = λ d is. absurd (is_none now.drafting d is (ap (λ (c : Calls D). c.service.drafting) late.same));
       }
 
+    -- tickets are held after it: nothing of the disk changes, and no archive
+    late_held : (outcome : Result ℕ ServiceFault) → BeginsLate old.replies.calls outcome new.replies.calls
+        → KeepsTickets honest history old.replies.calls new.replies.calls
+    late_held outcome late place ticketed held =
+        let service = ap (λ (c : Calls D). c.service) late.same in
+        subst (λ (oldest : ℕ). IsHeld honest history place ticketed oldest now) (sym (ap (λ (c : Calls D). c.oldest) late.same))
+        (held_unasked sectors honest history place ticketed old.replies.calls.oldest before now held
+        (ap (λ (s : ServiceView D). s.disk) service) (ap (λ (s : ServiceView D). s.size) service)
+        (ap (λ (s : ServiceView D). s.generation) service))
+
     told_late : (outcome : Result ℕ ServiceFault) → IsToBegin old.replies request → reply ≡ left_reply outcome
         → new.replies ≡ record old.replies { calls = new.replies.calls } → BeginsLate old.replies.calls outcome new.replies.calls
         → (then : Meanwhile D) × TellsMeanwhile sectors honest history faults (meanwhile old run fixed) request reply then
@@ -267,6 +282,8 @@ module _ {D : Type 0} (sectors : D → ℕ) (honest : D → Type 0) (history : D
             refl,
             refl,
             ap (λ (r : MapReplies D). settings_of r) same,
+            late_held outcome late,
+            inl (ap (λ (c : Calls D). c.oldest) late.same),
           ),
           late_goes outcome late so,
         )

@@ -1,5 +1,5 @@
 -- When a publication in the making can begin, and what it is then.
-use Rattle.std.proofs.Common.{◌≡◌, ◌⊎◌, inl, inr, ℕ, List, Bool, true, false, Option, Some, None, Result, Ok, Err, refl, sym, ap, subst, ◌∙◌}
+use Rattle.std.proofs.Common.{◌≡◌, ◌⊎◌, inl, inr, ℕ, List, true, false, Option, Some, None, Result, Ok, Err, refl, sym, ap, subst, ◌∙◌}
 use Rattle.std.specs.Prelude.{IfSome, IsSome, OnOk, OnErr}
 use Rattle.std.proofs.lemmas.Bool.{false≢true}
 use Rattle.std.specs.Option.{is_some, option_map}
@@ -127,18 +127,6 @@ module _ {D : Type 0} (sectors : D → ℕ) (honest : D → Type 0) (history : D
     draft = inl (ap (λ (r : MapReplies D). (asked_service r).drafting) same);
     up = λ stored up. subst (λ (s : ServiceView D). IsUp (sectors s.disk) (history s.disk) stored s)
         (sym (ap (λ (r : MapReplies D). asked_service r) same)) up;
-  }
-
-  -- the publication in the making is dropped
-  pub prepares_dropped : (old new : PreparingReplies D) → new.replies ≡ with_service old (inner_service new)
-      → inner_service new ≡ record (inner_service old) { drafting = None }
-      → ((stored : Stored) → IsUp (sectors (inner_service old).disk) (history (inner_service old).disk) stored (inner_service old)
-      → IsUp (sectors (inner_service new).disk) (history (inner_service new).disk) stored (inner_service new)) → Step old new
-  prepares_dropped old new replies service up = record {
-    same = replies ∙ ap (with_service old) (service ∙ ap (λ (o : Option DraftedView). record (inner_service old) { drafting = o })
-        (sym (ap (λ (s : ServiceView D). s.drafting) service)));
-    draft = inr (inl (ap (λ (s : ServiceView D). s.drafting) service));
-    up = up;
   }
 
   pub prepares_by : {A E : Type 0} (old new : PreparingReplies D) (r : Result A E) → new.replies ≡ with_service old (inner_service new)

@@ -1,5 +1,6 @@
 -- An archive that is sent in parts.
-use Rattle.std.proofs.Common.{◌≡◌, inl, inr, ℕ, ◌<◌, ◌+◌, ◌-◌, ◌≤◌, List, [], ◌∷◌, ◌++◌, length, take, drop, replicate, slice_range, Option, Some, None, min, Bool, true, false}
+use Rattle.std.proofs.Common.{◌≡◌, inl, inr, ℕ, ◌<◌, ◌+◌, ◌-◌, ◌≤◌, List, [], ◌∷◌, ◌++◌, length, take, drop, replicate, slice_range, Option, Some}
+use Rattle.std.proofs.Common.{None, min, Bool, true, false}
 use Rattle.std.proofs.Common.{refl, sym, ap, ◌∙◌, subst, arith, append_assoc, length-append, length-drop}
 use Rattle.std.proofs.lemmas.List.{drop-drop, drop-take, take_all, take-take, take_at, take-append-le, take-append-drop, length-replicate, length-take-le}
 use Rattle.std.proofs.lemmas.Option.{none-some}
@@ -31,12 +32,14 @@ use Rattle.map_replies.specs.declared.fault.RequestFault.TheVariants.{Condition,
 use Rattle.map_replies.specs.declared.parts.ArchiveRange.{ArchiveRange}
 use Rattle.map_replies.specs.declared.parts.ArchiveRange.TheVariants.{Whole, Between, Beyond}
 use Rattle.map_replies.specs.declared.parts.Sending.{Sending}
-use Rattle.map_replies.specs.Meanings.{OrNoMemory, MeansPart, MeansRange, MeansJudged, MeansArchive, MeansAllowed, UnlessRefused, Answers, AnswersAllowed, AnswersMethod, DiskFailed}
+use Rattle.map_replies.specs.Meanings.{OrNoMemory, MeansPart, MeansRange, MeansJudged, MeansArchive, MeansAllowed, UnlessRefused, Answers}
+use Rattle.map_replies.specs.Meanings.{AnswersAllowed, AnswersMethod, DiskFailed}
 use Rattle.map_replies.specs.Conditions.{AskView, judged, needed, range_for, refuses}
 use Rattle.map_replies.specs.declared.conditions.Judged.{Judged}
 use Rattle.map_replies.specs.declared.conditions.Judged.TheVariants.{Holds, Fails, Unchanged}
 use Rattle.map_replies.specs.Parts.{IsPart, start_of, size_of, archive_tag, shown_tag, part_reply, unchanged_reply}
-use Rattle.map_replies.specs.Sending.{IsAnswered, IsAnswer, IsBegun, IsAnsweredInParts, IsInside, Begins, SendsPart, AnswersPart, IsSending, SendsAsked, SendsMethod}
+use Rattle.map_replies.specs.Sending.{IsAnswered, IsAnswer, IsBegun, IsAnsweredInParts, IsInside, Begins, SendsPart, AnswersPart, IsSending}
+use Rattle.map_replies.specs.Sending.{SendsAsked, SendsMethod}
 use Rattle.map_replies.specs.Words.{refusal_of, service_refusal}
 use Rattle.map_replies.proofs.Answering.{no_memory_first}
 
@@ -263,7 +266,8 @@ module _ {D : Type 0} (sectors : D → ℕ) (honest : D → Type 0) (history : D
   answers_part tag part old sending new reply sends = answers_read tag part old new reply sends.content sends.sent.0 sends.long sends.shows sends.reads
 
   -- the reply with such a content
-  pub part_sent : (tag : Option Tag) (old new : ServiceView D) (part : ArchiveRange) (sending : Sending) (reply : Reply) (content : Content) → IsInside part old.archive_len
+  pub part_sent : (tag : Option Tag) (old new : ServiceView D) (part : ArchiveRange) (sending : Sending) (reply : Reply) (content : Content)
+      → IsInside part old.archive_len
       → Begins sectors honest history old new (start_of part) (size_of part old.archive_len) content → faults new.disk ≡ faults old.disk
       → reply.content ≡ content
       → ((bytes : List ℕ) → reply_view bytes reply ≡ part_reply part old.archive_len tag (content_bytes bytes content))
@@ -286,7 +290,8 @@ module _ {D : Type 0} (sectors : D → ℕ) (honest : D → Type 0) (history : D
       )
 
   -- the reply if the disk failed
-  pub part_failed : (tag : Option Tag) (old new : ServiceView D) (part : ArchiveRange) (sending : Sending) (reply : Reply) → IsInside part old.archive_len → IsWhole reply
+  pub part_failed : (tag : Option Tag) (old new : ServiceView D) (part : ArchiveRange) (sending : Sending) (reply : Reply)
+      → IsInside part old.archive_len → IsWhole reply
       → reply_view [] reply ≡ service_refusal Device → DiskFailed faults old new → Takes sectors honest history old (read (start_of part) None) new
       → AnswersPart sectors honest history faults tag part old sending new reply
   part_failed tag old new Whole sending reply inside whole is failed takes =

@@ -19,7 +19,8 @@ use Rattle.tile_routes.specs.declared.target.Action.TheVariants as actions
 use Rattle.tile_routes.specs.declared.target.View.{View}
 use Rattle.tile_routes.specs.declared.target.View.TheVariants as views
 use Rattle.tile_routes.specs.Methods.{method_on}
-use Rattle.tile_routes.specs.Paths.{Asked, asked_tile, asked_feature, asked_from, asked_page, asked_edits, asked_numbered, asked_view, asked_action, asked_nothing}
+use Rattle.tile_routes.specs.Paths.{Asked, asked_tile, asked_feature, asked_from, asked_page, asked_edits, asked_numbered, asked_view, asked_action}
+use Rattle.tile_routes.specs.Paths.{asked_nothing}
 use Rattle.tile_routes.specs.Paths.{asked_by, granted}
 use Rattle.tile_routes.specs.declared.access.Access.{Access}
 use Rattle.edit_journal.specs.Records.{RecordData}

@@ -15,7 +15,8 @@ module _ {D : Type 0} (sectors : D → ℕ) (honest : D → Type 0) (history : D
     pub disk : OnlyReads sectors honest history old.disk new.disk
 
   -- The happenings in order, each from one state of the service to the next: `at k` is the state when the first k calls had returned, and
-  -- `from k` that in which the next one begins, once downloads were read or a publication was prepared. What a crash leaves is by the histories of the disks `at k`.
+  -- `from k` that in which the next one begins, once downloads were read or a publication was prepared. What a crash leaves is by the histories of the
+  -- disks `at k`.
   pub record TakesBetweenReads (old : ServiceView D) (happenings : List Happening) (new : ServiceView D) : Type 0 where
     pub at : ℕ → ServiceView D
     pub from : ℕ → ServiceView D

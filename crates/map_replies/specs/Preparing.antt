@@ -20,8 +20,10 @@ use Rattle.map_replies.specs.declared.calls.Calls.{Calls}
 use Rattle.map_replies.specs.declared.preparing.PreparingReplies.{PreparingReplies}
 use Rattle.map_replies.specs.declared.service.MapReplies.{MapReplies}
 use Rattle.map_replies.specs.Meanings.{asked_for}
-use Rattle.map_replies.specs.State.{access_of, asked_service, settings_of, sending_size, sending_ticket, ServiceReplies, ServiceSends, ServiceFails, ServiceReads}
-use Rattle.map_replies.specs.State.{course, Tells, TellsCut}
+use Rattle.map_replies.specs.State.{access_of, asked_service, settings_of, sending_size, sending_ticket, ServiceReplies, ServiceSends, ServiceFails}
+use Rattle.map_replies.specs.State.{ServiceReads}
+use Rattle.map_replies.specs.State.{course, KeepsArchivesOn, Tells, TellsCut}
+use Rattle.map_replies.specs.Tickets.{KeepsTickets}
 use Rattle.map_replies.specs.Words.{left_reply}
 
 -- it asks for a call of a publication
@@ -137,12 +139,14 @@ module _ {D : Type 0} (sectors : D → ℕ) (honest : D → Type 0) (history : D
       × Tells sectors honest history faults (course ready old.run) request reply (course new.replies.replies new.run) × StaysFixed old new
 
   -- The late answer to a beginning. It stands in the run where the map of the publication was fixed: the archive has what was
-  -- acknowledged before, and nothing that was requested later.
+  -- acknowledged before, and nothing that was requested later. Tickets that are held stay so, and archives can be read as before.
   abbrev pub TellsLate : Meanwhile D → RequestView → ReplyView → Meanwhile D → Type 0
   TellsLate old request reply new = IsToBegin old.replies.replies request × (outcome : Result ℕ ServiceFault) × (reply ≡ left_reply outcome)
       × (before : List Happening) × (after : List Happening) × (old.run ≡ before ++ after) × (old.fixed ≡ Some (length before))
       × (new.run ≡ before ++ begin outcome ∷ after) × (new.fixed ≡ None)
       × (settings_of new.replies.replies ≡ settings_of old.replies.replies)
+      × KeepsTickets honest history old.replies.replies.calls new.replies.replies.calls
+      × KeepsArchivesOn old.replies.replies request reply new.replies.replies
 
   abbrev pub TellsMeanwhile : Meanwhile D → RequestView → ReplyView → Meanwhile D → Type 0
   TellsMeanwhile old request reply new = TellsNow old request reply new ⊎ TellsLate old request reply new

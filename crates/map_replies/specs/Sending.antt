@@ -74,7 +74,8 @@ module _ {D : Type 0} (sectors : D → ℕ) (honest : D → Type 0) (history : D
   -- over a disk that counts its faults
   module _ (faults : D → ℕ) where
     -- a part is being sent: the reply contains what was read so far, and no read has failed
-    pub record SendsPart (tag : Option Tag) (part : ArchiveRange) (old : ServiceView D) (sending : Sending) (new : ServiceView D) (reply : ReplyView) : Type 0 where
+    pub record SendsPart (tag : Option Tag) (part : ArchiveRange) (old : ServiceView D) (sending : Sending) (new : ServiceView D)
+        (reply : ReplyView) : Type 0 where
       pub sent : IsSent part old.archive_len sending
       pub content : List ℕ
       pub long : length content ≡ size_of part old.archive_len
@@ -89,7 +90,8 @@ module _ {D : Type 0} (sectors : D → ℕ) (honest : D → Type 0) (history : D
         (SendsPart tag part old sending new)
 
     -- the part that a range selects is being sent
-    pub record IsSending (tag : Option Tag) (range : Option (List ℕ)) (old : ServiceView D) (sending : Sending) (new : ServiceView D) (reply : ReplyView) : Type 0 where
+    pub record IsSending (tag : Option Tag) (range : Option (List ℕ)) (old : ServiceView D) (sending : Sending) (new : ServiceView D)
+        (reply : ReplyView) : Type 0 where
       pub some : 0 < old.archive_len
       pub part : ArchiveRange
       pub asked : IsPart range old.archive_len part

@@ -55,7 +55,8 @@ module _ {D : Type 0} (sectors : D → ℕ) (honest : D → Type 0) (history : D
   -- that could.
   abbrev pub ServiceReplies : MapReplies D → RequestView → ReplyView → MapReplies D → Type 0
   ServiceReplies old request reply new =
-      Replies sectors honest history faults (access_of old) (tags_of old) (asked_service old) request reply (asked_service new) × (settings_of new ≡ settings_of old)
+      Replies sectors honest history faults (access_of old) (tags_of old) (asked_service old) request reply (asked_service new)
+      × (settings_of new ≡ settings_of old)
       × KeepsTickets honest history old.calls new.calls × KeepsArchivesOn old request reply new
 
   -- the same for a reply whose content is being read in parts: the request is for the archive

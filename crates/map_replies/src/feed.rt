@@ -1,5 +1,5 @@
 //! The edits since the last publication, in JSON.
-ghost use Rattle.std.specs.Prelude.{◌≡◌, ◌⊎◌, ◌≤◌, ◌+◌, ◌^◌, ◌++◌, [], ℕ, List, map, length, IfOk, IfErr, OnOk};
+ghost use Rattle.std.specs.Prelude.{◌≡◌, ◌⊎◌, ◌↔◌, ◌≤◌, ◌+◌, ◌^◌, ◌++◌, [], ℕ, List, map, length, IfOk, IfErr, OnOk};
 ghost use Rattle.sector_disk.specs.Disk.{HasFailed};
 ghost use Rattle.serde_json.specs.View.{view};
 ghost use Rattle.edit_journal.specs.Records.{record_data, records_of};
@@ -17,7 +17,7 @@ ghost use Rattle.map_replies.specs.Lists.{comma_if};
 ghost use Rattle.map_replies.specs.Meanings.{ListedAs, MeansList, Answers, DiskFailed};
 ghost use Rattle.map_replies.specs.Sending.{IsAnswered};
 ghost use Rattle.map_replies.specs.Tickets.{KeepsTickets};
-ghost use Rattle.map_replies.specs.declared.fault.RequestFault.TheVariants.{Memory};
+ghost use Rattle.map_replies.specs.declared.fault.RequestFault.TheVariants.{Damaged, Memory};
 
 use crate::calls::Calls;
 use crate::fault::RequestFault;
@@ -68,6 +68,17 @@ fn changes_text(alloc: Global, number: u64, changes: &[Prepared]) -> Result<Vec<
     Ok(value.to_vec(alloc)?)
 }
 
+/// Why a record isn't read as an edit: `Damaged` if it is the record of none.
+fn fault_of(fault: TextFault) -> RequestFault
+    ensures either { (result ≡ Memory) ⊎ (result ≡ Damaged) }
+    ensures memory { (result ≡ Memory) ↔ (fault ≡ TextFault.Memory) }
+{
+    match fault {
+        TextFault::Memory => RequestFault::Memory,
+        TextFault::Cut | TextFault::Bad => RequestFault::Damaged,
+    }
+}
+
 /// The changes of a record's edit. `Damaged`: it is the record of no edit.
 fn changes_in(alloc: Global, recorded: &Record) -> Result<Vec<Prepared>, RequestFault>
     ensures edit { IfOk result (λ v. IsRecordFor (record_data recorded.now) (recorded_in recorded.now.version (map prepared_data v.items))) }
@@ -75,8 +86,7 @@ fn changes_in(alloc: Global, recorded: &Record) -> Result<Vec<Prepared>, Request
 {
     match read_record(alloc, recorded.version, &recorded.text) {
         Ok(changes) => Ok(changes),
-        Err(TextFault::Memory) => Err(RequestFault::Memory),
-        Err(TextFault::Cut | TextFault::Bad) => Err(RequestFault::Damaged),
+        Err(fault) => Err(fault_of(fault)),
     }
 }
 

@@ -16,7 +16,8 @@ pub returns-clause-answered : goal.returns-clause-answered
 returns-clause-answered g c =
     let d = g.D.Sectors in
     let call = c.batch-outcome.ensures in
-    let next : c.args.number ≡ c.args.self.now.service.journal.last + 1 = c.is_next.ensures.0 c.if-not-is_next.false ∙ ap (λ (n : ℕ). n + 1) c.last-last.ensures in
+    let next : c.args.number ≡ c.args.self.now.service.journal.last + 1 = c.is_next.ensures.0 c.if-not-is_next.false
+    ∙ ap (λ (n : ℕ). n + 1) c.last-last.ensures in
     made_numbered d.sectors d.honest d.history _ _ c.args.number (map change_data c.args.changes.items) _ _ c.batch-outcome.result _ next
     c.outcome.ensures.reply call.takes.failed
     (edit_step d.sectors d.honest d.history d.faults _ _ batched _ c.batch-outcome.result call.machine call.takes)

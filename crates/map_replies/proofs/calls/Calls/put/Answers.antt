@@ -16,7 +16,8 @@ returns-clause-answered g c =
     let old = c.args.self.now.service in
     let e = recorded_change old.version (put c.args.id (feature_data c.in-Ok.feature)) in
     body_said d.sectors d.honest d.history (SaysFeature c.args.body.now) (HasBodyFault c.args.body.now)
-    (λ f. MeansIf c.args.needed c.args.id (MeansEdit (DiskFailed d.faults old c.put-outcome.new.self) (edit single (recorded_change old.version (put c.args.id f)))))
+    (λ f. MeansIf c.args.needed c.args.id (MeansEdit (DiskFailed d.faults old c.put-outcome.new.self)
+    (edit single (recorded_change old.version (put c.args.id f)))))
     (feature_data c.in-Ok.feature) old c.put-outcome.new.self _ c.in-Ok.ensures.found
     (edited_if d.sectors d.honest d.history c.args.id old c.args.needed _ _ (edit single e) c.put-outcome.new.self c.put-outcome.result _
     (sym c.meets.ensures ∙ c.if-not-meets.false) c.outcome.ensures.reply call.takes.failed

@@ -21,7 +21,8 @@ returns-in-Ok-clause-replied g c =
     subst (λ (r : RequestView). Replied d.sectors d.honest d.history d.faults old r c.in-Ok.reply (record old { calls = c.respond.new.self }))
     c.request.view_is
     (replied d.sectors d.honest d.history d.faults old request c.respond.new.self _ _ c.method-method.ensures
-    (subst (λ (r : RequestView). asked_of c.args.target ≡ asked_for (access_of old) r) (sym c.request.view_is) c.requires.asked) c.respond.ensures.held c.in-Ok.reply
+    (subst (λ (r : RequestView). asked_of c.args.target ≡ asked_for (access_of old) r) (sym c.request.view_is) c.requires.asked) c.respond.ensures.held
+    c.in-Ok.reply
     c.in-Ok.ensures.answered c.in-Ok.ensures.oldest)
 
 pub returns-in-Err-clause-replied : goal.returns-in-Err-clause-replied
@@ -39,5 +40,6 @@ returns-in-Err-clause-replied g c =
     subst (λ (r : RequestView). Replied d.sectors d.honest d.history d.faults old r c.refusal.result (record old { calls = c.respond.new.self }))
     c.request.view_is
     (refused d.sectors d.honest d.history d.faults old request c.respond.new.self _ _ c.method-method.ensures
-    (subst (λ (r : RequestView). asked_of c.args.target ≡ asked_for (access_of old) r) (sym c.request.view_is) c.requires.asked) c.respond.ensures.held c.in-Err.fault c.refusal.result
+    (subst (λ (r : RequestView). asked_of c.args.target ≡ asked_for (access_of old) r) (sym c.request.view_is) c.requires.asked) c.respond.ensures.held
+    c.in-Err.fault c.refusal.result
     c.refusal.ensures.writable c.refusal.ensures.reply c.in-Err.ensures.answered c.in-Err.ensures.oldest)
