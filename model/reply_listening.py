@@ -358,7 +358,8 @@ def preparations(script):
     other = Peer((0, EDIT + DONE), (29, END), answered=[EDIT, DONE])
     listen(script, one, other, order=[0, 1, 1, 0, 0], log=logged((2, 2, "closed"), (1, 3, "closed")), time=30)
     script.note("Edits that are acknowledged before it is read are in it.")
-    both = Peer((0, request("DELETE", "/features/7") + BEGIN + STEP + GET_ARCHIVE), (1, END), answered=[request("DELETE", "/features/7"), BEGIN, STEP, GET_ARCHIVE])
+    gone = request("DELETE", "/features/7")
+    both = Peer((0, gone + BEGIN + STEP + GET_ARCHIVE), (1, END), answered=[gone, BEGIN, STEP, GET_ARCHIVE])
     listen(script, both, Peer((0, put(8)), (2, END), answered=[put(8)]), order=[0, 1, 0, 0, 0], log=logged((1, 4, "closed"), (2, 1, "closed")), time=2)
     script.note("A second beginning waits for the first one, which it doesn't overtake, and then is refused; the first one is cancelled.")
     with_point(script)
@@ -373,5 +374,5 @@ def preparations(script):
         listen(script, first, second, order=[1, 1, 0, 1, 0, 0], log=logged((1, 3, "closed"), (2, 3, "closed")), time=31)
 
 
-BLOCKS = [no_descriptor, accepts_that_fail, so_many_are_open, turns, slow_readers, all_hold_too_much, so_many_reads, cut_anywhere, byte_by_byte, stages, paces, downloads]
-BLOCKS.append(preparations)
+BLOCKS = [no_descriptor, accepts_that_fail, so_many_are_open, turns, slow_readers, all_hold_too_much, so_many_reads]
+BLOCKS += [cut_anywhere, byte_by_byte, stages, paces, downloads, preparations]

@@ -125,7 +125,8 @@ def hold_to(examples, start):
             sys.exit(f"{asked}: {answered}, and the example has {wanted}")
 
 
-BLOCKS = [*reply_heads.BLOCKS, *reply_routes.BLOCKS, *reply_edits.BLOCKS, *reply_publications.BLOCKS, *reply_tags.BLOCKS, reply_random.at_random, *reply_hostile.BLOCKS]
+BLOCKS = [*reply_heads.BLOCKS, *reply_routes.BLOCKS, *reply_edits.BLOCKS, *reply_publications.BLOCKS, *reply_tags.BLOCKS]
+BLOCKS += [reply_random.at_random, *reply_hostile.BLOCKS]
 BLOCKS += [*reply_hostile_edits.BLOCKS, *reply_turns.BLOCKS, *reply_admin.BLOCKS, *reply_checked.BLOCKS, *reply_listings.BLOCKS]
 BLOCKS += reply_listening.BLOCKS
 

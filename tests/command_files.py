@@ -9,6 +9,7 @@ import subprocess
 from command_cases import ARCHIVE, PROGRAM, PUBLISH, asked, content, failing, published, refusal, system, vtserve
 from command_streams import EMPTY, GET, TEXT, TILE, edit, error, put, reply
 
+STATUS = b"GET /admin/status HTTP/1.1\r\nhost: x\r\n\r\n"
 NO_LOCKS = b"vtserve: the file system has no locks: nothing keeps another process from this disk\n"
 
 
@@ -30,6 +31,9 @@ def opens(cases, folder):
     for name in ["EBADF", "EIO", "ENOLCK", "EAGAIN", "EINVAL"]:
         cases.show(f"pipe where a lock is {name}", failing("flock", path, 1, ["pipe", path], GET, name), refusal(b"File"))
     cases.show("pipe where it stays in the cache", failing("fadvise64", path, 1, ["pipe", path], GET), refusal(b"Device"))
+    calls = asked(path, "statx,pwrite64,fdatasync", ["pipe", path, "--admin"], put(7) + STATUS)
+    wanted = ["statx", "pwrite64", "fdatasync", "statx", "fdatasync"]
+    cases.show("an edit looks at the disk's path once, before its write; so does a sync without one", calls[-5:], wanted)
 
 
 def replace(path):

@@ -6,7 +6,7 @@ import random
 import select
 import socket
 
-from stand import JSON, Server, curl, feature, refusal, same, status_of, wanted
+from stand import JSON, Server, curl, feature, refusal, same, wanted
 
 POINTS, BATCH = 4096, 32
 BEGIN = b"POST /publish/begin HTTP/1.1\r\nhost: x\r\n\r\n"
@@ -17,7 +17,7 @@ def fill(server):
     chance = random.Random(7)
     for first in range(0, POINTS, BATCH):
         places = [[chance.randrange(2**32), chance.randrange(2**32)] for _ in range(BATCH)]
-        made = [{"put": first + at, "feature": json.loads(feature(last=8, geometry={"points": [place]}))} for at, place in enumerate(places)]
+        made = [{"put": first + at, "feature": json.loads(feature(last=12, geometry={"points": [place]}))} for at, place in enumerate(places)]
         reply = curl(server.url + "/edits", body=json.dumps({"changes": made}))
     return reply
 
@@ -41,12 +41,21 @@ def answer(asker):
 
 
 def others(server, asker):
-    """How many looks and edits were answered before anything came for who asks, and whether each was right."""
+    """How many looks and edits were answered before anything came for who asks, and whether each was right. They are asked on one connection:
+    a process for each would take as long as the publication."""
     count, right = 0, True
+    other = http.client.HTTPConnection("127.0.0.1", server.port)
+
+    def is_done(method, body=None):
+        other.request(method, f"/features/{POINTS + 10 + count}", body)
+        reply = other.getresponse()
+        reply.read()
+        return reply.status == 200
+
     while not select.select([asker], [], [], 0)[0]:
-        number = POINTS + 10 + count
-        right = right and status_of(named(server, number, "meanwhile")) == 200 and status_of(curl(f"{server.url}/features/{number}")) == 200
+        right = right and is_done("PUT", feature(layer="meanwhile")) and is_done("GET")
         count += 1
+    other.close()
     return count, right
 
 
