@@ -62,7 +62,9 @@ def counted(disk, ask, times, name):
 
 
 small, large = made_disk(14), made_disk(420)
-for name, disk, fields in [("0.8 KB, short head", small, "host: x\r\n"), ("0.8 KB, a browser's head", small, browser_fields(8080)), ("24 KB", large, "host: x\r\n")]:
+SHORT = "host: x\r\n"
+ROWS = [("0.8 KB, short head", small, SHORT), ("0.8 KB, a browser's head", small, browser_fields(8080)), ("24 KB", large, SHORT)]
+for name, disk, fields in ROWS:
     ask = f"GET /map/8/0/0.mvt HTTP/1.1\r\n{fields}\r\n".encode()
     few, many = counted(disk, ask, 300, f"few_{disk[-3:]}_{len(ask)}"), counted(disk, ask, 1300, f"many_{disk[-3:]}_{len(ask)}")
     print(f"a hot tile of {name} ({len(ask)} bytes): {(many - few) / 1000:.0f} instructions for each request", flush=True)

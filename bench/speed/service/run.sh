@@ -8,7 +8,7 @@ work="$(mktemp -d)"
 trap 'rm -rf "$work"' EXIT
 mkdir -p "$work/disks"
 folder="$(cd "${1:-$work/disks}" && pwd)"
-python3 "$here/../../tools/scratch.py" "$work" service_bench sector_disk feature_model tile_service anyhow
+python3 "$here/../../tools/scratch.py" "$work" service_bench sector_disk file_disk feature_model tile_service anyhow
 cp "$here/main.rt.txt" "$work/crates/service_bench/src/main.rt"
 g++ -O2 -std=c++17 -o "$work/peer" "$here/peer.cpp" 2> /dev/null
 cd "$work/crates/service_bench"
