@@ -470,8 +470,9 @@ def status_reply(service):
 
 
 def on_publication(service, name):
+    """A call of a publication. One that has waited for its tiles, as others were answered, is of the map that was fixed for it."""
     if name == "publish":
-        generation, edits, archive = service.publish()
+        generation, edits, archive = service.finish_drafted() if service.draft else service.publish()
         return json_reply({"archive": archive, "edits": edits, "generation": generation})
     if name == "cancel":
         service.cancel()

@@ -37,6 +37,13 @@ def pace(size, quick, rate):
         now += TENTH
 
 
+class Fixed:
+    """The place of a peer in an order, where the map of its next request is fixed, which is answered later."""
+
+    def __init__(self, place):
+        self.place = place
+
+
 class Peer:
     """What a peer does, and what it gets: the requests of it that are answered, how many bytes of the replies, all if that isn't said, the time of
     the last byte, whether the reply for want of memory comes last, and how many of its bytes without end are dropped."""
@@ -66,16 +73,20 @@ def say_peer(script, peer, spelled):
         script.add(line, line)
 
 
-def answer(service, request):
+def answer(service, request, is_admin):
     """The bytes of one reply."""
-    return connections.outcome(service, request, 4096).written
+    return connections.outcome(service, request, 4096, is_admin=is_admin).written
 
 
-def replies_in(service, peers, order):
-    """What is replied to each peer, whose requests are answered in an order: the places of peers, each for its next request."""
+def replies_in(stand, peers, order):
+    """What is replied to each peer, whose requests are answered in an order: the places of peers, each for its next request. The map of a whole
+    publication may be fixed before others are answered."""
     left, replies = [list(peer.answered) for peer in peers], [b""] * len(peers)
     for place in order:
-        replies[place] += answer(service, left[place].pop(0))
+        if isinstance(place, Fixed):
+            stand.service.prepare()
+        else:
+            replies[place] += answer(stand.service, left[place].pop(0), stand.is_admin)
     if any(left):
         raise ValueError("a request that is answered has no place in the order")
     return replies
@@ -90,7 +101,7 @@ def listen(script, *peers, log="", time=0, order=None, failed=False, accepts=(),
     all_peers = [peer for peer in peers for _ in range(1 + peer.more)]
     order = [place for place, peer in enumerate(all_peers) for _ in peer.answered] if order is None else order
     told, before = f"{'failed' if failed else 'served'}, {time}: {told_of(log.encode())}", ""
-    for peer, replies in zip(all_peers, replies_in(script.stand.service, all_peers, order)):
+    for peer, replies in zip(all_peers, replies_in(script.stand, all_peers, order)):
         here = peer.told(replies)
         told, before = told + (" | same" if here == before else f" | {here}"), here
     script.add(f"serve {word}" if word else "serve", told)

@@ -315,6 +315,13 @@ class Service:
         self.going()
         self.publication = None
 
+    def finish_drafted(self):
+        """Begins the publication of the map that was fixed, and continues it to its end."""
+        left = self.drafted()
+        while left:
+            left = self.step(pauses=False)
+        return self.root.generation, self.root.edits, self.root.archive_len
+
     def publish(self):
         left = self.begin()
         edits = self.publication.edits

@@ -1,6 +1,6 @@
 """Blocks of `reply_script.py` about peers that a listener serves by turns. Each is a function of a script."""
 import connections
-from listening import END, FLOOD, Peer, listen as listen_to, logged, pace, time_for
+from listening import END, FLOOD, Fixed, Peer, listen as listen_to, logged, pace, time_for
 from reply_stand import BEGIN, CANCEL, GET_ARCHIVE, PUBLISH, STEP, Often, put, put_parts, request, text_of, with_point
 
 # Linux's errors: no descriptor is left, a signal, a connection is gone, a fault of the protocol, an argument at fault. Then one that is none.
@@ -366,13 +366,66 @@ def preparations(script):
     first = Peer((0, BEGIN), (10, CANCEL), (30, END), answered=[BEGIN, CANCEL], last=10)
     second = Peer((0, EDIT + BEGIN), (20, BEGIN), (21, END), answered=[EDIT, BEGIN, BEGIN], last=20)
     listen(script, first, second, order=[0, 1, 1, 0, 1], log=logged((2, 3, "closed"), (1, 2, "closed")), time=30)
-    script.note("Any other call of a publication drops what is prepared, and it is made anew, of the map of then.")
-    for asked in (CANCEL, STEP, PUBLISH):
+    script.note("Any other call of a publication drops what is prepared, and it is made anew, of the map of then; one behind an empty line too.")
+    for asked in (CANCEL, STEP, b"\r\n" + PUBLISH):
         with_point(script)
         first = Peer((0, BEGIN), (10, STEP), (20, GET_ARCHIVE), (30, END), answered=[BEGIN, STEP, GET_ARCHIVE], last=20)
         second = Peer((0, EDIT + asked + request("DELETE", "/features/9")), (31, END), answered=[EDIT, asked, request("DELETE", "/features/9")])
         listen(script, first, second, order=[1, 1, 0, 1, 0, 0], log=logged((1, 3, "closed"), (2, 3, "closed")), time=31)
 
 
+STATUS = request("GET", "/admin/status")
+
+
+def whole_preparations(script):
+    script.say("A whole publication is prepared so too, and then made at once: its archive is of the map as it was when it was asked for.")
+    with_point(script)
+    script.admin()
+    one = Peer((0, PUBLISH), (10, STATUS), (20, GET_ARCHIVE), (30, END), answered=[PUBLISH, STATUS, GET_ARCHIVE], last=20)
+    other = Peer((0, EDIT + DONE), (29, END), answered=[EDIT, DONE])
+    listen(script, one, other, order=[Fixed(0), 1, 1, 0, 0, 0], log=logged((2, 2, "closed"), (1, 3, "closed")), time=30)
+    script.note("The next one has that edit.")
+    again = Peer((0, PUBLISH), (10, STATUS), (20, GET_ARCHIVE), (30, END), answered=[PUBLISH, STATUS, GET_ARCHIVE], last=20)
+    other = Peer((0, request("DELETE", "/features/9") + STATUS), (29, END), answered=[request("DELETE", "/features/9"), STATUS])
+    listen(script, again, other, order=[Fixed(0), 1, 1, 0, 0, 0], log=logged((2, 2, "closed"), (1, 3, "closed")), time=30)
+    script.note("One whose side ends behind its request gets its reply all the same.")
+    with_point(script)
+    ended = Peer((0, PUBLISH), (0, END), answered=[PUBLISH])
+    other = Peer((0, EDIT + DONE), (20, GET_ARCHIVE), (21, END), answered=[EDIT, DONE, GET_ARCHIVE], last=20)
+    listen(script, ended, other, order=[Fixed(0), 1, 1, 0, 1], log=logged((1, 1, "closed"), (2, 3, "closed")), time=21)
+    script.note("A second one waits for the first one, and has the edits since.")
+    with_point(script)
+    first = Peer((0, PUBLISH), (30, END), answered=[PUBLISH])
+    second = Peer((0, EDIT + PUBLISH), (20, GET_ARCHIVE), (21, END), answered=[EDIT, PUBLISH, GET_ARCHIVE], last=20)
+    listen(script, first, second, order=[Fixed(0), 1, 0, 1, 1], log=logged((2, 3, "closed"), (1, 1, "closed")), time=30)
+    script.note("So it waits for a beginning, and is refused then; and a beginning waits for it.")
+    with_point(script)
+    first = Peer((0, BEGIN), (10, STEP), (20, GET_ARCHIVE), (30, END), answered=[BEGIN, STEP, GET_ARCHIVE], last=20)
+    second = Peer((0, EDIT + PUBLISH), (21, END), answered=[EDIT, PUBLISH])
+    listen(script, first, second, order=[0, 1, 1, 0, 0], log=logged((2, 2, "closed"), (1, 3, "closed")), time=30)
+    first = Peer((0, PUBLISH), (30, END), answered=[PUBLISH])
+    second = Peer((0, request("DELETE", "/features/9") + BEGIN), (10, STEP), (20, GET_ARCHIVE), (21, END),
+                  answered=[request("DELETE", "/features/9"), BEGIN, STEP, GET_ARCHIVE], last=20)
+    listen(script, first, second, order=[Fixed(0), 1, 0, 1, 1, 1], log=logged((2, 4, "closed"), (1, 1, "closed")), time=30)
+    script.note("Any other call of a publication drops what is prepared, and it is made anew, of the map of then; one behind an empty line too.")
+    for asked in (CANCEL, STEP, b"\r\n" + PUBLISH):
+        with_point(script)
+        first = Peer((0, PUBLISH), (20, GET_ARCHIVE), (30, END), answered=[PUBLISH, GET_ARCHIVE], last=20)
+        second = Peer((0, EDIT + asked + request("DELETE", "/features/9")), (31, END), answered=[EDIT, asked, request("DELETE", "/features/9")])
+        listen(script, first, second, order=[1, 1, Fixed(0), 1, 0, 0], log=logged((1, 2, "closed"), (2, 3, "closed")), time=31)
+    script.note("The disk fails at one of its calls: the edit of meanwhile is acknowledged all the same, but for one of its own, and the archive stays.")
+    for kind in ("from", "lost", "made"):
+        for number in range(1, 8):
+            with_point(script)
+            script.ask(PUBLISH)
+            script.again(kind, number)
+            first = Peer((0, PUBLISH), (10, GET_ARCHIVE), (20, END), answered=[PUBLISH, GET_ARCHIVE], last=10)
+            second = Peer((0, EDIT + DONE), (19, END), answered=[EDIT, DONE])
+            order = [Fixed(0), 1, 1, 0, 0]
+            listen(script, first, second, order=order, log=logged((2, 2, "closed"), (1, 2, "closed")), time=20)
+            script.again()
+            script.ask(DONE + GET_ARCHIVE)
+
+
 BLOCKS = [no_descriptor, accepts_that_fail, so_many_are_open, turns, slow_readers, all_hold_too_much, so_many_reads]
-BLOCKS += [cut_anywhere, byte_by_byte, stages, paces, downloads, preparations]
+BLOCKS += [cut_anywhere, byte_by_byte, stages, paces, downloads, preparations, whole_preparations]

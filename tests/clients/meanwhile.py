@@ -10,6 +10,7 @@ from stand import JSON, Server, curl, feature, refusal, same, wanted
 
 POINTS, BATCH = 4096, 32
 BEGIN = b"POST /publish/begin HTTP/1.1\r\nhost: x\r\n\r\n"
+WHOLE = b"POST /publish HTTP/1.1\r\nhost: x\r\n\r\n"
 
 
 def fill(server):
@@ -66,8 +67,69 @@ def published(server):
     return curl(server.url + "/map.pmtiles")[2]
 
 
+def told_as(archive, status):
+    """What the reply to a whole publication tells, by the archive and the status after it."""
+    return {"archive": len(archive), "edits": status["published"], "generation": status["generation"]}
+
+
+def status_of(server):
+    return json.loads(curl(server.url + "/admin/status")[2])
+
+
+def whole(cases, folder):
+    """A whole publication, which is prepared so too, and then made at once."""
+    with Server(folder, "whole", 65536) as server:
+        fill(server)
+        named(server, POINTS, "before")
+        with socket.create_connection(("127.0.0.1", server.port)) as asker, socket.create_connection(("127.0.0.1", server.port)) as second:
+            asker.sendall(WHOLE)
+            count, right = others(server, asker)
+            cases.show("edits and looks are answered while a whole publication is prepared", (count > 1, right), (True, True))
+            status, told = answer(asker)
+            archive, after = curl(server.url + "/map.pmtiles")[2], status_of(server)
+            cases.show("its reply tells of its archive", (status, json.loads(told)), (200, told_as(archive, after)))
+            cases.show("it has the edits before it", (json.loads(told)["edits"], after["edits"]), (POINTS // BATCH + 1, POINTS // BATCH + 1 + count))
+            cases.show("its archive has what was acknowledged before, and nothing later", layers(archive) & {"before", "meanwhile"}, {"before"})
+            asker.sendall(WHOLE)
+            second.sendall(WHOLE)
+            found = [answer(asker), answer(second)]
+            cases.show("of two whole publications each is made", [status for status, _ in found], [200, 200])
+            cases.show("one after the other", sorted(json.loads(told)["generation"] for _, told in found), [2, 3])
+            archive = curl(server.url + "/map.pmtiles")[2]
+            cases.show("the archive has the edits since", layers(archive) & {"before", "meanwhile"}, {"before", "meanwhile"})
+            asker.sendall(WHOLE)
+            second.sendall(BEGIN)
+            found = answer(asker), answer(second)
+            both = ([200, 200], [409, 200])
+            cases.show("a beginning beside it waits for it, or it for the beginning", [status for status, _ in found] in both, True)
+            curl(server.url + "/publish/cancel", "-X", "POST")
+            asker.sendall(WHOLE)
+            same(cases, "a cancellation of what is prepared for it", curl(server.url + "/publish/cancel", "-X", "POST"), refusal(409, "Idle"))
+            cases.show("it goes on", answer(asker)[0], 200)
+            asker.sendall(WHOLE)
+            named(server, POINTS + 1, "late")
+            second.sendall(b"\r\n" + WHOLE)
+            cases.show("one behind an empty line isn't answered by what is prepared for another", answer(second)[0], 200)
+            cases.show("it has each edit before it", "late" in layers(curl(server.url + "/map.pmtiles")[2]), True)
+            cases.show("and the other one is made", answer(asker)[0], 200)
+            second.sendall(WHOLE)
+        with socket.create_connection(("127.0.0.1", server.port)) as asker:
+            asker.sendall(WHOLE)
+            status, told = answer(asker)
+            cases.show("another one publishes after who asked is gone", status, 200)
+            archive = curl(server.url + "/map.pmtiles")[2]
+            cases.show("and is told of its archive", json.loads(told), told_as(archive, status_of(server)))
+    os.remove(server.disk)
+
+
 def meanwhile(cases, folder):
-    """A publication that is prepared by a tile at a time, between which edits and looks are answered."""
+    """Publications that are prepared by a tile at a time, between which edits and looks are answered."""
+    begun(cases, folder)
+    whole(cases, folder)
+
+
+def begun(cases, folder):
+    """A publication by steps, whose beginning is prepared so."""
     with Server(folder, "meanwhile", 65536) as server:
         same(cases, "4,096 points", fill(server), wanted(200, JSON, f'{{"edit":{POINTS // BATCH}}}'))
         named(server, POINTS, "before")

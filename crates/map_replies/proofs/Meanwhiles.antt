@@ -1,8 +1,10 @@
 -- What happens to the service of a listener, reply by reply, and what a publication in the making is of.
 use Rattle.std.proofs.Common.{◌≡◌, inl, inr, ◌⊎◌, ℕ, List, [], ◌∷◌, ◌++◌, length, Bool, true, false, Option, Some, None, Result, Ok, Err, refl, sym}
-use Rattle.std.proofs.Common.{ap, subst, ◌∙◌, append_assoc}
+use Rattle.std.proofs.Common.{ap, subst, ◌∙◌, append_assoc, arith}
+use Rattle.std.specs.Prelude.{map, IfErr, IfOk}
 use Rattle.std.proofs.lemmas.Bool.{false≢true}
 use Rattle.std.proofs.lemmas.List.{append-nil}
+use Rattle.std.proofs.lemmas.List.Elements.{All-nil, All-cons}
 use Rattle.std.specs.Option.{is_some}
 use Rattle.http_requests.specs.Requests.{RequestView}
 use Rattle.http_serve.specs.Reply.{ReplyView}
@@ -11,29 +13,37 @@ use Rattle.http_serve.specs.declared.handlers.Ticket.{Ticket}
 use Rattle.sector_disk.specs.Asked.{OnlyReads}
 use Rattle.sector_disk.specs.Disk.{History}
 use Rattle.sector_disk.proofs.AskedLaws.{reads_none}
+use Rattle.feature_store.specs.Store.{FeatureMap}
 use Rattle.tile_routes.specs.Methods.{method_on}
+use Rattle.tile_routes.specs.Paths.{Asked}
 use Rattle.tile_service.specs.Drafted.{DraftedView}
-use Rattle.tile_service.specs.Machine.{Happening, begin}
+use Rattle.tile_service.specs.Machine.{Happening, begin, step}
 use Rattle.tile_service.specs.Prepared.{CanPrepare, prepared}
-use Rattle.tile_service.specs.Runs.{TakesAll}
-use Rattle.tile_service.specs.Service.{PublicationView, ServiceView, KeepsDraft, BeginsDrafted, drafted_now, status_of}
+use Rattle.tile_service.specs.Publishing.{HasNoContent}
+use Rattle.tile_service.specs.Runs.{IsUnfinished, RestEndsAs, TakesAll}
+use Rattle.tile_service.specs.Service.{PublicationView, ServiceView, KeepsDraft, BeginsDrafted, TellsDevice, drafted_now, status_of}
 use Rattle.tile_service.specs.Tickets.{IsHeld}
 use Rattle.tile_service.specs.declared.fault.ServiceFault.{ServiceFault}
+use Rattle.tile_service.specs.declared.fault.ServiceFault.TheVariants.{Device}
+use Rattle.tile_service.specs.declared.publishing_whole.Published.{Published}
+use Rattle.tile_service.specs.declared.status.Status.{Status}
 use Rattle.begin_law.specs.Beside.{AreBeside}
 use Rattle.map_replies.specs.declared.calls.Calls.{Calls}
 use Rattle.map_replies.specs.declared.service.MapReplies.{MapReplies}
 use Rattle.map_replies.specs.declared.preparing.PreparingReplies.{PreparingReplies}
 use Rattle.map_replies.specs.Conditions.{ask_of}
-use Rattle.map_replies.specs.Meanings.{DiskFailed, asked_for}
+use Rattle.map_replies.specs.Meanings.{DiskFailed, asked_for, last_outcome}
 use Rattle.map_replies.specs.Preparing.{IsMadeReady, BeginsLate, PreparingReplied, PreparingFails, PreparingReads, PreparingStep, Meanwhile}
-use Rattle.map_replies.specs.Preparing.{meanwhile, without_draft}
+use Rattle.map_replies.specs.Preparing.{IsToPublishWhole, GoesToItsEnd, EndsLate, meanwhile, without_draft}
 use Rattle.map_replies.specs.Preparing.{IsToBegin, TellsMeanwhile, TellsMeanwhileCut, TellsMeanwhileRead, TellsPrepared, is_to_publish, inner_service}
-use Rattle.map_replies.specs.Tickets.{KeepsTickets}
-use Rattle.map_replies.specs.Words.{left_reply}
-use Rattle.map_replies.specs.State.{access_of, tags_of, asked_service, settings_of, ServiceReplies}
+use Rattle.map_replies.specs.Tickets.{KeepsOldest, KeepsTickets, oldest_after}
+use Rattle.map_replies.specs.Words.{left_reply, published_reply}
+use Rattle.map_replies.specs.State.{access_of, tags_of, asked_service, settings_of, KeepsArchivesOn, ServiceReplies}
+use Rattle.map_replies.proofs.Answering.{device_failed}
 use Rattle.map_replies.proofs.Apart.{AreApart, apart_on, method_apart}
 use Rattle.map_replies.proofs.Goes.{Goes, Rests, rests_none, rests_undrafted, goes_all, goes_on, goes_rest, draft_after, all_beside}
 use Rattle.map_replies.proofs.LateBeginnings.{late_begun, late_refused}
+use Rattle.map_replies.proofs.OldestLemmas.{breaks_in_rest, published_by_reply}
 use Rattle.map_replies.proofs.TicketLemmas.{held_unasked}
 
 -- what there is, or else this
@@ -57,6 +67,31 @@ fixed_stays (Some d) fixed = inl refl
 fixed_there : (o : Option DraftedView) (d : DraftedView) (fixed : Option ℕ) → o ≡ Some d → fixed_now o fixed ≡ fixed
 fixed_there None d fixed is = absurd (false≢true (ap is_some is))
 fixed_there (Some e) d fixed is = refl
+
+-- a draft that is gone stays gone
+still_none : (old new : Option DraftedView) → KeepsDraft old new → old ≡ None → new ≡ None
+still_none old new (inl same) none = same ∙ none
+still_none old new (inr gone) none = gone
+
+-- ---- the steps of a whole publication
+
+-- what is reported of it
+abbrev IsTold : Status → Published → Type 0
+IsTold new p = p ≡ record { generation = new.generation; edits = new.published; archive_len = new.archive_len }
+
+rest_told : {D : Type 0} (outcome : Result Published ServiceFault) (new : ServiceView D) (last : Result ℕ ServiceFault) → RestEndsAs outcome new last
+    → IfOk outcome (IsTold (status_of new))
+rest_told (Ok p) new last ends = λ i. record { generation = ends.1 i; edits = ends.2 i; archive_len = ends.3 i }
+rest_told (Err fault) new last ends = tt
+
+rest_last : {D : Type 0} (outcome : Result Published ServiceFault) (new : ServiceView D) (last : Result ℕ ServiceFault) → RestEndsAs outcome new last
+    → last ≡ last_outcome outcome
+rest_last (Ok p) new last ends = ends.0
+rest_last (Err fault) new last ends = ends
+
+-- a map has no content for other reasons than the disk
+content_needs_no_disk : (m : FeatureMap) (area : ℕ) (fault : ServiceFault) → HasNoContent m area fault → fault ≡ Device → ⊥
+content_needs_no_disk m area fault has device = subst (λ (f : ServiceFault). HasNoContent m area f) device has
 
 module _ {D : Type 0} (sectors : D → ℕ) (honest : D → Type 0) (history : D → History) (faults : D → ℕ) where
   -- ---- a publication in the making
@@ -271,7 +306,7 @@ module _ {D : Type 0} (sectors : D → ℕ) (honest : D → Type 0) (history : D
     told_late outcome asked is same late =
         let so = drafts late.ready.draft late.ready.is in (
           meanwhile new (late_run outcome late so) None,
-          inr (
+          inr (inl (
             asked,
             outcome,
             is,
@@ -284,15 +319,148 @@ module _ {D : Type 0} (sectors : D → ℕ) (honest : D → Type 0) (history : D
             ap (λ (r : MapReplies D). settings_of r) same,
             late_held outcome late,
             inl (ap (λ (c : Calls D). c.oldest) late.same),
-          ),
+          )),
           late_goes outcome late so,
         )
 
+  -- ---- the late answer to a whole publication
+
+  module _ (first old new : PreparingReplies D) (run : List Happening) (fixed : Option ℕ) (request : RequestView) (reply : ReplyView)
+      (goes : Goes sectors honest history (inner_service first) run (inner_service old))
+      (drafts : IfDrafts (inner_service first) (inner_service old) run fixed) (outcome : Result Published ServiceFault)
+      (asked : IsToPublishWhole old.replies request) (is : reply ≡ published_reply outcome)
+      (same : new.replies ≡ record old.replies { calls = new.replies.calls }) where
+    abbrev earlier : Calls D
+    earlier = old.replies.calls
+
+    abbrev later : Calls D
+    later = new.replies.calls
+
+    -- the replies when it has begun
+    abbrev with_calls : Calls D → PreparingReplies D
+    with_calls begun = record old { replies = record old.replies { calls = begun } }
+
+    abbrev ToldWhole : Type 0
+    ToldWhole = (then : Meanwhile D) × TellsMeanwhile sectors honest history faults (meanwhile old run fixed) request reply then
+        × GoesMeanwhile first new then
+
+    whole_archives : (begun : Calls D) (left : ℕ) → BeginsLate earlier (Ok left) begun
+        → GoesToItsEnd sectors honest history faults begun outcome later → KeepsArchivesOn old.replies request reply new.replies
+    whole_archives begun left late ends =
+        subst (λ (a : Asked). KeepsOldest a reply.status earlier later) (sym asked.0)
+        (published_by_reply outcome reply earlier later is
+        (ap (λ (c : Calls D). c.oldest) ends.same
+        ∙ ap (λ (c : Calls D). oldest_after outcome c.oldest c.service.generation) late.same)
+        (λ device. (late.ready.unbroken, breaks_in_rest sectors honest history begun.service later.service outcome device ends.takes)))
+
+    whole_failed : (begun : Calls D) (left : ℕ) → BeginsLate earlier (Ok left) begun
+        → GoesToItsEnd sectors honest history faults begun outcome later
+        → IfErr outcome (λ fault. fault ≡ Device → DiskFailed faults earlier.service later.service)
+    whole_failed begun left late ends = device_failed outcome (faults earlier.service.disk) (faults later.service.disk)
+        (subst (λ (n : ℕ). TellsDevice outcome n (faults later.service.disk)) (ap (λ (c : Calls D). faults c.service.disk) late.same) ends.failed)
+
+    -- its steps follow
+    told_made : (left : ℕ) (begun : Calls D) → BeginsLate earlier (Ok left) begun → GoesToItsEnd sectors honest history faults begun outcome later → ToldWhole
+    told_made left begun late ends =
+        let so = drafts late.ready.draft late.ready.is in
+        let steps : List (Result ℕ ServiceFault) = ends.takes.before ++ ends.takes.last ∷ [] in
+        let until : List Happening = so.2.before ++ begin (Ok left) ∷ so.2.after in
+        let along = late_goes first old (with_calls begun) run fixed request reply goes drafts (Ok left) late so in
+        let none : later.service.drafting ≡ None =
+        still_none begun.service.drafting later.service.drafting
+        (draft_after sectors honest history begun.service later.service (map step steps) ends.takes.takes)
+        (ap (λ (c : Calls D). c.service.drafting) late.same) in (
+          meanwhile new (until ++ map step steps) None,
+          inr (inr (
+            asked,
+            Ok left,
+            steps,
+            (
+              outcome,
+              is,
+              whole_failed begun left late ends,
+              rest_told outcome later.service ends.takes.last ends.takes.ends,
+              Ok left ∷ ends.takes.before,
+              All-cons IsUnfinished (Ok left) ends.takes.before (omega (arith, late.begins.3)) ends.takes.unfinished,
+              ap (λ (l : Result ℕ ServiceFault). Ok left ∷ (ends.takes.before ++ l ∷ []))
+                  (rest_last outcome later.service ends.takes.last ends.takes.ends),
+            ),
+            so.2.before,
+            so.2.after,
+            so.2.is,
+            so.1 ∙ ap (λ (n : ℕ). Some n) so.2.count,
+            refl,
+            refl,
+            ap (λ (r : MapReplies D). settings_of r) same,
+            (λ place ticketed held. ends.held place ticketed
+                (late_held first old (with_calls begun) run fixed request reply goes drafts (Ok left) late place ticketed held)),
+            whole_archives begun left late ends,
+          )),
+          record {
+            here = refl;
+            goes = goes_on sectors honest history (inner_service first) begun.service later.service until (map step steps) along.goes
+                (goes_all sectors honest history begun.service begun.service later.service (map step steps)
+                (rests_none sectors honest history begun.service) ends.takes.takes);
+            drafts = λ d some. absurd (is_none later.service.drafting d some none);
+          },
+        )
+
+    -- or its map is refused
+    told_unmade : (fault : ServiceFault) → BeginsLate earlier (Err fault) later → outcome ≡ Err fault → ToldWhole
+    told_unmade fault late refused =
+        let so = drafts late.ready.draft late.ready.is in
+        let until : List Happening = so.2.before ++ begin (Err fault) ∷ so.2.after in
+        let along = late_goes first old new run fixed request reply goes drafts (Err fault) late so in (
+          meanwhile new (until ++ map step []) None,
+          inr (inr (
+            asked,
+            Err fault,
+            [],
+            (
+              outcome,
+              is,
+              subst (λ (o : Result Published ServiceFault). IfErr o (λ f. f ≡ Device → DiskFailed faults earlier.service later.service)) (sym refused)
+                  (λ device. absurd (content_needs_no_disk _ _ fault late.begins.1 device)),
+              subst (λ (o : Result Published ServiceFault). IfOk o (IsTold (status_of later.service))) (sym refused) tt,
+              [],
+              All-nil IsUnfinished,
+              ap (λ (o : Result Published ServiceFault). last_outcome o ∷ []) (sym refused),
+            ),
+            so.2.before,
+            so.2.after,
+            so.2.is,
+            so.1 ∙ ap (λ (n : ℕ). Some n) so.2.count,
+            refl,
+            refl,
+            ap (λ (r : MapReplies D). settings_of r) same,
+            late_held first old new run fixed request reply goes drafts (Err fault) late,
+            inl (ap (λ (c : Calls D). c.oldest) late.same),
+          )),
+          record {
+            here = refl;
+            goes = goes_on sectors honest history (inner_service first) later.service later.service until [] along.goes
+                (rests_none sectors honest history later.service);
+            drafts = λ d some. absurd (is_none later.service.drafting d some (ap (λ (c : Calls D). c.service.drafting) late.same));
+          },
+        )
+
+    told_whole : (beginning : Result ℕ ServiceFault) (begun : Calls D) → BeginsLate earlier beginning begun
+        → EndsLate sectors honest history faults beginning begun outcome later → ToldWhole
+    told_whole (Ok left) begun late ends = told_made left begun late ends
+    told_whole (Err fault) begun late ends =
+        told_unmade fault (subst (λ (c : Calls D). BeginsLate earlier (Err fault) c) (sym ends.1) late) ends.0
+
+  -- ---- a reply of whatever kind
+
+  module _ (first old new : PreparingReplies D) (run : List Happening) (fixed : Option ℕ) (request : RequestView) (reply : ReplyView)
+      (goes : Goes sectors honest history (inner_service first) run (inner_service old))
+      (drafts : IfDrafts (inner_service first) (inner_service old) run fixed) where
     told : PreparingReplied sectors honest history faults old request reply new
         → (then : Meanwhile D) × TellsMeanwhile sectors honest history faults (meanwhile old run fixed) request reply then
         × GoesMeanwhile first new then
-    told (inl is) = told_now is.0 is.1 is.2
-    told (inr is) = told_late is.0 is.1 is.2 is.3 is.4
+    told (inl is) = told_now first old new run fixed request reply goes drafts is.0 is.1 is.2
+    told (inr (inl is)) = told_late first old new run fixed request reply goes drafts is.0 is.1 is.2 is.3 is.4
+    told (inr (inr is)) = told_whole first old new run fixed request reply goes drafts is.0 is.1 is.2 is.3 is.4.0 is.4.1 is.4.2 is.4.3
 
   -- ---- by whatever was told so far
 

@@ -7,7 +7,7 @@ use Rattle.sector_disk.specs.Disk.{History}
 use Rattle.tile_routes.specs.Paths.{Asked, asked_action}
 use Rattle.tile_routes.specs.declared.target.Action.TheVariants.{Publish, PublishStep}
 use Rattle.tile_service.specs.Machine.{Happening, AnswersStep, begin, step}
-use Rattle.tile_service.specs.Runs.{IsUnfinished, TakesAll, TakesPublication, begin_and_steps}
+use Rattle.tile_service.specs.Runs.{IsUnfinished, TakesAll, TakesPublication, TakesRest, begin_and_steps}
 use Rattle.tile_service.specs.Service.{ServiceView, Known, state_of, known_after}
 use Rattle.tile_service.specs.declared.fault.ServiceFault.{ServiceFault}
 use Rattle.tile_service.specs.declared.fault.ServiceFault.TheVariants.{Device}
@@ -44,6 +44,15 @@ module _ {D : Type 0} where
   published_oldest (Err Device) reply old new is after breaks = let broken = breaks refl in
       inr (refl, inr (ap (λ (v : ReplyView). v.status) is, broken.0, broken.1), after)
   published_oldest (Err fault) reply old new is after breaks = inl after
+
+  -- by the reply
+  pub published_by_reply : (outcome : Result Published ServiceFault) (reply : ReplyView) (old new : Calls D) → reply ≡ published_reply outcome
+      → new.oldest ≡ oldest_after outcome old.oldest old.service.generation → (outcome ≡ Err Device → Breaks old new)
+      → KeepsOldest (asked_action Publish) reply.status old new
+  published_by_reply (Ok published) reply old new is after breaks = inr (refl, inl (ap (λ (v : ReplyView). v.status) is), after)
+  published_by_reply (Err Device) reply old new is after breaks = let broken = breaks refl in
+      inr (refl, inr (ap (λ (v : ReplyView). v.status) is, broken.0, broken.1), after)
+  published_by_reply (Err fault) reply old new is after breaks = inl after
 
 -- ---- Device breaks the service
 
@@ -86,4 +95,13 @@ module _ {D : Type 0} (sectors : D → ℕ) (honest : D → Type 0) (history : D
   breaks_in_run old new (Err fault) is run =
       breaks_at_end run.before old new run.unfinished
       (subst (λ (l : Result ℕ ServiceFault). TakesAll sectors honest history old (begin_and_steps (run.before ++ l ∷ [])) new)
+      (run.ends ∙ ap (λ (f : ServiceFault). Err f) (fault_of fault is)) run.takes)
+
+  -- at the last of the steps that are left of one
+  pub breaks_in_rest : (old new : ServiceView D) (outcome : Result Published ServiceFault) → outcome ≡ Err Device
+      → TakesRest sectors honest history old outcome new → new.broken ≡ true
+  breaks_in_rest old new (Ok published) is run = absurd (cc)
+  breaks_in_rest old new (Err fault) is run =
+      breaks_at_last run.before old new
+      (subst (λ (l : Result ℕ ServiceFault). TakesAll sectors honest history old (map step (run.before ++ l ∷ [])) new)
       (run.ends ∙ ap (λ (f : ServiceFault). Err f) (fault_of fault is)) run.takes)

@@ -11,7 +11,7 @@ use Rattle.tile_routes.specs.Paths.{Asked, asked_action}
 use Rattle.tile_routes.specs.declared.fault.RouteFault.{RouteFault}
 use Rattle.tile_routes.specs.declared.method.Method.{Method}
 use Rattle.tile_routes.specs.declared.method.Method.TheVariants.{Post}
-use Rattle.tile_routes.specs.declared.target.Action.TheVariants.{PublishBegin}
+use Rattle.tile_routes.specs.declared.target.Action.TheVariants.{Publish, PublishBegin}
 use Rattle.tile_service.specs.Drafted.{DraftedView}
 use Rattle.tile_service.specs.Prepared.{CanPrepare}
 use Rattle.tile_service.specs.Service.{PublicationView, ServiceView, IsUp, BeginsDrafted, drafted_now}
@@ -23,7 +23,7 @@ use Rattle.map_replies.specs.declared.preparing.PreparingReplies.{PreparingRepli
 use Rattle.map_replies.specs.declared.service.MapReplies.{MapReplies}
 use Rattle.map_replies.specs.Conditions.{AskView}
 use Rattle.map_replies.specs.Meanings.{asked_for}
-use Rattle.map_replies.specs.Preparing.{IsReady, IsToBegin, BeginsLate, PreparingStep, asks_to_publish, inner_service}
+use Rattle.map_replies.specs.Preparing.{IsReady, IsToBegin, IsToPublishWhole, BeginsLate, PreparingStep, asks_to_publish, inner_service}
 use Rattle.map_replies.specs.Sending.{SendsMethod}
 use Rattle.map_replies.specs.State.{access_of, asked_service}
 
@@ -77,6 +77,13 @@ module _ {D : Type 0} where
   to_begin old request asked name is same begins = (
     sym is ∙ begins.0,
     subst (λ (a : Asked). method_on request.method a ≡ Ok Post) is (subst (λ (n : List ℕ). method_on n asked ≡ Ok Post) same begins.1),
+  )
+
+  pub to_publish : (old : MapReplies D) (request : RequestView) (asked : Asked) (name : List ℕ) → asked ≡ asked_for (access_of old) request
+      → name ≡ request.method → (asked ≡ asked_action Publish) × (method_on name asked ≡ Ok Post) → IsToPublishWhole old request
+  to_publish old request asked name is same publishes = (
+    sym is ∙ publishes.0,
+    subst (λ (a : Asked). method_on request.method a ≡ Ok Post) is (subst (λ (n : List ℕ). method_on n asked ≡ Ok Post) same publishes.1),
   )
 
 module _ {D : Type 0} (sectors : D → ℕ) (honest : D → Type 0) (history : D → History) (faults : D → ℕ) where

@@ -1,6 +1,7 @@
 -- Replies between which a publication is prepared: its map is fixed as it is asked for, and its tiles are made while other requests are answered.
--- The beginning of the publication stands in the run where its map was fixed, though its answer comes later.
-use Rattle.std.specs.Prelude.{◌≡◌, ◌⊎◌, ℕ, Bool, true, false, List, [], ◌∷◌, ◌++◌, length, Option, Some, None, Result, Ok}
+-- The beginning of the publication stands in the run where its map was fixed, though its answer comes later. Of a whole publication the steps
+-- follow at the end.
+use Rattle.std.specs.Prelude.{◌≡◌, ◌⊎◌, ℕ, Bool, true, false, List, [], ◌∷◌, ◌++◌, length, map, All, Option, Some, None, Result, Ok, Err, IfOk, IfErr}
 use Rattle.http_requests.specs.Requests.{RequestView}
 use Rattle.http_serve.specs.Reply.{ReplyView}
 use Rattle.http_serve.specs.declared.handlers.RestFault.{RestFault}
@@ -11,20 +12,24 @@ use Rattle.tile_routes.specs.Paths.{Asked, asked_action}
 use Rattle.tile_routes.specs.declared.method.Method.TheVariants.{Post}
 use Rattle.tile_routes.specs.declared.target.Action.TheVariants.{Publish, PublishBegin, PublishStep, PublishCancel}
 use Rattle.tile_service.specs.Drafted.{DraftedView}
-use Rattle.tile_service.specs.Machine.{Happening, begin}
+use Rattle.tile_service.specs.Machine.{Happening, begin, step}
 use Rattle.tile_service.specs.Prepared.{CanPrepare}
-use Rattle.tile_service.specs.Service.{ServiceView, IsUp, BeginsDrafted, drafted_now}
+use Rattle.tile_service.specs.Runs.{IsUnfinished, TakesRest}
+use Rattle.tile_service.specs.Service.{ServiceView, IsUp, BeginsDrafted, TellsDevice, drafted_now, status_of}
 use Rattle.tile_service.specs.Stored.{Stored}
 use Rattle.tile_service.specs.declared.fault.ServiceFault.{ServiceFault}
+use Rattle.tile_service.specs.declared.fault.ServiceFault.TheVariants.{Device}
+use Rattle.tile_service.specs.declared.publishing_whole.Published.{Published}
+use Rattle.tile_service.specs.declared.status.Status.{Status}
 use Rattle.map_replies.specs.declared.calls.Calls.{Calls}
 use Rattle.map_replies.specs.declared.preparing.PreparingReplies.{PreparingReplies}
 use Rattle.map_replies.specs.declared.service.MapReplies.{MapReplies}
-use Rattle.map_replies.specs.Meanings.{asked_for}
+use Rattle.map_replies.specs.Meanings.{DiskFailed, asked_for, last_outcome}
 use Rattle.map_replies.specs.State.{access_of, asked_service, settings_of, sending_size, sending_ticket, ServiceReplies, ServiceSends, ServiceFails}
 use Rattle.map_replies.specs.State.{ServiceReads}
 use Rattle.map_replies.specs.State.{course, KeepsArchivesOn, Tells, TellsCut}
-use Rattle.map_replies.specs.Tickets.{KeepsTickets}
-use Rattle.map_replies.specs.Words.{left_reply}
+use Rattle.map_replies.specs.Tickets.{KeepsTickets, oldest_after}
+use Rattle.map_replies.specs.Words.{left_reply, published_reply}
 
 -- it asks for a call of a publication
 abbrev pub asks_to_publish : Asked → Bool
@@ -41,6 +46,11 @@ is_to_publish replies request = asks_to_publish (asked_for (access_of replies) r
 -- it asks for the beginning of a publication by steps
 abbrev pub IsToBegin : {D : Type 0} → MapReplies D → RequestView → Type 0
 IsToBegin replies request = (asked_for (access_of replies) request ≡ asked_action PublishBegin)
+    × (method_on request.method (asked_for (access_of replies) request) ≡ Ok Post)
+
+-- it asks for a whole publication
+abbrev pub IsToPublishWhole : {D : Type 0} → MapReplies D → RequestView → Type 0
+IsToPublishWhole replies request = (asked_for (access_of replies) request ≡ asked_action Publish)
     × (method_on request.method (asked_for (access_of replies) request) ≡ Ok Post)
 
 -- the service, without a publication in the making
@@ -68,6 +78,24 @@ pub record BeginsLate {D : Type 0} (old : Calls D) (outcome : Result ℕ Service
   pub begins : BeginsDrafted old.service.size ready.draft outcome new.service.publication
   pub same : new ≡ record old { service = record (undrafted old.service) { publication = new.service.publication } }
 
+module _ {D : Type 0} (sectors : D → ℕ) (honest : D → Type 0) (history : D → History) (faults : D → ℕ) where
+  -- The publication that is under way is continued to its end. Tickets that are held stay so.
+  pub record GoesToItsEnd (old : Calls D) (outcome : Result Published ServiceFault) (new : Calls D) : Type 0 where
+    pub takes : TakesRest sectors honest history old.service outcome new.service
+    pub failed : TellsDevice outcome (faults old.service.disk) (faults new.service.disk)
+    pub held : KeepsTickets honest history old new
+    pub same : new ≡ record old { service = new.service; oldest = oldest_after outcome old.oldest old.service.generation }
+
+  -- after its beginning it is continued to its end, or its map is refused
+  abbrev pub EndsLate : (beginning : Result ℕ ServiceFault) → (begun : Calls D) → Result Published ServiceFault → Calls D → Type 0
+  EndsLate (Ok left) begun outcome new = GoesToItsEnd begun outcome new
+  EndsLate (Err fault) begun outcome new = (outcome ≡ Err fault) × (new ≡ begun)
+
+  -- It begins, of the map that was fixed for it, and is continued to its end at once.
+  abbrev pub PublishesLate : (old : Calls D) → Result Published ServiceFault → (new : Calls D) → Type 0
+  PublishesLate old outcome new = (beginning : Result ℕ ServiceFault) × (begun : Calls D) × BeginsLate old beginning begun
+      × EndsLate beginning begun outcome new
+
 -- what is asked of the service by these replies
 abbrev pub inner_service : {D : Type 0} → PreparingReplies D → ServiceView D
 inner_service s = asked_service s.replies
@@ -84,12 +112,15 @@ inner_ticket s = sending_ticket s.replies
 
 -- over a disk with these sectors, this honesty, this history and this count of faults
 module _ {D : Type 0} (sectors : D → ℕ) (honest : D → Type 0) (history : D → History) (faults : D → ℕ) where
-  -- one reply to one request, or the late answer to a beginning
+  -- one reply to one request, or the late answer to a beginning, or to a whole publication
   abbrev pub PreparingReplied : PreparingReplies D → RequestView → ReplyView → PreparingReplies D → Type 0
   PreparingReplied old request reply new =
       ((ready : MapReplies D) × IsMadeReady old.replies request ready × ServiceReplies sectors honest history faults ready request reply new.replies)
       ⊎ ((outcome : Result ℕ ServiceFault) × IsToBegin old.replies request × (reply ≡ left_reply outcome)
       × (new.replies ≡ record old.replies { calls = new.replies.calls }) × BeginsLate old.replies.calls outcome new.replies.calls)
+      ⊎ ((outcome : Result Published ServiceFault) × IsToPublishWhole old.replies request × (reply ≡ published_reply outcome)
+      × (new.replies ≡ record old.replies { calls = new.replies.calls })
+      × PublishesLate sectors honest history faults old.replies.calls outcome new.replies.calls)
 
   -- the same for a reply whose content is being read in parts: it asks for no call of a publication
   abbrev pub PreparingSends : PreparingReplies D → RequestView → ReplyView → PreparingReplies D → Type 0
@@ -132,6 +163,14 @@ meanwhile replies run fixed = record { replies = replies; run = run; fixed = fix
 abbrev pub StaysFixed : {D : Type 0} → Meanwhile D → Meanwhile D → Type 0
 StaysFixed old new = (new.fixed ≡ old.fixed) ⊎ (new.fixed ≡ None)
 
+-- What a late answer to a whole publication reports: the generation and the archive that are installed, and the last edit in it. With the fault
+-- Device the disk has failed. Each call before the last leaves something.
+abbrev pub MeansWhole : (failed : Type 0) → (new : Status) → ReplyView → (beginning : Result ℕ ServiceFault) → (steps : List (Result ℕ ServiceFault)) → Type 0
+MeansWhole failed new reply beginning steps = (outcome : Result Published ServiceFault) × (reply ≡ published_reply outcome)
+    × IfErr outcome (λ fault. fault ≡ Device → failed)
+    × IfOk outcome (λ p. p ≡ record { generation = new.generation; edits = new.published; archive_len = new.archive_len })
+    × (unfinished : List (Result ℕ ServiceFault)) × All IsUnfinished unfinished × (beginning ∷ steps ≡ unfinished ++ last_outcome outcome ∷ [])
+
 module _ {D : Type 0} (sectors : D → ℕ) (honest : D → Type 0) (history : D → History) (faults : D → ℕ) where
   -- One reply to one request: it tells what happens now.
   abbrev pub TellsNow : Meanwhile D → RequestView → ReplyView → Meanwhile D → Type 0
@@ -148,8 +187,21 @@ module _ {D : Type 0} (sectors : D → ℕ) (honest : D → Type 0) (history : D
       × KeepsTickets honest history old.replies.replies.calls new.replies.replies.calls
       × KeepsArchivesOn old.replies.replies request reply new.replies.replies
 
+  -- The late answer to a whole publication. Its beginning stands in the run where its map was fixed, so that its archive has what was
+  -- acknowledged before, and nothing that was requested later; its steps are made now.
+  abbrev pub TellsWholeLate : Meanwhile D → RequestView → ReplyView → Meanwhile D → Type 0
+  TellsWholeLate old request reply new = IsToPublishWhole old.replies.replies request
+      × (beginning : Result ℕ ServiceFault) × (steps : List (Result ℕ ServiceFault))
+      × MeansWhole (DiskFailed faults (inner_service old.replies) (inner_service new.replies)) (status_of (inner_service new.replies)) reply beginning steps
+      × (before : List Happening) × (after : List Happening) × (old.run ≡ before ++ after) × (old.fixed ≡ Some (length before))
+      × (new.run ≡ (before ++ begin beginning ∷ after) ++ map step steps) × (new.fixed ≡ None)
+      × (settings_of new.replies.replies ≡ settings_of old.replies.replies)
+      × KeepsTickets honest history old.replies.replies.calls new.replies.replies.calls
+      × KeepsArchivesOn old.replies.replies request reply new.replies.replies
+
   abbrev pub TellsMeanwhile : Meanwhile D → RequestView → ReplyView → Meanwhile D → Type 0
-  TellsMeanwhile old request reply new = TellsNow old request reply new ⊎ TellsLate old request reply new
+  TellsMeanwhile old request reply new =
+      TellsNow old request reply new ⊎ TellsLate old request reply new ⊎ TellsWholeLate old request reply new
 
   -- the same for a reply whose content couldn't be read to its end: the disk has failed
   abbrev pub TellsMeanwhileCut : Meanwhile D → RequestView → ReplyView → Meanwhile D → Type 0

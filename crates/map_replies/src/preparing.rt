@@ -1,17 +1,18 @@
 //! The replies of a map between which a publication is prepared: its map is fixed as it is asked for, its tiles are made one by one while other
-//! requests are answered, and then it begins.
+//! requests are answered, and then it begins, or is made to its end at once.
 ghost use Rattle.std.specs.Prelude.{◌≡◌, ◌≤◌, true, [], length, vec_capacity, IsTrue, IfSome, None, Ok};
 ghost use Rattle.http_serve.specs.Reply.{ReplyView, IsReply, InParts, IsWhole, HasShortWords, head_view, reply_view};
 ghost use Rattle.tile_routes.specs.Methods.{method_on};
 ghost use Rattle.tile_routes.specs.Paths.{asked_action};
 ghost use Rattle.tile_routes.specs.Targets.{asked_of};
 ghost use Rattle.tile_routes.specs.declared.method.Method.TheVariants.{Post};
-ghost use Rattle.tile_routes.specs.declared.target.Action.TheVariants.{PublishBegin};
+ghost use Rattle.tile_routes.specs.declared.target.Action.TheVariants.{Publish, PublishBegin};
 ghost use Rattle.map_replies.specs.declared.replies.TheConstants.{MAX_TEXT};
 ghost use Rattle.map_replies.specs.Meanings.{asked_for};
-ghost use Rattle.map_replies.specs.Preparing.{asks_to_publish, without_draft, inner_size, BeginsLate, IsReady, PreparingReplied, PreparingSends, PreparingStep};
+ghost use Rattle.map_replies.specs.Preparing.{asks_to_publish, without_draft, inner_size, BeginsLate, PublishesLate, IsReady};
+ghost use Rattle.map_replies.specs.Preparing.{PreparingReplied, PreparingSends, PreparingStep};
 ghost use Rattle.map_replies.specs.State.{access_of};
-ghost use Rattle.map_replies.specs.Words.{left_reply};
+ghost use Rattle.map_replies.specs.Words.{left_reply, published_reply};
 
 use crate::calls::Calls;
 use crate::replies;
@@ -26,6 +27,9 @@ use tile_routes::{Action, Method, Target};
 /// The first bytes of a request for the beginning of a publication.
 const BEGINNING: &[u8] = b"POST /publish/begin ";
 
+/// The first bytes of a request for a whole publication.
+const WHOLE: &[u8] = b"POST /publish ";
+
 /// The request handler of a listener: the replies of a map, where a publication is prepared between other replies.
 #[derive(Drop)]
 pub struct PreparingReplies<D: Sectors + Drop> {
@@ -34,6 +38,8 @@ pub struct PreparingReplies<D: Sectors + Drop> {
     owner: u64,
     /// Whether that connection had a turn since another one asked for a publication.
     goes_on: bool,
+    /// Whether the request that comes next is the one for which it is in the making.
+    is_next: bool,
 }
 
 /// Whether a call of a publication is asked for.
@@ -68,6 +74,24 @@ fn is_to_begin(target: Target, method: &[u8]) -> bool
         },
         _ => false,
     }
+}
+
+/// Whether a whole publication is asked for.
+fn is_to_publish_whole(target: Target, method: &[u8]) -> bool
+    ensures { IsTrue result → (asked_of target ≡ asked_action Publish) × (method_on method.now (asked_of target) ≡ Ok Post) }
+{
+    match target {
+        Target::Action(Action::Publish) => match target.method(method) {
+            Ok(Method::Post) => true,
+            Ok(Method::Get | Method::Head | Method::Put | Method::Delete) | Err(_) => false,
+        },
+        _ => false,
+    }
+}
+
+/// Whether a request that begins with these bytes is answered once its publication is prepared.
+fn is_prepared(asked: &[u8]) -> bool {
+    asked.starts_with(BEGINNING) || asked.starts_with(WHOLE)
 }
 
 /// What a preparation came to by a step, after which tiles may be left.
@@ -105,6 +129,19 @@ impl<D: Sectors + Drop> Calls<D> {
         let outcome = self.service.publish_drafted();
         replies::left(text, outcome)
     }
+
+    /// Begins the publication that is in the making, and continues it to its end, with this memory for the reply.
+    fn publish_ready(&mut self, text: Vec<u8>) -> Reply
+        requires ready { IsReady self.old.service }
+        requires empty { text.items ≡ [] }
+        requires room { MAX_TEXT ≤ vec_capacity text }
+        ensures writable { IsWhole result }
+        ensures publishes { (outcome : _) × (reply_view [] result ≡ published_reply outcome)
+            × PublishesLate D.sectors D.honest D.history D.faults self.old outcome self.new }
+    {
+        let outcome = self.publish_drafted();
+        replies::published(text, outcome)
+    }
 }
 
 impl<D: Sectors + Drop> PreparingReplies<D> {
@@ -116,6 +153,7 @@ impl<D: Sectors + Drop> PreparingReplies<D> {
             replies,
             owner: 0,
             goes_on: false,
+            is_next: false,
         }
     }
 
@@ -161,7 +199,32 @@ impl<D: Sectors + Drop> PreparingReplies<D> {
         ensures empty { IfSome result (λ text. text.items ≡ []) }
         ensures room { IfSome result (λ text. MAX_TEXT ≤ vec_capacity text) }
     {
+        if !self.is_next {
+            return None;
+        }
         if !is_to_begin(target, method) {
+            return None;
+        }
+        if !self.replies.calls.is_ready() {
+            return None;
+        }
+        match replies::outcome_space(self.replies.calls.alloc) {
+            Ok(text) => Some(text),
+            Err(AllocError) => None,
+        }
+    }
+
+    /// The same for a whole publication.
+    fn room_to_publish(&self, target: Target, method: &[u8]) -> Option<Vec<u8>>
+        ensures asked { IfSome result (λ _. (asked_of target ≡ asked_action Publish) × (method_on method.now (asked_of target) ≡ Ok Post)) }
+        ensures ready { IfSome result (λ _. IsReady self.now.replies.calls.service) }
+        ensures empty { IfSome result (λ text. text.items ≡ []) }
+        ensures room { IfSome result (λ text. MAX_TEXT ≤ vec_capacity text) }
+    {
+        if !self.is_next {
+            return None;
+        }
+        if !is_to_publish_whole(target, method) {
             return None;
         }
         if !self.replies.calls.is_ready() {
@@ -187,7 +250,23 @@ impl<D: Sectors + Drop> PreparingReplies<D> {
         self.replies.answer_at(target, request)
     }
 
-    /// Answers a request for a call of a publication. One that is in the making is dropped, unless it begins.
+    /// Answers a request for a call of a publication. One that is in the making is dropped, unless it is made to its end.
+    fn answer_whole(&mut self, target: Target, request: &Request<'_>) -> Reply
+        requires asked { asked_of target ≡ asked_for (access_of self.old.replies) request.now }
+        requires publishes { asks_to_publish (asked_of target) ≡ true }
+        ensures replied { (reply : ReplyView) × IsReply result reply
+            × PreparingReplied D.sectors D.honest D.history D.faults self.old request.now reply self.new
+            × InParts result.content (PreparingSends D.sectors D.honest D.history D.faults self.old request.now reply self.new
+            × (inner_size self.new ≡ length reply.content)) }
+        ensures writable { HasShortWords (head_view result) }
+    {
+        match self.room_to_publish(target, request.method) {
+            Some(text) => self.replies.calls.publish_ready(text),
+            None => self.answer_without_draft(target, request),
+        }
+    }
+
+    /// Answers a request for a call of a publication. One that is in the making is dropped, unless it begins or is made to its end.
     fn answer_publishing(&mut self, target: Target, request: &Request<'_>) -> Reply
         requires asked { asked_of target ≡ asked_for (access_of self.old.replies) request.now }
         requires publishes { asks_to_publish (asked_of target) ≡ true }
@@ -199,7 +278,7 @@ impl<D: Sectors + Drop> PreparingReplies<D> {
     {
         match self.room_to_begin(target, request.method) {
             Some(text) => self.replies.calls.begin_ready(text),
-            None => self.answer_without_draft(target, request),
+            None => self.answer_whole(target, request),
         }
     }
 }
@@ -249,7 +328,8 @@ impl<D: Sectors + Drop> Prepares for PreparingReplies<D> {
     ghost prepares = { PreparingStep D.sectors D.honest D.history D.faults };
 
     fn prepare(&mut self, connection: u64, asked: &[u8]) -> Preparation {
-        if !asked.starts_with(BEGINNING) {
+        if !is_prepared(asked) {
+            self.is_next = false;
             return Preparation::Ready;
         }
         if self.waits_for_another(connection) {
@@ -257,6 +337,7 @@ impl<D: Sectors + Drop> Prepares for PreparingReplies<D> {
         }
         self.owner = connection;
         self.goes_on = true;
+        self.is_next = true;
         match self.replies.calls.service.publish_prepare() {
             Ok(goes_on) => after_step(goes_on),
             Err(_) => Preparation::Ready,

@@ -8,3 +8,4 @@ pub mod KeptEdits
 pub mod OneEvent
 pub mod Progress
 pub mod States
+pub mod Wholes

@@ -202,6 +202,12 @@ EndsAs (Ok p) old new last =
     (last ≡ Ok 0) × (p.generation ≡ new.generation) × (p.edits ≡ old.journal.last) × (p.archive_len ≡ new.archive_len)
 EndsAs (Err fault) old new last = last ≡ Err fault
 
+-- The same of the steps alone: the number is that of the last edit in the archive.
+abbrev pub RestEndsAs : {D : Type 0} → Result Published ServiceFault → (new : ServiceView D) → (last : Result ℕ ServiceFault) → Type 0
+RestEndsAs (Ok p) new last =
+    (last ≡ Ok 0) × (p.generation ≡ new.generation) × (p.edits ≡ new.journal.edits) × (p.archive_len ≡ new.archive_len)
+RestEndsAs (Err fault) new last = last ≡ Err fault
+
 module _ {D : Type 0} (sectors : D → ℕ) (honest : D → Type 0) (history : D → History) where
   -- The disk is honest, and the service continues from what is stored there. The content of a tile is specified under this condition,
   -- since it may be read from the disk. A broken service reads no tile there.
@@ -333,3 +339,14 @@ module _ {D : Type 0} (sectors : D → ℕ) (honest : D → Type 0) (history : D
     pub run : TakesRun old (begin_and_steps (before ++ last ∷ [])) new
     pub states : TakesStates old (begin_and_steps (before ++ last ∷ [])) new
     pub ends : EndsAs result old new last
+
+  -- The service continues the publication that is under way until it is installed or a step is refused: each step before the last is made
+  -- and leaves something.
+  pub record TakesRest (old : ServiceView D) (result : Result Published ServiceFault) (new : ServiceView D) : Type 0 where
+    pub before : List (Result ℕ ServiceFault)
+    pub unfinished : All IsUnfinished before
+    pub last : Result ℕ ServiceFault
+    pub takes : TakesAll old (map step (before ++ last ∷ [])) new
+    pub run : TakesRun old (map step (before ++ last ∷ [])) new
+    pub states : TakesStates old (map step (before ++ last ∷ [])) new
+    pub ends : RestEndsAs result new last

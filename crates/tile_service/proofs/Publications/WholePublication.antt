@@ -1,7 +1,7 @@
 -- A publication from its beginning to its end, step by step.
 use Rattle.std.proofs.Common.{◌≡◌, ◌⊎◌, inl, inr, ⊎_elim, ℕ, zero, suc, ◌<◌, ◌-◌, Bool, true, false}
 use Rattle.std.proofs.Common.{List, [], ◌∷◌, ◌++◌, Option, Some, None, Result, Ok, Err, is_ok, refl, sym, ◌∙◌, ap, subst, arith}
-use Rattle.std.specs.Prelude.{option_map, All}
+use Rattle.std.specs.Prelude.{option_map, IsSome, All}
 use Rattle.std.proofs.lemmas.Bool.{false≢true}
 use Rattle.std.proofs.lemmas.List.{map-append}
 use Rattle.std.proofs.lemmas.List.Elements.{All-nil, All-cons, All-append}
@@ -88,6 +88,18 @@ pub device_gives_up : (old new : ServiceState) (fault : ServiceFault) → fault 
 device_gives_up old new fault is goes =
     ap (λ (s : ServiceState). s.publication) (subst (λ (x : ServiceFault). AnswersStep old (Err x) new) is goes).2
 
+some_there : {A : Type 0} (o : Option A) → IsSome o → (a : A) × (o ≡ Some a)
+some_there None is = absurd (false≢true is)
+some_there (Some a) is = (a, refl)
+
+-- a step where there is one fails for the disk alone
+step_device : (old new : ServiceState) (p : Publication) (fault : ServiceFault) → old.broken ≡ false → old.publication ≡ Some p
+    → AnswersStep old (Err fault) new → fault ≡ Device
+step_device old new p Broken unbroken is goes = absurd (clash old.broken unbroken goes.0)
+step_device old new p Idle unbroken is goes = absurd (not_both old.publication p goes.1 is)
+step_device old new p Device unbroken is goes = refl
+step_device old new p fault unbroken is goes = absurd goes.1
+
 -- where none begins, there was one, or none is under way, or the service was broken
 pub begin_gives_up : (old new : ServiceState) (fault : ServiceFault) → AnswersBegin old (Err fault) new
     → (fault ≡ Broken) ⊎ (fault ≡ Busy) ⊎ (old.publication ≡ None)
@@ -119,6 +131,27 @@ begin_given_up {D} known known' old new fault goes same = ⊎_elim
     (ap (λ (s : ServiceView D). s.publication) same ∙ none_seen known.publishing old.publication none)))
     rest)
     (begin_gives_up (state_of known old) (state_of known' new) fault goes)
+
+-- a step where there is one fails for the disk alone, and then it is cancelled
+pub step_given_up : {D : Type 0} (known known' : Known) (old new : ServiceView D) (fault : ServiceFault) → old.broken ≡ false
+    → IsSome old.publication → AnswersStep (state_of known old) (Err fault) (state_of known' new) → (fault ≡ Device) × (new.publication ≡ None)
+step_given_up {D} known known' old new fault unbroken some goes =
+    let there = some_there old.publication some in
+    let is = step_device (state_of known old) (state_of known' new) (going_of known.publishing there.0) fault unbroken
+    (ap (option_map (going_of known.publishing)) there.1) goes in
+    (is, none_seen known'.publishing new.publication (device_gives_up (state_of known old) (state_of known' new) fault is goes))
+
+-- after a beginning there is one
+pub begun_there : {D : Type 0} (known known' : Known) (old new : ServiceView D) (told : ℕ)
+    → AnswersBegin (state_of known old) (Ok told) (state_of known' new) → (new.broken ≡ false) × IsSome new.publication
+begun_there {D} known known' old new told goes = (
+  ap (λ (s : ServiceState). s.broken) goes.begun ∙ goes.unbroken,
+  there_seen known'.publishing new.publication (ap (λ (s : ServiceState). is_going s.publication) goes.begun),
+)
+  where
+    there_seen : (m : FeatureMap) (publication : Option PublicationView) → is_going (option_map (going_of m) publication) ≡ true → IsSome publication
+    there_seen m None is = absurd (false≢true is)
+    there_seen m (Some p) is = refl
 
 -- one step more
 steps_on : (before : List (Result ℕ ServiceFault)) (last next : Result ℕ ServiceFault)

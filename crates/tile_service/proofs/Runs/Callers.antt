@@ -1,9 +1,9 @@
 -- A run as any caller of a service makes it, call by call.
 use Rattle.std.proofs.Common.{◌≡◌, ◌≢◌, inl, ℕ, ◌<◌, ◌+◌, ◌-◌, List, [], ◌∷◌, ◌++◌, length, Option, Some, None, Result, Ok, true, false, refl, sym, ◌∙◌}
 use Rattle.std.proofs.Common.{ap, subst, arith, append_assoc}
-use Rattle.std.proofs.lemmas.List.{append-nil}
+use Rattle.std.proofs.lemmas.List.{append-nil, map-append}
 use Rattle.std.proofs.lemmas.List.Elements.{Contains-append_left, Contains-append_right}
-use Rattle.std.specs.Prelude.{Contains, IfSome, IfErr, OnOk}
+use Rattle.std.specs.Prelude.{Contains, IfSome, IfErr, OnOk, map}
 use Rattle.std.proofs.lemmas.Bool.{false≢true}
 use Rattle.sector_disk.specs.Asked.{MayWrite, OnlyReads}
 use Rattle.sector_disk.specs.Disk.{History, seen}
@@ -631,6 +631,18 @@ module _ {D : Type 0} (sectors : D → ℕ) (honest : D → Type 0) (history : D
     steps_more (λ (l : List Happening). TakesAll sectors honest history first l new) before last outcome
         (events_on first old new (begin_and_steps (before ++ last ∷ [])) (step outcome) taken goes),
   )
+
+  -- the steps of a publication, and one more
+  pub one_more_step : (first old new : ServiceView D) (before : List (Result ℕ ServiceFault)) (outcome : Result ℕ ServiceFault)
+      → HasRun first (map step before) old → TakesAll sectors honest history first (map step before) old
+      → Takes sectors honest history old (step outcome) new
+      → HasRun first (map step (before ++ outcome ∷ [])) new × TakesAll sectors honest history first (map step (before ++ outcome ∷ [])) new
+  one_more_step first old new before outcome run taken goes =
+      let more : map step (before ++ outcome ∷ []) ≡ map step before ++ step outcome ∷ [] = map-append step before (outcome ∷ []) in (
+        subst (λ (l : List Happening). HasRun first l new) (sym more) (run_on first old new (map step before) (step outcome) run goes),
+        subst (λ (l : List Happening). TakesAll sectors honest history first l new) (sym more)
+            (events_on first old new (map step before) (step outcome) taken goes),
+      )
 
   -- What a run says of itself.
   pub takes_run : (old : ServiceView D) (events : List Happening) (now : ServiceView D) → HasRun old events now

@@ -2,8 +2,8 @@ use Rattle.std.proofs.Common.{refl}
 use Rattle.map_replies.proofs.ReadyLemmas.{prepares_nothing, prepares_by, steps_on}
 use Rattle.map_replies.proofs.preparing.PreparingRepliesPrepares.prepare.Goals as goal
 
-pub returns-then-not-starts_with : goal.returns-then-not-starts_with
-returns-then-not-starts_with g c =
+pub returns-then-not-is_prepared : goal.returns-then-not-is_prepared
+returns-then-not-is_prepared g c =
     let d = g.D.Sectors in
     prepares_nothing d.sectors d.honest d.history d.faults c.args.self.now _ refl
 
