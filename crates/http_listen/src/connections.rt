@@ -281,7 +281,6 @@ where
         × Steps S.told kept (act ∷ []) (result.ending ≡ None) result.kept × IsEndedBy act result.ending }
 {
     let start = time_of(clock);
-    kept.output.clear();
     let outcome = add_part(handler, unsent, &mut kept.output);
     room.spend(clock, start);
     let now = room.now(clock);

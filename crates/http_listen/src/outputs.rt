@@ -1,8 +1,10 @@
 //! The replies of a connection that wait to be sent.
-ghost use Rattle.std.specs.Prelude.{◌≡◌, ◌≤◌, ◌++◌, [], true, false, length, drop, IfOk};
+ghost use Rattle.std.specs.Prelude.{◌≡◌, ◌≤◌, ◌<◌, ◌++◌, [], true, false, length, drop, IfOk};
+ghost use Rattle.http_serve.specs.Parts.{rest_outcome};
 ghost use Rattle.http_listen.specs.Talks.{Moves};
 
 use crate::talks::Talks;
+use http_serve::{Downloads, PART_SIZE, RestFault, Ticket};
 use std::alloc::Global;
 use std::io;
 use std::marker::Model;
@@ -66,6 +68,38 @@ impl Output {
     {
         self.bytes = Vec::new(self.alloc);
         self.sent = 0;
+    }
+
+    /// Has `count` bytes wait in place of what it had, whatever they are, in memory that it has already if that is enough. If memory
+    /// runs out, none wait. Returns how many do.
+    pub(crate) fn begin(&mut self, count: usize) -> usize
+        ensures begun { length self.new ≡ result }
+        ensures most { result ≤ count }
+        ensures none { result < count → self.new ≡ [] }
+    {
+        self.sent = 0;
+        if self.bytes.capacity() > PART_SIZE {
+            self.bytes = Vec::new(self.alloc);
+        }
+        if self.bytes.resize(count, 0).is_err() {
+            self.clear();
+            return 0;
+        }
+        count
+    }
+
+    /// Fills the bytes that wait with those of a ticket's content from an offset on. After a fault they may be any bytes.
+    pub(crate) fn fill<H: Downloads>(
+        &mut self,
+        handler: &mut H,
+        ticket: Ticket,
+        offset: u64,
+    ) -> Result<(), RestFault>
+        ensures read { H.reads handler.old ticket offset (length self.old) (rest_outcome result self.new) handler.new }
+        ensures length { length self.new ≡ length self.old }
+    {
+        let part = &mut self.bytes[self.sent..];
+        handler.read_rest(ticket, offset, part)
     }
 
     /// Makes one write of the bytes that wait. Those that the stream takes wait no more.

@@ -1,5 +1,5 @@
 //! The rest of a content that a stretch left: it is read part by part, each once the peer has taken the part before.
-ghost use Rattle.std.specs.Prelude.{◌≡◌, ◌≤◌, ◌+◌, ◌-◌, ◌++◌, Ok, Result, List, ℕ, length, IfOk, IfErr, OnErr, MatchOption};
+ghost use Rattle.std.specs.Prelude.{◌≡◌, ◌<◌, ◌≤◌, ◌+◌, ◌-◌, ◌++◌, [], Ok, Result, List, ℕ, length, IfOk, IfErr, IfSome, OnErr, MatchOption};
 ghost use Rattle.http_serve.specs.declared.handlers.RestFault.{RestFault};
 ghost use Rattle.http_listen.specs.Rests.{rest_after, once_sent, EndsAt};
 
@@ -37,7 +37,8 @@ impl Unsent {
 
     /// What is left once `count` more bytes were read.
     fn less(self, count: usize) -> Option<Unsent>
-        ensures { MatchOption result (self.end ≤ self.at + count) (λ next. next ≡ record self { at = self.at + count }) }
+        ensures left { MatchOption result (self.end ≤ self.at + count) (λ next. next ≡ record self { at = self.at + count }) }
+        ensures some { IfSome result (λ next. next.at < next.end) }
     {
         let left = self.end.saturating_sub(self.at);
         if count as u64 >= left {
@@ -49,7 +50,8 @@ impl Unsent {
 
     /// How many bytes the next part has.
     fn part_len(self) -> usize
-        ensures { (result ≤ PART_SIZE) × (result ≤ self.end - self.at) }
+        ensures most { (result ≤ PART_SIZE) × (result ≤ self.end - self.at) }
+        ensures some { self.at < self.end → 0 < result }
     {
         self.end.saturating_sub(self.at).min(PART_SIZE as u64) as usize
     }
@@ -78,32 +80,8 @@ pub(crate) fn once_sent(outcome: Result<Served, ServeFault>) -> Result<Served, E
     }
 }
 
-/// Fills `part` with the next bytes of a content, and adds them to the replies that wait. Returns what is left then.
-fn add_bytes<H: Downloads>(
-    handler: &mut H,
-    unsent: Unsent,
-    part: &mut [u8],
-    output: &mut Output,
-) -> Result<Option<Unsent>, EndFault>
-    ensures read { (outcome : Result (List ℕ) RestFault) × H.reads handler.old unsent.ticket unsent.at (length part.old) outcome handler.new
-        × IfErr result (EndsAt outcome) }
-    ensures added { IfOk result (λ left. (bytes : List ℕ)
-        × H.reads handler.old unsent.ticket unsent.at (length part.old) (Ok bytes) handler.new × (output.new ≡ output.old ++ bytes)
-        × MatchOption left (unsent.end ≤ unsent.at + length bytes) (λ next. next ≡ record unsent { at = unsent.at + length bytes })) }
-    ensures same { OnErr result (output.new ≡ output.old) }
-{
-    match handler.read_rest(unsent.ticket, unsent.at, part) {
-        Ok(()) => {}
-        Err(cause) => return Err(EndFault::cut_by(cause)),
-    }
-    if output.add(part) {
-        return Ok(unsent.less(part.len()));
-    }
-    Err(EndFault::Memory)
-}
-
-/// Reads the next part of a content, of at most `PART_SIZE` bytes, and adds it to the replies that wait, of which there are none. Returns
-/// what is left then.
+/// Reads the next part of a content, of at most `PART_SIZE` bytes, to where it waits to be sent: nothing waits there before. If there is no memory
+/// for it, none of its bytes are read. Returns what is left then.
 ///
 /// # Errors
 ///
@@ -113,6 +91,7 @@ pub(crate) fn add_part<H: Downloads>(
     unsent: Unsent,
     output: &mut Output,
 ) -> Result<Option<Unsent>, EndFault>
+    requires empty { output.old ≡ [] }
     // No more bytes are read than are left. The fault says why they couldn't be.
     ensures read { (count : ℕ) × (outcome : Result (List ℕ) RestFault) × (count ≤ unsent.end - unsent.at)
         × H.reads handler.old unsent.ticket unsent.at count outcome handler.new × IfErr result (EndsAt outcome) }
@@ -120,9 +99,18 @@ pub(crate) fn add_part<H: Downloads>(
     ensures added { IfOk result (λ left. (count : ℕ) × (bytes : List ℕ) × (count ≤ unsent.end - unsent.at)
         × H.reads handler.old unsent.ticket unsent.at count (Ok bytes) handler.new × (output.new ≡ output.old ++ bytes)
         × MatchOption left (unsent.end ≤ unsent.at + length bytes) (λ next. next ≡ record unsent { at = unsent.at + length bytes })) }
+    // Each part has bytes, so that a download comes to its end.
+    ensures further { IfOk result (λ left. IfSome left (λ next. unsent.at < next.at)) }
     ensures same { OnErr result (output.new ≡ output.old) }
 {
-    let mut part = [0; PART_SIZE];
-    let count = unsent.part_len();
-    add_bytes(handler, unsent, &mut part[..count], output)
+    let wanted = unsent.part_len();
+    let count = output.begin(wanted);
+    match output.fill(handler, unsent.ticket, unsent.at) {
+        Ok(()) if count < wanted => Err(EndFault::Memory),
+        Ok(()) => Ok(unsent.less(count)),
+        Err(cause) => {
+            output.clear();
+            Err(EndFault::cut_by(cause))
+        }
+    }
 }
