@@ -1,4 +1,5 @@
 -- The pieces of bytes in consecutive sectors.
+use Rattle.std.proofs.lemmas.Grind.{common_steps}
 use Rattle.std.proofs.Common.{◌≡◌, ⊎_elim, ℕ, zero, suc, ◌<◌, ◌≤◌, ◌+◌, ◌-◌, ◌*◌, List}
 use Rattle.std.proofs.Common.{◌++◌, length, length-append, replicate, take, drop, slice_range, sym, ◌∙◌, ap, arith}
 use Rattle.std.proofs.lemmas.List.{take-take, take_at, drop_at, drop-drop, drop-take, length-take, length-drop, length-replicate}
@@ -143,3 +144,10 @@ module _ (image : Image) (first k at offset n : ℕ) (is : at ≡ SECTOR_BYTES *
   shifted_whole whole place from below =
       ap (λ (m : ℕ). length (image m)) (omega (arith, is, from))
       ∙ whole (place - SECTOR_BYTES * k) (omega (arith, is, from)) (omega (arith, is, from, below))
+
+-- ---- a whole sector
+
+-- what was read of a whole sector is the part of it that was asked for
+pub whole_read : (sector next : List ℕ) (offset size : ℕ) → size ≡ SECTOR_BYTES → offset + size ≤ SECTOR_BYTES → length next ≡ SECTOR_BYTES
+    → next ≡ sector → next ≡ slice_range sector offset (offset + size)
+whole_read sector next offset size all fits long is = grind (arith, common_steps)

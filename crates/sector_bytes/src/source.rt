@@ -12,8 +12,8 @@ use byte_source::{Bytes, ReadFault};
 use sector_disk::{DiskFault, SECTOR_BYTES, Sectors};
 use std::marker::Model;
 
-/// Bytes stored in consecutive sectors of a disk. The sector read last is cached, so that successive reads within one sector
-/// cost one disk read.
+/// Bytes stored in consecutive sectors of a disk. The last sector of which a part was read is cached, so that successive reads within one
+/// sector cost one disk read. Whole sectors are read straight to where they are wanted.
 #[derive(Drop)]
 pub struct SectorBytes<'a, D: Sectors> {
     disk: &'a mut D,
@@ -60,7 +60,7 @@ impl<'a, D: Sectors> SectorBytes<'a, D> {
         self.disk
     }
 
-    /// Reads a part of one sector, as many bytes as fit in `into`. The disk is read only if the sector isn't cached.
+    /// Reads a part of one sector, as many bytes as fit in `into`. The disk is read only if the sector isn't cached; a whole one isn't cached then.
     fn read_part(&mut self, index: u64, offset: usize, into: &mut [u8]) -> Result<(), ReadFault>
         requires inside { index < sectors_of self.old.len }
         requires fits { offset + length into.old ≤ SECTOR_BYTES }
@@ -74,10 +74,28 @@ impl<'a, D: Sectors> SectorBytes<'a, D> {
             ≡ slice_range (seen (D.history self.old.disk.now) (self.old.first + index)) offset (offset + length into.old)) }
     {
         if self.last != Some(index) {
+            if let Some(whole) = into.as_mut_array() {
+                return self.read_whole(index, whole);
+            }
             self.read_sector(index)?;
         }
         into.copy_from_slice(&self.sector[offset..offset + into.len()]);
         Ok(())
+    }
+
+    /// Reads a whole sector straight into `into`. The one that is cached stays so.
+    fn read_whole(&mut self, index: u64, into: &mut [u8; SECTOR_BYTES]) -> Result<(), ReadFault>
+        requires inside { index < sectors_of self.old.len }
+        ensures untouched { IsUntouched D.sectors D.honest D.history D.faults self.old self.new }
+        ensures failed { TellsFailure result (D.faults self.old.disk.now) (D.faults self.new.disk.now) }
+        ensures len { self.new.len ≡ self.old.len }
+        ensures length { length into.new ≡ SECTOR_BYTES }
+        ensures read { D.honest self.new.disk.now → OnOk result (into.new ≡ seen (D.history self.old.disk.now) (self.old.first + index)) }
+    {
+        match self.disk.read(self.first + index, into) {
+            Ok(()) => Ok(()),
+            Err(DiskFault) => Err(ReadFault),
+        }
     }
 
     /// Reads and caches a sector.
