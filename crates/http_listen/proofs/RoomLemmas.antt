@@ -4,6 +4,7 @@ use Rattle.std.proofs.Common.{true≢false, inl, inr, ⊎_elim}
 use Rattle.std.proofs.lemmas.Bool.{eqb-true, eqb-false}
 use Rattle.std.specs.Prelude.{◌⊎◌, nat_eq, is_some, ⊤}
 use Rattle.std.specs.declared.option.Option.{Option}
+use Rattle.http_listen.specs.declared.inputs.Asked.{Asked}
 use Rattle.http_listen.specs.declared.kept.Kept.{Kept}
 use Rattle.http_listen.specs.Conversations.{Steps, AreApart, Stands}
 use Rattle.http_listen.specs.Stays.{StandsAt, AllStand}
@@ -124,10 +125,10 @@ module _ {S : Type 0} (told : S → Option Told) where
   stand_goes old new s key = stands_at (old key) (new key) (s key)
 
   -- What comes before an accept.
-  pub finds_none : (old new : ℕ → Option (Kept S)) (found : Found S) → ((kept : Kept S) (end : ℕ) → found ≢ Asks kept end)
+  pub finds_none : (old new : ℕ → Option (Kept S)) (found : Found S) → ((kept : Kept S) (asked : Asked) → found ≢ Asks kept asked)
       → ((kept : Kept S) (unsent : Unsent) → found ≢ Reads kept unsent) → Goes told old new → Finds told old found new
   finds_none old new (New stream) f h goes = record { mid = new; before = goes; turn = goes_none new }
-  finds_none old new (Asks kept end) f h goes = absurd (f kept end refl)
+  finds_none old new (Asks kept asked) f h goes = absurd (f kept asked refl)
   finds_none old new (Reads kept unsent) f h goes = absurd (h kept unsent refl)
   finds_none old new Nothing f h goes = record { mid = new; before = goes; turn = goes_none new }
   finds_none old new Over f h goes = record { mid = new; before = goes; turn = goes_none new }

@@ -3,6 +3,7 @@ use Rattle.std.proofs.Common.{false, ◌≡◌, ℕ, zero, suc, List, [], ◌∷
 use Rattle.std.proofs.Common.{take, drop, take-append-drop, true≢false}
 use Rattle.std.specs.Prelude.{◌≤◌, ◌+◌, ◌-◌, length, ⊤, is_some, IfOk, IfErr, OnErr, MatchOption}
 use Rattle.std.specs.declared.option.Option.{Option}
+use Rattle.httparse.specs.declared.spans.HeaderSpan.{HeaderSpan}
 use Rattle.http_serve.specs.declared.connection.ServeFault.{ServeFault}
 use Rattle.http_serve.specs.declared.connection.Served.{Served}
 use Rattle.http_serve.specs.declared.handlers.RestFault.{RestFault}
@@ -175,15 +176,16 @@ module _ {S : Type 0} (told : S → Option Told) where
     kept = λ w. (r.kept (goes_on w), refl, r.unsent);
   }
 
-  pub turned_read : (old new : Kept S) (result : Next) → IsRead told old result new → IsSearched new.input new.turn.ended result → old.output ≡ []
+  pub turned_read : (old new : Kept S) (fields : List HeaderSpan) (result : Next) → IsRead told old result new
+      → IsSearched new.input new.turn.ended fields result → old.output ≡ []
       → old.turn.unsent ≡ None
-      → old.turn.drops ≡ None → Turned told old result new
-  turned_read old new (Asks end) r s output unsent drops =
+      → old.turn.drops ≡ None → Turned told old fields result new
+  turned_read old new fields (Asks end) r s output unsent drops =
       (steps_read old new (Asks end) ⊤ (λ _. tt) r, r.output ∙ output, r.unsent ∙ unsent, none_of new.turn.drops (r.drops ∙ ap is_some drops), s.is)
-  turned_read old new (Reads u) r s output unsent drops = absurd s.is
-  turned_read old new (Rests None) r s output unsent drops = steps_read old new (Rests None) _ (λ _. tt) r
-  turned_read old new (Rests (Some outcome)) r s output unsent drops = steps_read old new (Rests (Some outcome)) _ (λ w. absurd (not_some w.0)) r
-  turned_read old new Closes r s output unsent drops = absurd s.is
+  turned_read old new fields (Reads u) r s output unsent drops = absurd s.is
+  turned_read old new fields (Rests None) r s output unsent drops = steps_read old new (Rests None) _ (λ _. tt) r
+  turned_read old new fields (Rests (Some outcome)) r s output unsent drops = steps_read old new (Rests (Some outcome)) _ (λ w. absurd (not_some w.0)) r
+  turned_read old new fields Closes r s output unsent drops = absurd s.is
 
   -- A search reads nothing.
   pub stands_read : (old new : Kept S) (result : Next) → Stands old new → IsRead told old result new

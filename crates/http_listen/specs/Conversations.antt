@@ -1,6 +1,7 @@
 -- The conversation of one connection: what is done for it, one act after the other, and what its stream told.
 use Rattle.std.specs.Prelude.{◌≡◌, ◌≢◌, ◌<◌, ◌≤◌, ◌+◌, ◌-◌, ℕ, Bool, nat_eq, cond, All, List, [], ◌∷◌, ◌++◌, length, Option, None, Some, is_some}
 use Rattle.std.specs.Prelude.{Result, Ok, Err, MatchOption, ⊤, false}
+use Rattle.httparse.specs.declared.spans.HeaderSpan.{HeaderSpan}
 use Rattle.http_serve.specs.declared.connection.ServeFault.{ServeFault}
 use Rattle.http_serve.specs.declared.connection.Served.{Served}
 use Rattle.http_serve.specs.declared.handlers.RestFault.{RestFault}
@@ -117,19 +118,19 @@ module _ {S : Type 0} (told : S → Option Told) where
     pub moved : Moves first [] (asked acts ++ kept.input) (replied acts) (told kept.stream) kept.output
     pub follows : Follows None acts kept.turn.unsent
 
--- what may follow a search of the input, which has ended or not
-abbrev pub FollowsSearch : List ℕ → Bool → Next → Type 0
-FollowsSearch input ended (Asks end) = IsAsked input ended end
-FollowsSearch input ended (Reads unsent) = ⊥
-FollowsSearch input ended (Rests ending) = ⊤
-FollowsSearch input ended Closes = ⊥
+-- what may follow a search of the input, which has ended or not, and of which the header fields are at these spans
+abbrev pub FollowsSearch : List ℕ → Bool → List HeaderSpan → Next → Type 0
+FollowsSearch input ended fields (Asks asked) = IsAsked input ended fields asked
+FollowsSearch input ended fields (Reads unsent) = ⊥
+FollowsSearch input ended fields (Rests ending) = ⊤
+FollowsSearch input ended fields Closes = ⊥
 
-pub record IsSearched (input : List ℕ) (ended : Bool) (result : Next) : Type 0 where
-  pub is : FollowsSearch input ended result
+pub record IsSearched (input : List ℕ) (ended : Bool) (fields : List HeaderSpan) (result : Next) : Type 0 where
+  pub is : FollowsSearch input ended fields result
 
 -- the connection goes on
 abbrev pub GoesOn : Next → Type 0
-GoesOn (Asks end) = ⊤
+GoesOn (Asks asked) = ⊤
 GoesOn (Reads unsent) = ⊤
 GoesOn (Rests None) = ⊤
 GoesOn (Rests (Some outcome)) = ⊥
@@ -150,12 +151,12 @@ module _ {S : Type 0} (told : S → Option Told) where
     pub kept : GoesOn result → lost ≡ []
 
   -- What a turn did, by what follows it. Nothing waits to be sent where bytes are to be answered or a content read.
-  abbrev pub Turned : Kept S → Next → Kept S → Type 0
-  Turned old (Asks end) new = Steps told old [] ⊤ new × (new.output ≡ []) × (new.turn.unsent ≡ None) × (new.turn.drops ≡ None)
-      × IsAsked new.input new.turn.ended end
-  Turned old (Reads unsent) new = Steps told old [] ⊤ new × (new.output ≡ []) × (new.turn.unsent ≡ Some unsent) × (new.turn.drops ≡ None)
-  Turned old (Rests ending) new = Steps told old [] ((ending ≡ None) × (old.turn.drops ≡ None)) new
-  Turned old Closes new = Steps told old [] ⊥ new
+  abbrev pub Turned : Kept S → List HeaderSpan → Next → Kept S → Type 0
+  Turned old fields (Asks asked) new = Steps told old [] ⊤ new × (new.output ≡ []) × (new.turn.unsent ≡ None) × (new.turn.drops ≡ None)
+      × IsAsked new.input new.turn.ended fields asked
+  Turned old fields (Reads unsent) new = Steps told old [] ⊤ new × (new.output ≡ []) × (new.turn.unsent ≡ Some unsent) × (new.turn.drops ≡ None)
+  Turned old fields (Rests ending) new = Steps told old [] ((ending ≡ None) × (old.turn.drops ≡ None)) new
+  Turned old fields Closes new = Steps told old [] ⊥ new
 
 -- A connection whose stream and output may have moved is else the same, but for what is left of a content.
 pub record Beside {S : Type 0} (old new : Kept S) : Type 0 where

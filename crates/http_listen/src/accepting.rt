@@ -1,5 +1,6 @@
 //! New connections, and what makes room for them.
-ghost use Rattle.std.specs.Prelude.{◌≢◌, ℕ};
+ghost use Rattle.std.specs.Prelude.{◌≢◌};
+ghost use Rattle.http_listen.specs.declared.inputs.Asked.{Asked};
 ghost use Rattle.http_listen.specs.declared.kept.Kept.{Kept};
 ghost use Rattle.http_listen.specs.declared.rests.Unsent.{Unsent};
 ghost use Rattle.http_listen.specs.declared.rooms.Found.TheVariants.{Asks, Reads};
@@ -94,9 +95,9 @@ impl<S: Talks + OpenStream + Drop> Room<S> {
         listener: &mut L,
         log: &mut W,
     ) -> Found<S>
-        ensures ready { IsReady result }
+        ensures ready { IsReady self.new.fields result }
         ensures goes { Goes S.told (kept_at self.old.places) (kept_at self.new.places) }
-        ensures other { (kept : Kept S) (end : ℕ) → result ≢ Asks kept end }
+        ensures other { (kept : Kept S) (asked : Asked) → result ≢ Asks kept asked }
         ensures no_rest { (kept : Kept S) (unsent : Unsent) → result ≢ Reads kept unsent }
     {
         self.accepts = self.accepts.saturating_sub(1);

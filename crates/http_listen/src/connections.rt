@@ -3,7 +3,7 @@ ghost use Rattle.std.specs.Prelude.{◌≡◌, ◌<◌, ◌∷◌, [], ℕ, Bool
 ghost use Rattle.http_serve.specs.declared.connection.ServeFault.{ServeFault};
 ghost use Rattle.http_serve.specs.declared.connection.Served.{Served};
 ghost use Rattle.http_listen.specs.Rests.{rest_after};
-ghost use Rattle.http_listen.specs.Asked.{IsAsked};
+ghost use Rattle.http_listen.specs.Asked.{IsAsked, IsFound};
 ghost use Rattle.http_listen.specs.Conversations.{Act, Deed, Answers, Does, IsEndedBy, Runs, Stands, Steps, deeds_of};
 ghost use Rattle.http_listen.specs.Orders.{AreInOrder};
 ghost use Rattle.http_listen.specs.Goes.{Acts};
@@ -11,15 +11,15 @@ ghost use Rattle.http_listen.specs.Places.{kept_at};
 ghost use Rattle.http_listen.specs.Talks.{Moves};
 ghost use Rattle.http_listen.specs.Connections.{Event, Serves, ComesTo, NextStretch, NextAnswer, NextPart, AreOverKnown, AreSteps, begun};
 
+use crate::inputs::{Asked, NOTHING_ASKED};
 use crate::kept::{Ending, Kept, Turn};
 use crate::rests::{Unsent, add_part, once_sent};
 use crate::rooms::{Found, Room, time_of};
 use crate::talks::Talks;
 use crate::waits::Waits;
 use crate::writers::ReplyWriter;
-use http_serve::{
-    Buffers, Downloads, MAX_READS, Preparation, Prepares, ServeFault, Served, serve_fronts,
-};
+use http_requests::FieldSpans;
+use http_serve::{Buffers, Downloads, Preparation, Prepares, ServeFault, Served, serve_found};
 use std::alloc::Global;
 use std::io::Write;
 use std::net::OpenStream;
@@ -54,17 +54,24 @@ struct Past<S> {
     kept: Kept<S>,
 }
 
-/// Answers the first `end` bytes of a connection's input. Of the replies its output has what the stream doesn't take at once. The rest of a
-/// content is left, and read later.
-fn serve_front<S, H>(buffers: &mut Buffers, kept: Kept<S>, end: usize, handler: &mut H) -> Past<S>
+/// Answers what was found at the front of a connection's input. Of the replies its output has what the stream doesn't take at once. The rest of
+/// a content is left, and read later.
+fn serve_front<S, H>(
+    buffers: &mut Buffers,
+    kept: Kept<S>,
+    fields: &FieldSpans,
+    asked: Asked,
+    handler: &mut H,
+) -> Past<S>
 where
     S: Talks + OpenStream + Drop,
     H: Downloads,
+    requires { IsFound kept.input fields.now asked }
     ensures comes { ComesTo H.replies H.fails result.outcome handler.old handler.new }
     // What is left is read by the ticket of the reply that stopped.
     ensures unsent { result.kept.turn.unsent ≡ rest_after (H.ticket_of handler.new) result.outcome }
     // What the stream took and what waits for it grew by the replies to these bytes, at the end. Nothing was read.
-    ensures answers { (out : List ℕ) × Answers H.replies H.fails handler.old (take end kept.input) out result.outcome handler.new
+    ensures answers { (out : List ℕ) × Answers H.replies H.fails handler.old (take asked.end kept.input) out result.outcome handler.new
         × Moves (S.told kept.stream) kept.output [] out (S.told result.kept.stream) result.kept.output }
     ensures turn { result.kept.turn ≡ record kept.turn { unsent = result.kept.turn.unsent } }
     ensures input { result.kept.input ≡ kept.input }
@@ -77,8 +84,8 @@ where
         pace,
     } = kept;
     let mut writer = ReplyWriter::new(stream, pace, output);
-    let mut reader = input.front(end);
-    let outcome = serve_fronts(buffers, &mut reader, &mut writer, handler, MAX_READS);
+    let bytes = input.bytes();
+    let outcome = serve_found(buffers, bytes, fields, asked.found, &mut writer, handler);
     let (stream, pace, output) = writer.into_parts();
     let unsent = Unsent::after(&outcome, handler);
     let kept = Kept {
@@ -104,11 +111,12 @@ where
     H: Prepares,
     W: Write,
     requires whole { kept.turn.unsent ≡ None }
+    requires fresh { kept.input ≡ [] }
     ensures comes { NextStretch H.replies H.fails handler.old handler.new }
     ensures acted { (act : Act) × Does H.replies H.fails H.reads H.ticket_of H.prepares handler.old act handler.new
         × Acts S.told (kept_at room.old.places) kept (act ∷ []) (kept_at room.new.places) }
 {
-    let past = serve_front(buffers, kept, 0, handler);
+    let past = serve_front(buffers, kept, &room.fields, NOTHING_ASKED, handler);
     room.opened(past.kept, once_sent(past.outcome), log);
 }
 
@@ -120,7 +128,7 @@ struct Acted<S> {
     ending: Ending,
 }
 
-/// Answers the first `end` bytes of a connection's input, in a stretch of it, and begins to send the replies. Nothing waits to be sent before.
+/// Answers what was found at the front of a connection's input, in a stretch of it, and begins to send the replies. Nothing waits to be sent before.
 /// The time since `start` is that of the answer.
 fn answer_front<S, H, C>(
     clock: &C,
@@ -128,7 +136,7 @@ fn answer_front<S, H, C>(
     buffers: &mut Buffers,
     room: &mut Room<S>,
     kept: Kept<S>,
-    end: usize,
+    asked: Asked,
     handler: &mut H,
 ) -> Acted<S>
 where
@@ -137,16 +145,15 @@ where
     C: Clock,
     requires sent { kept.output ≡ [] }
     requires whole { kept.turn.unsent ≡ None }
-    requires asked { IsAsked kept.input kept.turn.ended end }
+    requires asked { IsAsked kept.input kept.turn.ended room.old.fields asked }
     ensures comes { NextStretch H.replies H.fails handler.old handler.new }
     ensures places { room.new.places ≡ room.old.places }
     ensures acts { (act : Act) × Does H.replies H.fails H.reads H.ticket_of H.prepares handler.old act handler.new
         × Steps S.told kept (act ∷ []) (result.ending ≡ None) result.kept }
 {
-    let Past { outcome, mut kept } = serve_front(buffers, kept, end, handler);
-    room.spend(clock, start);
-    let now = room.now(clock);
-    kept.answered(now, end, outcome);
+    let Past { outcome, mut kept } = serve_front(buffers, kept, &room.fields, asked, handler);
+    let now = room.spend(clock, start);
+    kept.answered(now, asked.end, outcome);
     let ending = match outcome {
         Err(ServeFault::Write { .. }) => Some(once_sent(outcome)),
         _ => kept.send_replies(now),
@@ -163,8 +170,7 @@ where
     ensures goes_on { result.ending ≡ None }
     ensures places { room.new.places ≡ room.old.places }
 {
-    room.spend(clock, start);
-    let now = room.now(clock);
+    let now = room.spend(clock, start);
     kept.put_off(now);
     Acted {
         now,
@@ -198,14 +204,14 @@ fn prepare_for<H: Prepares, C: Clock>(
     true
 }
 
-/// Makes steps of the preparation of the reply to the first `end` bytes of a connection's input, as many as fit in its turn, and answers them if
-/// none is left.
+/// Makes steps of the preparation of the reply to what was found at the front of a connection's input, as many as fit in its turn, and answers it
+/// if none is left.
 fn prepare_front<S, H, C>(
     clock: &C,
     buffers: &mut Buffers,
     room: &mut Room<S>,
     kept: Kept<S>,
-    end: usize,
+    asked: Asked,
     handler: &mut H,
 ) -> Acted<S>
 where
@@ -214,7 +220,7 @@ where
     C: Clock,
     requires sent { kept.output ≡ [] }
     requires whole { kept.turn.unsent ≡ None }
-    requires asked { IsAsked kept.input kept.turn.ended end }
+    requires asked { IsAsked kept.input kept.turn.ended room.old.fields asked }
     ensures comes { NextAnswer H.replies H.fails H.prepares handler.old handler.new }
     ensures places { room.new.places ≡ room.old.places }
     ensures acts { (acts : List Act) × Runs H.replies H.fails H.reads H.ticket_of H.prepares handler.old (deeds_of kept.turn.number acts) handler.new
@@ -226,21 +232,21 @@ where
         start,
         room.preparing_time,
         kept.turn.number,
-        kept.input.front(end),
+        kept.input.front(asked.end),
         handler,
     ) {
         return put_off(clock, start, room, kept);
     }
-    answer_front(clock, start, buffers, room, kept, end, handler)
+    answer_front(clock, start, buffers, room, kept, asked, handler)
 }
 
-/// Prepares or answers the first `end` bytes of a connection's input, and keeps or ends it.
+/// Prepares or answers what was found at the front of a connection's input, and keeps or ends it.
 fn answer<S, H, W, C>(
     clock: &C,
     buffers: &mut Buffers,
     room: &mut Room<S>,
     kept: Kept<S>,
-    end: usize,
+    asked: Asked,
     handler: &mut H,
     log: &mut W,
 )
@@ -251,12 +257,12 @@ where
     C: Clock,
     requires sent { kept.output ≡ [] }
     requires whole { kept.turn.unsent ≡ None }
-    requires asked { IsAsked kept.input kept.turn.ended end }
+    requires asked { IsAsked kept.input kept.turn.ended room.old.fields asked }
     ensures comes { NextAnswer H.replies H.fails H.prepares handler.old handler.new }
     ensures acted { (acts : List Act) × Runs H.replies H.fails H.reads H.ticket_of H.prepares handler.old (deeds_of kept.turn.number acts) handler.new
         × Acts S.told (kept_at room.old.places) kept acts (kept_at room.new.places) }
 {
-    let Acted { now, kept, ending } = prepare_front(clock, buffers, room, kept, end, handler);
+    let Acted { now, kept, ending } = prepare_front(clock, buffers, room, kept, asked, handler);
     room.keep_or_end(now, kept, ending, log);
 }
 
@@ -282,8 +288,7 @@ where
 {
     let start = time_of(clock);
     let outcome = add_part(handler, unsent, &mut kept.output);
-    room.spend(clock, start);
-    let now = room.now(clock);
+    let now = room.spend(clock, start);
     let ending = kept.send_part(now, outcome);
     Acted { now, kept, ending }
 }
@@ -317,7 +322,7 @@ where
 /// `refused` or `turns`, or at a fault `memory`, `read`, `write`, `device` or `gone`.
 ///
 /// No peer is waited for. A turn of a connection is one read or one write, which returns at once. As soon as a whole request was read, or
-/// bytes that are none, they are answered in a stretch of the connection, as `http_serve::serve_fronts` does. The replies are kept in
+/// bytes that are none, they are answered in a stretch of the connection, as `http_serve::serve_found` does. The replies are kept in
 /// memory and sent as the peer takes them. The rest of a content is read part by part, 64 KiB each, once the peer has taken what comes
 /// before; other requests are answered between two parts. While replies wait, or the rest of one, no further request of the connection is
 /// read or answered.
@@ -402,8 +407,8 @@ where
                 let kept = Kept::new(alloc, stream, begun, room.now(clock));
                 open(&mut buffers, &mut room, kept, handler, log);
             }
-            Found::Asks(kept, end) => {
-                answer(clock, &mut buffers, &mut room, kept, end, handler, log);
+            Found::Asks(kept, asked) => {
+                answer(clock, &mut buffers, &mut room, kept, asked, handler, log);
             }
             Found::Reads(kept, unsent) => send_part(clock, &mut room, kept, unsent, handler, log),
             Found::Nothing => {}

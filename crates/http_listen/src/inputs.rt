@@ -1,10 +1,23 @@
 //! The bytes of a connection that were read and not answered.
-ghost use Rattle.std.specs.Prelude.{◌≡◌, ◌++◌, [], length, take, drop, IfOk, OnErr};
-ghost use Rattle.http_requests.specs.Scans.{IsScanned};
+ghost use Rattle.std.specs.Prelude.{◌≡◌, ◌++◌, [], length, take, drop, IfOk, IfSome, OnErr};
+ghost use Rattle.http_listen.specs.Asked.{IsAsked};
 
-use http_requests::{Scan, Scanned};
+use http_requests::{FieldSpans, NO_BYTES, Next, Scan};
 use std::alloc::{AllocError, Global};
 use std::marker::Model;
+
+/// What is to be answered of an input: what it begins with, and where that ends. If it is no request, that is where the input does.
+#[derive(Clone, Copy)]
+pub(crate) struct Asked {
+    pub(crate) found: Next,
+    pub(crate) end: usize,
+}
+
+/// What is answered of a connection of which nothing was read.
+pub(crate) const NOTHING_ASKED: Asked = Asked {
+    found: NO_BYTES,
+    end: 0,
+};
 
 /// Bytes that wait to be answered, and what is known of them. Without bytes it holds no memory.
 #[derive(Drop)]
@@ -52,12 +65,26 @@ impl Input {
         self.bytes.extend_from_slice(more)
     }
 
-    /// What the bytes begin with.
-    pub(crate) fn scan(&mut self) -> Scanned
-        ensures next { IsScanned self.old result }
+    /// What is to be answered now, if `ended` says whether more bytes come: a request, whose header fields are at the first `fields`, bytes that
+    /// are none, whatever follows, or all bytes, if nothing follows.
+    pub(crate) fn find(&mut self, ended: bool, fields: &mut FieldSpans) -> Option<Asked>
+        ensures asked { IfSome result (IsAsked self.old ended fields.new) }
         ensures same { self.new ≡ self.old }
     {
-        self.scan.next(&self.bytes)
+        let found = self.scan.next(&self.bytes, fields);
+        let end = match found {
+            Next::Whole(frame) => frame.body.end,
+            Next::More(_) if !ended => return None,
+            Next::Refused(_) | Next::More(_) => self.bytes.len(),
+        };
+        Some(Asked { found, end })
+    }
+
+    /// All bytes.
+    pub(crate) fn bytes(&self) -> &[u8]
+        ensures { result.now ≡ self.now }
+    {
+        &self.bytes
     }
 
     /// The first `count` bytes, or all if there are fewer.

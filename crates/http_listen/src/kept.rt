@@ -16,7 +16,7 @@ use crate::readiness::{Readiness, is_passing};
 use crate::rests::{Unsent, once_sent};
 use crate::talks::Talks;
 use crate::turns::Next;
-use http_requests::MAX_REQUEST;
+use http_requests::{FieldSpans, MAX_REQUEST};
 use http_serve::{End, ServeFault, Served};
 use std::alloc::Global;
 use std::io::{self, ErrorKind, Write};
@@ -369,9 +369,10 @@ impl<S: Talks> Kept<S> {
         is_full: bool,
         max_reads: u64,
         piece: &mut [u8],
+        fields: &mut FieldSpans,
     ) -> Next
         ensures read { IsRead S.told self.old result self.new }
-        ensures searched { IsSearched self.new.input self.new.turn.ended result }
+        ensures searched { IsSearched self.new.input self.new.turn.ended fields.new result }
     {
         if self.turn.reads >= max_reads {
             return Next::Rests(Some(TURNS));
@@ -398,7 +399,7 @@ impl<S: Talks> Kept<S> {
         }
         self.pace = self.pace_at(now).received();
         self.turn.since = now;
-        self.search(now)
+        self.search(now, fields)
     }
 
     /// Makes one read into `piece`, and drops what it gives. Whether more may come.

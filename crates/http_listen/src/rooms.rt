@@ -9,12 +9,14 @@ ghost use Rattle.http_listen.specs.declared.kept.Kept.{Kept};
 
 use crate::deadlines::Deadlines;
 use crate::ends::EndFault;
+use crate::inputs::Asked;
 use crate::kept::{Ending, GivenUp, Kept, PIECE};
 use crate::places::{List, Places};
 use crate::rests::Unsent;
 use crate::talks::Talks;
 use crate::turns::Next;
 use crate::waits::Waits;
+use http_requests::{FieldSpans, NO_FIELDS};
 use http_serve::Served;
 use std::alloc::Global;
 use std::io::Write;
@@ -43,8 +45,8 @@ pub(crate) fn time_of<C: Clock>(clock: &C) -> Duration {
 pub(crate) enum Found<S> {
     /// A connection was accepted.
     New(S),
-    /// The first bytes of a connection's input are to be answered.
-    Asks(Kept<S>, usize),
+    /// The first bytes of a connection's input are to be answered. The header fields of a request are at `Room::fields`.
+    Asks(Kept<S>, Asked),
     /// The next part of a content is to be read.
     Reads(Kept<S>, Unsent),
     /// Nothing in this step.
@@ -65,6 +67,8 @@ pub(crate) struct Room<S> {
     pub(crate) preparing_time: Duration,
     /// What each read is made into. It has nothing of an earlier one that anybody reads.
     piece: [u8; PIECE],
+    /// Where the header fields of the request are that was found last.
+    pub(crate) fields: FieldSpans,
     /// How many of those that may have their turn have it before the next wait.
     pub(crate) round: usize,
     /// How many connections are accepted at most before the next wait.
@@ -104,6 +108,7 @@ impl<S> Room<S> {
             max_reads,
             preparing_time,
             piece: [0; PIECE],
+            fields: NO_FIELDS,
             round: 0,
             accepts: 0,
             comes: false,
@@ -123,14 +128,16 @@ impl<S> Room<S> {
         time_of(clock).saturating_sub(self.spent)
     }
 
-    /// An answer was made since this time of the clock. If it took long, its time doesn't count.
-    pub(crate) fn spend<C: Clock>(&mut self, clock: &C, since: Duration)
+    /// An answer was made since this time of the clock. If it took long, its time doesn't count. Returns the time by which peers are waited for.
+    pub(crate) fn spend<C: Clock>(&mut self, clock: &C, since: Duration) -> Duration
         ensures { self.new.places ≡ self.old.places }
     {
-        let passed = time_of(clock).saturating_sub(since);
+        let time = time_of(clock);
+        let passed = time.saturating_sub(since);
         if passed >= Duration::from_secs(LONG_ANSWER_SECONDS) {
             self.spent = self.spent.saturating_add(passed);
         }
+        time.saturating_sub(self.spent)
     }
 
     /// Whether the connections hold more than they may.
@@ -217,7 +224,7 @@ impl<S: Talks + OpenStream + Drop> Room<S> {
     /// Gives the next connection of this round its turn, if there is one. Returns what is to be done then.
     fn give_turn<W: Write>(&mut self, now: Duration, log: &mut W) -> Option<Found<S>>
         ensures not_new { (found : Found S) → result ≡ Some found → (stream : S) → found ≢ New stream }
-        ensures ready { IfSome result IsReady }
+        ensures ready { IfSome result (IsReady self.new.fields) }
         // None takes the place of another one, and nothing of one that is open is lost.
         ensures goes { GoesTo S.told (kept_at self.old.places) result (kept_at self.new.places) }
     {
@@ -225,8 +232,9 @@ impl<S: Talks + OpenStream + Drop> Room<S> {
         let key = self.places.ends(List::Ready).first?;
         let mut kept = self.places.take(key)?;
         let is_full = self.is_full();
-        match kept.take_turn(now, is_full, self.max_reads, &mut self.piece) {
-            Next::Asks(end) => return Some(Found::Asks(kept, end)),
+        let (piece, fields) = (&mut self.piece, &mut self.fields);
+        match kept.take_turn(now, is_full, self.max_reads, piece, fields) {
+            Next::Asks(asked) => return Some(Found::Asks(kept, asked)),
             Next::Reads(unsent) => return Some(Found::Reads(kept, unsent)),
             Next::Rests(ending) => self.keep_or_end(now, kept, ending, log),
             Next::Closes => drop(kept),
@@ -244,7 +252,7 @@ impl<S: Talks + OpenStream + Drop> Room<S> {
     ) -> Found<S>
         ensures wanted { (stream : S) → result ≡ New stream → accepts ≡ true }
         // While replies wait, or the rest of one, nothing is answered, and no other rest is read.
-        ensures ready { IsReady result }
+        ensures ready { IsReady self.new.fields result }
         ensures goes { Finds S.told (kept_at self.old.places) result (kept_at self.new.places) }
     {
         let now = self.now(clock);

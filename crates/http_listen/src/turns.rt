@@ -4,17 +4,18 @@ ghost use Rattle.http_listen.specs.Conversations.{Beside, Stands, IsSearched, Tu
 ghost use Rattle.http_listen.specs.Talks.{Moves};
 
 use crate::ends::EndFault;
+use crate::inputs::Asked;
 use crate::kept::{Ending, Kept};
 use crate::rests::Unsent;
 use crate::talks::Talks;
-use http_requests::Scanned;
+use http_requests::FieldSpans;
 use std::time::Duration;
 
 /// What follows the turn of a connection.
 #[derive(Clone, Copy)]
 pub(crate) enum Next {
     /// The first bytes of its input are to be answered.
-    Asks(usize),
+    Asks(Asked),
     /// The next part of a content is to be read.
     Reads(Unsent),
     /// It is kept up to its next turn, or ends, if it came to an end.
@@ -74,19 +75,14 @@ impl<S: Talks> Kept<S> {
 
 impl<S> Kept<S> {
     /// Searches the input for a request, or bytes that are none, whatever follows: these are answered, or all bytes at the input's end. If
-    /// there is none, more is waited for.
-    pub(crate) fn search(&mut self, now: Duration) -> Next
+    /// there is none, more is waited for. The header fields of a request are then at the first `fields`.
+    pub(crate) fn search(&mut self, now: Duration, fields: &mut FieldSpans) -> Next
         ensures stands { Stands self.old self.new }
-        ensures searched { IsSearched self.new.input self.new.turn.ended result }
+        ensures searched { IsSearched self.new.input self.new.turn.ended fields.new result }
     {
-        let asked = match self.input.scan() {
-            Scanned::Whole(end) => Some(end),
-            Scanned::More if !self.turn.ended => None,
-            Scanned::Refused | Scanned::More => Some(self.input.len()),
-        };
-        if let Some(end) = asked {
+        if let Some(asked) = self.input.find(self.turn.ended, fields) {
             self.pace = self.pace.writes();
-            return Next::Asks(end);
+            return Next::Asks(asked);
         }
         self.begin_read(now);
         if self.pace.is_over() {
@@ -98,15 +94,17 @@ impl<S> Kept<S> {
 }
 
 impl<S: Talks> Kept<S> {
-    /// Has its turn: a read into `piece`, or a write. No request is looked for while replies wait, or the rest of one.
+    /// Has its turn: a read into `piece`, or a write. No request is looked for while replies wait, or the rest of one. The header fields of one
+    /// that is found are at the first `fields`.
     pub(crate) fn take_turn(
         &mut self,
         now: Duration,
         is_full: bool,
         max_reads: u64,
         piece: &mut [u8],
+        fields: &mut FieldSpans,
     ) -> Next
-        ensures { Turned S.told self.old result self.new }
+        ensures { Turned S.told self.old fields.new result self.new }
     {
         if self.has_output() {
             return Next::Rests(self.send_replies(now));
@@ -122,8 +120,8 @@ impl<S: Talks> Kept<S> {
             return Next::Reads(unsent);
         }
         if self.turn.searches {
-            return self.search(now);
+            return self.search(now, fields);
         }
-        self.receive(now, is_full, max_reads, piece)
+        self.receive(now, is_full, max_reads, piece, fields)
     }
 }

@@ -1,14 +1,36 @@
 -- There is one request at the front of bytes, and so one list of requests.
 use Rattle.std.proofs.Common.{◌≡◌, ◌≢◌, ℕ, List, [], ◌∷◌, ◌++◌, true, false, length, take, drop, refl, sym, ap, ◌∙◌, subst, arith, Ok, Err, Result, Option}
-use Rattle.std.proofs.Common.{None, Some}
+use Rattle.std.proofs.Common.{None, Some, ◌≤◌, append_assoc, length-append, length-drop}
+use Rattle.std.proofs.lemmas.List.{append-nil}
 use Rattle.std.proofs.Math.Seq.{take-append_seam, drop-append_seam}
-use Rattle.httparse.specs.Grammar.{RequestHead}
+use Rattle.httparse.specs.Grammar.{RequestHead, print_request}
 use Rattle.httparse.proofs.GrammarLemmas.{request_unique}
 use Rattle.http_requests.specs.declared.refusals.Refusal.{Refusal}
 use Rattle.http_requests.specs.Fields.{framing}
 use Rattle.http_requests.specs.Requests.{Request, IsHead, IsRequest, IsRefused, IsFault, Begins, Ending, going, closed, asked, refused, EndsAs, Requests}
 use Rattle.http_requests.specs.Requests.{asks_to_close, fields_of}
 use Rattle.http_requests.proofs.HeadLemmas.{empty_no_head, refused_none}
+
+-- If bytes begin with a request, the bytes up to its end are this request, and nothing is left.
+pub request_alone : (bytes : List ℕ) (request : Request) (end : ℕ) → end ≤ length bytes → IsRequest bytes request (drop end bytes)
+    → IsRequest (take end bytes) request []
+request_alone bytes request end within is =
+    let text = print_request request.head in
+    let rest = drop end bytes in
+    let whole : bytes ≡ (text ++ request.body) ++ rest = is.head.reads.1 ∙ sym (append_assoc text request.body rest) in
+    let size : length (text ++ request.body) ≡ end =
+    omega (arith, ap length whole, length-append (text ++ request.body) rest, length-drop end bytes) in
+    let front : take end bytes ≡ text ++ request.body =
+    ap (λ (t : List ℕ). take end t) whole ∙ ap (λ (n : ℕ). take n ((text ++ request.body) ++ rest)) (sym size)
+    ∙ take-append_seam (text ++ request.body) rest in
+    record {
+      head = record {
+        reads = (is.head.reads.0, front ∙ ap (λ (t : List ℕ). text ++ t) (sym (append-nil request.body)));
+        size = is.head.size;
+        fields = is.head.fields;
+      };
+      body = is.body;
+    }
 
 head_unique : (bytes : List ℕ) (h k : RequestHead) (r q : List ℕ) → IsHead bytes h r → IsHead bytes k q → (h ≡ k) × (r ≡ q)
 head_unique bytes h k r q x y = request_unique bytes h k r q x.reads y.reads

@@ -58,16 +58,19 @@ pub enum Next {
     More(Missing),
 }
 
+/// What no bytes begin with.
+pub const NO_BYTES: Next = Next::More(Missing {
+    rejection: NO_HEAD,
+    until: 1,
+});
+
 /// What bytes begin with. If it is a request, its header fields are at the first `fields`.
 pub(crate) fn find_request(bytes: &[u8], fields: &mut FieldSpans) -> Next
     ensures { IsNext bytes.now fields.new result }
 {
     let rejection = NO_HEAD;
     if bytes.is_empty() {
-        return Next::More(Missing {
-            rejection,
-            until: 1,
-        });
+        return NO_BYTES;
     }
     let full = bytes.len() >= MAX_HEAD;
     match parse_request(bytes, fields) {

@@ -12,9 +12,11 @@ mod refusals;
 mod scans;
 mod searches;
 
-pub use frames::{FieldSpans, Frame, MAX_REQUEST, Missing, NO_FIELDS, Next, is_head, path_of};
+pub use frames::{
+    FieldSpans, Frame, MAX_REQUEST, Missing, NO_BYTES, NO_FIELDS, Next, is_head, path_of,
+};
 pub use headers::Fields;
 pub use inputs::{Input, READ_SPACE, ReadFault};
 pub use refusals::{NO_HEAD, Refusal, Rejection};
-pub use scans::{Scan, Scanned};
+pub use scans::Scan;
 pub use searches::{START, Search, find_next};

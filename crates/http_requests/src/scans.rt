@@ -1,20 +1,10 @@
 //! The search for a request, for a caller that reads the bytes of a connection itself.
 ghost use Rattle.std.specs.Prelude.{[]};
-ghost use Rattle.http_requests.specs.Scans.{HasScanned, IsScanned};
+ghost use Rattle.http_requests.specs.Frame.{IsNext};
+ghost use Rattle.http_requests.specs.Scans.{HasScanned};
 
-use crate::frames::{NO_FIELDS, Next};
+use crate::frames::{FieldSpans, Next};
 use crate::searches::{START, Search, find_next};
-
-/// What bytes begin with.
-#[derive(Clone, Copy)]
-pub enum Scanned {
-    /// A request, which has this many bytes.
-    Whole(usize),
-    /// No request, whatever follows.
-    Refused,
-    /// No whole request so far. There are fewer than `MAX_REQUEST` bytes.
-    More,
-}
 
 /// What is known of bytes, so that they aren't scanned again when more arrive.
 #[derive(Drop)]
@@ -31,17 +21,13 @@ impl Scan {
         Scan { search: START }
     }
 
-    /// What the waiting bytes begin with: those of the call before, and others after them.
-    pub fn next(&mut self, waiting: &[u8]) -> Scanned
+    /// What the waiting bytes begin with: those of the call before, and others after them. If it is a request, its header fields are at
+    /// the first `fields`.
+    pub fn next(&mut self, waiting: &[u8], fields: &mut FieldSpans) -> Next
         requires { HasScanned self.old waiting.now }
-        ensures next { IsScanned waiting.now result }
+        ensures next { IsNext waiting.now fields.new result }
         ensures known { HasScanned self.new waiting.now }
     {
-        let mut fields = NO_FIELDS;
-        match find_next(waiting, &mut fields, &mut self.search) {
-            Next::Whole(frame) => Scanned::Whole(frame.body.end),
-            Next::Refused(_) => Scanned::Refused,
-            Next::More(_) => Scanned::More,
-        }
+        find_next(waiting, fields, &mut self.search)
     }
 }

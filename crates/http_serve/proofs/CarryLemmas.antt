@@ -1,5 +1,5 @@
 -- Sequences of requests, and their replies.
-use Rattle.std.proofs.Common.{◌≡◌, ℕ, List, [], ◌∷◌, ◌++◌, Option, true, false, take, drop, length, ◌+◌, ◌-◌, ◌^◌, ◌<◌, min, inr, arith, length-append}
+use Rattle.std.proofs.Common.{◌≡◌, ℕ, List, [], ◌∷◌, ◌++◌, Option, true, false, take, length, ◌+◌, ◌-◌, ◌^◌, ◌<◌, min, inr, arith, length-append}
 use Rattle.std.proofs.Common.{refl, sym, ap, ◌∙◌, subst, append_assoc}
 use Rattle.std.proofs.lemmas.List.{append-nil}
 use Rattle.std.specs.Io.KnownBytes.{Appends}
@@ -74,30 +74,31 @@ framed_reply : (input : List ℕ) (spans : List HeaderSpan) (frame : Frame) (req
     → IsFrameOf input spans frame request → reply_at input frame reply ≡ reply_to request reply
 framed_reply input spans frame request reply is = λ i. reply_bytes (is.close i) (is_head (is.method i)) reply
 
--- the reply of a frame, whichever it is, is the next one
+-- the reply of a frame, whichever it is, is the next one to bytes that begin with its request
 pub Frame_next : {S : Type 0} (last : S → RequestView → ReplyView → S → Type 0) (old : S) (input : List ℕ) (spans : List HeaderSpan) (frame : Frame)
-    (request : Request) (reply : ReplyView) (new : S) → IsFrameOf input spans frame request → last old (request_view_at input spans frame) reply new
-    → AnswersNext last old input (reply_at input frame reply) new
-Frame_next last old input spans frame request reply new is given = record {
+    (request : Request) (bytes rest : List ℕ) (reply : ReplyView) (new : S) → IsFrameOf input spans frame request → IsRequest bytes request rest
+    → last old (request_view_at input spans frame) reply new → AnswersNext last old bytes (reply_at input frame reply) new
+Frame_next last old input spans frame request bytes rest reply new is here given = record {
   request = request;
-  rest = drop frame.body.end input;
+  rest = rest;
   reply = reply;
-  is = is.is;
+  is = here;
   replied = subst (λ (q : RequestView). last old q reply new) (framed_view input spans frame request is) given;
   out_is = framed_reply input spans frame request reply is;
 }
 
 -- so is one that stops before the rest of its content
 pub Frame_stops : {S : Type 0} (replies sends : S → RequestView → ReplyView → S → Type 0) (old : S) (input : List ℕ) (spans : List HeaderSpan) (frame : Frame)
-    (request : Request) (reply : ReplyView) (from size : ℕ) (new : S) (held holds : Option (List ℕ)) → IsFrameOf input spans frame request
+    (request : Request) (bytes rest : List ℕ) (reply : ReplyView) (from size : ℕ) (new : S) (held holds : Option (List ℕ))
+    → IsFrameOf input spans frame request → IsRequest bytes request rest
     → replies old (request_view_at input spans frame) reply new → sends old (request_view_at input spans frame) reply new
     → IsStopped (reply_at input frame reply) reply.content from size held holds
-    → StopsNext replies sends old input held frame.close from size new holds
-Frame_stops replies sends old input spans frame request reply from size new held holds is given sent stopped = record {
+    → StopsNext replies sends old bytes held frame.close from size new holds
+Frame_stops replies sends old input spans frame request bytes rest reply from size new held holds is here given sent stopped = record {
   request = request;
-  rest = drop frame.body.end input;
+  rest = rest;
   reply = reply;
-  is = is.is;
+  is = here;
   replied = subst (λ (q : RequestView). replies old q reply new) (framed_view input spans frame request is) given;
   sent = subst (λ (q : RequestView). sends old q reply new) (framed_view input spans frame request is) sent;
   close_is = is.close;
@@ -199,9 +200,9 @@ module _ {S : Type 0} (replies : S → RequestView → ReplyView → S → Type 
   -- ---- a request in a frame
 
   module _ (old : S) (bytes : List ℕ) (held : Option (List ℕ)) (before : ℕ) (middle : S) (input : List ℕ) (holds : Option (List ℕ)) (so_far : ℕ)
-      (spans : List HeaderSpan) (frame : Frame) (request : Request) (reply : ReplyView) (new : S) (now : Option (List ℕ))
-      (so : Carries replies old bytes held before middle input holds so_far) (is : IsFrameOf input spans frame request)
-      (given : replies middle (request_view_at input spans frame) reply new) where
+      (spans : List HeaderSpan) (frame : Frame) (request : Request) (here rest : List ℕ) (reply : ReplyView) (new : S) (now : Option (List ℕ))
+      (so : Carries replies old bytes held before middle here holds so_far) (is : IsFrameOf input spans frame request)
+      (whole : IsRequest here request rest) (given : replies middle (request_view_at input spans frame) reply new) where
     asked_so : replies middle (request_view request) reply new
     asked_so = subst (λ (q : RequestView). replies middle q reply new) (framed_view input spans frame request is) given
 
@@ -210,16 +211,16 @@ module _ {S : Type 0} (replies : S → RequestView → ReplyView → S → Type 
     same_reply = framed_reply input spans frame request reply is
 
     pub Frame_push : (after : ℕ) → frame.close ≡ false → Appends holds now (reply_at input frame reply) → RisesBy so_far 1 after
-        → Carries replies old bytes held before new (drop frame.body.end input) now after
+        → Carries replies old bytes held before new rest now after
     Frame_push after goes_on sent one =
-        Carries_push old bytes held before middle input holds so_far request reply new (drop frame.body.end input) now after so is.is
+        Carries_push old bytes held before middle here holds so_far request reply new rest now after so whole
         (sym is.close ∙ goes_on) asked_so
         (subst (λ (t : List ℕ). Appends holds now t) same_reply sent) one
 
     pub Frame_ends : (after : ℕ) → frame.close ≡ true → Appends holds now (reply_at input frame reply) → RisesBy so_far 1 after
         → Ends replies old bytes Anything held before (asked request) new now after
     Frame_ends after closes sent one =
-        Ends_push old bytes held before middle input holds so_far Anything (asked request) (reply_to request reply) new now after so
-        (λ more _. (drop frame.body.end input ++ more, IsRequest-append input more request (drop frame.body.end input) is.is, sym is.close ∙ closes))
+        Ends_push old bytes held before middle here holds so_far Anything (asked request) (reply_to request reply) new now after so
+        (λ more _. (rest ++ more, IsRequest-append here more request rest whole, sym is.close ∙ closes))
         (reply, asked_so, refl)
         (subst (λ (t : List ℕ). Appends holds now t) same_reply sent) one

@@ -1,5 +1,6 @@
 pub mod CarryLemmas
 pub mod ExitLemmas
+mod FoundLemmas
 pub mod HandlerLemmas
 pub mod KnownLemmas
 mod LimitNumbers

@@ -16,13 +16,12 @@ use Rattle.http_serve.specs.declared.connection.ServeFault.TheVariants.{Memory, 
 use Rattle.http_serve.specs.declared.contents.SendFault.{SendFault}
 use Rattle.http_serve.specs.declared.contents.SendFault.TheVariants as cuts
 use Rattle.http_requests.specs.declared.frames.Frame.{Frame}
-use Rattle.http_requests.specs.declared.frames.TheConstants.{MAX_REQUEST}
 use Rattle.http_requests.specs.Input.{buffer_size}
 use Rattle.http_serve.specs.Reads.{Gives, GivesTimes}
 use Rattle.httparse.specs.declared.spans.HeaderSpan.{HeaderSpan}
 use Rattle.http_requests.specs.Frame.{IsFrameOf}
 use Rattle.http_serve.specs.Parts.{GivesOrFails, IsStopped, IfRest, cut_after}
-use Rattle.http_requests.specs.Requests.{Request, Ending, going, closed, asked, refused, EndsAs, IsRefused, Requests}
+use Rattle.http_requests.specs.Requests.{Request, IsRequest, Ending, going, closed, asked, refused, EndsAs, IsRefused, Requests}
 use Rattle.http_requests.specs.Requests.{RequestView, request_view_at, has_head_method}
 use Rattle.http_serve.specs.Reply.{ReplyView, reply_at, refusal_bytes}
 use Rattle.http_serve.specs.Served.{RisesBy, reply_count, Answers, AnswersEnd, AnswersAll, AnswersNext, RepliesNext}
@@ -36,7 +35,7 @@ use Rattle.http_serve.proofs.CarryLemmas.{Begins-append, Begins-then, Answers-th
 use Rattle.http_serve.proofs.CarryLemmas.{Frame_next, Frame_stops, Breaks_at, Breaks_refused}
 use Rattle.http_serve.proofs.CarryLemmas.{rises_then, reply_count-append}
 
-finished_other : (end : End) (ending : Ending) (last : List ℕ) → end ≡ end_of ending → HasPlainEnd ending last → end ≢ Turns
+pub finished_other : (end : End) (ending : Ending) (last : List ℕ) → end ≡ end_of ending → HasPlainEnd ending last → end ≢ Turns
 finished_other end going last told plain e = absurd plain
 finished_other end closed last told plain e = cc
 finished_other end (asked request) last told plain e = cc
@@ -75,47 +74,44 @@ pub record IsSoFar {S : Type 0} (replies : S → RequestView → ReplyView → S
   pub bytes : List ℕ
   pub read : Consumes left leaves bytes
   pub carries : Carries replies old bytes held 0 new waiting holds requests
-  pub few : length waiting < MAX_REQUEST
   pub head : Option RequestHead
   pub bare : reason.bare ≡ has_head_method head
   pub refused : IsRefused waiting head reason.refusal
 
--- what a reply leaves that was cut
-pub cut_breaks : {S : Type 0} (replies fails : S → RequestView → ReplyView → S → Type 0) (old : S) (bytes : List ℕ) (held : Option (List ℕ)) (before : ℕ)
-    (middle : S) (input : List ℕ) (holds : Option (List ℕ)) (so_far : ℕ) (spans : List HeaderSpan) (frame : Frame) (request : Request)
-    (reply : ReplyView) (n : ℕ) (new : S)
-    (now : Option (List ℕ)) (fault : SendFault)
-    → Carries replies old bytes held before middle input holds so_far → IsFrameOf input spans frame request
-    → GivesOrFails (Err fault) (replies middle (request_view_at input spans frame) reply new) (fails middle (request_view_at input spans frame) reply new)
-    → n < length (reply_at input frame reply) → Appends holds now (take n (reply_at input frame reply))
-    → IsBroken replies fails old bytes held before (cut_after so_far frame.close fault) new now
-cut_breaks replies fails old bytes held before middle input holds so_far spans frame request reply n new now cuts.Write so is given cut sent =
-    Breaks_at replies (RepliesNext replies Anything) old bytes held before middle input holds so_far (reply_at input frame reply) n new now so
-    (inl (Frame_next replies middle input spans frame request reply new is given)) cut sent
-cut_breaks replies fails old bytes held before middle input holds so_far spans frame request reply n new now cuts.Content so is given cut sent =
-    Breaks_at replies (AnswersNext fails) old bytes held before middle input holds so_far (reply_at input frame reply) n new now so
-    (Frame_next fails middle input spans frame request reply new is given) cut sent
-cut_breaks replies fails old bytes held before middle input holds so_far spans frame request reply n new now (cuts.Rest from size) so is given cut sent =
-    Breaks_at replies (AnswersNext replies) old bytes held before middle input holds so_far (reply_at input frame reply) n new now so
-    (Frame_next replies middle input spans frame request reply new is given) cut sent
+-- what a reply leaves that was cut, to bytes that begin with the request of its frame
+module _ {S : Type 0} (old : S) (bytes : List ℕ) (held : Option (List ℕ)) (before : ℕ) (middle : S) (input : List ℕ) (holds : Option (List ℕ)) (so_far : ℕ)
+    (spans : List HeaderSpan) (frame : Frame) (request : Request) (here rest : List ℕ) (is : IsFrameOf input spans frame request)
+    (whole : IsRequest here request rest) where
+  pub cut_breaks : (replies fails : S → RequestView → ReplyView → S → Type 0) (reply : ReplyView) (n : ℕ) (new : S) (now : Option (List ℕ)) (fault : SendFault)
+      → Carries replies old bytes held before middle here holds so_far
+      → GivesOrFails (Err fault) (replies middle (request_view_at input spans frame) reply new) (fails middle (request_view_at input spans frame) reply new)
+      → n < length (reply_at input frame reply) → Appends holds now (take n (reply_at input frame reply))
+      → IsBroken replies fails old bytes held before (cut_after so_far frame.close fault) new now
+  cut_breaks replies fails reply n new now cuts.Write so given cut sent =
+      Breaks_at replies (RepliesNext replies Anything) old bytes held before middle here holds so_far (reply_at input frame reply) n new now so
+      (inl (Frame_next replies middle input spans frame request here rest reply new is whole given)) cut sent
+  cut_breaks replies fails reply n new now cuts.Content so given cut sent =
+      Breaks_at replies (AnswersNext fails) old bytes held before middle here holds so_far (reply_at input frame reply) n new now so
+      (Frame_next fails middle input spans frame request here rest reply new is whole given) cut sent
+  cut_breaks replies fails reply n new now (cuts.Rest from size) so given cut sent =
+      Breaks_at replies (AnswersNext replies) old bytes held before middle here holds so_far (reply_at input frame reply) n new now so
+      (Frame_next replies middle input spans frame request here rest reply new is whole given) cut sent
 
--- and where the rest of its content was left
-pub cut_left : {S : Type 0} (replies sends : S → RequestView → ReplyView → S → Type 0) (old : S) (bytes : List ℕ) (held : Option (List ℕ)) (before : ℕ)
-    (middle : S) (input : List ℕ) (holds : Option (List ℕ)) (so_far : ℕ) (spans : List HeaderSpan) (frame : Frame) (request : Request) (new : S)
-    (now : Option (List ℕ))
-    (fault : SendFault) → Carries replies old bytes held before middle input holds so_far → IsFrameOf input spans frame request
-    → IfRest (Err fault) (λ from size. (reply : ReplyView) × replies middle (request_view_at input spans frame) reply new
-    × sends middle (request_view_at input spans frame) reply new × IsStopped (reply_at input frame reply) reply.content from size holds now)
-    → IsLeftAt replies sends old bytes held before (cut_after so_far frame.close fault) new now
-cut_left replies sends old bytes held before middle input holds so_far spans frame request new now cuts.Write so is left = tt
-cut_left replies sends old bytes held before middle input holds so_far spans frame request new now cuts.Content so is left = tt
-cut_left replies sends old bytes held before middle input holds so_far spans frame request new now (cuts.Rest from size) so is left = record {
-  middle = middle;
-  rest = input;
-  between = holds;
-  carries = so;
-  next = Frame_stops replies sends middle input spans frame request left.0 from size new holds now is left.1 left.2 left.3;
-}
+  -- and where the rest of its content was left
+  pub cut_left : (replies sends : S → RequestView → ReplyView → S → Type 0) (new : S) (now : Option (List ℕ)) (fault : SendFault)
+      → Carries replies old bytes held before middle here holds so_far
+      → IfRest (Err fault) (λ from size. (reply : ReplyView) × replies middle (request_view_at input spans frame) reply new
+      × sends middle (request_view_at input spans frame) reply new × IsStopped (reply_at input frame reply) reply.content from size holds now)
+      → IsLeftAt replies sends old bytes held before (cut_after so_far frame.close fault) new now
+  cut_left replies sends new now cuts.Write so left = tt
+  cut_left replies sends new now cuts.Content so left = tt
+  cut_left replies sends new now (cuts.Rest from size) so left = record {
+    middle = middle;
+    rest = here;
+    between = holds;
+    carries = so;
+    next = Frame_stops replies sends middle input spans frame request here rest left.0 from size new holds now is whole left.1 left.2 left.3;
+  }
 
 pub not_rest : (fault : ServeFault) (fact : ℕ → Bool → ℕ → ℕ → Type 0) → IsNotRest fault → OnRest fault fact
 not_rest Memory fact is = tt
@@ -129,12 +125,10 @@ module _ {S : Type 0} (replies : S → RequestView → ReplyView → S → Type 
       → IsSoFar replies old left held old left held 0 waiting NO_HEAD
   SoFar_start old left held waiting empty =
       let none = empty_no_head waiting (ap length empty) in
-      let size : length waiting ≡ 0 = ap length empty in
       record {
         bytes = waiting;
         read = subst (λ (t : List ℕ). Consumes left left t) (sym empty) (Consumes_none left);
         carries = Carries_start replies old waiting held 0 (omega arith);
-        few = omega arith;
         head = None;
         bare = refl;
         refused = (refl, none);
@@ -256,16 +250,15 @@ module _ {S : Type 0} (replies : S → RequestView → ReplyView → S → Type 
       -- more came, and the whole requests in it are answered
       pub SoFar_goes : (rest : List ℕ) (after : ℕ) (head : Option RequestHead) (next : Rejection)
           → Carries replies middle full holds requests new rest now after
-          → length rest < MAX_REQUEST → next.bare ≡ has_head_method head → IsRefused rest head next.refusal
+          → next.bare ≡ has_head_method head → IsRefused rest head next.refusal
           → IsSoFar replies old left held new last now after rest next
-      SoFar_goes rest after head next y few bare none = record {
+      SoFar_goes rest after head next y bare none = record {
         bytes = so.bytes ++ more;
         read = Consumes-then left leaves last so.bytes more so.read came;
         carries =
             Carries-then old (so.bytes ++ more) held 0 middle (waiting ++ more) holds requests new rest now after
             (Carries-more old so.bytes held 0 middle waiting holds requests more so.carries)
             (subst (λ (t : List ℕ). Carries replies middle t holds requests new rest now after) joined y);
-        few = few;
         head = head;
         bare = bare;
         refused = none;

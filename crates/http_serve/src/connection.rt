@@ -5,13 +5,16 @@ ghost use Rattle.httparse.specs.Spans.{IsHeaderWithin, IsWithin};
 ghost use Rattle.http_requests.specs.Requests.{request_view_at, has_head_method};
 ghost use Rattle.http_serve.specs.Reply.{ReplyView, reply_at, refusal_bytes};
 ghost use Rattle.http_requests.specs.Search.{IsKnown};
+ghost use Rattle.http_requests.specs.Frame.{IsNext};
+ghost use Rattle.http_requests.specs.declared.frames.Next.TheVariants.{Whole};
+ghost use Rattle.http_serve.specs.Found.{ServesFound, found_bytes};
 ghost use Rattle.http_serve.specs.Sent.{Sends};
-ghost use Rattle.http_serve.specs.Steps.{IsPaused, IsBroken, IsLeftAt, IsFinished, IsUnfinished};
+ghost use Rattle.http_serve.specs.Steps.{IsPaused, IsBroken, IsFinished, IsUnfinished};
 ghost use Rattle.http_serve.specs.declared.handlers.TheConstants.{PART_SIZE};
 ghost use Rattle.http_serve.specs.declared.replies.TheConstants.{REPLY_SPACE};
 ghost use Rattle.http_serve.specs.declared.connection.ServeFault.TheVariants.{Memory};
 ghost use Rattle.http_serve.specs.declared.contents.Rests.TheVariants.{Sent, Left};
-ghost use Rattle.http_serve.specs.Told.{IsServed, IsServedUpTo, StopsAtRest, HasContent, IsNotMemory, IsNotRest, IsNotContent, MeetsTurns, KeepsTurns, Serves};
+ghost use Rattle.http_serve.specs.Told.{IsServed, IsServedUpTo, HasContent, IsNotMemory, IsNotRest, IsNotContent, MeetsTurns, KeepsTurns, Serves};
 ghost use Rattle.http_serve.specs.Parts.{GivesOrFails, IsCutIn, IsStopped, IfRest, IsNoRest, IsNoContentFault};
 
 use crate::contents::{Rests, SendFault, send_reply};
@@ -171,7 +174,6 @@ fn answer_whole<H: Handler, W: Write>(
     writer: &mut W,
     session: &mut Session,
     mut requests: u64,
-    rests: Rests,
 ) -> Result<Pause, ServeFault>
     requires known { IsKnown session.old.input.waiting session.old.search }
     ensures known { OnOk result (IsKnown session.new.input.waiting session.new.search) }
@@ -181,10 +183,7 @@ fn answer_whole<H: Handler, W: Write>(
         handler.new (W.contents writer.new)) }
     ensures content { IfErr result (HasContent (H.size handler.new)) }
     ensures no_memory { IfErr result IsNotMemory }
-    ensures left { IfErr result (λ fault. IsLeftAt H.replies H.sends handler.old session.old.input.waiting (W.contents writer.old) requests fault
-        handler.new (W.contents writer.new)) }
-    ensures whole { rests ≡ Sent → IfErr result IsNotRest }
-    ensures unread { rests ≡ Left → IfErr result IsNotContent }
+    ensures whole { IfErr result IsNotRest }
 {
     let mut fields = NO_FIELDS;
     'requests: loop {
@@ -215,7 +214,7 @@ fn answer_whole<H: Handler, W: Write>(
             waiting,
             &fields,
             &frame,
-            rests,
+            Rests::Sent,
         ) {
             Ok(()) => requests = requests.saturating_add(1),
             Err(fault) => return Err(fault.after(requests, frame.close)),
@@ -229,30 +228,31 @@ fn answer_whole<H: Handler, W: Write>(
     }
 }
 
-/// Answers the end of the input after `requests` replies were written.
+/// Answers the end of the input after `requests` replies were written: these bytes of it wait.
 fn finish<W: Write>(
     writer: &mut W,
-    session: &mut Session,
+    out: &mut Vec<u8>,
+    waiting: &[u8],
     requests: u64,
     reason: Rejection,
 ) -> Result<Served, ServeFault>
+    requires room { REPLY_SPACE ≤ vec_capacity out.old }
+    ensures room { REPLY_SPACE ≤ vec_capacity out.new }
     ensures ends { (head : Option RequestHead) → reason.bare ≡ has_head_method head
-        → IfOk result (λ served. IsFinished session.old.input.waiting head reason.refusal (W.contents writer.old) requests
-        served (W.contents writer.new)) }
+        → IfOk result (λ served. IsFinished waiting.now head reason.refusal (W.contents writer.old) requests served (W.contents writer.new)) }
     ensures fault { (head : Option RequestHead) → reason.bare ≡ has_head_method head
-        → IfErr result (λ fault. IsUnfinished session.old.input.waiting head reason.refusal (W.contents writer.old) requests
-        fault (W.contents writer.new)) }
+        → IfErr result (λ fault. IsUnfinished waiting.now head reason.refusal (W.contents writer.old) requests fault (W.contents writer.new)) }
     ensures no_memory { IfErr result IsNotMemory }
     ensures whole { IfErr result IsNotRest }
     ensures unread { IfErr result IsNotContent }
 {
-    if session.input.waiting().is_empty() {
+    if waiting.is_empty() {
         return Ok(Served {
             requests,
             end: End::Closed,
         });
     }
-    match refuse(writer, &mut session.out, reason) {
+    match refuse(writer, out, reason) {
         Ok(()) => Ok(Served {
             requests: requests.saturating_add(1),
             end: End::Refused,
@@ -268,7 +268,6 @@ fn serve_session<R: Read, W: Write, H: Handler>(
     writer: &mut W,
     handler: &mut H,
     turns: u64,
-    rests: Rests,
 ) -> Result<Served, ServeFault>
     ensures served { IfOk result (λ served. IsServed H.replies handler.old (R.remaining reader.old) (W.contents writer.old) served
         handler.new (R.remaining reader.new) (W.contents writer.new)) }
@@ -278,10 +277,7 @@ fn serve_session<R: Read, W: Write, H: Handler>(
     ensures no_memory { IfErr result IsNotMemory }
     ensures turns { IfOk result (λ served. MeetsTurns R.remaining turns reader.old reader.new served.end) }
     ensures reads { KeepsTurns turns result (R.remaining reader.old) (R.remaining reader.new) }
-    ensures left { IfErr result (λ fault. StopsAtRest H.replies H.sends handler.old (R.remaining reader.old) (W.contents writer.old) fault
-        handler.new (R.remaining reader.new) (W.contents writer.new)) }
-    ensures whole { rests ≡ Sent → IfErr result IsNotRest }
-    ensures unread { rests ≡ Left → IfErr result IsNotContent }
+    ensures whole { IfErr result IsNotRest }
 {
     session.begin();
     let mut requests = 0;
@@ -291,9 +287,10 @@ fn serve_session<R: Read, W: Write, H: Handler>(
             return Err(ServeFault::Read { requests });
         };
         if count == 0 {
-            return finish(writer, session, requests, reason);
+            let waiting = session.input.waiting();
+            return finish(writer, &mut session.out, waiting, requests, reason);
         }
-        match answer_whole(handler, writer, session, requests, rests)? {
+        match answer_whole(handler, writer, session, requests)? {
             Pause::Ended(served) => return Ok(served),
             Pause::More {
                 requests: answered,
@@ -310,33 +307,6 @@ fn serve_session<R: Read, W: Write, H: Handler>(
 
 /// The maximum number of reads per connection.
 pub const MAX_READS: u64 = 4_294_967_296;
-
-/// Serves a connection with the buffers that are kept, or with new ones.
-fn serve_in<R: Read, W: Write, H: Handler>(
-    buffers: &mut Buffers,
-    reader: &mut R,
-    writer: &mut W,
-    handler: &mut H,
-    turns: u64,
-    rests: Rests,
-) -> Result<Served, ServeFault>
-    ensures serves { Serves H.replies H.fails H.size R.remaining W.contents turns handler.old reader.old writer.old result
-        handler.new reader.new writer.new }
-    // Buffers that are allocated stay so, and then memory can't run out.
-    ensures kept { IsTrue buffers.old.allocated → IfErr result IsNotMemory }
-    ensures keeps { (result ≡ Err Memory) ⊎ IsTrue buffers.new.allocated }
-    ensures left { IfErr result (λ fault. StopsAtRest H.replies H.sends handler.old (R.remaining reader.old) (W.contents writer.old) fault
-        handler.new (R.remaining reader.new) (W.contents writer.new)) }
-    ensures whole { rests ≡ Sent → IfErr result IsNotRest }
-    ensures unread { rests ≡ Left → IfErr result IsNotContent }
-{
-    let Ok(mut session) = buffers.take() else {
-        return Err(ServeFault::Memory);
-    };
-    let outcome = serve_session(&mut session, reader, writer, handler, turns, rests);
-    buffers.keep(session);
-    outcome
-}
 
 /// Serves a connection with at most `turns` reads: one reply per request, in order, and one to invalid input. After `turns` reads,
 /// the whole requests in the bytes read are answered. The first connection allocates the buffers, and those after it use them.
@@ -359,31 +329,102 @@ pub fn serve_with<R: Read, W: Write, H: Handler>(
     // The rest of a content is never left.
     ensures whole { IfErr result IsNotRest }
 {
-    serve_in(buffers, reader, writer, handler, turns, Rests::Sent)
+    if buffers.allocate().is_err() {
+        return Err(ServeFault::Memory);
+    }
+    match &mut buffers.session {
+        Some(session) => serve_session(session, reader, writer, handler, turns),
+        None => Err(ServeFault::Memory),
+    }
 }
 
-/// Serves a connection as `serve_with` does, but stops before the rest of a content: before the bytes of it that the reply doesn't hold.
+/// Answers the request at `frame` in `bytes`, up to the rest of its content, for a connection that has no bytes but this request's.
+fn answer_alone<H: Handler, W: Write>(
+    handler: &mut H,
+    writer: &mut W,
+    session: &mut Session,
+    bytes: &[u8],
+    fields: &FieldSpans,
+    frame: &Frame,
+) -> Result<Served, ServeFault>
+    requires found { IsNext bytes.now fields.now (Whole frame.now) }
+    ensures serves { ServesFound H.replies H.fails H.sends handler.old (take frame.now.body.end bytes.now) (W.contents writer.old) result
+        handler.new (W.contents writer.new) }
+    ensures no_memory { IfErr result IsNotMemory }
+    ensures unread { IfErr result IsNotContent }
+{
+    if let Err(fault) = answer_one(
+        handler,
+        writer,
+        &mut session.out,
+        &mut session.part,
+        bytes,
+        fields,
+        frame,
+        Rests::Left,
+    ) {
+        return Err(fault.after(0, frame.close));
+    }
+    let requests = 1;
+    if frame.close {
+        let end = End::Asked;
+        return Ok(Served { requests, end });
+    }
+    let end = End::Closed;
+    Ok(Served { requests, end })
+}
+
+/// Answers what `bytes` begin with, for a connection that has no bytes but those of a request, or these, if they begin with none.
+fn answer_found<H: Handler, W: Write>(
+    handler: &mut H,
+    writer: &mut W,
+    session: &mut Session,
+    bytes: &[u8],
+    fields: &FieldSpans,
+    found: Next,
+) -> Result<Served, ServeFault>
+    requires found { IsNext bytes.now fields.now found }
+    ensures serves { ServesFound H.replies H.fails H.sends handler.old (found_bytes bytes.now found) (W.contents writer.old) result
+        handler.new (W.contents writer.new) }
+    ensures no_memory { IfErr result IsNotMemory }
+    ensures unread { IfErr result IsNotContent }
+{
+    match found {
+        Next::Whole(frame) => answer_alone(handler, writer, session, bytes, fields, &frame),
+        Next::Refused(rejection) => finish(writer, &mut session.out, bytes, 0, rejection),
+        Next::More(missing) => finish(writer, &mut session.out, bytes, 0, missing.rejection),
+    }
+}
+
+/// Answers what was found at the front of `bytes`, whose header fields are at these spans: a request, or else all bytes, as `serve_with` answers
+/// an input of these bytes alone. It stops before the rest of a content: before the bytes of it that the reply doesn't hold.
 /// `Downloads::read_rest` reads these later.
 ///
 /// # Errors
 ///
-/// Those of `serve_with`, but for `Content`, and `Rest`.
-pub fn serve_fronts<R: Read, W: Write, H: Handler>(
+/// Those of `serve_with`, but for `Read` and `Content`, and `Rest`.
+pub fn serve_found<W: Write, H: Handler>(
     buffers: &mut Buffers,
-    reader: &mut R,
+    bytes: &[u8],
+    fields: &FieldSpans,
+    found: Next,
     writer: &mut W,
     handler: &mut H,
-    turns: u64,
 ) -> Result<Served, ServeFault>
-    ensures serves { Serves H.replies H.fails H.size R.remaining W.contents turns handler.old reader.old writer.old result
-        handler.new reader.new writer.new }
+    requires { IsNext bytes.now fields.now found }
+    // With the fault Rest exactly what comes before the rest is written: with the rest it is the whole reply to a whole request.
+    ensures serves { ServesFound H.replies H.fails H.sends handler.old (found_bytes bytes.now found) (W.contents writer.old) result
+        handler.new (W.contents writer.new) }
     ensures kept { IsTrue buffers.old.allocated → IfErr result IsNotMemory }
     ensures keeps { (result ≡ Err Memory) ⊎ IsTrue buffers.new.allocated }
-    // With the fault Rest exactly what comes before the rest is written: with the rest it is the whole reply to a whole request.
-    ensures left { IfErr result (λ fault. StopsAtRest H.replies H.sends handler.old (R.remaining reader.old) (W.contents writer.old) fault
-        handler.new (R.remaining reader.new) (W.contents writer.new)) }
     // No content is read here, so none fails.
     ensures unread { IfErr result IsNotContent }
 {
-    serve_in(buffers, reader, writer, handler, turns, Rests::Left)
+    if buffers.allocate().is_err() {
+        return Err(ServeFault::Memory);
+    }
+    match &mut buffers.session {
+        Some(session) => answer_found(handler, writer, session, bytes, fields, found),
+        None => Err(ServeFault::Memory),
+    }
 }

@@ -10,7 +10,7 @@ mod sessions;
 mod tags;
 mod writes;
 
-pub use connection::{End, MAX_READS, ServeFault, Served, serve_fronts, serve_with};
+pub use connection::{End, MAX_READS, ServeFault, Served, serve_found, serve_with};
 pub use handlers::{
     ContentFault, Downloads, Handler, PART_SIZE, Preparation, Prepares, Request, RestFault, Ticket,
 };

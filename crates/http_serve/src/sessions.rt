@@ -1,5 +1,5 @@
 //! The memory of a connection.
-ghost use Rattle.std.specs.Prelude.{◌≡◌, ◌≤◌, [], IsTrue, IsOk, false, vec_capacity};
+ghost use Rattle.std.specs.Prelude.{◌≡◌, ◌≤◌, [], IsTrue, IsOk, OnOk, false, vec_capacity};
 ghost use Rattle.http_serve.specs.declared.handlers.TheConstants.{PART_SIZE};
 ghost use Rattle.http_serve.specs.declared.replies.TheConstants.{REPLY_SPACE};
 ghost use Rattle.http_requests.specs.Search.{IsKnown};
@@ -50,7 +50,7 @@ impl Session {
 #[derive(Drop)]
 pub struct Buffers {
     alloc: Global,
-    session: Option<Session>,
+    pub(crate) session: Option<Session>,
 }
 
 impl Model for Buffers {
@@ -73,20 +73,15 @@ impl Buffers {
         }
     }
 
-    /// The memory of a connection: what is kept, or new memory if there is none.
-    pub(crate) fn take(&mut self) -> Result<Session, AllocError>
-        ensures { IsTrue self.old.allocated → IsOk result }
+    /// Allocates the memory of a connection, unless it is kept.
+    pub(crate) fn allocate(&mut self) -> Result<(), AllocError>
+        ensures kept { IsTrue self.old.allocated → IsOk result }
+        ensures ok { OnOk result (IsTrue self.new.allocated) }
     {
-        match self.session.take() {
-            Some(session) => Ok(session),
-            None => Session::new(self.alloc),
+        if self.session.is_some() {
+            return Ok(());
         }
-    }
-
-    /// Keeps the memory of a connection.
-    pub(crate) fn keep(&mut self, session: Session)
-        ensures { IsTrue self.new.allocated }
-    {
-        self.session = Some(session);
+        self.session = Some(Session::new(self.alloc)?);
+        Ok(())
     }
 }

@@ -25,10 +25,10 @@ returns-clause-acts g c =
     ] in
     let then : Moves (told front.stream) front.output [] [] (told new.stream) new.output =
     rw (← c.answered.ensures.stream, ← c.answered.ensures.output) sent.0 in (
-      answered (take c.args.end old.input) out.0 c.serve_front-outcome.result.outcome ticket,
+      answered (take c.args.asked.end old.input) out.0 c.serve_front-outcome.result.outcome ticket,
       (out.1, refl),
-      steps_answered told old front new c.args.end out.0 c.serve_front-outcome.result.outcome ticket (c.match-outcome.ending ≡ None) out.2 then
-          (sent.1.input ∙ c.answered.ensures.input ∙ ap (drop c.args.end) made.input)
+      steps_answered told old front new c.args.asked.end out.0 c.serve_front-outcome.result.outcome ticket (c.match-outcome.ending ≡ None) out.2 then
+          (sent.1.input ∙ c.answered.ensures.input ∙ ap (drop c.args.asked.end) made.input)
           (sent.1.number ∙ c.answered.ensures.number ∙ ap (λ (t : Turn). t.number) made.turn)
           (ap is_some (sent.1.drops ∙ c.answered.ensures.drops ∙ ap (λ (t : Turn). t.drops) made.turn))
           (c.requires.whole, sent.2 ∙ c.answered.ensures.unsent ∙ made.unsent),

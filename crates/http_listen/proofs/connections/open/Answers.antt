@@ -3,6 +3,7 @@ use Rattle.std.specs.Prelude.{is_some}
 use Rattle.http_listen.specs.declared.kept.Turn.{Turn}
 use Rattle.http_listen.specs.Conversations.{answered}
 use Rattle.http_listen.specs.Places.{next_key}
+use Rattle.http_listen.proofs.AskedLemmas.{nothing_asked}
 use Rattle.http_listen.proofs.StepLemmas.{steps_answered}
 use Rattle.http_listen.proofs.TalkLemmas.{moves_none}
 use Rattle.http_listen.proofs.connections.open.Goals as goal
@@ -34,3 +35,6 @@ returns-clause-acted g c =
         seats = put.3;
       },
     )
+
+pub serve_front-past-requires : goal.serve_front-past-requires
+serve_front-past-requires g c = nothing_asked c.args.kept.input c.args.room.now.fields c.requires.fresh

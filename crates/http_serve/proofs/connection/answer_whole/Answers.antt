@@ -5,18 +5,18 @@ use Rattle.http_serve.specs.declared.connection.ServeFault.{ServeFault}
 use Rattle.httparse.specs.declared.spans.HeaderSpan.{HeaderSpan}
 use Rattle.http_requests.specs.declared.frames.Frame.{Frame}
 use Rattle.http_requests.specs.Frame.{IsFrameOf, IsNext}
-use Rattle.http_serve.specs.Parts.{GivesOrFails, IsStopped, IfRest}
+use Rattle.http_serve.specs.Parts.{GivesOrFails}
 use Rattle.http_requests.specs.Search.{IsKnown}
-use Rattle.http_serve.specs.Steps.{IsBroken, IsLeftAt}
-use Rattle.http_serve.specs.Told.{HasContent, IsNotMemory, IsNotRest, IsNotContent}
+use Rattle.http_serve.specs.Steps.{IsBroken}
+use Rattle.http_serve.specs.Told.{HasContent, IsNotMemory, IsNotRest}
 use Rattle.http_requests.specs.Requests.{Request, asked, refused}
 use Rattle.http_requests.specs.Requests.{request_view_at}
 use Rattle.http_serve.specs.Reply.{ReplyView, refusal_bytes, reply_at}
 use Rattle.http_serve.specs.Served.{Anything, Carries}
 use Rattle.http_requests.proofs.HeadLemmas.{missing_now}
 use Rattle.http_serve.proofs.CarryLemmas.{Carries_start, Ends_push, Breaks_refused, Frame_push, Frame_ends}
-use Rattle.http_serve.proofs.PartLemmas.{cut_content, cut_no_memory, cut_whole, cut_unread}
-use Rattle.http_serve.proofs.ServeLemmas.{asked_other, refused_other, cut_breaks, cut_left}
+use Rattle.http_serve.proofs.PartLemmas.{cut_content, cut_no_memory, cut_whole}
+use Rattle.http_serve.proofs.ServeLemmas.{asked_other, refused_other, cut_breaks}
 use Rattle.http_serve.proofs.connection.answer_whole.Goals as goal
 
 -- A frame that was found in bytes is one of the same bytes where they are looked at again.
@@ -73,9 +73,8 @@ returns-in-Err-answer_one-clause-err g c =
     c.waiting-waiting.ensures c.in-Err-answer_one.ensures.reply in
     subst (λ (fault : ServeFault). IsBroken g.H.Handler.replies g.H.Handler.fails c.args.handler.now c.args.session.now.input.waiting
     (g.W.Write.contents c.args.writer.now) c.args.requests fault c.answer_one.new.handler (g.W.Write.contents c.answer_one.new.writer)) (sym c.after.ensures)
-    (cut_breaks g.H.Handler.replies g.H.Handler.fails _ _ _ c.args.requests _ input _ c.requests.requests c.find_next.new.fields frame found.0 told.0
-    told.2.0 _ _
-    c.in-Err-answer_one.fault c.requests.invariant.carries found.1 told.1 told.2.1 told.2.2)
+    (cut_breaks _ _ _ c.args.requests _ input _ c.requests.requests c.find_next.new.fields frame found.0 input _ found.1 found.1.is
+    g.H.Handler.replies g.H.Handler.fails told.0 told.2.0 _ _ c.in-Err-answer_one.fault c.requests.invariant.carries told.1 told.2.1 told.2.2)
 
 pub returns-in-Err-answer_one-clause-content : goal.returns-in-Err-answer_one-clause-content
 returns-in-Err-answer_one-clause-content g c =
@@ -88,29 +87,9 @@ returns-in-Err-answer_one-clause-no_memory g c =
     subst IsNotMemory (sym c.after.ensures) (cut_no_memory c.requests.requests c.in-Whole.frame.close c.in-Err-answer_one.fault)
 
 pub returns-in-Err-answer_one-clause-whole : goal.returns-in-Err-answer_one-clause-whole
-returns-in-Err-answer_one-clause-whole g c = λ sent.
+returns-in-Err-answer_one-clause-whole g c =
     subst IsNotRest (sym c.after.ensures)
-    (cut_whole c.requests.requests c.in-Whole.frame.close c.in-Err-answer_one.fault (c.in-Err-answer_one.ensures.whole sent))
-
-pub returns-in-Err-answer_one-clause-unread : goal.returns-in-Err-answer_one-clause-unread
-returns-in-Err-answer_one-clause-unread g c = λ left.
-    subst IsNotContent (sym c.after.ensures)
-    (cut_unread c.requests.requests c.in-Whole.frame.close c.in-Err-answer_one.fault (c.in-Err-answer_one.ensures.unread left))
-
-pub returns-in-Err-answer_one-clause-left : goal.returns-in-Err-answer_one-clause-left
-returns-in-Err-answer_one-clause-left g c =
-    let frame = c.in-Whole.frame in
-    let input = c.requests.session.input.waiting in
-    let found = subst (λ (t : List ℕ). IsNext t c.find_next.new.fields (Whole frame)) c.waiting.ensures c.in-Whole.ensures.next in
-    let left = subst (λ (t : List ℕ). IfRest (Err c.in-Err-answer_one.fault) (λ from size. (reply : ReplyView)
-    × g.H.Handler.replies c.requests.handler (request_view_at t c.find_next.new.fields frame) reply c.answer_one.new.handler
-    × g.H.Handler.sends c.requests.handler (request_view_at t c.find_next.new.fields frame) reply c.answer_one.new.handler
-    × IsStopped (reply_at t frame reply) reply.content from size (g.W.Write.contents c.requests.writer) (g.W.Write.contents c.answer_one.new.writer)))
-    c.waiting-waiting.ensures c.in-Err-answer_one.ensures.stopped in
-    subst (λ (fault : ServeFault). IsLeftAt g.H.Handler.replies g.H.Handler.sends c.args.handler.now c.args.session.now.input.waiting
-    (g.W.Write.contents c.args.writer.now) c.args.requests fault c.answer_one.new.handler (g.W.Write.contents c.answer_one.new.writer)) (sym c.after.ensures)
-    (cut_left g.H.Handler.replies g.H.Handler.sends _ _ _ c.args.requests _ input _ c.requests.requests c.find_next.new.fields frame found.0 _ _
-    c.in-Err-answer_one.fault c.requests.invariant.carries found.1 left)
+    (cut_whole c.requests.requests c.in-Whole.frame.close c.in-Err-answer_one.fault (c.in-Err-answer_one.ensures.whole refl))
 
 pub returns-then-frame-clause-ok : goal.returns-then-frame-clause-ok
 returns-then-frame-clause-ok g c =
@@ -122,8 +101,9 @@ returns-then-frame-clause-ok g c =
     × Appends (g.W.Write.contents c.requests.writer) (g.W.Write.contents c.answer_one.new.writer) (reply_at t frame reply))
     c.waiting-waiting.ensures c.in-Ok-answer_one.ensures.reply in (
       asked found.0,
-      Frame_ends g.H.Handler.replies _ _ _ c.args.requests _ input _ c.requests.requests c.find_next.new.fields frame found.0 told.0 _ _
-          c.requests.invariant.carries found.1 told.1 c.saturating_add-requests.result c.if-frame.true told.2 c.saturating_add-requests.ensures,
+      Frame_ends g.H.Handler.replies _ _ _ c.args.requests _ input _ c.requests.requests c.find_next.new.fields frame found.0 input _ told.0 _ _
+          c.requests.invariant.carries found.1 found.1.is told.1 c.saturating_add-requests.result c.if-frame.true told.2
+          c.saturating_add-requests.ensures,
       refl,
       asked_other,
     )
@@ -143,8 +123,9 @@ requests-preserved g c =
           subst (λ (t : List ℕ). Carries g.H.Handler.replies c.args.handler.now c.args.session.now.input.waiting (g.W.Write.contents c.args.writer.now)
           c.args.requests c.answer_one.new.handler t (g.W.Write.contents c.answer_one.new.writer) c.saturating_add-requests.result)
           (sym c.drop_front.ensures)
-          (Frame_push g.H.Handler.replies _ _ _ c.args.requests _ input _ c.requests.requests c.find_next.new.fields frame found.0 told.0 _ _
-          c.requests.invariant.carries found.1 told.1 c.saturating_add-requests.result c.if-frame.false told.2 c.saturating_add-requests.ensures);
+          (Frame_push g.H.Handler.replies _ _ _ c.args.requests _ input _ c.requests.requests c.find_next.new.fields frame found.0 input _ told.0 _ _
+          c.requests.invariant.carries found.1 found.1.is told.1 c.saturating_add-requests.result c.if-frame.false told.2
+          c.saturating_add-requests.ensures);
     }
 
 pub requests-init : goal.requests-init

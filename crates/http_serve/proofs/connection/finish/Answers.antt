@@ -1,5 +1,5 @@
 use Rattle.std.proofs.lemmas.Grind.{common_steps}
-use Rattle.std.proofs.Common.{refl, arith, ap, length}
+use Rattle.std.proofs.Common.{refl, arith}
 use Rattle.http_requests.specs.Requests.{refused}
 use Rattle.http_serve.specs.Reply.{refusal_bytes}
 use Rattle.http_requests.proofs.HeadLemmas.{some_bytes}
@@ -11,7 +11,7 @@ returns-in-Ok-clause-ends g c = λ head bare. record {
   last = refusal_bytes head c.args.reason.refusal;
   told = refl;
   plain = refl;
-  ends = λ is. (let some = some_bytes _ _ c.is_empty.ensures c.if-is_empty.false in omega (arith, some, ap length c.waiting.ensures), is);
+  ends = λ is. (some_bytes _ _ c.is_empty.ensures c.if-is_empty.false, is);
   written = c.in-Ok.ensures.sent head bare;
   counted = c.saturating_add.ensures;
 }
@@ -20,7 +20,7 @@ pub returns-in-Err-clause-fault : goal.returns-in-Err-clause-fault
 returns-in-Err-clause-fault g c = λ head bare.
     let sent = c.in-Err.ensures.sent head bare in
     record {
-      some = let some = some_bytes _ _ c.is_empty.ensures c.if-is_empty.false in omega (arith, some, ap length c.waiting.ensures);
+      some = some_bytes _ _ c.is_empty.ensures c.if-is_empty.false;
       count = sent.0;
       cut = sent.1;
       told = refl;

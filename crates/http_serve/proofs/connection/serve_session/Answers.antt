@@ -1,7 +1,8 @@
-use Rattle.std.proofs.Common.{◌≡◌, refl, arith, sym, subst, List, [], ℕ, ◌+◌, ◌-◌, ◌*◌}
-use Rattle.std.specs.Prelude.{Result}
+use Rattle.std.proofs.Common.{◌≡◌, refl, arith, ap, length, sym, subst, List, [], ℕ, ◌+◌, ◌-◌, ◌*◌}
+use Rattle.std.specs.Prelude.{Result, IfOk, IfErr}
 use Rattle.http_requests.specs.Input.{buffer_size}
 use Rattle.http_requests.specs.Search.{IsKnown}
+use Rattle.http_serve.specs.Steps.{IsFinished, IsUnfinished}
 use Rattle.http_serve.specs.Told.{LosesAtMost, KeepsTurns}
 use Rattle.http_serve.specs.declared.connection.Served.{Served}
 use Rattle.http_serve.specs.declared.connection.ServeFault.{ServeFault}
@@ -10,7 +11,7 @@ use Rattle.http_serve.proofs.ServeLemmas.{SoFar_start, SoFar_stops, SoFar_failed
 use Rattle.http_serve.proofs.ExitLemmas.{exit_no_value, exit_is, exit_fault}
 use Rattle.http_serve.proofs.ServeLemmas.{broken_reads}
 use Rattle.http_serve.proofs.ServeLemmas.{if_err, adds_none, adds_one, adds_all, most_start, most_more, most_last, other_turns}
-use Rattle.http_serve.proofs.ServeLemmas.{finished_turns, finished_reads, unfinished_content, SoFar_left, not_rest}
+use Rattle.http_serve.proofs.ServeLemmas.{finished_turns, finished_reads, unfinished_content}
 use Rattle.http_serve.proofs.connection.serve_session.Goals as goal
 
 pub loop-turn-init : goal.loop-turn-init
@@ -19,6 +20,7 @@ loop-turn-init g c = record {
   within = omega arith;
   reads = adds_none g.R.Read.remaining c.args.reader.now;
   most = most_start (g.R.Read.remaining c.args.reader.now) _;
+  few = omega (arith, ap length c.begin.ensures.input);
   so_far = SoFar_start g.H.Handler.replies _ _ _ _ c.begin.ensures.input;
 }
 
@@ -59,24 +61,31 @@ loop-turn-preserved g c =
           let few = c.in-Ok.ensures.few in
           most_more (g.R.Read.remaining c.args.reader.now) _ _ (c.loop-turn._turn * buffer_size) ((c.loop-turn._turn + 1) * buffer_size)
           c.in-Ok.count came.0 c.loop-turn.invariant.most came.1 came.3 (omega arith);
+      few = pause.1;
       so_far =
           SoFar_goes g.H.Handler.replies _ _ _ _ _ _ c.loop-turn.requests _ _ c.loop-turn.invariant.so_far came.0 _ came.1 _ _ _ came.2
-          _ c.in-More.answered pause.2 c.in-More.rejection pause.0 pause.1 pause.3 pause.4;
+          _ c.in-More.answered pause.2 c.in-More.rejection pause.0 pause.3 pause.4;
     }
 
 pub returns-then-count-eq0-clause-served : goal.returns-then-count-eq0-clause-served
 returns-then-count-eq0-clause-served g c =
     let came = c.in-Ok.ensures.ok in
+    let ends = subst (λ (t : List ℕ). IfOk c.finish.result (λ served. IsFinished t c.loop-turn.invariant.so_far.head c.loop-turn.reason.refusal
+    (g.W.Write.contents c.loop-turn.writer) c.loop-turn.requests served (g.W.Write.contents c.finish.new.writer))) c.waiting-waiting.ensures
+    (c.finish.ensures.ends c.loop-turn.invariant.so_far.head c.loop-turn.invariant.so_far.bare) in
     if_ok c.finish.result _ _
     (SoFar_done g.H.Handler.replies _ _ _ _ _ _ c.loop-turn.requests _ _ c.loop-turn.invariant.so_far _ came.0 _ _ _ came.1 came.2 came.3
-    c.if-count-eq0.true came.4) (c.finish.ensures.ends c.loop-turn.invariant.so_far.head c.loop-turn.invariant.so_far.bare)
+    c.if-count-eq0.true came.4) ends
 
 pub returns-then-count-eq0-clause-fault : goal.returns-then-count-eq0-clause-fault
 returns-then-count-eq0-clause-fault g c =
     let came = c.in-Ok.ensures.ok in
+    let failed = subst (λ (t : List ℕ). IfErr c.finish.result (λ fault. IsUnfinished t c.loop-turn.invariant.so_far.head c.loop-turn.reason.refusal
+    (g.W.Write.contents c.loop-turn.writer) c.loop-turn.requests fault (g.W.Write.contents c.finish.new.writer))) c.waiting-waiting.ensures
+    (c.finish.ensures.fault c.loop-turn.invariant.so_far.head c.loop-turn.invariant.so_far.bare) in
     if_err c.finish.result _ _
     (SoFar_failed g.H.Handler.replies _ _ _ _ _ _ c.loop-turn.requests _ _ c.loop-turn.invariant.so_far _ came.0 _ _ _ came.1 came.2 came.3
-    c.if-count-eq0.true g.H.Handler.fails came.4) (c.finish.ensures.fault c.loop-turn.invariant.so_far.head c.loop-turn.invariant.so_far.bare)
+    c.if-count-eq0.true g.H.Handler.fails came.4) failed
 
 pub returns-then-count-eq0-clause-turns : goal.returns-then-count-eq0-clause-turns
 returns-then-count-eq0-clause-turns g c =
@@ -113,18 +122,6 @@ returns-then-count-eq0-clause-content g c =
     if_err c.finish.result _ _ (λ fault. unfinished_content _ _ _ _ _ _ fault _)
     (c.finish.ensures.fault c.loop-turn.invariant.so_far.head c.loop-turn.invariant.so_far.bare)
 
-pub returns-in_err-served-clause-left : goal.returns-in_err-served-clause-left
-returns-in_err-served-clause-left g c =
-    let came = c.in-Ok.ensures.ok in
-    let fault = c.in_err-served.field-0.0 in
-    let same = exit_is c.from_residual.result fault c.from_residual.ensures.1 in
-    rw same (SoFar_left g.H.Handler.replies _ _ _ _ _ _ c.loop-turn.requests _ _ c.loop-turn.invariant.so_far came.0 _ came.1 _ _ _ came.2
-    g.H.Handler.sends fault c.in_err-served.ensures.left)
-
-pub returns-then-count-eq0-clause-left : goal.returns-then-count-eq0-clause-left
-returns-then-count-eq0-clause-left g c =
-    if_err c.finish.result _ _ (λ fault whole. not_rest fault _ whole) c.finish.ensures.whole
-
 pub returns-in-Ended-clause-reads : goal.returns-in-Ended-clause-reads
 returns-in-Ended-clause-reads g c =
     let came = c.in-Ok.ensures.ok in
@@ -132,7 +129,7 @@ returns-in-Ended-clause-reads g c =
     came.1 came.3 c.in-Ok.ensures.few c.loop-turn-test.true
 
 pub read_from-requires : goal.read_from-requires
-read_from-requires g c = c.loop-turn.invariant.so_far.few
+read_from-requires g c = c.loop-turn.invariant.few
 
 pub invariant_of-session : goal.invariant_of-session
 invariant_of-session g c = record { room = c.loop-turn.session.room; space = c.loop-turn.session.space }
@@ -147,10 +144,7 @@ pub returns-then-count-eq0-clause-no_memory : goal.returns-then-count-eq0-clause
 returns-then-count-eq0-clause-no_memory g c = c.finish.ensures.no_memory
 
 pub returns-then-count-eq0-clause-whole : goal.returns-then-count-eq0-clause-whole
-returns-then-count-eq0-clause-whole g c = λ sent. c.finish.ensures.whole
-
-pub returns-then-count-eq0-clause-unread : goal.returns-then-count-eq0-clause-unread
-returns-then-count-eq0-clause-unread g c = λ left. c.finish.ensures.unread
+returns-then-count-eq0-clause-whole g c = c.finish.ensures.whole
 
 pub returns-in_err-served-clause-served : goal.returns-in_err-served-clause-served
 returns-in_err-served-clause-served g c = exit_no_value c.from_residual.result _ _ c.from_residual.ensures.1
@@ -177,12 +171,8 @@ returns-in_err-served-clause-reads g c =
     (broken_reads g.H.Handler.replies g.H.Handler.fails _ _ _ _ fault _ _ c.args.turns _ _ lost c.in_err-served.ensures.err)
 
 pub returns-in_err-served-clause-whole : goal.returns-in_err-served-clause-whole
-returns-in_err-served-clause-whole g c = λ sent.
-    exit_fault c.from_residual.result _ c.in_err-served.field-0.0 c.from_residual.ensures.1 (c.in_err-served.ensures.whole sent)
-
-pub returns-in_err-served-clause-unread : goal.returns-in_err-served-clause-unread
-returns-in_err-served-clause-unread g c = λ left.
-    exit_fault c.from_residual.result _ c.in_err-served.field-0.0 c.from_residual.ensures.1 (c.in_err-served.ensures.unread left)
+returns-in_err-served-clause-whole g c =
+    exit_fault c.from_residual.result _ c.in_err-served.field-0.0 c.from_residual.ensures.1 c.in_err-served.ensures.whole
 
 pub returns-clause-reads : goal.returns-clause-reads
 returns-clause-reads g c =
@@ -191,3 +181,9 @@ returns-clause-reads g c =
     let same : c.loop-turn._turn ≡ c.args.turns = omega (arith, within, over) in
     subst (λ (n : ℕ). LosesAtMost (n * buffer_size) (g.R.Read.remaining c.args.reader.now) (g.R.Read.remaining c.loop-turn.reader))
     same c.loop-turn.invariant.most
+
+pub finish-requires : goal.finish-requires
+finish-requires g c = record { room = c.loop-turn.session.room }
+
+pub invariant_of-session-then-count-eq0 : goal.invariant_of-session-then-count-eq0
+invariant_of-session-then-count-eq0 g c = record { room = c.finish.ensures.room; space = c.loop-turn.session.space }

@@ -1,4 +1,5 @@
-use Rattle.std.proofs.Common.{◌≤◌, ◌*◌}
+use Rattle.std.proofs.Common.{◌≤◌, ◌<◌, ◌*◌, length}
+use Rattle.http_requests.specs.declared.frames.TheConstants.{MAX_REQUEST}
 use Rattle.http_requests.specs.Input.{buffer_size}
 use Rattle.http_requests.specs.Search.{IsKnown}
 use Rattle.http_serve.specs.Told.{LosesAtMost}
@@ -11,6 +12,7 @@ invariant-loop-turn g l = record {
   within : l._turn ≤ l.fn.turns;
   reads : Adds g.R.Read.remaining l._turn l.fn.reader l.reader;
   most : LosesAtMost (l._turn * buffer_size) (g.R.Read.remaining l.fn.reader) (g.R.Read.remaining l.reader);
+  few : length l.session.input.waiting < MAX_REQUEST;
   so_far : IsSoFar g.H.Handler.replies l.fn.handler (g.R.Read.remaining l.fn.reader) (g.W.Write.contents l.fn.writer)
       l.handler (g.R.Read.remaining l.reader) (g.W.Write.contents l.writer) l.requests l.session.input.waiting l.reason;
 }

@@ -11,6 +11,6 @@ returns-in-Some-unsent g c =
 
 pub returns-then-self : goal.returns-then-self
 returns-then-self g c =
-    turned_read g.S.Talks.told c.args.self.now c.search.new.self c.search.result
+    turned_read g.S.Talks.told c.args.self.now c.search.new.self _ c.search.result
     (stands_read g.S.Talks.told c.args.self.now c.search.new.self c.search.result c.search.ensures.stands) c.search.ensures.searched
     (c.has_output.ensures c.if-has_output.false) c.in_default-unsent.is c.in_default.is
