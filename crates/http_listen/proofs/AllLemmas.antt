@@ -1,7 +1,7 @@
 -- All conversations, as one of them goes on.
-use Rattle.std.proofs.Common.{unwrap_or, ◌≡◌, ◌≢◌, ℕ, List, [], ◌∷◌, ◌++◌, Bool, true, false, cond, Some, Result, refl, ap, subst, ◌∙◌}
+use Rattle.std.proofs.Common.{unwrap_or, ◌≡◌, ◌≢◌, ℕ, List, [], ◌∷◌, ◌++◌, Bool, true, false, cond, None, Some, Result, refl, sym, ap, subst, ◌∙◌, true≢false}
 use Rattle.std.proofs.lemmas.Bool.{eq-eqb, ne_eqb}
-use Rattle.std.specs.Prelude.{nat_eq}
+use Rattle.std.specs.Prelude.{nat_eq, is_some}
 use Rattle.std.specs.declared.option.Option.{Option}
 use Rattle.http_requests.specs.Requests.{RequestView}
 use Rattle.http_serve.specs.Reply.{ReplyView}
@@ -48,3 +48,7 @@ module _ {S : Type 0} (replies fails : S → RequestView → ReplyView → S →
 -- Equal values of two options.
 pub some_same : {T : Type 0} {x y : T} → Some x ≡ Some y → x ≡ y
 some_same {T} {x} {y} e = ap (λ (o : Option T). unwrap_or o x) e
+
+-- Nothing isn't something.
+pub none_some : {T : Type 0} {x : T} → None ≡ Some x → ⊥
+none_some e = true≢false (ap is_some (sym e))

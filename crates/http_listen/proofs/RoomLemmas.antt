@@ -1,176 +1,161 @@
 -- The connections by their keys, as turns are given to them.
-use Rattle.std.proofs.Common.{◌≡◌, ◌≢◌, ℕ, List, [], ◌++◌, Bool, true, false, None, Some, refl, sym, ap, subst, ◌∙◌, append_assoc, append-nil}
-use Rattle.std.proofs.Common.{true≢false, inl, inr, ⊎_elim}
+use Rattle.std.proofs.Common.{◌≡◌, ◌≢◌, ℕ, List, [], ◌∷◌, ◌++◌, Bool, true, false, None, Some, refl, sym, ap, subst, ◌∙◌, append_assoc, append-nil}
 use Rattle.std.proofs.lemmas.Bool.{eqb-true, eqb-false}
-use Rattle.std.specs.Prelude.{◌⊎◌, nat_eq, is_some, ⊤}
+use Rattle.std.specs.Prelude.{nat_eq, is_some, ⊤}
 use Rattle.std.specs.declared.option.Option.{Option}
-use Rattle.http_listen.specs.declared.inputs.Asked.{Asked}
 use Rattle.http_listen.specs.declared.kept.Kept.{Kept}
-use Rattle.http_listen.specs.Conversations.{Steps, AreApart, Stands}
-use Rattle.http_listen.specs.Stays.{StandsAt, AllStand}
-use Rattle.http_listen.specs.Goes.{Seats, GoesOnAs, GoesAt, Goes, Finds}
-use Rattle.http_listen.specs.declared.rests.Unsent.{Unsent}
-use Rattle.http_listen.specs.declared.rooms.Found.{Found}
-use Rattle.http_listen.specs.declared.rooms.Found.TheVariants.{New, Asks, Reads, Nothing, Over}
-use Rattle.http_listen.specs.Talks.{Told, Moves}
-use Rattle.http_listen.proofs.StepLemmas.{none_of, steps_none, steps_stand}
-use Rattle.http_listen.proofs.TalkLemmas.{moves_both}
-
--- nothing isn't something
-pub none_some : {T : Type 0} {x : T} → None ≡ Some x → ⊥
-none_some e = true≢false (ap is_some (sym e))
+use Rattle.http_listen.specs.Conversations.{Act, Deed, Conversation, Steps, Puts, IsHeld}
+use Rattle.http_listen.specs.Goes.{Acts, Closes, Goes, Ledger, Passes}
+use Rattle.http_listen.specs.Marks.{Mark, at_closing, Adds}
+use Rattle.http_listen.specs.Stays.{AllStand}
+use Rattle.http_listen.specs.Talks.{Told}
+use Rattle.http_listen.proofs.HeldLemmas.{turn_held, turn_talks}
+use Rattle.http_listen.proofs.Ledgers.{Carries, ledger_acts, ledger_close, ledger_put, ledger_stand, ledger_take, ledger_turn}
+use Rattle.http_listen.proofs.MarkLemmas.{adds_none, adds_both}
+use Rattle.http_listen.proofs.StandLemmas.{all_stand_same}
+use Rattle.http_listen.proofs.StepLemmas.{none_of}
 
 -- An option that is no value.
 pub none_of_not : {T : Type 0} (x : Option T) → ((y : T) → x ≡ Some y → ⊥) → x ≡ None
 none_of_not None f = refl
 none_of_not (Some y) f = absurd (f y refl)
 
--- A connection was put at a key, and then the connections stayed.
-pub seats_kept : {S : Type 0} (old mid new : ℕ → Option (Kept S)) (key : ℕ) (kept : Kept S) → Seats old key kept mid → ((k : ℕ) → new k ≡ mid k)
-    → Seats old key kept new
-seats_kept old mid new key kept s same = record {
-  here = ⊎_elim (λ e. inl (same key ∙ e)) (λ e. inr (same key ∙ e)) s.here;
-  others = λ other differs. same other ∙ s.others other differs;
-}
-
 module _ {S : Type 0} (told : S → Option Told) where
-  -- Steps that are whole.
-  pub steps_whole : (old new : Kept S) (whole : Type 0) → Steps told old [] whole new → whole → Steps told old [] ⊤ new
-  steps_whole old new whole s w = record {
-    number = s.number;
-    drops = s.drops;
-    given = s.given;
-    lost = s.lost;
-    cut = s.cut;
-    input = s.input;
-    moved = s.moved;
-    left = s.left;
-    follows = s.follows;
-    kept = λ _. s.kept w;
+  -- Nothing is told of connections.
+  pub passes_by : {before : Option (List (Mark S))} {old new : ℕ → Option (Kept S)} {hand then : Option (Kept S)} {whole rests : Type 0}
+      → ((begun : ℕ) (deeds : List Deed) (marks : List (Mark S)) → Ledger told begun deeds marks old hand whole → Ledger told begun deeds marks new then rests)
+      → Passes told before old hand whole before new then rests
+  passes_by {before} {old} {new} {hand} {then} {whole} {rests} f = record {
+    more = [];
+    adds = adds_none before;
+    goes = λ begun deeds marks l.
+        subst (λ (m : List (Mark S)). Ledger told begun deeds m new then rests) (sym (append-nil marks)) (f begun deeds marks l);
   }
 
-  -- A connection that had its turn, and is kept as it was then, or has ended.
-  pub rests_on : {E : Type 0} (before kept last : Kept S) (ending : Option E)
-      → Steps told before [] ((ending ≡ None) × (before.turn.drops ≡ None)) kept → last.turn.number ≡ kept.turn.number
-      → (last.turn.drops ≡ None → (ending ≡ None) × (last ≡ kept)) → GoesOnAs told before last
-  rests_on before kept last ending s number is = record {
-    number = number ∙ s.number;
-    opened = λ e.
-        let same = (is e).1 in
-        let open_before : before.turn.drops ≡ None =
-        none_of before.turn.drops (sym s.drops ∙ ap (λ (k : Kept S). is_some k.turn.drops) (sym same) ∙ ap is_some e) in
-        (open_before, subst (λ (k : Kept S). Steps told before [] ⊤ k) (sym same) (steps_whole before kept _ s ((is e).0, open_before)));
+  -- Nothing is done, and one after the other.
+  pub passes_none : {before : Option (List (Mark S))} {old : ℕ → Option (Kept S)} {hand : Option (Kept S)} {whole : Type 0}
+      → Passes told before old hand whole before old hand whole
+  passes_none = passes_by (λ begun deeds marks l. l)
+
+  pub passes_both : {before between after : Option (List (Mark S))} {old mid new : ℕ → Option (Kept S)} {hand held then : Option (Kept S)}
+      {whole half rests : Type 0} → Passes told before old hand whole between mid held half → Passes told between mid held half after new then rests
+      → Passes told before old hand whole after new then rests
+  passes_both {before} {between} {after} {old} {mid} {new} {hand} {held} {then} {whole} {half} {rests} s t = record {
+    more = s.more ++ t.more;
+    adds = adds_both before between after s.more t.more s.adds t.adds;
+    goes = λ begun deeds marks l.
+        subst (λ (m : List (Mark S)). Ledger told begun deeds m new then rests) (append_assoc marks s.more t.more)
+        (t.goes begun deeds (marks ++ s.more) (s.goes begun deeds marks l));
   }
 
-  -- Turns without an act, one after the other.
-  pub steps_both : (old mid new : Kept S) → Steps told old [] ⊤ mid → Steps told mid [] ⊤ new → Steps told old [] ⊤ new
-  steps_both old mid new s t =
-      let input : old.input ++ s.given ≡ mid.input = s.input ∙ ap (λ l. mid.input ++ l) (s.kept tt).0 ∙ append-nil mid.input in
-      let moved : Moves (told old.stream) old.output s.given [] (told mid.stream) mid.output =
-      subst (λ (l : List ℕ). Moves (told old.stream) old.output s.given [] (told mid.stream) l)
-      (ap (λ l. mid.output ++ l) (s.kept tt).1 ∙ append-nil mid.output) s.moved in
-      record {
-        number = t.number ∙ s.number;
-        drops = t.drops ∙ s.drops;
-        given = s.given ++ t.given;
-        lost = t.lost;
-        cut = t.cut;
-        input = sym (append_assoc old.input s.given t.given) ∙ ap (λ l. l ++ t.given) input ∙ t.input;
-        moved = moves_both (told old.stream) (told mid.stream) (told new.stream) old.output mid.output
-            (new.output ++ t.cut) s.given t.given [] [] moved t.moved;
-        left = t.left;
-        follows = t.follows ∙ (s.kept tt).2 ∙ s.follows;
-        kept = t.kept;
-      }
-
-  goes_same : (kept : Kept S) → GoesOnAs told kept kept
-  goes_same kept = record { number = refl; opened = λ e. (e, steps_none told kept ⊤) }
-
-  goes_on_both : (old mid new : Kept S) → GoesOnAs told old mid → GoesOnAs told mid new → GoesOnAs told old new
-  goes_on_both old mid new s t = record {
-    number = t.number ∙ s.number;
-    opened = λ e. let later = t.opened e in let earlier = s.opened later.0 in (earlier.0, steps_both old mid new earlier.1 later.1);
-  }
-
-  goes_at_same : (at : Option (Kept S)) → GoesAt told at at
-  goes_at_same None = tt
-  goes_at_same (Some kept) = goes_same kept
-
-  goes_at_both : (old mid new : Option (Kept S)) → GoesAt told old mid → GoesAt told mid new → GoesAt told old new
-  goes_at_both old mid None s t = tt
-  goes_at_both old None (Some now) s t = absurd t
-  goes_at_both None (Some kept) (Some now) s t = absurd s
-  goes_at_both (Some before) (Some kept) (Some now) s t = goes_on_both before kept now s t
-
-  -- Nothing was done, and one after the other.
-  pub goes_none : (places : ℕ → Option (Kept S)) → Goes told places places
-  goes_none places key = goes_at_same (places key)
-
-  pub goes_both : (old mid new : ℕ → Option (Kept S)) → Goes told old mid → Goes told mid new → Goes told old new
-  goes_both old mid new s t key = goes_at_both (old key) (mid key) (new key) (s key) (t key)
+  -- What the log was told is the same.
+  pub passes_from : {before same after : Option (List (Mark S))} {old new : ℕ → Option (Kept S)} {hand then : Option (Kept S)} {whole rests : Type 0}
+      → same ≡ before → Passes told same old hand whole after new then rests → Passes told before old hand whole after new then rests
+  passes_from {before} {same} {after} {old} {new} {hand} {then} {whole} {rests} e p =
+      subst (λ (m : Option (List (Mark S))). Passes told m old hand whole after new then rests) e p
 
   -- Connections whose streams and bytes are the same.
-  stands_on : (kept now : Kept S) → Stands kept now → GoesOnAs told kept now
-  stands_on kept now s = record {
-    number = s.number;
-    opened = λ e. (sym s.drops ∙ e, steps_stand told kept now ⊤ s);
+  pub passes_stand : {before : Option (List (Mark S))} {old new : ℕ → Option (Kept S)} {hand : Option (Kept S)} {whole : Type 0} → AllStand old new
+      → Passes told before old hand whole before new hand whole
+  passes_stand {before} {old} {new} {hand} {whole} stand =
+      passes_by (λ begun deeds marks l. ledger_stand told begun deeds marks old new hand whole stand l)
+
+  pub passes_same : {before : Option (List (Mark S))} {old new : ℕ → Option (Kept S)} {hand : Option (Kept S)} {whole : Type 0}
+      → ((key : ℕ) → new key ≡ old key) → Passes told before old hand whole before new hand whole
+  passes_same {before} {old} {new} {hand} {whole} same = passes_stand (all_stand_same old new same)
+
+  -- There is none at a key to be taken out.
+  same_each : {old new : ℕ → Option (Kept S)} (key : ℕ) → old key ≡ None → new key ≡ None → ((other : ℕ) → other ≢ key → new other ≡ old other)
+      → (other : ℕ) (b : Bool) → nat_eq other key ≡ b → new other ≡ old other
+  same_each {old} {new} key was is others other true e = let same = eqb-true other key e in ap new same ∙ is ∙ sym was ∙ ap old (sym same)
+  same_each {old} {new} key was is others other false e = others other (eqb-false other key e)
+
+  pub passes_empty : {before : Option (List (Mark S))} {old new : ℕ → Option (Kept S)} (key : ℕ) → old key ≡ None → new key ≡ None
+      → ((other : ℕ) → other ≢ key → new other ≡ old other) → Goes told before old before new
+  passes_empty {before} {old} {new} key was is others = passes_same (λ other. same_each key was is others other (nat_eq other key) refl)
+
+  -- A connection is taken out.
+  pub passes_take : {before : Option (List (Mark S))} {old new : ℕ → Option (Kept S)} (key : ℕ) (kept : Kept S) → old key ≡ Some kept → new key ≡ None
+      → ((other : ℕ) → other ≢ key → new other ≡ old other) → Passes told before old None ⊤ before new (Some kept) (kept.turn.drops ≡ None)
+  passes_take {before} {old} {new} key kept here none others =
+      passes_by (λ begun deeds marks l. ledger_take told begun deeds marks old new key kept here none others l)
+
+  -- It is put at a key.
+  pub passes_put : {before : Option (List (Mark S))} {old new : ℕ → Option (Kept S)} (key : ℕ) (kept : Kept S) → old key ≡ None → Puts old key kept new
+      → Passes told before old (Some kept) (kept.turn.drops ≡ None) before new None ⊤
+  passes_put {before} {old} {new} key kept free puts =
+      passes_by (λ begun deeds marks l. ledger_put told begun deeds marks old new key kept free puts l)
+
+  -- What holds of it holds of what it is then.
+  pub passes_carry : {before : Option (List (Mark S))} {places : ℕ → Option (Kept S)} (kept now : Kept S) (whole rests : Type 0)
+      → now.turn.number ≡ kept.turn.number → Carries told kept whole now rests → Passes told before places (Some kept) whole before places (Some now) rests
+  passes_carry {before} {places} kept now whole rests number carries =
+      passes_by (λ begun deeds marks l. ledger_turn told begun deeds marks places kept now whole rests number carries l)
+
+  -- Less is said of it.
+  pub passes_less : {before : Option (List (Mark S))} {places : ℕ → Option (Kept S)} (kept : Kept S) (whole rests : Type 0) → (rests → whole)
+      → Passes told before places (Some kept) whole before places (Some kept) rests
+  passes_less {before} {places} kept whole rests f = passes_carry kept kept whole rests refl (λ first acts h talks. (h, λ r. talks (f r)))
+
+  -- It has its turn.
+  pub passes_turn : {before : Option (List (Mark S))} {places : ℕ → Option (Kept S)} (kept now : Kept S) (whole : Type 0) → Steps told kept [] whole now
+      → Passes told before places (Some kept) (kept.turn.drops ≡ None) before places (Some now) (whole × (kept.turn.drops ≡ None))
+  passes_turn {before} {places} kept now whole s =
+      passes_carry kept now (kept.turn.drops ≡ None) (whole × (kept.turn.drops ≡ None)) s.number
+      (λ first acts h talks. (turn_held told first acts whole kept now h talks s, λ w. turn_talks told first acts whole kept now talks s w))
+
+  -- It is closed.
+  pub passes_close : {before after : Option (List (Mark S))} {places : ℕ → Option (Kept S)} (kept : Kept S) (whole : Type 0) → Closes told before kept after
+      → Passes told before places (Some kept) whole after places None ⊤
+  passes_close {before} {after} {places} kept whole c = record {
+    more = at_closing kept.turn.number c.last ∷ [];
+    adds = c.adds;
+    goes = λ begun deeds marks l. ledger_close told begun deeds marks places kept whole c.last c.talk l;
   }
 
-  stands_at : (before now : Option (Kept S)) → StandsAt before now → GoesAt told before now
-  stands_at before None s = tt
-  stands_at None (Some now) s = absurd s
-  stands_at (Some kept) (Some now) s = stands_on kept now s
+  pub closes_same : {before after : Option (List (Mark S))} {kept back : Kept S} → back ≡ kept → Closes told before back after → Closes told before kept after
+  closes_same {before} {after} {kept} {back} e c = subst (λ (k : Kept S). Closes told before k after) e c
 
-  pub stand_goes : (old new : ℕ → Option (Kept S)) → AllStand old new → Goes told old new
-  stand_goes old new s key = stands_at (old key) (new key) (s key)
+  -- It has its turn, and is kept or ended then.
+  pub passes_rest : {before : Option (List (Mark S))} {places : ℕ → Option (Kept S)} {E : Type 0} (kept now : Kept S) (ending : Option E)
+      → Steps told kept [] ((ending ≡ None) × (kept.turn.drops ≡ None)) now
+      → Passes told before places (Some kept) (kept.turn.drops ≡ None) before places (Some now) ((ending ≡ None) × (now.turn.drops ≡ None))
+  passes_rest kept now ending s =
+      let was_open : now.turn.drops ≡ None → kept.turn.drops ≡ None = λ o. none_of kept.turn.drops (sym s.drops ∙ ap is_some o) in
+      passes_both (passes_turn kept now ((ending ≡ None) × (kept.turn.drops ≡ None)) s)
+      (passes_less now (((ending ≡ None) × (kept.turn.drops ≡ None)) × (kept.turn.drops ≡ None)) ((ending ≡ None) × (now.turn.drops ≡ None))
+      (λ e. ((e.0, was_open e.1), was_open e.1)))
 
-  -- What comes before an accept.
-  pub finds_none : (old new : ℕ → Option (Kept S)) (found : Found S) → ((kept : Kept S) (asked : Asked) → found ≢ Asks kept asked)
-      → ((kept : Kept S) (unsent : Unsent) → found ≢ Reads kept unsent) → Goes told old new → Finds told old found new
-  finds_none old new (New stream) f h goes = record { mid = new; before = goes; turn = goes_none new }
-  finds_none old new (Asks kept asked) f h goes = absurd (f kept asked refl)
-  finds_none old new (Reads kept unsent) f h goes = absurd (h kept unsent refl)
-  finds_none old new Nothing f h goes = record { mid = new; before = goes; turn = goes_none new }
-  finds_none old new Over f h goes = record { mid = new; before = goes; turn = goes_none new }
+  -- Or it is answered, or a part is read, and it isn't ended.
+  pub passes_out : {before : Option (List (Mark S))} {places : ℕ → Option (Kept S)} (kept now : Kept S) → Steps told kept [] ⊤ now
+      → now.turn.drops ≡ None → Passes told before places (Some kept) (kept.turn.drops ≡ None) before places (Some now) ⊤
+  passes_out kept now s is_open =
+      passes_both (passes_turn kept now ⊤ s)
+      (passes_less now (⊤ × (kept.turn.drops ≡ None)) ⊤ (λ e. (tt, none_of kept.turn.drops (sym s.drops ∙ ap is_some is_open))))
 
-  -- A connection at a key got its turn, and was put back there, or wasn't.
-  module _ (old mid new : ℕ → Option (Kept S)) (key : ℕ) (before last : Kept S) (there : old key ≡ Some before) (none : mid key ≡ None)
-      (others : (other : ℕ) → other ≢ key → mid other ≡ old other) (seats : Seats mid key last new) (on : GoesOnAs told before last) where
-    here : (new key ≡ Some last) ⊎ (new key ≡ mid key) → GoesAt told (old key) (new key)
-    here (inl e) = subst (λ (x : Option (Kept S)). GoesAt told x (new key)) (sym there)
-        (subst (λ (x : Option (Kept S)). GoesAt told (Some before) x) (sym e) on)
-    here (inr e) = subst (λ (x : Option (Kept S)). GoesAt told (old key) x) (sym (e ∙ none)) tt
+  -- It is closed with its stream.
+  pub passes_gone : {before after : Option (List (Mark S))} {places : ℕ → Option (Kept S)} (kept : Kept S) (whole : Type 0)
+      → Adds before (at_closing kept.turn.number kept.stream ∷ []) after → Passes told before places (Some kept) whole after places None ⊤
+  passes_gone {before} {after} {places} kept whole adds =
+      passes_close kept whole (record { last = kept.stream; adds = adds; talk = λ first acts h. h.talk })
 
-    at_each : (b : Bool) (other : ℕ) → nat_eq other key ≡ b → GoesAt told (old other) (new other)
-    at_each true other e = subst (λ (k : ℕ). GoesAt told (old k) (new k)) (sym (eqb-true other key e)) (here seats.here)
-    at_each false other e =
-        let differs = eqb-false other key e in
-        subst (λ (x : Option (Kept S)). GoesAt told (old other) x) (sym (seats.others other differs ∙ others other differs)) (goes_at_same (old other))
+  -- It was ended, and is closed then.
+  pub closes_then : {before same after : Option (List (Mark S))} (kept now : Kept S) → same ≡ before → now.turn.number ≡ kept.turn.number
+      → ((first : Option Told) (acts : List Act) → IsHeld told first acts kept → Conversation first acts (told now.stream))
+      → Adds same (at_closing now.turn.number now.stream ∷ []) after → Closes told before kept after
+  closes_then {before} {same} {after} kept now e number talk adds = record {
+    last = now.stream;
+    adds = subst (λ (n : ℕ). Adds before (at_closing n now.stream ∷ []) after) number
+        (subst (λ (m : Option (List (Mark S))). Adds m (at_closing now.turn.number now.stream ∷ []) after) e adds);
+    talk = talk;
+  }
 
-    pub seats_go : Goes told old new
-    seats_go other = at_each (nat_eq other key) other refl
-
-  -- It was taken out.
-  module _ (old new : ℕ → Option (Kept S)) (key : ℕ) (none : new key ≡ None) (others : (other : ℕ) → other ≢ key → new other ≡ old other) where
-    taken_each : (b : Bool) (other : ℕ) → nat_eq other key ≡ b → GoesAt told (old other) (new other)
-    taken_each true other e = subst (λ (x : Option (Kept S)). GoesAt told (old other) x) (sym (ap new (eqb-true other key e) ∙ none)) tt
-    taken_each false other e =
-        subst (λ (x : Option (Kept S)). GoesAt told (old other) x) (sym (others other (eqb-false other key e))) (goes_at_same (old other))
-
-    pub taken_goes : Goes told old new
-    taken_goes other = taken_each (nat_eq other key) other refl
-
-  -- The conversations of the open connections go on.
-  module _ (old new : ℕ → Option (Kept S)) (goes : Goes told old new) where
-    was_there : (before : Option (Kept S)) (now : Kept S) → GoesAt told before (Some now) → (kept : Kept S) × (before ≡ Some kept) × GoesOnAs told kept now
-    was_there None now g = absurd g
-    was_there (Some kept) now g = (kept, refl, g)
-
-    pub before_of : (key : ℕ) (now : Kept S) → new key ≡ Some now → (kept : Kept S) × (old key ≡ Some kept) × GoesOnAs told kept now
-    before_of key now e = was_there (old key) now (subst (λ (x : Option (Kept S)). GoesAt told (old key) x) e (goes key))
-
-    pub goes_apart : AreApart old → AreApart new
-    goes_apart apart one two k l here there e =
-        let first_one = before_of one k here in
-        let second_one = before_of two l there in
-        apart one two first_one.0 second_one.0 first_one.1 second_one.1 (sym first_one.2.number ∙ e ∙ second_one.2.number)
+  -- Acts of it, and then turns.
+  pub acts_then : {before after : Option (List (Mark S))} {old new : ℕ → Option (Kept S)} (kept now : Kept S) (acts : List Act) (whole : Type 0)
+      → Steps told kept acts whole now → Passes told before old (Some now) whole after new None ⊤ → Acts told before old kept acts after new
+  acts_then {before} {after} {old} {new} kept now acts whole s p = record {
+    more = p.more;
+    adds = p.adds;
+    goes = λ begun deeds marks l.
+        p.goes begun (deeds ++ _) marks (ledger_acts told begun deeds marks old kept now acts whole s l);
+  }

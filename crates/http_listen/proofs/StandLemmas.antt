@@ -16,9 +16,11 @@ module _ {S : Type 0} where
   stand_same (Some kept) = record { stream = refl; input = refl; output = refl; number = refl; drops = refl; unsent = refl }
 
   stand_both : (old mid new : Option (Kept S)) → StandsAt old mid → StandsAt mid new → StandsAt old new
-  stand_both old mid None s t = tt
+  stand_both None None None s t = tt
+  stand_both (Some before) None new s t = absurd s
+  stand_both None (Some kept) new s t = absurd s
   stand_both old None (Some now) s t = absurd t
-  stand_both None (Some kept) (Some now) s t = absurd s
+  stand_both old (Some kept) None s t = absurd t
   stand_both (Some before) (Some kept) (Some now) s t = record {
     stream = t.stream ∙ s.stream;
     input = t.input ∙ s.input;
@@ -49,3 +51,7 @@ module _ {S : Type 0} where
   -- After the events of a wait.
   pub all_stand_events : (events : List Event) (old new : ℕ → Option (Kept S)) → ((key : ℕ) → new key ≡ after_events key events (old key)) → AllStand old new
   all_stand_events events old new same key = subst (λ (x : Option (Kept S)). StandsAt (old key) x) (sym (same key)) (stand_events key events (old key))
+
+  -- The connections are the same.
+  pub all_stand_same : (old new : ℕ → Option (Kept S)) → ((key : ℕ) → new key ≡ old key) → AllStand old new
+  all_stand_same old new same key = subst (λ (x : Option (Kept S)). StandsAt (old key) x) (sym (same key)) (stand_same (old key))

@@ -1,6 +1,6 @@
 -- Steps of one connection, and its conversation.
 use Rattle.std.proofs.Common.{false, ◌≡◌, ℕ, zero, suc, List, [], ◌∷◌, ◌++◌, None, Some, Result, Ok, Err, refl, sym, ap, subst, ◌∙◌, append_assoc, append-nil}
-use Rattle.std.proofs.Common.{take, drop, take-append-drop, true≢false}
+use Rattle.std.proofs.Common.{take, drop, take-append-drop, true≢false, inl}
 use Rattle.std.specs.Prelude.{◌≤◌, ◌+◌, ◌-◌, length, ⊤, is_some, IfOk, IfErr, OnErr, MatchOption}
 use Rattle.std.specs.declared.option.Option.{Option}
 use Rattle.httparse.specs.declared.spans.HeaderSpan.{HeaderSpan}
@@ -14,7 +14,7 @@ use Rattle.http_listen.specs.declared.rests.Unsent.{Unsent}
 use Rattle.http_listen.specs.declared.turns.Next.{Next}
 use Rattle.http_listen.specs.declared.turns.Next.TheVariants.{Asks, Reads, Rests, Closes}
 use Rattle.http_listen.specs.Conversations.{Act, answered, fetched, prepared, asked, replied, fetched_bytes, IsEndedBy, IsLeft, IsNext, Follows}
-use Rattle.http_listen.specs.Conversations.{Conversation, Steps, IsTalking, IsSearched, GoesOn, IsRead, Turned, Stands, Beside}
+use Rattle.http_listen.specs.Conversations.{Steps, IsHeld, IsTalking, IsSearched, GoesOn, IsRead, Turned, Stands, Beside}
 use Rattle.http_listen.specs.Rests.{EndsAt}
 use Rattle.http_listen.specs.Talks.{Told, Grows, Moves}
 use Rattle.http_listen.proofs.Preparations.{prepared_first}
@@ -83,23 +83,31 @@ module _ {S : Type 0} (told : S → Option Told) where
             (follows_both None old.turn.unsent s.left acts more t.follows s.follows);
       }
 
-  -- In the end it is a conversation, whatever was lost in the last step.
-  pub talking_ends : (first : Option Told) (acts more : List Act) (whole : Type 0) (old new : Kept S) → IsTalking told first acts old
-      → Steps told old more whole new → Conversation first (acts ++ more) (told new.stream)
-  talking_ends first acts more whole old new t s =
+  -- After a step it is in its conversation, whatever was lost.
+  pub talking_held : (first : Option Told) (acts more : List Act) (whole : Type 0) (old new : Kept S) → IsTalking told first acts old
+      → Steps told old more whole new → IsHeld told first (acts ++ more) new
+  talking_held first acts more whole old new t s =
       let both = moves_both first (told old.stream) (told new.stream) [] old.output (new.output ++ s.cut) (asked acts ++ old.input) s.given (replied acts)
       (replied more) t.moved s.moved in
       let given : (asked acts ++ old.input) ++ s.given ≡ asked (acts ++ more) ++ (new.input ++ s.lost) =
       append_assoc (asked acts) old.input s.given ∙ ap (λ l. asked acts ++ l) s.input
       ∙ sym (append_assoc (asked acts) (asked more) (new.input ++ s.lost)) ∙ ap (λ l. l ++ (new.input ++ s.lost)) (sym (asked_both acts more)) in
+      let replies : replied acts ++ replied more ≡ replied (acts ++ more) ++ [] =
+      sym (replied_both acts more) ∙ sym (append-nil (replied (acts ++ more))) in
       record {
-        rest = new.input ++ s.lost;
-        waits = new.output ++ s.cut;
-        moved = subst (λ (l : List ℕ). Moves first [] l (replied (acts ++ more)) (told new.stream) (new.output ++ s.cut)) given
-            (subst (λ (l : List ℕ). Moves first [] ((asked acts ++ old.input) ++ s.given) l (told new.stream) (new.output ++ s.cut))
-            (sym (replied_both acts more)) both);
-        left = s.left;
-        follows = follows_both None old.turn.unsent s.left acts more t.follows s.follows;
+        talk = record {
+          rest = new.input ++ s.lost;
+          refusal = [];
+          waits = new.output ++ s.cut;
+          moved = subst (λ (l : List ℕ). Moves first [] l (replied (acts ++ more) ++ []) (told new.stream) (new.output ++ s.cut)) given
+              (subst (λ (l : List ℕ). Moves first [] ((asked acts ++ old.input) ++ s.given) l (told new.stream) (new.output ++ s.cut)) replies both);
+          refused = inl refl;
+          left = s.left;
+          follows = follows_both None old.turn.unsent s.left acts more t.follows s.follows;
+        };
+        cut = s.cut;
+        waits = refl;
+        opened = λ _. (refl, s.cuts);
       }
 
   -- A connection of which nothing was read, and to which nothing is sent.
@@ -124,6 +132,7 @@ module _ {S : Type 0} (told : S → Option Told) where
     left = old.turn.unsent;
     follows = refl;
     kept = λ _. (refl, refl, unsent);
+    cuts = λ _. refl;
   }
 
   -- Nothing was sent or read.
@@ -151,6 +160,7 @@ module _ {S : Type 0} (told : S → Option Told) where
     left = s.left;
     follows = (None, (none, refl), subst (λ (u : Option Unsent). Follows u acts s.left) none s.follows);
     kept = s.kept;
+    cuts = s.cuts;
   }
 
   -- First several of these were made.
@@ -174,6 +184,7 @@ module _ {S : Type 0} (told : S → Option Told) where
     left = old.turn.unsent;
     follows = refl;
     kept = λ w. (r.kept (goes_on w), refl, r.unsent);
+    cuts = λ _. refl;
   }
 
   pub turned_read : (old new : Kept S) (fields : List HeaderSpan) (result : Next) → IsRead told old result new
@@ -221,6 +232,7 @@ module _ {S : Type 0} (told : S → Option Told) where
     left = old.turn.unsent;
     follows = refl;
     kept = λ w. absurd w;
+    cuts = λ _. refl;
   }
 
   -- The first bytes of the input were answered.
@@ -242,6 +254,7 @@ module _ {S : Type 0} (told : S → Option Told) where
     left = new.turn.unsent;
     follows = (new.turn.unsent, next, refl);
     kept = λ _. (refl, refl, refl);
+    cuts = λ _. refl;
   }
 
   -- Bytes of a content were read, and added to the output, of which nothing waited.
@@ -262,6 +275,7 @@ module _ {S : Type 0} (told : S → Option Told) where
     left = new.turn.unsent;
     follows = (new.turn.unsent, (unsent, rest, refl, refl, few, left), refl);
     kept = λ _. (refl, refl, refl);
+    cuts = λ _. refl;
   }
 
   -- what may be left once bytes were read, or couldn't be
@@ -272,8 +286,9 @@ module _ {S : Type 0} (told : S → Option Told) where
   -- They couldn't be read, or weren't added, and the connection ends.
   pub steps_failed : (old new : Kept S) (unsent : Unsent) (count : ℕ) (outcome : Result (List ℕ) RestFault) (whole : Type 0) → (whole → ⊥)
       → old.turn.unsent ≡ Some unsent → old.output ≡ [] → Moves (told old.stream) [] [] [] (told new.stream) new.output → Beside old new
-      → count ≤ unsent.end - unsent.at → Steps told old (fetched unsent.ticket unsent.at count outcome ∷ []) whole new
-  steps_failed old new unsent count outcome whole never rest none moves beside few =
+      → new.turn.unsent ≡ old.turn.unsent → count ≤ unsent.end - unsent.at
+      → Steps told old (fetched unsent.ticket unsent.at count outcome ∷ []) whole new
+  steps_failed old new unsent count outcome whole never rest none moves beside same few =
       let bytes = fetched_bytes outcome in
       let left = some_left unsent outcome in
       record {
@@ -289,6 +304,7 @@ module _ {S : Type 0} (told : S → Option Told) where
         left = left.0;
         follows = (left.0, (unsent, rest, refl, refl, few, left.1), refl);
         kept = λ w. absurd (never w);
+        cuts = λ e. absurd (not_some (sym rest ∙ sym same ∙ e));
       }
 
   -- the word by which a connection ends, if a part couldn't be added for this cause
@@ -308,10 +324,11 @@ module _ {S : Type 0} (told : S → Option Told) where
       × MatchOption left (unsent.end ≤ unsent.at + length bytes) (λ next. next ≡ record unsent { at = unsent.at + length bytes }))
       → OnErr result (output ≡ before) → Moves (told old.stream) output [] [] (told new.stream) new.output → Beside old new
       → IfOk result (λ left. new.turn.unsent ≡ left) → IfErr result (λ fault. ending ≡ Some (Err fault))
+      → OnErr result (new.turn.unsent ≡ old.turn.unsent)
       → (count : ℕ) × (outcome : Result (List ℕ) RestFault) × reads h unsent.ticket unsent.at count outcome k
       × Steps told old (fetched unsent.ticket unsent.at count outcome ∷ []) (ending ≡ None) new
       × IsEndedBy (fetched unsent.ticket unsent.at count outcome) ending
-  fetched_act reads h k old new unsent before output (Ok left) ending rest none empty read added same moves beside next failed =
+  fetched_act reads h k old new unsent before output (Ok left) ending rest none empty read added same moves beside next failed stays =
       let bytes = added.1 in
       let all : output ≡ bytes = added.4 ∙ ap (λ l. l ++ bytes) empty in (
         added.0,
@@ -322,11 +339,11 @@ module _ {S : Type 0} (told : S → Option Told) where
             beside added.2 (subst (λ (u : Option Unsent). IsLeft unsent (Ok bytes) u) (sym next) added.5),
         tt,
       )
-  fetched_act reads h k old new unsent before output (Err fault) ending rest none empty read added same moves beside next failed = (
+  fetched_act reads h k old new unsent before output (Err fault) ending rest none empty read added same moves beside next failed stays = (
     read.0,
     read.1,
     read.3,
     steps_failed old new unsent read.0 read.1 (ending ≡ None) (λ e. true≢false (ap is_some (sym failed ∙ e))) rest none
-        (subst (λ (l : List ℕ). Moves (told old.stream) l [] [] (told new.stream) new.output) (same ∙ empty) moves) beside read.2,
+        (subst (λ (l : List ℕ). Moves (told old.stream) l [] [] (told new.stream) new.output) (same ∙ empty) moves) beside stays read.2,
     ended_by unsent.ticket unsent.at read.0 read.1 fault ending read.4 failed,
   )

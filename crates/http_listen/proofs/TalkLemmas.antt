@@ -27,6 +27,16 @@ moves_both (Some a) (Some b) (Some c) w v u g h m n p q = (
   q.1 ∙ sym (append_assoc b.taken v n) ∙ ap (λ l. l ++ n) p.1 ∙ append_assoc a.taken (w ++ m) n ∙ ap (λ l. a.taken ++ l) (append_assoc w m n),
 )
 
+-- Steps one after the other, where the last bytes that waited between them are lost.
+pub moves_cut : (a b c : Option Told) (w v k u g h m : List ℕ) → Moves a w g m b (v ++ k) → Moves b v h [] c u → Moves a w (g ++ h) m c (u ++ k)
+moves_cut None b c w v k u g h m p q = tt
+moves_cut (Some a) None c w v k u g h m p q = absurd p
+moves_cut (Some a) (Some b) None w v k u g h m p q = absurd q
+moves_cut (Some a) (Some b) (Some c) w v k u g h m p q = (
+  q.0 ∙ ap (λ l. l ++ h) p.0 ∙ append_assoc a.given g h,
+  sym (append_assoc c.taken u k) ∙ ap (λ l. l ++ k) q.1 ∙ ap (λ l. (b.taken ++ l) ++ k) (append-nil v) ∙ append_assoc b.taken v k ∙ p.1,
+)
+
 -- A read, whatever waits.
 pub moves_read : (a b : Option Told) (w g : List ℕ) → Grows a g [] b → Moves a w g [] b w
 moves_read None b w g p = tt

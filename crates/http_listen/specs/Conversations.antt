@@ -1,5 +1,5 @@
 -- The conversation of one connection: what is done for it, one act after the other, and what its stream told.
-use Rattle.std.specs.Prelude.{◌≡◌, ◌≢◌, ◌<◌, ◌≤◌, ◌+◌, ◌-◌, ℕ, Bool, nat_eq, cond, All, List, [], ◌∷◌, ◌++◌, length, Option, None, Some, is_some}
+use Rattle.std.specs.Prelude.{◌≡◌, ◌≢◌, ◌≤◌, ◌+◌, ◌-◌, ◌⊎◌, ℕ, Bool, nat_eq, cond, List, [], ◌∷◌, ◌++◌, length, Option, None, Some, is_some}
 use Rattle.std.specs.Prelude.{Result, Ok, Err, MatchOption, ⊤, false}
 use Rattle.httparse.specs.declared.spans.HeaderSpan.{HeaderSpan}
 use Rattle.http_serve.specs.declared.connection.ServeFault.{ServeFault}
@@ -15,6 +15,7 @@ use Rattle.http_listen.specs.declared.turns.Next.{Next}
 use Rattle.http_listen.specs.declared.turns.Next.TheVariants.{Asks, Reads, Rests, Closes}
 use Rattle.http_listen.specs.Asked.{IsAsked}
 use Rattle.http_listen.specs.Connections.{CameTo}
+use Rattle.http_listen.specs.NoMemory.{no_memory}
 use Rattle.http_listen.specs.Rests.{rest_after, cut_by}
 use Rattle.http_listen.specs.Talks.{Told, Grows, Moves}
 
@@ -73,12 +74,14 @@ abbrev pub Follows : Option Unsent → List Act → Option Unsent → Type 0
 Follows before [] after = after ≡ before
 Follows before (act ∷ acts) after = (between : Option Unsent) × IsNext before act between × Follows between acts after
 
--- A connection's stream told first as it was accepted, and last in the end. It gave the bytes that were answered, in order, and then the rest;
--- it took the replies, in order, but for those that wait: their last bytes.
+-- A connection's stream told first as it was opened, and last as it was closed. It gave the bytes that were answered, in order, and then the rest;
+-- it took the replies, in order, and after them perhaps the one for want of memory, but for those that wait: their last bytes.
 pub record Conversation (first : Option Told) (acts : List Act) (last : Option Told) : Type 0 where
   pub rest : List ℕ
+  pub refusal : List ℕ
   pub waits : List ℕ
-  pub moved : Moves first [] (asked acts ++ rest) (replied acts) last waits
+  pub moved : Moves first [] (asked acts ++ rest) (replied acts ++ refusal) last waits
+  pub refused : (refusal ≡ []) ⊎ (refusal ≡ no_memory)
   pub left : Option Unsent
   pub follows : Follows None acts left
 
@@ -112,11 +115,33 @@ module _ {S : Type 0} (told : S → Option Told) where
     pub left : Option Unsent
     pub follows : Follows old.turn.unsent acts left
     pub kept : whole → (lost ≡ []) × (cut ≡ []) × (new.turn.unsent ≡ left)
+    -- if no rest of a content is left, nothing of the output is lost
+    pub cuts : new.turn.unsent ≡ None → cut ≡ []
 
   -- A connection in the middle of its conversation: all that was read and isn't answered is its input, and all that is to be sent its output.
   pub record IsTalking (first : Option Told) (acts : List Act) (kept : Kept S) : Type 0 where
     pub moved : Moves first [] (asked acts ++ kept.input) (replied acts) (told kept.stream) kept.output
     pub follows : Follows None acts kept.turn.unsent
+
+  -- A connection in its conversation, open or ended. Of what waited to be sent, the last bytes are lost. While it is open, only that is lost of which
+  -- a rest is left, and there was enough memory.
+  pub record IsHeld (first : Option Told) (acts : List Act) (kept : Kept S) : Type 0 where
+    pub talk : Conversation first acts (told kept.stream)
+    pub cut : List ℕ
+    pub waits : talk.waits ≡ kept.output ++ cut
+    pub opened : kept.turn.drops ≡ None → (talk.refusal ≡ []) × (kept.turn.unsent ≡ None → cut ≡ [])
+
+  -- A connection is ended: bytes of its output are lost, and if nothing was to be sent, the reply for want of memory may be.
+  pub record Ends (old new : Kept S) : Type 0 where
+    pub cut : List ℕ
+    pub refusal : List ℕ
+    pub moved : Moves (told old.stream) old.output [] refusal (told new.stream) (new.output ++ cut)
+    pub refused : (refusal ≡ []) ⊎ ((refusal ≡ no_memory) × (old.turn.unsent ≡ None))
+
+  -- It was ended: its conversation is over, and if it is kept, in its conversation still.
+  pub record IsEnded (old : Kept S) (is_kept : Type 0) (new : Kept S) : Type 0 where
+    pub talk : (first : Option Told) (acts : List Act) → IsHeld first acts old → Conversation first acts (told new.stream)
+    pub held : is_kept → (first : Option Told) (acts : List Act) → IsHeld first acts old → IsHeld first acts new
 
 -- what may follow a search of the input, which has ended or not, and of which the header fields are at these spans
 abbrev pub FollowsSearch : List ℕ → Bool → List HeaderSpan → Next → Type 0
@@ -197,18 +222,6 @@ module _ {S : Type 0} (replies fails : S → RequestView → ReplyView → S →
   abbrev pub Runs : S → List Deed → S → Type 0
   Runs old [] new = new ≡ old
   Runs old (deed ∷ deeds) new = (middle : S) × Does replies fails reads ticket_of prepares old deed.act middle × Runs middle deeds new
-
--- Each of the first connections, up to this many, has a conversation. All that was done is theirs.
-pub record Conversations (count : ℕ) (first last : ℕ → Option Told) (deeds : List Deed) : Type 0 where
-  pub each : (number : ℕ) → 0 < number → number ≤ count → Conversation (first number) (acts_of number deeds) (last number)
-  pub theirs : All (λ deed. (0 < deed.number) × (deed.number ≤ count)) deeds
-
--- connections by their keys, and what streams told
-module _ {S : Type 0} (told : S → Option Told) where
-  -- Each connection that is open is in the middle of the conversation that its acts make, among all that was done.
-  abbrev pub AreTalking : (first : ℕ → Option Told) → List Deed → (ℕ → Option (Kept S)) → Type 0
-  AreTalking first deeds places = (key : ℕ) (kept : Kept S) → places key ≡ Some kept
-      → IsTalking told (first kept.turn.number) (acts_of kept.turn.number deeds) kept
 
 -- no two connections have one number
 abbrev pub AreApart : {S : Type 0} → (ℕ → Option (Kept S)) → Type 0

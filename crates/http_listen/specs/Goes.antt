@@ -1,67 +1,86 @@
--- The connections by their keys, as turns are given to them.
-use Rattle.std.specs.Prelude.{◌≡◌, ◌≢◌, ◌⊎◌, ℕ, List, [], Option, None, Some, Result, ⊤}
+-- The connections by their keys, as turns are given to them, and one that is taken out for its turn.
+use Rattle.std.specs.Prelude.{◌≡◌, ◌≢◌, ◌⊎◌, ◌<◌, ◌≤◌, ℕ, List, [], ◌∷◌, ◌++◌, Option, None, Some, ⊤}
 use Rattle.http_listen.specs.declared.kept.Kept.{Kept}
 use Rattle.http_listen.specs.declared.rooms.Found.{Found}
 use Rattle.http_listen.specs.declared.rooms.Found.TheVariants.{New, Asks, Reads, Nothing, Over}
-use Rattle.http_serve.specs.declared.connection.Served.{Served}
-use Rattle.http_listen.specs.declared.ends.EndFault.{EndFault}
-use Rattle.http_listen.specs.Conversations.{Act, Steps}
+use Rattle.http_listen.specs.Conversations.{Act, Deed, acts_of, deeds_of, AreApart, Conversation, IsHeld, IsTalking}
+use Rattle.http_listen.specs.Marks.{Mark, at_opening, at_closing, marks_of, Adds}
 use Rattle.http_listen.specs.Talks.{Told}
 
--- the connection at a key is this one, or is as it was, and the others are the same
-pub record Seats {S : Type 0} (old : ℕ → Option (Kept S)) (key : ℕ) (kept : Kept S) (new : ℕ → Option (Kept S)) : Type 0 where
-  pub here : (new key ≡ Some kept) ⊎ (new key ≡ old key)
-  pub others : (other : ℕ) → other ≢ key → new other ≡ old other
+-- the connection that is taken out, by what is to be done next
+abbrev pub hand_of : {S : Type 0} → Found S → Option (Kept S)
+hand_of (New stream) = None
+hand_of (Asks kept end) = Some kept
+hand_of (Reads kept unsent) = Some kept
+hand_of Nothing = None
+hand_of Over = None
+
+abbrev pub hand_in : {S : Type 0} → Option (Found S) → Option (Kept S)
+hand_in None = None
+hand_in (Some found) = hand_of found
+
+-- A connection of this number is at a key, or taken out.
+pub record IsThere {S : Type 0} (number : ℕ) (places : ℕ → Option (Kept S)) (hand : Option (Kept S)) : Type 0 where
+  pub kept : Kept S
+  pub there : ((key : ℕ) × (places key ≡ Some kept)) ⊎ (hand ≡ Some kept)
+  pub number_is : kept.turn.number ≡ number
 
 -- what streams told
 module _ {S : Type 0} (told : S → Option Told) where
-  -- A connection after turns without an act. While it is open, its bytes moved, and none were lost.
-  pub record GoesOnAs (kept now : Kept S) : Type 0 where
-    pub number : now.turn.number ≡ kept.turn.number
-    pub opened : now.turn.drops ≡ None → (kept.turn.drops ≡ None) × Steps told kept [] ⊤ now
+  -- A connection was opened and not closed, and is in its conversation; if it is whole, in the middle of it.
+  pub record Holds (begun : ℕ) (deeds : List Deed) (marks : List (Mark S)) (whole : Type 0) (kept : Kept S) : Type 0 where
+    pub first : S
+    pub within : (0 < kept.turn.number) × (kept.turn.number ≤ begun)
+    pub marked : marks_of kept.turn.number marks ≡ at_opening kept.turn.number first ∷ []
+    pub held : IsHeld told (told first) (acts_of kept.turn.number deeds) kept
+    pub talks : whole → IsTalking told (told first) (acts_of kept.turn.number deeds) kept
 
-  -- what is at a key after such turns, and before: none takes the place of another one
-  abbrev pub GoesAt : Option (Kept S) → Option (Kept S) → Type 0
-  GoesAt before None = ⊤
-  GoesAt None (Some now) = ⊥
-  GoesAt (Some kept) (Some now) = GoesOnAs kept now
+  -- The connection of this number was opened once and then closed once, and had its conversation between the two.
+  pub record IsOver (deeds : List Deed) (marks : List (Mark S)) (number : ℕ) : Type 0 where
+    pub first : S
+    pub last : S
+    pub marked : marks_of number marks ≡ at_opening number first ∷ at_closing number last ∷ []
+    pub talk : Conversation (told first) (acts_of number deeds) (told last)
 
-  -- so it is at each key
-  abbrev pub Goes : (old new : ℕ → Option (Kept S)) → Type 0
-  Goes old new = (key : ℕ) → GoesAt (old key) (new key)
+  -- Of so many connections each is open, taken out or over. Those that haven't ended are in the middle of their conversations. No two have one number.
+  pub record Ledger (begun : ℕ) (deeds : List Deed) (marks : List (Mark S)) (places : ℕ → Option (Kept S)) (hand : Option (Kept S)) (whole : Type 0)
+      : Type 0 where
+    pub kept : (key : ℕ) (kept : Kept S) → places key ≡ Some kept → Holds begun deeds marks (kept.turn.drops ≡ None) kept
+    pub taken : (kept : Kept S) → hand ≡ Some kept → Holds begun deeds marks whole kept
+    pub apart : AreApart places
+    pub alone : (key : ℕ) (kept other : Kept S) → places key ≡ Some kept → hand ≡ Some other → kept.turn.number ≢ other.turn.number
+    pub all : (number : ℕ) → 0 < number → number ≤ begun → IsThere number places hand ⊎ IsOver deeds marks number
+    pub none : (number : ℕ) → (number ≡ 0) ⊎ (begun < number) → (acts_of number deeds ≡ []) × (marks_of number marks ≡ [])
 
-  -- One connection was taken out, after turns without an act.
-  pub record Leaves (old : ℕ → Option (Kept S)) (kept : Kept S) (new : ℕ → Option (Kept S)) : Type 0 where
-    pub key : ℕ
-    pub before : Kept S
-    pub there : old key ≡ Some before
-    pub steps : Steps told before [] ⊤ kept
-    pub opened : kept.turn.drops ≡ None
-    pub none : new key ≡ None
-    pub others : (other : ℕ) → other ≢ key → new other ≡ old other
+  -- Turns without an act: what was told of connections goes on with this, and whatever was done before, their conversations go on.
+  pub record Passes (before : Option (List (Mark S))) (old : ℕ → Option (Kept S)) (hand : Option (Kept S)) (whole : Type 0)
+      (after : Option (List (Mark S))) (new : ℕ → Option (Kept S)) (then : Option (Kept S)) (rests : Type 0) : Type 0 where
+    pub more : List (Mark S)
+    pub adds : Adds before more after
+    pub goes : (begun : ℕ) (deeds : List Deed) (marks : List (Mark S)) → Ledger begun deeds marks old hand whole
+        → Ledger begun deeds (marks ++ more) new then rests
 
-  -- the connections after a turn of one of them, by what is to be done then
-  abbrev pub GoesTo : (old : ℕ → Option (Kept S)) → Option (Found S) → (new : ℕ → Option (Kept S)) → Type 0
-  GoesTo old None new = Goes old new
-  GoesTo old (Some (New stream)) new = Goes old new
-  GoesTo old (Some (Asks kept end)) new = Leaves old kept new
-  GoesTo old (Some (Reads kept unsent)) new = Leaves old kept new
-  GoesTo old (Some Nothing) new = Goes old new
-  GoesTo old (Some Over) new = Goes old new
+  -- turns, and no connection is taken out before or then
+  abbrev pub Goes : (before : Option (List (Mark S))) (old : ℕ → Option (Kept S)) (after : Option (List (Mark S))) (new : ℕ → Option (Kept S)) → Type 0
+  Goes before old after new = Passes before old None ⊤ after new None ⊤
 
-  -- The connections after what comes before that turn, too.
-  pub record Finds (old : ℕ → Option (Kept S)) (found : Found S) (new : ℕ → Option (Kept S)) : Type 0 where
-    pub mid : ℕ → Option (Kept S)
-    pub before : Goes old mid
-    pub turn : GoesTo mid (Some found) new
+  -- Acts of a connection that was taken out. Then it is at a key, or over.
+  pub record Acts (before : Option (List (Mark S))) (old : ℕ → Option (Kept S)) (kept : Kept S) (acts : List Act)
+      (after : Option (List (Mark S))) (new : ℕ → Option (Kept S)) : Type 0 where
+    pub more : List (Mark S)
+    pub adds : Adds before more after
+    pub goes : (begun : ℕ) (deeds : List Deed) (marks : List (Mark S)) → Ledger begun deeds marks old (Some kept) ⊤
+        → Ledger begun (deeds ++ deeds_of kept.turn.number acts) (marks ++ more) new None ⊤
 
-  -- Acts of a connection that was taken out: what came of them is kept at a key, or is as it was then and goes on, or has ended.
-  pub record Acts (old : ℕ → Option (Kept S)) (kept : Kept S) (acts : List Act) (new : ℕ → Option (Kept S)) : Type 0 where
-    pub mid : Kept S
-    pub last : Kept S
-    pub ending : Option (Result Served EndFault)
-    pub steps : Steps told kept acts (ending ≡ None) mid
-    pub number : last.turn.number ≡ mid.turn.number
-    pub same : last.turn.drops ≡ None → (ending ≡ None) × (last ≡ mid)
-    pub key : ℕ
-    pub seats : Seats old key last new
+  -- A connection is closed with this stream, after its conversation.
+  pub record Closes (before : Option (List (Mark S))) (kept : Kept S) (after : Option (List (Mark S))) : Type 0 where
+    pub last : S
+    pub adds : Adds before (at_closing kept.turn.number last ∷ []) after
+    pub talk : (first : Option Told) (acts : List Act) → IsHeld told first acts kept → Conversation first acts (told last)
+
+  -- Each connection up to this number was opened, had its conversation and was closed, among what was done and what a log was told; no other was.
+  pub record AreOver (count : ℕ) (deeds : List Deed) (before after : Option (List (Mark S))) : Type 0 where
+    pub marks : List (Mark S)
+    pub adds : Adds before marks after
+    pub each : (number : ℕ) → 0 < number → number ≤ count → IsOver deeds marks number
+    pub none : (number : ℕ) → (number ≡ 0) ⊎ (count < number) → (acts_of number deeds ≡ []) × (marks_of number marks ≡ [])

@@ -1,10 +1,13 @@
 pub mod Asked
 pub mod Connections
 pub mod Conversations
+pub mod Deeds
 pub mod Found
 pub mod Goes
 pub mod Lines
 pub mod Listeners
+pub mod Marks
+pub mod NoMemory
 pub mod Orders
 pub mod Paces
 pub mod Places

@@ -4,10 +4,11 @@ use Rattle.http_listen.specs.declared.kept.Kept.{Kept}
 use Rattle.http_listen.specs.Conversations.{Stands}
 
 module _ {S : Type 0} where
-  -- what is at a key, and was before
+  -- what is at a key, and was there before
   abbrev pub StandsAt : Option (Kept S) → Option (Kept S) → Type 0
-  StandsAt before None = ⊤
+  StandsAt None None = ⊤
   StandsAt None (Some now) = ⊥
+  StandsAt (Some kept) None = ⊥
   StandsAt (Some kept) (Some now) = Stands kept now
 
   -- so it is at each key

@@ -1,20 +1,17 @@
 //! New connections, and what makes room for them.
-ghost use Rattle.std.specs.Prelude.{◌≢◌};
-ghost use Rattle.http_listen.specs.declared.inputs.Asked.{Asked};
-ghost use Rattle.http_listen.specs.declared.kept.Kept.{Kept};
-ghost use Rattle.http_listen.specs.declared.rests.Unsent.{Unsent};
-ghost use Rattle.http_listen.specs.declared.rooms.Found.TheVariants.{Asks, Reads};
+ghost use Rattle.std.specs.Prelude.{◌≡◌, None};
 ghost use Rattle.http_listen.specs.Found.{IsReady};
-ghost use Rattle.http_listen.specs.Goes.{Goes};
+ghost use Rattle.http_listen.specs.Goes.{Goes, hand_of};
 ghost use Rattle.http_listen.specs.Places.{kept_at};
 
 use crate::kept::GivenUp;
+use crate::logs::Logs;
 use crate::places::List;
 use crate::refusals::{Refusal, refusal_of};
 use crate::rooms::{Found, Room, fails_too_often};
 use crate::talks::Talks;
 use crate::waits::{MAX_KEPT, Waits};
-use std::io::{self, Write};
+use std::io;
 use std::net::OpenStream;
 use std::time::Duration;
 
@@ -44,13 +41,13 @@ impl<S: Talks + OpenStream + Drop> Room<S> {
     }
 
     /// Closes a connection for one that has come, if one may be closed. Otherwise the new one waits until `crowded`.
-    fn give_way<L: Waits<Stream = S>, W: Write>(
+    fn give_way<L: Waits<Stream = S>, W: Logs<S>>(
         &mut self,
         now: Duration,
         listener: &mut L,
         log: &mut W,
     )
-        ensures goes { Goes S.told (kept_at self.old.places) (kept_at self.new.places) }
+        ensures goes { Goes S.told (W.marks log.old) (kept_at self.old.places) (W.marks log.new) (kept_at self.new.places) }
     {
         let pause = Duration::from_millis(QUEUE_MILLISECONDS);
         self.crowded = now.saturating_add(pause);
@@ -64,14 +61,14 @@ impl<S: Talks + OpenStream + Drop> Room<S> {
     }
 
     /// What follows if a connection wasn't accepted. Returns `false` if no more are served.
-    fn refused<L: Waits<Stream = S>, W: Write>(
+    fn refused<L: Waits<Stream = S>, W: Logs<S>>(
         &mut self,
         now: Duration,
         listener: &mut L,
         refusal: Refusal,
         log: &mut W,
     ) -> bool
-        ensures goes { Goes S.told (kept_at self.old.places) (kept_at self.new.places) }
+        ensures goes { Goes S.told (W.marks log.old) (kept_at self.old.places) (W.marks log.new) (kept_at self.new.places) }
     {
         match refusal {
             Refusal::Empty => {
@@ -89,16 +86,15 @@ impl<S: Talks + OpenStream + Drop> Room<S> {
     }
 
     /// Accepts a connection. If there is no room for it, it waits until there is, and one that is open may be ended for it.
-    pub(crate) fn accept<L: Waits<Stream = S>, W: Write>(
+    pub(crate) fn accept<L: Waits<Stream = S>, W: Logs<S>>(
         &mut self,
         now: Duration,
         listener: &mut L,
         log: &mut W,
     ) -> Found<S>
         ensures ready { IsReady self.new.fields result }
-        ensures goes { Goes S.told (kept_at self.old.places) (kept_at self.new.places) }
-        ensures other { (kept : Kept S) (asked : Asked) → result ≢ Asks kept asked }
-        ensures no_rest { (kept : Kept S) (unsent : Unsent) → result ≢ Reads kept unsent }
+        ensures goes { Goes S.told (W.marks log.old) (kept_at self.old.places) (W.marks log.new) (kept_at self.new.places) }
+        ensures none { hand_of result ≡ None }
     {
         self.accepts = self.accepts.saturating_sub(1);
         let refusal = match next_stream(&mut self.came, listener) {

@@ -1,18 +1,19 @@
 //! The connections of a listener.
-ghost use Rattle.std.specs.Prelude.{◌≡◌, ◌<◌, ◌∷◌, [], ℕ, Bool, Result, List, None, Some, take, OnOk, OnErr};
+ghost use Rattle.std.specs.Prelude.{◌≡◌, ◌<◌, ◌≤◌, ◌∷◌, [], ℕ, Bool, Result, List, None, Some, take, OnOk, OnErr};
 ghost use Rattle.http_serve.specs.declared.connection.ServeFault.{ServeFault};
 ghost use Rattle.http_serve.specs.declared.connection.Served.{Served};
 ghost use Rattle.http_listen.specs.Rests.{rest_after};
 ghost use Rattle.http_listen.specs.Asked.{IsAsked, IsFound};
 ghost use Rattle.http_listen.specs.Conversations.{Act, Deed, Answers, Does, IsEndedBy, Runs, Stands, Steps, deeds_of};
 ghost use Rattle.http_listen.specs.Orders.{AreInOrder};
-ghost use Rattle.http_listen.specs.Goes.{Acts};
+ghost use Rattle.http_listen.specs.Goes.{Acts, AreOver};
 ghost use Rattle.http_listen.specs.Places.{kept_at};
 ghost use Rattle.http_listen.specs.Talks.{Moves};
 ghost use Rattle.http_listen.specs.Connections.{Event, Serves, ComesTo, NextStretch, NextAnswer, NextPart, AreOverKnown, AreSteps, begun};
 
 use crate::inputs::{Asked, NOTHING_ASKED};
 use crate::kept::{Ending, Kept, Turn};
+use crate::logs::Logs;
 use crate::rests::{Unsent, add_part, once_sent};
 use crate::rooms::{Found, Room, time_of};
 use crate::talks::Talks;
@@ -21,7 +22,6 @@ use crate::writers::ReplyWriter;
 use http_requests::FieldSpans;
 use http_serve::{Buffers, Downloads, Preparation, Prepares, ServeFault, Served, serve_found};
 use std::alloc::Global;
-use std::io::Write;
 use std::net::OpenStream;
 use std::time::{Clock, Duration};
 use thiserror::Error;
@@ -109,12 +109,12 @@ fn open<S, H, W>(
 where
     S: Talks + OpenStream + Drop,
     H: Prepares,
-    W: Write,
+    W: Logs<S>,
     requires whole { kept.turn.unsent ≡ None }
     requires fresh { kept.input ≡ [] }
     ensures comes { NextStretch H.replies H.fails handler.old handler.new }
     ensures acted { (act : Act) × Does H.replies H.fails H.reads H.ticket_of H.prepares handler.old act handler.new
-        × Acts S.told (kept_at room.old.places) kept (act ∷ []) (kept_at room.new.places) }
+        × Acts S.told (W.marks log.old) (kept_at room.old.places) kept (act ∷ []) (W.marks log.new) (kept_at room.new.places) }
 {
     let past = serve_front(buffers, kept, &room.fields, NOTHING_ASKED, handler);
     room.opened(past.kept, once_sent(past.outcome), log);
@@ -253,14 +253,14 @@ fn answer<S, H, W, C>(
 where
     S: Talks + OpenStream + Drop,
     H: Prepares,
-    W: Write,
+    W: Logs<S>,
     C: Clock,
     requires sent { kept.output ≡ [] }
     requires whole { kept.turn.unsent ≡ None }
     requires asked { IsAsked kept.input kept.turn.ended room.old.fields asked }
     ensures comes { NextAnswer H.replies H.fails H.prepares handler.old handler.new }
     ensures acted { (acts : List Act) × Runs H.replies H.fails H.reads H.ticket_of H.prepares handler.old (deeds_of kept.turn.number acts) handler.new
-        × Acts S.told (kept_at room.old.places) kept acts (kept_at room.new.places) }
+        × Acts S.told (W.marks log.old) (kept_at room.old.places) kept acts (W.marks log.new) (kept_at room.new.places) }
 {
     let Acted { now, kept, ending } = prepare_front(clock, buffers, room, kept, asked, handler);
     room.keep_or_end(now, kept, ending, log);
@@ -305,13 +305,13 @@ fn send_part<S, H, W, C>(
 where
     S: Talks + OpenStream + Drop,
     H: Prepares,
-    W: Write,
+    W: Logs<S>,
     C: Clock,
     requires sent { kept.output ≡ [] }
     requires rest { kept.turn.unsent ≡ Some unsent }
     ensures reads { NextPart H.reads handler.old handler.new }
     ensures acted { (act : Act) × Does H.replies H.fails H.reads H.ticket_of H.prepares handler.old act handler.new
-        × Acts S.told (kept_at room.old.places) kept (act ∷ []) (kept_at room.new.places) }
+        × Acts S.told (W.marks log.old) (kept_at room.old.places) kept (act ∷ []) (W.marks log.new) (kept_at room.new.places) }
 {
     let Acted { now, kept, ending } = read_part(clock, room, kept, unsent, handler);
     room.keep_or_end(now, kept, ending, log);
@@ -375,7 +375,7 @@ where
     L: Waits,
     L::Stream: Talks + OpenStream,
     H: Prepares,
-    W: Write,
+    W: Logs<L::Stream>,
     C: Clock,
     ensures all { OnOk result ((served : List Event) × Serves H.replies H.fails H.reads H.prepares handler.old served handler.new
         × (begun served ≡ connections)) }
@@ -389,7 +389,9 @@ where
     // What is done is done for the connections, each by its number. Of one of them nothing is answered or prepared while something of its last
     // reply's content is left, and what is read of that is its next bytes, by that reply's ticket.
     ensures named { (deeds : List Deed) × Runs H.replies H.fails H.reads H.ticket_of H.prepares handler.old deeds handler.new
-        × AreInOrder connections deeds }
+        × AreInOrder connections deeds
+        × ((count : ℕ) × (count ≤ connections) × OnOk result (count ≡ connections)
+        × AreOver L.Stream.Talks.told count deeds (W.marks log.old) (W.marks log.new)) }
 {
     let mut room = Room::new(
         alloc,
@@ -403,6 +405,7 @@ where
         match room.find(clock, listener, begun < connections, log) {
             Found::New(stream) => {
                 begun += 1;
+                log.opened(begun, &stream);
                 prepare(&stream);
                 let kept = Kept::new(alloc, stream, begun, room.now(clock));
                 open(&mut buffers, &mut room, kept, handler, log);
@@ -415,6 +418,7 @@ where
             Found::Over => break,
         }
     }
+    room.close_all(log);
     if begun < connections {
         return Err(ListenFault::Accept);
     }

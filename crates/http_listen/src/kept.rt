@@ -1,13 +1,15 @@
 //! Connections between two of their turns.
-ghost use Rattle.std.specs.Prelude.{◌≡◌, true, false, [], None, IsSome, drop, OnOk};
+ghost use Rattle.std.specs.Prelude.{◌≡◌, ◌∷◌, true, false, [], None, IsSome, MatchResult, drop, take, OnOk};
 ghost use Rattle.std.specs.Io.KnownBytes.{Appends};
-ghost use Rattle.http_listen.specs.Conversations.{Beside, Stands, IsRead, IsSearched, Steps};
+ghost use Rattle.http_listen.specs.Conversations.{Beside, Ends, IsEnded, IsRead, IsSearched, Stands, Steps};
+ghost use Rattle.http_listen.specs.Goes.{Closes};
 ghost use Rattle.http_listen.specs.Lines.{line_of};
-ghost use Rattle.http_listen.specs.Talks.{Moves};
+ghost use Rattle.http_listen.specs.Marks.{Adds, at_closing};
+ghost use Rattle.http_listen.specs.Talks.{Grows, Moves};
 
 use crate::ends::EndFault;
 use crate::inputs::Input;
-use crate::lines::write_line;
+use crate::logs::Logs;
 use crate::no_memory::memory_reply;
 use crate::outputs::Output;
 use crate::paces::{Pace, Stage, nanoseconds_of};
@@ -19,7 +21,7 @@ use crate::turns::Next;
 use http_requests::{FieldSpans, MAX_REQUEST};
 use http_serve::{End, ServeFault, Served};
 use std::alloc::Global;
-use std::io::{self, ErrorKind, Write};
+use std::io::{self, ErrorKind};
 use std::net::{OpenStream, Shutdown};
 use std::time::Duration;
 
@@ -215,14 +217,11 @@ impl<S> Kept<S> {
     }
 
     /// Writes its line to the log: what its last stretch came to, with the requests that got a whole reply before.
-    pub(crate) fn log_end<W: Write>(
-        &self,
-        outcome: Result<Served, EndFault>,
-        log: &mut W,
-    ) -> io::Result<()>
-        ensures { OnOk result (Appends (W.contents log.old) (W.contents log.new) (line_of self.now.turn.number self.now.turn.requests outcome)) }
+    fn log_end<W: Logs<S>>(&self, outcome: Result<Served, EndFault>, log: &mut W) -> io::Result<()>
+        ensures line { OnOk result (Appends (W.lines log.old) (W.lines log.new) (line_of self.now.turn.number self.now.turn.requests outcome)) }
+        ensures same { W.marks log.new ≡ W.marks log.old }
     {
-        write_line(log, self.turn.number, self.turn.requests, outcome)
+        log.line(self.turn.number, self.turn.requests, outcome)
     }
 
     /// More bytes are waited for.
@@ -288,30 +287,68 @@ impl<S> Kept<S> {
     }
 }
 
+/// Makes one write, and another one if a signal interrupts it.
+fn send_again<S: Talks>(stream: &mut S, reply: &[u8]) -> io::Result<usize>
+    ensures { MatchResult result (λ n. Grows (S.told stream.old) [] (take n reply.now) (S.told stream.new))
+        (λ _. Grows (S.told stream.old) [] [] (S.told stream.new)) }
+{
+    match stream.send(reply) {
+        Err(e) if e.kind() == ErrorKind::Interrupted => stream.send(reply),
+        outcome => outcome,
+    }
+}
+
 impl<S: Talks> Kept<S> {
     /// Sends the reply for want of memory, unless another reply is being sent. Whether it was.
-    pub(crate) fn refuse_memory(&mut self) -> bool
-        ensures { self.new.turn ≡ self.old.turn }
+    fn refuse_memory(&mut self) -> bool
+        ensures turn { self.new.turn ≡ self.old.turn }
+        ensures ends { Ends S.told self.old self.new }
     {
         if self.sends() {
             return false;
         }
         let reply = memory_reply();
-        let outcome = match self.stream.send(reply) {
-            Err(e) if e.kind() == ErrorKind::Interrupted => self.stream.send(reply),
-            outcome => outcome,
-        };
-        match outcome {
+        match send_again(&mut self.stream, reply) {
             Ok(count) => count == reply.len(),
             Err(_) => false,
         }
     }
 }
 
+impl<S: Talks + Drop> Kept<S> {
+    /// Closes the stream.
+    pub(crate) fn close<W: Logs<S>>(self, log: &mut W)
+        ensures { Adds (W.marks log.old) (at_closing self.turn.number self.stream ∷ []) (W.marks log.new) }
+    {
+        let Kept {
+            stream,
+            turn,
+            input: _,
+            output: _,
+            pace: _,
+        } = self;
+        log.closed(turn.number, stream);
+    }
+
+    /// Ends the connection, if it hasn't ended, and closes the stream: there is no memory to keep it.
+    pub(crate) fn close_full<W: Logs<S>>(mut self, log: &mut W)
+        ensures { Closes S.told (W.marks log.old) self (W.marks log.new) }
+    {
+        if self.turn.drops.is_some() {
+            self.close(log);
+            return;
+        }
+        let _ = self.log_end(self.given_up(GivenUp::Held), log);
+        self.refuse_memory();
+        self.close(log);
+    }
+}
+
 impl<S: Talks + OpenStream> Kept<S> {
     /// Whether the peer of a connection that came to this may read a last reply. One whose request there was no memory for gets that reply now.
     fn has_last_reply(&mut self, outcome: Result<Served, EndFault>) -> bool
-        ensures { self.new.turn ≡ self.old.turn }
+        ensures turn { self.new.turn ≡ self.old.turn }
+        ensures ends { Ends S.told self.old self.new }
     {
         match outcome {
             Ok(_) => true,
@@ -322,8 +359,8 @@ impl<S: Talks + OpenStream> Kept<S> {
 
     /// Ends the connection, and writes its line to the log. Unless its peer reads no last reply, or sends no more, what it still sends is
     /// dropped for a while, so that it reads its last reply, and not that the connection was reset (RFC 9112, 9.6). Returns whether that is
-    /// so: otherwise the stream is closed.
-    pub(crate) fn end<W: Write>(
+    /// so: otherwise the stream is closed, and also if the connection has ended before.
+    pub(crate) fn end<W: Logs<S>>(
         &mut self,
         now: Duration,
         outcome: Result<Served, EndFault>,
@@ -331,7 +368,13 @@ impl<S: Talks + OpenStream> Kept<S> {
     ) -> bool
         ensures number { self.new.turn.number ≡ self.old.turn.number }
         ensures ended { result ≡ true → IsSome self.new.turn.drops }
+        // Its conversation is over, or goes on as that of one that has ended.
+        ensures held { IsEnded S.told self.old (result ≡ true) self.new }
+        ensures same { W.marks log.new ≡ W.marks log.old }
     {
+        if self.turn.drops.is_some() {
+            return false;
+        }
         let _ = self.log_end(outcome, log);
         if !self.has_last_reply(outcome)
             || self.turn.ended

@@ -1,5 +1,5 @@
 //! The places of open connections: which may have their turn, and which may be closed for others.
-ghost use Rattle.std.specs.Prelude.{◌≡◌, ◌≢◌, ℕ, None, IsSome, IfOk, IfErr, OnErr};
+ghost use Rattle.std.specs.Prelude.{◌≡◌, ◌≢◌, ◌≤◌, ℕ, None, IsSome, IfOk, IfErr, OnErr};
 ghost use Rattle.http_listen.specs.Conversations.{Puts};
 ghost use Rattle.http_listen.specs.Stays.{AllStand};
 ghost use Rattle.http_listen.specs.Places.{kept_at, next_key, KeepsAll, Reports};
@@ -84,7 +84,9 @@ impl<S> Places<S> {
     }
 
     /// A number above all keys.
-    pub(crate) fn key_bound(&self) -> usize {
+    pub(crate) fn key_bound(&self) -> usize
+        ensures { (key : ℕ) → result ≤ key → kept_at self.now key ≡ None }
+    {
         self.places.capacity()
     }
 

@@ -1,16 +1,16 @@
 //! The open connections, and whose turn it is.
-ghost use Rattle.std.specs.Prelude.{◌≡◌, ◌≢◌, ℕ, IfSome, None, Some, true};
+ghost use Rattle.std.specs.Prelude.{◌≡◌, ◌≢◌, ℕ, IfSome, None, Some, ⊤, true};
 ghost use Rattle.http_listen.specs.declared.rooms.Found.{Found};
 ghost use Rattle.http_listen.specs.declared.rooms.Found.TheVariants.{New};
 ghost use Rattle.http_listen.specs.Found.{IsReady};
-ghost use Rattle.http_listen.specs.Goes.{Seats, Goes, GoesTo, Finds};
-ghost use Rattle.http_listen.specs.Places.{kept_at, next_key};
-ghost use Rattle.http_listen.specs.declared.kept.Kept.{Kept};
+ghost use Rattle.http_listen.specs.Goes.{Goes, Passes, hand_in, hand_of};
+ghost use Rattle.http_listen.specs.Places.{kept_at};
 
 use crate::deadlines::Deadlines;
 use crate::ends::EndFault;
 use crate::inputs::Asked;
 use crate::kept::{Ending, GivenUp, Kept, PIECE};
+use crate::logs::Logs;
 use crate::places::{List, Places};
 use crate::rests::Unsent;
 use crate::talks::Talks;
@@ -19,7 +19,6 @@ use crate::waits::Waits;
 use http_requests::{FieldSpans, NO_FIELDS};
 use http_serve::Served;
 use std::alloc::Global;
-use std::io::Write;
 use std::net::OpenStream;
 use std::time::{Clock, Duration};
 
@@ -147,55 +146,62 @@ impl<S> Room<S> {
 }
 
 impl<S: Talks + OpenStream + Drop> Room<S> {
-    /// Keeps a connection up to its next turn. If memory runs out, it is closed. Returns its key.
-    fn keep<W: Write>(&mut self, kept: Kept<S>, log: &mut W) -> Option<usize>
-        ensures { Seats (kept_at self.old.places) (next_key self.old.places) kept (kept_at self.new.places) }
+    /// Notes when to look at a connection that is kept.
+    fn note(&mut self, kept: &Kept<S>)
+        ensures { self.new.places ≡ self.old.places }
     {
         self.deadlines.note(kept.deadline());
         if !kept.sends() {
             self.may_stop = true;
         }
+    }
+
+    /// Keeps a connection up to its next turn. If memory runs out, it is closed. Returns its key.
+    fn keep<W: Logs<S>>(&mut self, kept: Kept<S>, log: &mut W) -> Option<usize>
+        ensures { Passes S.told (W.marks log.old) (kept_at self.old.places) (Some kept) (kept.turn.drops ≡ None)
+            (W.marks log.new) (kept_at self.new.places) None ⊤ }
+    {
+        self.note(&kept);
         match self.places.put(kept) {
             Ok(key) => Some(key),
-            Err(mut kept) => {
-                if kept.turn.drops.is_none() {
-                    let _ = kept.log_end(kept.given_up(GivenUp::Held), log);
-                    kept.refuse_memory();
-                }
+            Err(kept) => {
+                kept.close_full(log);
                 None
             }
         }
     }
 
-    /// Keeps a connection up to its next turn, or ends it, if it came to an end.
-    pub(crate) fn keep_or_end<W: Write>(
+    /// Keeps a connection up to its next turn, or ends it, if it came to an end. One that has ended before is closed then.
+    pub(crate) fn keep_or_end<W: Logs<S>>(
         &mut self,
         now: Duration,
         mut kept: Kept<S>,
         ending: Ending,
         log: &mut W,
     )
-        ensures { (last : Kept S) × (last.turn.number ≡ kept.turn.number) × (last.turn.drops ≡ None → (ending ≡ None) × (last ≡ kept))
-            × Seats (kept_at self.old.places) (next_key self.old.places) last (kept_at self.new.places) }
+        ensures { Passes S.told (W.marks log.old) (kept_at self.old.places) (Some kept) ((ending ≡ None) × (kept.turn.drops ≡ None))
+            (W.marks log.new) (kept_at self.new.places) None ⊤ }
     {
-        let is_kept = match ending {
-            Some(outcome) => kept.end(now, outcome, log),
-            None => true,
-        };
-        if is_kept {
+        let Some(outcome) = ending else {
             self.keep(kept, log);
+            return;
+        };
+        if kept.end(now, outcome, log) {
+            self.keep(kept, log);
+        } else {
+            kept.close(log);
         }
     }
 
     /// Keeps a new connection, which has its first turn next, unless it couldn't be served.
-    pub(crate) fn opened<W: Write>(
+    pub(crate) fn opened<W: Logs<S>>(
         &mut self,
         kept: Kept<S>,
         outcome: Result<Served, EndFault>,
         log: &mut W,
     )
-        ensures { (last : Kept S) × (last.turn.number ≡ kept.turn.number) × (last.turn.drops ≡ None → last ≡ kept)
-            × Seats (kept_at self.old.places) (next_key self.old.places) last (kept_at self.new.places) }
+        ensures { Passes S.told (W.marks log.old) (kept_at self.old.places) (Some kept) ⊤
+            (W.marks log.new) (kept_at self.new.places) None ⊤ }
     {
         if outcome.is_err() {
             return self.keep_or_end(kept.turn.since, kept, Some(outcome), log);
@@ -207,26 +213,52 @@ impl<S: Talks + OpenStream + Drop> Room<S> {
     }
 
     /// Ends the connection at a key, whose peer is waited for no longer.
-    pub(crate) fn end_at<W: Write>(&mut self, now: Duration, key: usize, why: GivenUp, log: &mut W)
-        ensures { Goes S.told (kept_at self.old.places) (kept_at self.new.places) }
+    pub(crate) fn end_at<W: Logs<S>>(
+        &mut self,
+        now: Duration,
+        key: usize,
+        why: GivenUp,
+        log: &mut W,
+    )
+        ensures { Goes S.told (W.marks log.old) (kept_at self.old.places) (W.marks log.new) (kept_at self.new.places) }
     {
         let Some(kept) = self.places.take(key) else {
             return;
         };
-        if kept.turn.drops.is_none() {
-            let ending = Some(kept.given_up(why));
-            self.keep_or_end(now, kept, ending, log);
+        let ending = Some(kept.given_up(why));
+        self.keep_or_end(now, kept, ending, log);
+    }
+
+    /// Closes the connection at a key, if there is one.
+    fn close_at<W: Logs<S>>(&mut self, key: usize, log: &mut W)
+        ensures goes { Goes S.told (W.marks log.old) (kept_at self.old.places) (W.marks log.new) (kept_at self.new.places) }
+        ensures none { kept_at self.new.places key ≡ None }
+        ensures others { (other : ℕ) → other ≢ key → kept_at self.new.places other ≡ kept_at self.old.places other }
+    {
+        if let Some(kept) = self.places.take(key) {
+            kept.close(log);
+        }
+    }
+
+    /// Closes all connections.
+    pub(crate) fn close_all<W: Logs<S>>(&mut self, log: &mut W)
+        ensures goes { Goes S.told (W.marks log.old) (kept_at self.old.places) (W.marks log.new) (kept_at self.new.places) }
+        ensures none { (key : ℕ) → kept_at self.new.places key ≡ None }
+    {
+        'closes: for key in 0..self.places.key_bound() {
+            self.close_at(key, log);
         }
     }
 }
 
 impl<S: Talks + OpenStream + Drop> Room<S> {
     /// Gives the next connection of this round its turn, if there is one. Returns what is to be done then.
-    fn give_turn<W: Write>(&mut self, now: Duration, log: &mut W) -> Option<Found<S>>
+    fn give_turn<W: Logs<S>>(&mut self, now: Duration, log: &mut W) -> Option<Found<S>>
         ensures not_new { (found : Found S) → result ≡ Some found → (stream : S) → found ≢ New stream }
         ensures ready { IfSome result (IsReady self.new.fields) }
-        // None takes the place of another one, and nothing of one that is open is lost.
-        ensures goes { GoesTo S.told (kept_at self.old.places) result (kept_at self.new.places) }
+        // The conversation of each goes on, and the one that is to be answered is taken out.
+        ensures goes { Passes S.told (W.marks log.old) (kept_at self.old.places) None ⊤
+            (W.marks log.new) (kept_at self.new.places) (hand_in result) ⊤ }
     {
         self.round = self.round.checked_sub(1)?;
         let key = self.places.ends(List::Ready).first?;
@@ -237,13 +269,13 @@ impl<S: Talks + OpenStream + Drop> Room<S> {
             Next::Asks(asked) => return Some(Found::Asks(kept, asked)),
             Next::Reads(unsent) => return Some(Found::Reads(kept, unsent)),
             Next::Rests(ending) => self.keep_or_end(now, kept, ending, log),
-            Next::Closes => drop(kept),
+            Next::Closes => kept.close(log),
         }
         Some(Found::Nothing)
     }
 
     /// What is to be done next: the turns of a round, then the connections that come, and then a wait for the next round.
-    pub(crate) fn find<L: Waits<Stream = S>, W: Write, C: Clock>(
+    pub(crate) fn find<L: Waits<Stream = S>, W: Logs<S>, C: Clock>(
         &mut self,
         clock: &C,
         listener: &mut L,
@@ -253,7 +285,8 @@ impl<S: Talks + OpenStream + Drop> Room<S> {
         ensures wanted { (stream : S) → result ≡ New stream → accepts ≡ true }
         // While replies wait, or the rest of one, nothing is answered, and no other rest is read.
         ensures ready { IsReady self.new.fields result }
-        ensures goes { Finds S.told (kept_at self.old.places) result (kept_at self.new.places) }
+        ensures goes { Passes S.told (W.marks log.old) (kept_at self.old.places) None ⊤
+            (W.marks log.new) (kept_at self.new.places) (hand_of result) ⊤ }
     {
         let now = self.now(clock);
         self.give_space(now, listener, log);

@@ -1,5 +1,5 @@
 //! The turn of a connection: a read, or a write.
-ghost use Rattle.std.specs.Prelude.{◌≡◌, [], None, Some, Err, IfOk, IfErr};
+ghost use Rattle.std.specs.Prelude.{◌≡◌, [], None, Some, Err, IfOk, IfErr, OnErr};
 ghost use Rattle.http_listen.specs.Conversations.{Beside, Stands, IsSearched, Turned};
 ghost use Rattle.http_listen.specs.Talks.{Moves};
 
@@ -62,6 +62,7 @@ impl<S: Talks> Kept<S> {
         ensures beside { Beside self.old self.new }
         ensures unsent { IfOk outcome (λ left. self.new.turn.unsent ≡ left) }
         ensures failed { IfErr outcome (λ fault. result ≡ Some (Err fault)) }
+        ensures rest { OnErr outcome (self.new.turn.unsent ≡ self.old.turn.unsent) }
     {
         match outcome {
             Ok(unsent) => {

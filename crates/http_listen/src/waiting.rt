@@ -3,12 +3,13 @@ ghost use Rattle.http_listen.specs.Goes.{Goes};
 ghost use Rattle.http_listen.specs.Places.{kept_at};
 
 use crate::kept::GivenUp;
+use crate::logs::Logs;
 use crate::paces::nanoseconds_of;
 use crate::places::List;
 use crate::rooms::{Room, fails_too_often};
 use crate::talks::Talks;
 use crate::waits::Waits;
-use std::io::{ErrorKind, Write};
+use std::io::ErrorKind;
 use std::net::OpenStream;
 use std::time::Duration;
 
@@ -52,8 +53,8 @@ impl<S> Room<S> {
 
 impl<S: Talks + OpenStream + Drop> Room<S> {
     /// Ends one of the connections. Whether there was one.
-    pub(crate) fn end_any<W: Write>(&mut self, now: Duration, log: &mut W) -> bool
-        ensures goes { Goes S.told (kept_at self.old.places) (kept_at self.new.places) }
+    pub(crate) fn end_any<W: Logs<S>>(&mut self, now: Duration, log: &mut W) -> bool
+        ensures goes { Goes S.told (W.marks log.old) (kept_at self.old.places) (W.marks log.new) (kept_at self.new.places) }
     {
         match self.places.any() {
             Some(key) => {
@@ -65,8 +66,8 @@ impl<S: Talks + OpenStream + Drop> Room<S> {
     }
 
     /// Ends the connections whose peers have no time left and which may not have their turn. All are looked at.
-    fn end_late<W: Write>(&mut self, now: Duration, log: &mut W)
-        ensures goes { Goes S.told (kept_at self.old.places) (kept_at self.new.places) }
+    fn end_late<W: Logs<S>>(&mut self, now: Duration, log: &mut W)
+        ensures goes { Goes S.told (W.marks log.old) (kept_at self.old.places) (W.marks log.new) (kept_at self.new.places) }
     {
         let time = nanoseconds_of(now);
         self.deadlines.begin_look(time, self.places.count());
@@ -84,8 +85,8 @@ impl<S: Talks + OpenStream + Drop> Room<S> {
     }
 
     /// Ends the connections of a server that stops, but for those whose replies are still sent. If there may be one, all are looked at.
-    pub(crate) fn end_stopped<W: Write>(&mut self, now: Duration, log: &mut W)
-        ensures goes { Goes S.told (kept_at self.old.places) (kept_at self.new.places) }
+    pub(crate) fn end_stopped<W: Logs<S>>(&mut self, now: Duration, log: &mut W)
+        ensures goes { Goes S.told (W.marks log.old) (kept_at self.old.places) (W.marks log.new) (kept_at self.new.places) }
     {
         let since = self.stops.unwrap_or(now);
         self.stops = Some(since);
@@ -105,13 +106,13 @@ impl<S: Talks + OpenStream + Drop> Room<S> {
     }
 
     /// Has the streams watched of those that wait for something new. One that can't be watched is ended.
-    fn watch_all<L: Waits<Stream = S>, W: Write>(
+    fn watch_all<L: Waits<Stream = S>, W: Logs<S>>(
         &mut self,
         now: Duration,
         listener: &mut L,
         log: &mut W,
     )
-        ensures goes { Goes S.told (kept_at self.old.places) (kept_at self.new.places) }
+        ensures goes { Goes S.told (W.marks log.old) (kept_at self.old.places) (W.marks log.new) (kept_at self.new.places) }
     {
         'watches: for _ in 0..self.places.ends(List::Unwatched).count {
             let Some(key) = self.places.ends(List::Unwatched).first else {
@@ -125,13 +126,13 @@ impl<S: Talks + OpenStream + Drop> Room<S> {
 
     /// Ends connections while all hold more bytes than they may: each time the one that has waited longest for its peer. If none waits, nothing
     /// is done.
-    pub(crate) fn give_space<L: Waits<Stream = S>, W: Write>(
+    pub(crate) fn give_space<L: Waits<Stream = S>, W: Logs<S>>(
         &mut self,
         now: Duration,
         listener: &mut L,
         log: &mut W,
     )
-        ensures goes { Goes S.told (kept_at self.old.places) (kept_at self.new.places) }
+        ensures goes { Goes S.told (W.marks log.old) (kept_at self.old.places) (W.marks log.new) (kept_at self.new.places) }
     {
         if !self.is_full() {
             return;
@@ -151,14 +152,14 @@ impl<S: Talks + OpenStream + Drop> Room<S> {
 
     /// Waits for the connections, and for new ones. A connection whose peer has no time left is ended, and one of them if they can't be
     /// waited for. Returns `false` if there is none then.
-    pub(crate) fn wait<L: Waits<Stream = S>, W: Write>(
+    pub(crate) fn wait<L: Waits<Stream = S>, W: Logs<S>>(
         &mut self,
         now: Duration,
         listener: &mut L,
         accepts: bool,
         log: &mut W,
     ) -> bool
-        ensures goes { Goes S.told (kept_at self.old.places) (kept_at self.new.places) }
+        ensures goes { Goes S.told (W.marks log.old) (kept_at self.old.places) (W.marks log.new) (kept_at self.new.places) }
     {
         self.watch_all(now, listener, log);
         let longest = self.longest(now, accepts);

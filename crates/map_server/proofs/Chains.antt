@@ -3,12 +3,16 @@ use Rattle.std.proofs.Common.{ℕ, List, [], ◌∷◌, Option, None, Ok, Err, R
 use Rattle.http_serve.specs.declared.connection.ServeFault.{ServeFault}
 use Rattle.http_serve.specs.declared.connection.Served.{Served}
 use Rattle.http_listen.specs.Connections.{Stretch, Event, at_stretch, at_part, at_preparation, CameTo, Happens, Serves}
+use Rattle.http_listen.specs.Conversations.{Deed, Runs}
+use Rattle.http_listen.specs.Deeds.{AreEventsOf}
+use Rattle.http_listen.proofs.DeedLemmas.{deeds_serve}
 use Rattle.map_replies.proofs.Along.{served_along, fault_along}
 use Rattle.map_replies.proofs.Goes.{passes_goes}
 use Rattle.map_replies.proofs.Meanwhiles.{GoesMeanwhile, goes_from, replied, cut, read_told, prepared_told}
 use Rattle.map_replies.proofs.Passing.{Passes, passes_none, takes_between}
 use Rattle.map_replies.specs.Moments.{TakesBetweenReads}
-use Rattle.map_replies.specs.Preparing.{PreparingReplied, PreparingFails, PreparingReads, PreparingStep, Meanwhile, meanwhile, inner_service, without_draft}
+use Rattle.map_replies.specs.Preparing.{PreparingReplied, PreparingFails, PreparingReads, PreparingStep, Meanwhile, meanwhile}
+use Rattle.map_replies.specs.Preparing.{inner_service, inner_ticket, without_draft}
 use Rattle.map_replies.specs.Preparing.{TellsMeanwhile, TellsMeanwhileCut, TellsMeanwhileRead, TellsPrepared}
 use Rattle.map_replies.specs.declared.preparing.PreparingReplies.{PreparingReplies}
 use Rattle.sector_disk.specs.Disk.{History}
@@ -85,3 +89,20 @@ module _ {D : Type 0} (sectors : D → ℕ) (honest : D → Type 0) (history : D
         takes_run sectors honest history (inner_service old) along.0.run (inner_service new) passes.run,
         takes_between sectors honest history (inner_service old) along.0.run (inner_service new) passes,
       )
+
+  -- what was done for connections of a service
+  abbrev pub ServiceRuns : PreparingReplies D → List Deed → PreparingReplies D → Type 0
+  ServiceRuns = Runs (PreparingReplied sectors honest history faults) (PreparingFails sectors honest history faults)
+      (PreparingReads sectors honest history faults) inner_ticket (PreparingStep sectors honest history faults)
+
+  -- It reports one run of the service.
+  pub deeds_run : (old : PreparingReplies D) (deeds : List Deed) (new : PreparingReplies D) → ServiceRuns (without_draft old) deeds new
+      → (served : List Event) × AreEventsOf deeds served × (run : List Happening) × (fixed : Option ℕ)
+      × TellsAll (meanwhile (without_draft old) [] None) served (meanwhile new run fixed)
+      × TakesRun sectors honest history (inner_service old) run (inner_service new)
+      × TakesBetweenReads sectors honest history (inner_service old) run (inner_service new)
+  deeds_run old deeds new is =
+      let all = deeds_serve (PreparingReplied sectors honest history faults) (PreparingFails sectors honest history faults)
+      (PreparingReads sectors honest history faults) inner_ticket (PreparingStep sectors honest history faults) deeds (without_draft old) new is in
+      let told = stretches_run old all.0 new all.1 in
+      (all.0, all.2, told.0, told.1, told.2, told.3, told.4)

@@ -13,7 +13,7 @@ use crate::printing::print_number;
 use crate::watching::Halting;
 use clap::ArgMatches;
 use generations::StoreFault;
-use http_listen::{ListenFault, SystemListener};
+use http_listen::{ListenFault, Log, SystemListener};
 use libc::net::listen;
 use map_replies::PreparingReplies;
 use map_server::serve_map_on;
@@ -98,7 +98,15 @@ fn serve_log<D: Sectors + Drop, W: Write>(
     };
     looks.begin();
     let connections = u64::from(asked.connections);
-    let outcome = serve_map_on(rt, rt.alloc(), &mut listener, connections, service, log);
+    let mut lines = Log::new(log);
+    let outcome = serve_map_on(
+        rt,
+        rt.alloc(),
+        &mut listener,
+        connections,
+        service,
+        &mut lines,
+    );
     drop(listener);
     match outcome {
         _ if asked.stops && looks.has_failed() => Err(CommandFault::Told),

@@ -2,7 +2,7 @@
 ghost use Rattle.http_serve.specs.Reply.{IsWhole};
 
 use crate::wanted::same;
-use http_listen::{SystemListener, serve_on};
+use http_listen::{Log, SystemListener, serve_on};
 use http_serve::{
     Content, ContentFault, Downloads, Handler, Preparation, Prepares, Reply, Request, RestFault,
     Status, Ticket,
@@ -211,7 +211,15 @@ fn serves_at(
     let count = row.peers.len() as u64;
     match SystemListener::new(rt, rt.alloc(), listener, 8) {
         Ok(mut listener) => {
-            let served = serve_on(rt, rt.alloc(), &mut listener, count, &mut handler, log);
+            let mut lines = Log::new(log);
+            let served = serve_on(
+                rt,
+                rt.alloc(),
+                &mut listener,
+                count,
+                &mut handler,
+                &mut lines,
+            );
             drop(listener);
             served.is_ok()
         }

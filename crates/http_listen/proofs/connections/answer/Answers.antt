@@ -1,7 +1,5 @@
-use Rattle.std.proofs.Common.{subst}
-use Rattle.http_listen.specs.declared.places.Places.{Places}
-use Rattle.http_listen.specs.Goes.{Seats}
-use Rattle.http_listen.specs.Places.{kept_at, next_key}
+use Rattle.std.proofs.Common.{◌≡◌, None}
+use Rattle.http_listen.proofs.RoomLemmas.{acts_then, passes_both, passes_less}
 use Rattle.http_listen.proofs.connections.answer.Goals as goal
 
 pub returns-clause-comes : goal.returns-clause-comes
@@ -9,19 +7,13 @@ returns-clause-comes g c = c.prepare_front-kept.ensures.comes
 
 pub returns-clause-acted : goal.returns-clause-acted
 returns-clause-acted g c =
+    let told = g.S.Talks.told in
     let did = c.prepare_front-kept.ensures.acts in
-    let put = c.keep_or_end.ensures in (
+    let now = c.prepare_front-kept.result.kept in (
       did.0,
       did.1,
-      record {
-        mid = c.prepare_front-kept.result.kept;
-        last = put.0;
-        ending = c.prepare_front-kept.result.ending;
-        steps = did.2;
-        number = put.1;
-        same = put.2;
-        key = next_key c.args.room.now.places;
-        seats = subst (λ (p : Places g.row.S.Denot). Seats (kept_at p) (next_key p) put.0 (kept_at c.keep_or_end.new.self.places))
-            c.prepare_front-kept.ensures.places put.3;
-      },
+      rw (← c.prepare_front-kept.ensures.places) (
+          acts_then told c.args.kept now did.0 (c.prepare_front-kept.result.ending ≡ None) did.2
+          (passes_both told (passes_less told now _ _ (λ e. e.0)) c.keep_or_end.ensures)
+          ),
     )

@@ -1,9 +1,9 @@
-use Rattle.std.proofs.Common.{None, refl, ap, take}
-use Rattle.std.specs.Prelude.{is_some}
+use Rattle.std.proofs.Common.{[], ◌∷◌, refl, ap, take}
+use Rattle.std.specs.Prelude.{is_some, ⊤}
 use Rattle.http_listen.specs.declared.kept.Turn.{Turn}
 use Rattle.http_listen.specs.Conversations.{answered}
-use Rattle.http_listen.specs.Places.{next_key}
 use Rattle.http_listen.proofs.AskedLemmas.{nothing_asked}
+use Rattle.http_listen.proofs.RoomLemmas.{acts_then}
 use Rattle.http_listen.proofs.StepLemmas.{steps_answered}
 use Rattle.http_listen.proofs.TalkLemmas.{moves_none}
 use Rattle.http_listen.proofs.connections.open.Goals as goal
@@ -20,20 +20,13 @@ returns-clause-acted g c =
     let front = c.serve_front-past.result.kept in
     let outcome = c.serve_front-past.result.outcome in
     let ticket = g.H.Downloads.ticket_of c.serve_front-past.new.handler in
-    let put = c.opened.ensures in (
-      answered (take 0 kept.input) out.0 outcome ticket,
+    let act = answered (take 0 kept.input) out.0 outcome ticket in (
+      act,
       (out.1, refl),
-      record {
-        mid = front;
-        last = put.0;
-        ending = None;
-        steps = steps_answered told kept front front 0 out.0 outcome ticket _ out.2 (moves_none (told front.stream) front.output) made.input
-            (ap (λ (t : Turn). t.number) made.turn) (ap is_some (ap (λ (t : Turn). t.drops) made.turn)) (c.requires.whole, made.unsent);
-        number = put.1;
-        same = λ e. (refl, put.2 e);
-        key = next_key c.args.room.now.places;
-        seats = put.3;
-      },
+      acts_then told kept front (act ∷ []) ⊤
+          (steps_answered told kept front front 0 out.0 outcome ticket ⊤ out.2 (moves_none (told front.stream) front.output) made.input
+          (ap (λ (t : Turn). t.number) made.turn) (ap is_some (ap (λ (t : Turn). t.drops) made.turn)) (c.requires.whole, made.unsent))
+          c.opened.ensures,
     )
 
 pub serve_front-past-requires : goal.serve_front-past-requires

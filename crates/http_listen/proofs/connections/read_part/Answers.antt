@@ -10,5 +10,5 @@ returns-clause-acts g c =
     record { input = sent.beside.input; number = sent.beside.number; drops = sent.beside.drops } in
     let act = fetched_act g.S.Talks.told g.H.Downloads.reads c.args.handler.now c.add_part-outcome.new.handler c.args.kept c.send_part-ending.new.self
     c.args.unsent c.args.kept.output c.add_part-outcome.new.output c.add_part-outcome.result c.send_part-ending.result c.requires.rest c.requires.sent
-    c.requires.sent made.read made.added made.same sent.moves beside sent.unsent sent.failed in
+    c.requires.sent made.read made.added made.same sent.moves beside sent.unsent sent.failed sent.rest in
     (fetched c.args.unsent.ticket c.args.unsent.at act.0 act.1, act.2, act.3, act.4)

@@ -1,24 +1,16 @@
-use Rattle.std.proofs.Common.{subst}
-use Rattle.http_listen.specs.declared.places.Places.{Places}
-use Rattle.http_listen.specs.Goes.{Seats}
-use Rattle.http_listen.specs.Places.{kept_at, next_key}
+use Rattle.std.proofs.Common.{◌≡◌, [], ◌∷◌, None}
+use Rattle.http_listen.proofs.RoomLemmas.{acts_then, passes_both, passes_less}
 use Rattle.http_listen.proofs.connections.send_part.Goals as goal
 
 pub returns-clause-acted : goal.returns-clause-acted
 returns-clause-acted g c =
+    let told = g.S.Talks.told in
     let did = c.read_part-kept.ensures.acts in
-    let put = c.keep_or_end.ensures in (
+    let now = c.read_part-kept.result.kept in (
       did.0,
       did.1,
-      record {
-        mid = c.read_part-kept.result.kept;
-        last = put.0;
-        ending = c.read_part-kept.result.ending;
-        steps = did.2;
-        number = put.1;
-        same = put.2;
-        key = next_key c.args.room.now.places;
-        seats = subst (λ (p : Places g.row.S.Denot). Seats (kept_at p) (next_key p) put.0 (kept_at c.keep_or_end.new.self.places))
-            c.read_part-kept.ensures.places put.3;
-      },
+      rw (← c.read_part-kept.ensures.places) (
+          acts_then told c.args.kept now (did.0 ∷ []) (c.read_part-kept.result.ending ≡ None) did.2
+          (passes_both told (passes_less told now _ _ (λ e. e.0)) c.keep_or_end.ensures)
+          ),
     )

@@ -1,19 +1,18 @@
-use Rattle.std.proofs.Common.{◌++◌, ◌∷◌, [], arith, refl}
+use Rattle.std.proofs.Common.{◌++◌, ◌∷◌, [], arith, refl, le_antisymm}
 use Rattle.std.proofs.lemmas.Bool.{ltb-true}
 use Rattle.http_listen.specs.Conversations.{deeds_of}
 use Rattle.http_listen.specs.Places.{kept_at}
 use Rattle.http_listen.proofs.AllLemmas.{runs_both}
 use Rattle.http_listen.proofs.Laws.{serves_first, serves_answer, serves_part}
-use Rattle.http_listen.proofs.Ledgers.{ledger_none, ledger_goes, ledger_new, ledger_left}
-use Rattle.http_listen.proofs.StepLemmas.{talking_new}
-use Rattle.http_listen.proofs.connections.serve_on.Goals.{in-New, in-Asks, in-Reads, in-Nothing}
+use Rattle.http_listen.proofs.Sessions.{Session, session_none, session_goes, session_acts, session_new, are_over, in_order}
+use Rattle.http_listen.proofs.connections.serve_on.Goals.{in-New, in-Asks, in-Reads, in-Nothing, else-turns-test, then-turns-test+in-Over}
 use Rattle.http_listen.proofs.connections.serve_on.Goals as goal
 
 pub turns-init : goal.turns-init
 turns-init g c = (
   ([], refl, refl, tt),
   omega arith,
-  ([], refl, ledger_none g.L.Stream.Talks.told (kept_at c.new-room.result.places) c.new-room.ensures),
+  ([], refl, session_none g.L.Stream.Talks.told c.new-room.ensures),
 )
 
 pub turns-preserved : goal.turns-preserved
@@ -26,65 +25,98 @@ turns-preserved g c =
     let prepares = g.H.Prepares.prepares in
     let begun = c.turns.begun in
     let done = c.turns.invariant.2 in
-    let old = kept_at c.turns.room.places in
-    let now = kept_at c.find.new.self.places in
     elim c.match-find.branch [
-      | in-New w ↦ rw (w.handler-is, w.begun-is, w.room-is) (
+      | in-New w ↦ rw (w.handler-is, w.begun-is, w.room-is, w.log-is) (
         serves_first replies fails reads prepares begun c.args.handler.now c.turns.handler _ c.turns.invariant.0 w.open.ensures.comes,
         omega (arith, ltb-true c.turns.begun c.args.connections (c.find.ensures.wanted w.in-New.stream w.in-New.is)),
         (
-            let found = w.in-New.ensures.goes in
             let kept = w.new-kept.result in
             let made = w.new-kept.ensures in
-            let act = w.open.ensures.acted in
-            let before = ledger_goes told begun done.0 found.mid now (ledger_goes told begun done.0 old found.mid done.2 found.before) found.turn in (
+            let act = w.open.ensures.acted in (
               done.0 ++ deeds_of kept.turn.number (act.0 ∷ []),
               runs_both replies fails reads tickets prepares c.args.handler.now c.turns.handler w.open.new.handler done.0
                   (deeds_of kept.turn.number (act.0 ∷ [])) done.1 (w.open.new.handler, act.1, refl),
-              ledger_new told begun done.0 now (kept_at w.open.new.room.places) kept (act.0 ∷ []) (told kept.stream) before made.number
-                  (talking_new told kept made.input made.output made.unsent) act.2,
+              session_new told kept (act.0 ∷ []) w.in-New.stream done.2 w.in-New.ensures.goes made.number made.stream made.input made.output made.unsent
+                  w.opened.ensures.opens act.2,
             )
             ),
       )
-      | in-Asks w ↦ rw (w.handler-is, w.begun-is, w.room-is) (
+      | in-Asks w ↦ rw (w.handler-is, w.begun-is, w.room-is, w.log-is) (
         serves_answer replies fails reads prepares begun c.args.handler.now c.turns.handler _ c.turns.invariant.0 w.answer.ensures.comes,
         c.turns.invariant.1,
         (
-            let found = w.in-Asks.ensures.goes in
             let kept = w.in-Asks.kept in
-            let acts = w.answer.ensures.acted in
-            let before = ledger_goes told begun done.0 old found.mid done.2 found.before in (
+            let acts = w.answer.ensures.acted in (
               done.0 ++ deeds_of kept.turn.number acts.0,
               runs_both replies fails reads tickets prepares c.args.handler.now c.turns.handler w.answer.new.handler done.0
                   (deeds_of kept.turn.number acts.0) done.1 acts.1,
-              ledger_left told begun done.0 found.mid now (kept_at w.answer.new.room.places) kept acts.0 before found.turn acts.2,
+              session_acts told kept acts.0 done.2 w.in-Asks.ensures.goes acts.2,
             )
             ),
       )
-      | in-Reads w ↦ rw (w.handler-is, w.begun-is, w.room-is) (
+      | in-Reads w ↦ rw (w.handler-is, w.begun-is, w.room-is, w.log-is) (
         serves_part replies fails reads prepares begun c.args.handler.now c.turns.handler _ c.turns.invariant.0 w.send_part.ensures.reads,
         c.turns.invariant.1,
         (
-            let found = w.in-Reads.ensures.goes in
             let kept = w.in-Reads.kept in
-            let act = w.send_part.ensures.acted in
-            let before = ledger_goes told begun done.0 old found.mid done.2 found.before in (
+            let act = w.send_part.ensures.acted in (
               done.0 ++ deeds_of kept.turn.number (act.0 ∷ []),
               runs_both replies fails reads tickets prepares c.args.handler.now c.turns.handler w.send_part.new.handler done.0
                   (deeds_of kept.turn.number (act.0 ∷ [])) done.1 (w.send_part.new.handler, act.1, refl),
-              ledger_left told begun done.0 found.mid now (kept_at w.send_part.new.room.places) kept (act.0 ∷ []) before found.turn act.2,
+              session_acts told kept (act.0 ∷ []) done.2 w.in-Reads.ensures.goes act.2,
             )
             ),
       )
-      | in-Nothing w ↦ rw (w.handler-is, w.begun-is, w.room-is) (
+      | in-Nothing w ↦ rw (w.handler-is, w.begun-is, w.room-is, w.log-is) (
         c.turns.invariant.0,
         c.turns.invariant.1,
-        (
-            let found = w.in-Nothing.ensures.goes in (
-              done.0,
-              done.1,
-              ledger_goes told begun done.0 found.mid now (ledger_goes told begun done.0 old found.mid done.2 found.before) found.turn,
-            )
-            ),
+        (done.0, done.1, session_goes told done.2 w.in-Nothing.ensures.goes),
       )
     ]
+
+pub returns-then-begun-connections-clause-named : goal.returns-then-begun-connections-clause-named
+returns-then-begun-connections-clause-named g c =
+    let told = g.L.Stream.Talks.told in
+    let marks = g.W.Logs.marks in
+    let begun = c.turns.begun in
+    let done = c.turns.invariant.2 in
+    let first = marks c.args.log.now in
+    let last = marks c.close_all.new.log in
+    let places = kept_at c.close_all.new.self.places in
+    let before : Session told begun done.0 first (marks c.turns-test.log) (kept_at c.turns-test.room.places) =
+    elim c.turns-test.branch [
+      | else-turns-test w ↦ rw (w.log-is, w.room-is) done.2
+      | then-turns-test+in-Over w ↦ rw (w.log-is, w.room-is) (session_goes told done.2 w.in-Over.ensures.goes)
+    ] in
+    let closed : Session told begun done.0 first last places = session_goes told before c.close_all.ensures.goes in (
+      done.0,
+      done.1,
+      in_order told begun done.0 first last places c.close_all.ensures.none closed c.args.connections c.turns.invariant.1,
+      (begun, c.turns.invariant.1, tt, are_over told begun done.0 first last places c.close_all.ensures.none closed),
+    )
+
+pub returns-clause-named : goal.returns-clause-named
+returns-clause-named g c =
+    let told = g.L.Stream.Talks.told in
+    let marks = g.W.Logs.marks in
+    let begun = c.turns.begun in
+    let done = c.turns.invariant.2 in
+    let first = marks c.args.log.now in
+    let last = marks c.close_all.new.log in
+    let places = kept_at c.close_all.new.self.places in
+    let before : Session told begun done.0 first (marks c.turns-test.log) (kept_at c.turns-test.room.places) =
+    elim c.turns-test.branch [
+      | else-turns-test w ↦ rw (w.log-is, w.room-is) done.2
+      | then-turns-test+in-Over w ↦ rw (w.log-is, w.room-is) (session_goes told done.2 w.in-Over.ensures.goes)
+    ] in
+    let closed : Session told begun done.0 first last places = session_goes told before c.close_all.ensures.goes in (
+      done.0,
+      done.1,
+      in_order told begun done.0 first last places c.close_all.ensures.none closed c.args.connections c.turns.invariant.1,
+      (
+        begun,
+        c.turns.invariant.1,
+        le_antisymm c.turns.invariant.1 c.if-begun-connections.false,
+        are_over told begun done.0 first last places c.close_all.ensures.none closed,
+      ),
+    )

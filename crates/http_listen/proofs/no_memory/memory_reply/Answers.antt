@@ -2,6 +2,7 @@ use Rattle.std.proofs.Common.{◌≡◌, ℕ, List, [], ◌∷◌, ◌++◌, cod
 use Rattle.std.proofs.lemmas.Fmt.{decimal_digit, decimal_step}
 use Rattle.http_values.specs.Phrases.{phrase_of}
 use Rattle.http_serve.specs.Reply.{reply_head, word_line, type_name, length_line, closing_line, line_end, reply_bytes, refused_by}
+use Rattle.http_listen.specs.NoMemory.{no_memory}
 use Rattle.http_listen.proofs.no_memory.memory_reply.Goals as goal
 
 -- the numbers of the reply, in digits
@@ -24,5 +25,12 @@ as_digits : reply_bytes true false (refused_by 503 (codes "Memory\n")) ≡ with_
 unfolding reply_head word_line type_name length_line closing_line phrase_of
 as_digits = refl
 
-pub returns : goal.returns
-returns c = rw (as_digits, ap (λ (s : List ℕ). with_digits s (decimal 7)) status, ap (λ (s : List ℕ). with_digits (codes "503") s) size) refl
+pub returns-clause-spelled : goal.returns-clause-spelled
+returns-clause-spelled c = rw (as_digits, ap (λ (s : List ℕ). with_digits s (decimal 7)) status, ap (λ (s : List ℕ). with_digits (codes "503") s) size) refl
+
+named : reply_bytes true false (refused_by 503 (codes "Memory\n")) ≡ no_memory
+unfolding no_memory
+named = refl
+
+pub returns-clause-same : goal.returns-clause-same
+returns-clause-same c = returns-clause-spelled c ∙ named

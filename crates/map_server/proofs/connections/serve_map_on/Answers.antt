@@ -1,5 +1,5 @@
 use Rattle.std.proofs.Common.{subst}
-use Rattle.map_server.proofs.Chains.{ServiceServes, stretches_run}
+use Rattle.map_server.proofs.Chains.{ServiceRuns, ServiceServes, deeds_run, stretches_run}
 use Rattle.map_server.proofs.Told.{told_ok, told_err}
 use Rattle.map_server.proofs.connections.serve_map_on.Goals as goal
 
@@ -18,3 +18,11 @@ returns-clause-fewer g c = told_err c.serve_on.result _ _
     (subst (λ s. ServiceServes d.sectors d.honest d.history d.faults s is.0 c.serve_on.new.handler) c.forget.ensures is.1) in
     (is.0, is.2, is.3, told.0, told.1, told.2, told.3, told.4))
     c.serve_on.ensures.fewer_known
+
+pub returns-clause-named : goal.returns-clause-named
+returns-clause-named g c =
+    let d = g.D.Sectors in
+    let named = c.serve_on.ensures.named in
+    let told = deeds_run d.sectors d.honest d.history d.faults c.args.service.now named.0 c.serve_on.new.handler
+    (subst (λ s. ServiceRuns d.sectors d.honest d.history d.faults s named.0 c.serve_on.new.handler) c.forget.ensures named.1) in
+    (named.0, told.0, told.1, told.2, told.3, told.4, told.5, told.6, named.2, named.3)

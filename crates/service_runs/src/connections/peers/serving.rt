@@ -4,6 +4,7 @@ use super::{Gathered, Peer, Room, Watch};
 use crate::connections::stands::Map;
 use crate::connections::texts::tell_bytes;
 use crate::narrow::{Narrow, Narrowness, WIDE};
+use http_listen::Log;
 use map_server::serve_map_on;
 use script_bytes::Answer;
 use std::alloc::Global;
@@ -22,7 +23,8 @@ fn serve<'a>(
     let watch = Watch { now: &now };
     let mut listener = Listener::new(peers, accepts, room, watch);
     let count = peers.len() as u64;
-    let ended = serve_map_on(&watch, alloc, &mut listener, count, map, log);
+    let mut lines = Log::new(log);
+    let ended = serve_map_on(&watch, alloc, &mut listener, count, map, &mut lines);
     (ended.is_err(), now.get())
 }
 

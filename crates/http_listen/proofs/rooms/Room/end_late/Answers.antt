@@ -1,17 +1,13 @@
-use Rattle.http_listen.specs.Places.{kept_at}
-use Rattle.http_listen.proofs.RoomLemmas.{goes_none, goes_both}
+use Rattle.http_listen.proofs.RoomLemmas.{passes_both, passes_none}
 use Rattle.http_listen.proofs.rooms.Room.end_late.Goals.{then-deadline-time, else-deadline-time}
 use Rattle.http_listen.proofs.rooms.Room.end_late.Goals as goal
 
 pub looks-init : goal.looks-init
-looks-init g c = goes_none g.S.Talks.told (kept_at c.args.self.now.places)
+looks-init g c = passes_none g.S.Talks.told
 
 pub looks-preserved : goal.looks-preserved
 looks-preserved g c =
     elim c.if-deadline-time.branch [
-      | then-deadline-time w ↦ rw w.self-is (
-          goes_both g.S.Talks.told (kept_at c.args.self.now.places) (kept_at c.looks.self.places)
-          (kept_at w.end_at.new.self.places) c.looks.invariant w.end_at.ensures
-          )
-      | else-deadline-time w ↦ rw w.self-is c.looks.invariant
+      | then-deadline-time w ↦ rw (w.log-is, w.self-is) (passes_both g.S.Talks.told c.looks.invariant w.end_at.ensures)
+      | else-deadline-time w ↦ rw (w.log-is, w.self-is) c.looks.invariant
     ]

@@ -1,59 +1,49 @@
-use Rattle.std.proofs.Common.{rules, ◌≡◌, ℕ, None, refl, sym, subst}
-use Rattle.http_listen.specs.Goes.{Seats}
-use Rattle.http_listen.specs.Places.{kept_at}
-use Rattle.http_listen.proofs.RoomLemmas.{goes_none, taken_goes, seats_go, rests_on}
+use Rattle.std.proofs.Common.{rules, ◌≡◌, None, sym, ◌∙◌}
+use Rattle.http_listen.proofs.RoomLemmas.{passes_both, passes_empty, passes_gone, passes_none, passes_out, passes_rest, passes_take, passes_turn}
 use Rattle.http_listen.proofs.rooms.Room.give_turn.Goals.{in-Rests, in-Closes}
 use Rattle.http_listen.proofs.rooms.Room.give_turn.Goals as goal
 
 pub returns-in_err-self-clause-goes : goal.returns-in_err-self-clause-goes
 returns-in_err-self-clause-goes g c =
     let none : c.from_residual.result ≡ None = search rules in
-    rw none (goes_none g.S.Talks.told (kept_at c.args.self.now.places))
+    rw none (passes_none g.S.Talks.told)
 
 pub returns-in_err-key-clause-goes : goal.returns-in_err-key-clause-goes
 returns-in_err-key-clause-goes g c =
     let none : c.from_residual-in_err-key.result ≡ None = search rules in
-    rw none (goes_none g.S.Talks.told (kept_at c.args.self.now.places))
+    rw none (passes_none g.S.Talks.told)
 
 pub returns-in_err-kept-clause-goes : goal.returns-in_err-kept-clause-goes
 returns-in_err-kept-clause-goes g c =
     let none : c.from_residual-in_err-kept.result ≡ None = search rules in
-    rw none (taken_goes g.S.Talks.told (kept_at c.args.self.now.places) (kept_at c.take.new.self) c.in_ok-key.key c.take.ensures.none c.take.ensures.others)
+    let absent : c.take.result ≡ None = search rules in
+    rw none (passes_empty g.S.Talks.told c.in_ok-key.key (sym c.take.ensures.taken ∙ absent) c.take.ensures.none c.take.ensures.others)
 
 pub returns-in-Asks-clause-goes : goal.returns-in-Asks-clause-goes
-returns-in-Asks-clause-goes g c = record {
-  key = c.in_ok-key.key;
-  before = c.in_ok-kept.kept;
-  there = sym c.in_ok-kept.ensures.taken;
-  steps = c.in-Asks.ensures.0;
-  opened = c.in-Asks.ensures.3;
-  none = c.take.ensures.none;
-  others = c.take.ensures.others;
-}
+returns-in-Asks-clause-goes g c =
+    let told = g.S.Talks.told in
+    passes_both told (passes_take told c.in_ok-key.key c.in_ok-kept.kept (sym c.in_ok-kept.ensures.taken) c.take.ensures.none c.take.ensures.others)
+    (passes_out told c.in_ok-kept.kept c.take_turn.new.self c.in-Asks.ensures.0 c.in-Asks.ensures.3)
 
 pub returns-in-Reads-clause-goes : goal.returns-in-Reads-clause-goes
-returns-in-Reads-clause-goes g c = record {
-  key = c.in_ok-key.key;
-  before = c.in_ok-kept.kept;
-  there = sym c.in_ok-kept.ensures.taken;
-  steps = c.in-Reads.ensures.0;
-  opened = c.in-Reads.ensures.3;
-  none = c.take.ensures.none;
-  others = c.take.ensures.others;
-}
+returns-in-Reads-clause-goes g c =
+    let told = g.S.Talks.told in
+    passes_both told (passes_take told c.in_ok-key.key c.in_ok-kept.kept (sym c.in_ok-kept.ensures.taken) c.take.ensures.none c.take.ensures.others)
+    (passes_out told c.in_ok-kept.kept c.take_turn.new.self c.in-Reads.ensures.0 c.in-Reads.ensures.3)
 
 pub returns-clause-goes : goal.returns-clause-goes
 returns-clause-goes g c =
-    let old = kept_at c.args.self.now.places in
-    let mid = kept_at c.take.new.self in
-    let key = c.in_ok-key.key in
-    let taken = c.in_ok-kept.ensures in
+    let told = g.S.Talks.told in
+    let kept = c.in_ok-kept.kept in
+    let now = c.take_turn.new.self in
+    passes_both told (passes_take told c.in_ok-key.key kept (sym c.in_ok-kept.ensures.taken) c.take.ensures.none c.take.ensures.others)
+    (
     elim c.match-take_turn.branch [
-      | in-Rests w ↦ rw w.self-is (
-          let put = w.keep_or_end.ensures in
-          seats_go g.S.Talks.told old mid (kept_at w.keep_or_end.new.self.places) key c.in_ok-kept.kept put.0 (sym taken.taken) taken.none taken.others
-          (subst (λ (k : ℕ). Seats mid k put.0 (kept_at w.keep_or_end.new.self.places)) (taken.next refl) put.3)
-          (rests_on g.S.Talks.told c.in_ok-kept.kept c.take_turn.new.self put.0 _ w.in-Rests.ensures put.1 put.2)
+      | in-Rests w ↦ rw (w.log-is, w.self-is) (
+          passes_both told (passes_rest told kept now w.in-Rests.ending w.in-Rests.ensures) w.keep_or_end.ensures
           )
-      | in-Closes w ↦ rw w.self-is (taken_goes g.S.Talks.told old mid key taken.none taken.others)
+      | in-Closes w ↦ rw (w.log-is, w.self-is) (
+          passes_both told (passes_turn told kept now ⊥ w.in-Closes.ensures) (passes_gone told now _ w.close.ensures)
+          )
     ]
+    )

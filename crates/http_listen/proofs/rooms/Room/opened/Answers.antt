@@ -1,18 +1,13 @@
-use Rattle.std.proofs.Common.{refl}
-use Rattle.http_listen.specs.Places.{kept_at, next_key}
-use Rattle.http_listen.proofs.RoomLemmas.{seats_kept}
+use Rattle.http_listen.proofs.RoomLemmas.{passes_both, passes_less, passes_same}
 use Rattle.http_listen.proofs.rooms.Room.opened.Goals as goal
 
 pub returns-then-is_err : goal.returns-then-is_err
-returns-then-is_err g c =
-    let put = c.keep_or_end.ensures in
-    (put.0, put.1, λ e. (put.2 e).1, put.3)
+returns-then-is_err g c = passes_both g.S.Talks.told (passes_less g.S.Talks.told c.args.kept _ _ (λ e. tt)) c.keep_or_end.ensures
 
 pub returns-in-Some : goal.returns-in-Some
-returns-in-Some g c = (
-  c.args.kept,
-  refl,
-  λ e. refl,
-  seats_kept (kept_at c.args.self.now.places) (kept_at c.keep.new.self.places) (kept_at c.move_first.new.self) (next_key c.args.self.now.places) c.args.kept
-      c.keep.ensures c.move_first.ensures,
-)
+returns-in-Some g c =
+    let told = g.S.Talks.told in
+    passes_both told (passes_less told c.args.kept _ _ (λ e. tt)) (passes_both told c.keep.ensures (passes_same told c.move_first.ensures))
+
+pub returns-in_default : goal.returns-in_default
+returns-in_default g c = passes_both g.S.Talks.told (passes_less g.S.Talks.told c.args.kept _ _ (λ e. tt)) c.keep.ensures
