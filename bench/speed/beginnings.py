@@ -4,8 +4,8 @@
     python3 bench/speed/beginnings.py [PROGRAM]    PROGRAM is crates/vtserve/out/vtserve, which `rt ci` leaves there
 
 Two maps, put by batches over HTTP: the city of city_features.py, and 100,000 points with five tags, at random in 5 by 4 tiles of zoom 12. Each
-is published three times, beside a reader that asks for a feature again and again, and three times at once, and the server started five times; all
-are printed.
+is published three times by steps and three times at once, beside a reader that asks for a feature again and again, and three times each beside
+nobody, and the server started five times; all are printed.
 """
 import http.client
 import json
@@ -117,6 +117,13 @@ def alone(connection):
     return begin
 
 
+def whole_beside(connection, port):
+    """How long a whole publication takes beside a reader, and how long that waited at most."""
+    with Reader(port) as reader:
+        _, took = posted(connection, "/publish")
+    return took, reader.longest
+
+
 def in_ms(times):
     return ", ".join(f"{took * 1000:.0f}" for took in times)
 
@@ -133,9 +140,11 @@ def measured(name, feature, count, sectors, folder):
     each = [first] + [published(connection, port) for _ in range(2)]
     lone = [alone(connection) for _ in range(3)]
     whole = [posted(connection, "/publish")[1] for _ in range(3)]
+    beside = [whole_beside(connection, port) for _ in range(3)]
     ended(server)
     print(f"{name}: beginnings of {in_ms(one[0] for one in each)} ms beside a reader, who waits {in_ms(one[1] for one in each)} ms at most; of {in_ms(lone)} ms "
           f"beside nobody; whole publications of {in_ms(whole)} ms")
+    print(f"{name}: whole publications of {in_ms(one[0] for one in beside)} ms beside a reader, who waits {in_ms(one[1] for one in beside)} ms at most")
     print(f"{name}: at rest {rest} KB, at the first peak {peak} KB: above rest {(peak - rest) * 1024 / archive:.2f} times the archive of {archive} bytes")
     starts = []
     for _ in range(5):

@@ -6,6 +6,10 @@ import subprocess
 
 from stand import BYTES, JSON, Server, archive, curl, feature, field, refusal, same, status_of, wanted
 
+# What changes the map or publishes it, and is refused under a condition that names a tag.
+CHANGES = [("/features/7", "PUT"), ("/features/7", "DELETE"), ("/edits", "POST"), ("/publish", "POST"), ("/publish/begin", "POST"),
+           ("/publish/cancel", "POST"), ("/admin/edits", "POST")]
+
 
 def tags(cases, folder):
     """Entity tags and conditions, with --etags."""
@@ -35,7 +39,7 @@ def tags(cases, folder):
         same(cases, "another archive has another tag", curl(url + "/map.pmtiles", "-H", f"If-None-Match: {before}"), wanted(200, BYTES, whole, more=tag))
         mirror(cases, "", folder, url)
         for condition in ('If-Match: "x"', 'If-None-Match: "a"'):
-            for path, method in (("/features/7", "PUT"), ("/features/7", "DELETE"), ("/edits", "POST"), ("/publish", "POST"), ("/admin/edits", "POST")):
+            for path, method in CHANGES:
                 reply = curl(url + path, "-X", method, "-H", condition, body=feature())
                 same(cases, f"{method} {path} under {condition}", reply, refusal(412, "Condition"))
         same(cases, "a DELETE under if-match: *", curl(url + "/features/7", "-X", "DELETE", "-H", "If-Match: *"), wanted(200, JSON, '{"edit":2}'))

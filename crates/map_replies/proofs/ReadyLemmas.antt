@@ -23,7 +23,7 @@ use Rattle.map_replies.specs.declared.preparing.PreparingReplies.{PreparingRepli
 use Rattle.map_replies.specs.declared.service.MapReplies.{MapReplies}
 use Rattle.map_replies.specs.Conditions.{AskView}
 use Rattle.map_replies.specs.Meanings.{asked_for}
-use Rattle.map_replies.specs.Preparing.{IsReady, IsToBegin, IsToPublishWhole, BeginsLate, PreparingStep, asks_to_publish, inner_service}
+use Rattle.map_replies.specs.Preparing.{IsReady, IsToBegin, IsToPublishWhole, MayPost, BeginsLate, PreparingStep, asks_to_publish, inner_service}
 use Rattle.map_replies.specs.Sending.{SendsMethod}
 use Rattle.map_replies.specs.State.{access_of, asked_service}
 
@@ -73,17 +73,21 @@ module _ {D : Type 0} where
 
 module _ {D : Type 0} where
   pub to_begin : (old : MapReplies D) (request : RequestView) (asked : Asked) (name : List ℕ) → asked ≡ asked_for (access_of old) request
-      → name ≡ request.method → (asked ≡ asked_action PublishBegin) × (method_on name asked ≡ Ok Post) → IsToBegin old request
-  to_begin old request asked name is same begins = (
+      → name ≡ request.method → (asked ≡ asked_action PublishBegin) × (method_on name asked ≡ Ok Post)
+      → MayPost old request → IsToBegin old request
+  to_begin old request asked name is same begins may = (
     sym is ∙ begins.0,
     subst (λ (a : Asked). method_on request.method a ≡ Ok Post) is (subst (λ (n : List ℕ). method_on n asked ≡ Ok Post) same begins.1),
+    may,
   )
 
   pub to_publish : (old : MapReplies D) (request : RequestView) (asked : Asked) (name : List ℕ) → asked ≡ asked_for (access_of old) request
-      → name ≡ request.method → (asked ≡ asked_action Publish) × (method_on name asked ≡ Ok Post) → IsToPublishWhole old request
-  to_publish old request asked name is same publishes = (
+      → name ≡ request.method → (asked ≡ asked_action Publish) × (method_on name asked ≡ Ok Post)
+      → MayPost old request → IsToPublishWhole old request
+  to_publish old request asked name is same publishes may = (
     sym is ∙ publishes.0,
     subst (λ (a : Asked). method_on request.method a ≡ Ok Post) is (subst (λ (n : List ℕ). method_on n asked ≡ Ok Post) same publishes.1),
+    may,
   )
 
 module _ {D : Type 0} (sectors : D → ℕ) (honest : D → Type 0) (history : D → History) (faults : D → ℕ) where

@@ -24,8 +24,9 @@ use Rattle.tile_service.specs.declared.status.Status.{Status}
 use Rattle.map_replies.specs.declared.calls.Calls.{Calls}
 use Rattle.map_replies.specs.declared.preparing.PreparingReplies.{PreparingReplies}
 use Rattle.map_replies.specs.declared.service.MapReplies.{MapReplies}
+use Rattle.map_replies.specs.Conditions.{ask_of, needed, refuses}
 use Rattle.map_replies.specs.Meanings.{DiskFailed, asked_for, last_outcome}
-use Rattle.map_replies.specs.State.{access_of, asked_service, settings_of, sending_size, sending_ticket, ServiceReplies, ServiceSends, ServiceFails}
+use Rattle.map_replies.specs.State.{access_of, tags_of, asked_service, settings_of, sending_size, sending_ticket, ServiceReplies, ServiceSends, ServiceFails}
 use Rattle.map_replies.specs.State.{ServiceReads}
 use Rattle.map_replies.specs.State.{course, KeepsArchivesOn, Tells, TellsCut}
 use Rattle.map_replies.specs.Tickets.{KeepsTickets, oldest_after}
@@ -43,15 +44,19 @@ asks_to_publish asked = false
 abbrev pub is_to_publish : {D : Type 0} → MapReplies D → RequestView → Bool
 is_to_publish replies request = asks_to_publish (asked_for (access_of replies) request)
 
+-- its conditions, if replies have entity tags, don't refuse what it posts
+abbrev pub MayPost : {D : Type 0} → MapReplies D → RequestView → Type 0
+MayPost replies request = refuses (needed (ask_of (tags_of replies) request)) Post ≡ false
+
 -- it asks for the beginning of a publication by steps
 abbrev pub IsToBegin : {D : Type 0} → MapReplies D → RequestView → Type 0
 IsToBegin replies request = (asked_for (access_of replies) request ≡ asked_action PublishBegin)
-    × (method_on request.method (asked_for (access_of replies) request) ≡ Ok Post)
+    × (method_on request.method (asked_for (access_of replies) request) ≡ Ok Post) × MayPost replies request
 
 -- it asks for a whole publication
 abbrev pub IsToPublishWhole : {D : Type 0} → MapReplies D → RequestView → Type 0
 IsToPublishWhole replies request = (asked_for (access_of replies) request ≡ asked_action Publish)
-    × (method_on request.method (asked_for (access_of replies) request) ≡ Ok Post)
+    × (method_on request.method (asked_for (access_of replies) request) ≡ Ok Post) × MayPost replies request
 
 -- the service, without a publication in the making
 abbrev pub undrafted : {D : Type 0} → ServiceView D → ServiceView D

@@ -9,7 +9,7 @@ ghost use Rattle.tile_routes.specs.declared.method.Method.TheVariants.{Post};
 ghost use Rattle.tile_routes.specs.declared.target.Action.TheVariants.{Publish, PublishBegin};
 ghost use Rattle.map_replies.specs.declared.replies.TheConstants.{MAX_TEXT};
 ghost use Rattle.map_replies.specs.Meanings.{asked_for};
-ghost use Rattle.map_replies.specs.Preparing.{asks_to_publish, without_draft, inner_size, BeginsLate, PublishesLate, IsReady};
+ghost use Rattle.map_replies.specs.Preparing.{asks_to_publish, without_draft, inner_size, BeginsLate, MayPost, PublishesLate, IsReady};
 ghost use Rattle.map_replies.specs.Preparing.{PreparingReplied, PreparingSends, PreparingStep};
 ghost use Rattle.map_replies.specs.State.{access_of};
 ghost use Rattle.map_replies.specs.Words.{left_reply, published_reply};
@@ -192,9 +192,11 @@ impl<D: Sectors + Drop> PreparingReplies<D> {
         false
     }
 
-    /// Memory for the late answer to a beginning, if that is what is asked for and a publication in the making can begin.
-    fn room_to_begin(&self, target: Target, method: &[u8]) -> Option<Vec<u8>>
-        ensures asked { IfSome result (λ _. (asked_of target ≡ asked_action PublishBegin) × (method_on method.now (asked_of target) ≡ Ok Post)) }
+    /// Memory for the late answer to a beginning, if that is what is asked for, by a request whose conditions don't refuse it, and the publication in
+    /// the making is of that request and can begin.
+    fn room_to_begin(&self, target: Target, request: &Request<'_>) -> Option<Vec<u8>>
+        ensures asked { IfSome result (λ _. (asked_of target ≡ asked_action PublishBegin) × (method_on request.now.method (asked_of target) ≡ Ok Post)) }
+        ensures may { IfSome result (λ _. MayPost self.now.replies request.now) }
         ensures ready { IfSome result (λ _. IsReady self.now.replies.calls.service) }
         ensures empty { IfSome result (λ text. text.items ≡ []) }
         ensures room { IfSome result (λ text. MAX_TEXT ≤ vec_capacity text) }
@@ -202,7 +204,10 @@ impl<D: Sectors + Drop> PreparingReplies<D> {
         if !self.is_next {
             return None;
         }
-        if !is_to_begin(target, method) {
+        if !is_to_begin(target, request.method) {
+            return None;
+        }
+        if self.replies.refuses_post(request) {
             return None;
         }
         if !self.replies.calls.is_ready() {
@@ -215,8 +220,9 @@ impl<D: Sectors + Drop> PreparingReplies<D> {
     }
 
     /// The same for a whole publication.
-    fn room_to_publish(&self, target: Target, method: &[u8]) -> Option<Vec<u8>>
-        ensures asked { IfSome result (λ _. (asked_of target ≡ asked_action Publish) × (method_on method.now (asked_of target) ≡ Ok Post)) }
+    fn room_to_publish(&self, target: Target, request: &Request<'_>) -> Option<Vec<u8>>
+        ensures asked { IfSome result (λ _. (asked_of target ≡ asked_action Publish) × (method_on request.now.method (asked_of target) ≡ Ok Post)) }
+        ensures may { IfSome result (λ _. MayPost self.now.replies request.now) }
         ensures ready { IfSome result (λ _. IsReady self.now.replies.calls.service) }
         ensures empty { IfSome result (λ text. text.items ≡ []) }
         ensures room { IfSome result (λ text. MAX_TEXT ≤ vec_capacity text) }
@@ -224,7 +230,10 @@ impl<D: Sectors + Drop> PreparingReplies<D> {
         if !self.is_next {
             return None;
         }
-        if !is_to_publish_whole(target, method) {
+        if !is_to_publish_whole(target, request.method) {
+            return None;
+        }
+        if self.replies.refuses_post(request) {
             return None;
         }
         if !self.replies.calls.is_ready() {
@@ -260,7 +269,7 @@ impl<D: Sectors + Drop> PreparingReplies<D> {
             × (inner_size self.new ≡ length reply.content)) }
         ensures writable { HasShortWords (head_view result) }
     {
-        match self.room_to_publish(target, request.method) {
+        match self.room_to_publish(target, request) {
             Some(text) => self.replies.calls.publish_ready(text),
             None => self.answer_without_draft(target, request),
         }
@@ -276,7 +285,7 @@ impl<D: Sectors + Drop> PreparingReplies<D> {
             × (inner_size self.new ≡ length reply.content)) }
         ensures writable { HasShortWords (head_view result) }
     {
-        match self.room_to_begin(target, request.method) {
+        match self.room_to_begin(target, request) {
             Some(text) => self.replies.calls.begin_ready(text),
             None => self.answer_whole(target, request),
         }

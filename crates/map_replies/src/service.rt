@@ -3,6 +3,8 @@ ghost use Rattle.std.specs.Prelude.{◌≡◌, length};
 ghost use Rattle.http_serve.specs.Reply.{ReplyView, IsReply, InParts, HasShortWords, head_view};
 ghost use Rattle.http_serve.specs.declared.connection.TheConstants.{MAX_READS};
 ghost use Rattle.tile_routes.specs.Targets.{asked_of};
+ghost use Rattle.tile_routes.specs.declared.method.Method.TheVariants.{Post};
+ghost use Rattle.map_replies.specs.Conditions.{ask_of, needed, refuses};
 ghost use Rattle.map_replies.specs.Meanings.{asked_for};
 ghost use Rattle.map_replies.specs.Served.{ServesMap};
 
@@ -17,7 +19,7 @@ use http_serve::{
 use sector_disk::Sectors;
 use std::alloc::Global;
 use std::io::{Read, Write};
-use tile_routes::{Access, Routes, Target};
+use tile_routes::{Access, Method, Routes, Target};
 use tile_service::Service;
 
 /// How a map is served.
@@ -40,7 +42,7 @@ pub struct MapReplies<D: Sectors + Drop> {
 }
 
 impl<D: Sectors + Drop> MapReplies<D> {
-    ghost use Rattle.map_replies.specs.State.{access_of, asked_service, settings_of, sending_size, ServiceReplies, ServiceSends};
+    ghost use Rattle.map_replies.specs.State.{access_of, tags_of, asked_service, settings_of, sending_size, ServiceReplies, ServiceSends};
 
     /// The handler of requests for those of these routes that the settings name, over this service.
     pub fn new(
@@ -75,6 +77,17 @@ impl<D: Sectors + Drop> MapReplies<D> {
         self.routes
             .target(request.path)
             .granted(self.settings.access)
+    }
+
+    /// Whether the conditions of a request refuse what it posts.
+    pub(crate) fn refuses_post(&self, request: &Request<'_>) -> bool
+        ensures { result ≡ refuses (needed (ask_of (tags_of self.now) request.now)) Post }
+    {
+        let ask = Ask {
+            fields: &request.fields,
+            tags: self.settings.tags,
+        };
+        ask.refuses(Method::Post)
     }
 
     /// Answers a request that asks for this.

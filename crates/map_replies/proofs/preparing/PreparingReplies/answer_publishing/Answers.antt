@@ -13,7 +13,7 @@ returns-in-Some-clause-replied g c =
     (record old { replies = record old.replies { calls = c.begin_ready.new.self } })) _ c.begin_ready.result c.begin_ready.ensures.writable
     (inr (inl (
       late.0,
-      to_begin old.replies c.args.request.now _ _ c.requires.asked (ap (λ r. r.method) c.request.view_is) c.in-Some.ensures.asked,
+      to_begin old.replies c.args.request.now _ _ c.requires.asked refl c.in-Some.ensures.asked c.in-Some.ensures.may,
       late.1,
       refl,
       late.2,

@@ -13,7 +13,7 @@ returns-in-Some-clause-replied g c =
     (record old { replies = record old.replies { calls = c.publish_ready.new.self } })) _ c.publish_ready.result c.publish_ready.ensures.writable
     (inr (inr (
       late.0,
-      to_publish old.replies c.args.request.now _ _ c.requires.asked (ap (λ r. r.method) c.request.view_is) c.in-Some.ensures.asked,
+      to_publish old.replies c.args.request.now _ _ c.requires.asked refl c.in-Some.ensures.asked c.in-Some.ensures.may,
       late.1,
       refl,
       late.2,
