@@ -39,6 +39,11 @@ with --once once all edits are followed."""}
 LOOK = 10
 
 
+def say(line, out=sys.stdout):
+    """Prints a line by one call: of two threads that print one, none comes between the other's line and its end."""
+    print(line + "\n", end="", file=out, flush=True)
+
+
 class Follower:
     """Passes the edits of a server on to one standby, or to a log."""
 
@@ -57,9 +62,9 @@ class Follower:
             self.status = 0
         except Fault as fault:
             self.status = fault.status
-            print(f"{self.sink.address}: {fault}", file=sys.stderr, flush=True)
+            say(f"{self.sink.address}: {fault}", sys.stderr)
         except OSError as fault:
-            print(f"{fault}" if fault.filename else f"{self.sink.address}: {fault}", file=sys.stderr, flush=True)
+            say(f"{fault}" if fault.filename else f"{self.sink.address}: {fault}", sys.stderr)
 
     def is_done(self):
         """Passes on what there is. Returns whether it is to end."""
@@ -81,7 +86,7 @@ class Follower:
         """Finds out where the standby, or the log, is."""
         self.sink.begin(self.leader)
         if not self.is_begun:
-            print(f"{self.sink.address}: following {self.leader.address} from edit {self.sink.at + 1} on", flush=True)
+            say(f"{self.sink.address}: following {self.leader.address} from edit {self.sink.at + 1} on")
         self.is_begun = True
 
     def pass_on(self):
@@ -100,7 +105,7 @@ class Follower:
         self.looked = time.monotonic()
         generation = self.leader.known()["generation"]
         if self.generation is not None and generation != self.generation:
-            print(f"{self.leader.address} has published: so does {self.sink.address}", flush=True)
+            say(f"{self.leader.address} has published: so does {self.sink.address}")
             self.sink.publish()
         self.generation = generation
 
@@ -112,7 +117,7 @@ class Follower:
         if self.words.anew is None:
             raise Stopped(f"it has edits up to {behind.number - 1:,}, and {behind}. {ANEW.capitalize()}, and give --anew next time; `vtmap publish --pause 5` "
                           "waits for who follows")
-        print(f"{self.sink.address} has edits up to {behind.number - 1:,}, and {behind}: --anew begins it anew", flush=True)
+        say(f"{self.sink.address} has edits up to {behind.number - 1:,}, and {behind}: --anew begins it anew")
         self.sink.close()
         try:
             subprocess.run(self.words.anew, shell=True, check=True, env={**os.environ, "STANDBY": self.sink.address})
@@ -127,7 +132,7 @@ class Follower:
         self.is_begun = False
         if str(fault) != self.told:
             self.told = str(fault)
-            print(f"{fault}: waiting", flush=True)
+            say(f"{fault}: waiting")
 
 
 def work(words):
