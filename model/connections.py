@@ -238,8 +238,8 @@ def json_reply(value):
     return Reply(200, JSON, features.compact(value).encode())
 
 
-STATUS_OF_REFUSAL = {"NotFound": 404, "Gone": 410, "NumbersSpent": 500, "Busy": 409, "Idle": 409, "NeedsUpgrade": 409, "Device": 500, "Broken": 500, "JournalFull": 507, "AreaFull": 507,
-                     "TooManyTiles": 507}
+STATUS_OF_REFUSAL = {"NotFound": 404, "Gone": 410, "NumbersSpent": 500, "Busy": 409, "Idle": 409, "NeedsUpgrade": 409, "Device": 500, "Broken": 500,
+                     "JournalFull": 507, "AreaFull": 507, "TooManyTiles": 507}
 WORD_OF_LIMIT = {"Long": "E8 Long", "Reach": "E9 Reach"}
 
 

@@ -142,8 +142,8 @@ def measured(name, feature, count, sectors, folder):
     whole = [posted(connection, "/publish")[1] for _ in range(3)]
     beside = [whole_beside(connection, port) for _ in range(3)]
     ended(server)
-    print(f"{name}: beginnings of {in_ms(one[0] for one in each)} ms beside a reader, who waits {in_ms(one[1] for one in each)} ms at most; of {in_ms(lone)} ms "
-          f"beside nobody; whole publications of {in_ms(whole)} ms")
+    print(f"{name}: beginnings of {in_ms(one[0] for one in each)} ms beside a reader, who waits {in_ms(one[1] for one in each)} ms at most; "
+          f"of {in_ms(lone)} ms beside nobody; whole publications of {in_ms(whole)} ms")
     print(f"{name}: whole publications of {in_ms(one[0] for one in beside)} ms beside a reader, who waits {in_ms(one[1] for one in beside)} ms at most")
     print(f"{name}: at rest {rest} KB, at the first peak {peak} KB: above rest {(peak - rest) * 1024 / archive:.2f} times the archive of {archive} bytes")
     starts = []
