@@ -398,6 +398,7 @@ class Service:
             "area": {"sectors": layout.area, "used": whole_sectors(root.snapshot_len) + whole_sectors(root.archive_len)},
             "broken": self.broken,
             "cells": SQUARES**2,
+            "drafting": {"made": self.draft.made, "places": self.draft.moment.used} if self.draft else None,
             "edits": self.last,
             "features": len(self.map),
             "generation": root.generation,

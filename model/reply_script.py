@@ -83,7 +83,7 @@ EXAMPLES = [
     (request("PUT", "/features/7", BODY.replace(b'"minzoom":0', b'"minzoom":3')), found("text/plain", "E4 Zoom\n", "400 Bad Request")),
     (request("GET", "/admin/features/from/8"), found(JSON, f'{{"feature":{SHOWN},"id":8}}')),
     (request("GET", "/admin/features/from/9"), found("text/plain", "NotFound\n", "404 Not Found")),
-    (request("GET", "/admin/status"), found(JSON, '{"archive":223,"area":{"sectors":94,"used":2},"broken":false,"cells":1024,"edits":4,"features":2,'
+    (request("GET", "/admin/status"), found(JSON, '{"archive":223,"area":{"sectors":94,"used":2},"broken":false,"cells":1024,"drafting":null,"edits":4,"features":2,'
                                                   '"generation":2,"journal":{"places":64,"used":3},"last":8,"left":null,"published":1,"sectors":256,'
                                                   '"stale":1,"version":2}')),
     (request("POST", "/admin/edits", b'{"changes":[{"delete":8,"was":null}]}'), found("text/plain", "Changed 8\n", "409 Conflict")),

@@ -1,7 +1,12 @@
-"""How far a command is that sends many changes."""
+"""How far a command is that sends many changes, and a server that makes the tiles of a publication."""
+import threading
 import time
 
+from .faults import Fault
+
 EACH = 1000
+# How many seconds a publication is waited for before it is asked how far it is, and then between two such questions.
+PAUSE = 2
 
 
 def with_progress(changes):
@@ -11,3 +16,34 @@ def with_progress(changes):
         yield change
         if done % EACH == 0:
             print(f"        {done:,} sent so far, {done / max(time.monotonic() - began, 0.001):,.0f} a second", flush=True)
+
+
+class Tiles:
+    """While it lasts, it prints how many tiles of a publication are made, by a connection of its own. A server without --admin doesn't tell."""
+
+    def __init__(self, client):
+        self.client, self.is_over = client.twin(), threading.Event()
+        self.thread = threading.Thread(target=self.watch, daemon=True)
+
+    def __enter__(self):
+        self.thread.start()
+        return self
+
+    def __exit__(self, *_):
+        self.is_over.set()
+
+    def watch(self):
+        """Asks until it is over, or the server doesn't tell."""
+        try:
+            while not self.is_over.wait(PAUSE):
+                status = self.client.status()
+                if status is None:
+                    return
+                drafting = status.get("drafting")
+                if drafting and not self.is_over.is_set():
+                    print(f"        {drafting['made']:,} tiles made so far", flush=True)
+        except Fault:
+            # Whoever waits for the publication is told what is wrong.
+            pass
+        finally:
+            self.client.close()

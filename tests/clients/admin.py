@@ -12,7 +12,7 @@ MANY = 200
 
 def status(**changes):
     """The status of a fresh disk of 4,096 sectors, by HTTP.md, with changes."""
-    first = {"archive": 0, "area": {"sectors": 1534, "used": 0}, "broken": False, "cells": 1024, "edits": 0, "features": 0, "generation": 0,
+    first = {"archive": 0, "area": {"sectors": 1534, "used": 0}, "broken": False, "cells": 1024, "drafting": None, "edits": 0, "features": 0, "generation": 0,
              "journal": {"places": 1024, "used": 0}, "last": None, "left": None, "published": 0, "sectors": 4096, "stale": 0, "version": 2}
     return wanted(200, JSON, json.dumps({**first, **changes}, separators=(",", ":")))
 

@@ -82,6 +82,12 @@ class Client:
         # The number of the last edit that is known of, and whether the server lists features by pages, as far as is known.
         self.edits, self.has_pages = 0, True
 
+    def twin(self):
+        """Another client of the same server, with a connection of its own."""
+        twin = Client(self.address)
+        twin.person = self.person
+        return twin
+
     # ---- requests
 
     def ask(self, method, path, body=b"", fields=None):

@@ -13,12 +13,13 @@ from ..client.followers import Wait, said, seconds, told_late
 from ..client.refusals import STATUSES, WORDS, told
 from ..ending import regular, replaced
 from ..faults import Fault, NoAnswer
+from ..progress import Tiles
 
 ABOUT = {"publish": """Publishes the map of a running `vtserve serve` by steps, so that tiles and edits go on between them.
 
     vtmap publish --changed --record /var/lib/vtserve-watch/published
 
-It prints how many sectors are left after each step. A publication that somebody left under way is finished first; with --cancel it is dropped.
+Where the server tells (--admin), it prints every two seconds how many tiles are made; and how many sectors are left after each step. A publication that somebody left under way is finished first; with --cancel it is dropped.
 Interrupted, it cancels the publication once the server has answered; interrupted twice, it doesn't wait for that. If the server refuses a
 step, it says why and cancels the publication; it ends with 1 then, and if somebody else has cancelled the publication, or the server was
 restarted. --record keeps the outcome in a file, for `vtmap watch`.
@@ -101,9 +102,14 @@ class Publication:
         for one in wait.wait(status["edits"] if status else 0, lambda: self.is_interrupted):
             print(told_late(one), file=sys.stderr, flush=True)
 
+    def post_begin(self):
+        """The same for a beginning, which is answered once all tiles are made: meanwhile it prints how many are."""
+        with Tiles(self.client):
+            return self.post("/publish/begin")
+
     def begin(self):
         """Begins a publication; one that is under way is cancelled or finished before. Returns the sectors that are left."""
-        status, found = self.post("/publish/begin")
+        status, found = self.post_begin()
         if status == 409 and found == "Busy":
             if self.words.cancel:
                 self.cancel()
@@ -111,7 +117,7 @@ class Publication:
                 print("a publication is under way: it is finished first", flush=True)
                 self.wait()
                 self.finish(1)
-            status, found = self.post("/publish/begin")
+            status, found = self.post_begin()
         if status != 200:
             self.refused("/publish/begin", status, found)
         return self.client.value(found)["left"]

@@ -142,7 +142,7 @@ view_apart : (failed : Type 0) (old new : Status) (view : View) (method : Method
 view_apart failed old new views.Metadata method ask reply happenings is = one (metadata is.0) happenings tt is.2
 view_apart failed old new views.Archive method ask reply happenings is =
     first _ (archive_apart failed (archive_tag old) method ask) reply happenings is
-view_apart failed old new views.Status method ask reply happenings (inl is) = one (check is.0) happenings tt is.3
+view_apart failed old new views.Status method ask reply happenings (inl is) = one (check is.1.0) happenings tt is.1.3
 view_apart failed old new views.Status method ask reply happenings (inr is) = none happenings is.1
 
 action_apart : (failed : Type 0) (old new : Status) (action : Action) (body : List ℕ) → asks_to_publish (asked_action action) ≡ false

@@ -21,5 +21,5 @@ max_text_is = refl
 max_part_is : MAX_PART ≡ 100
 max_part_is = refl
 
-max_status_is : MAX_STATUS ≡ 601
+max_status_is : MAX_STATUS ≡ 701
 max_status_is = refl

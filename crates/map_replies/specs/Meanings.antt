@@ -264,9 +264,9 @@ MeansOnFeature failed version needed id Delete body = MeansDelete failed version
 MeansOnFeature failed version needed id method body = MeansLook id
 
 -- The disk is asked whether it still keeps what is written, and then the service's status is told. With the fault Device the disk has
--- failed.
+-- failed. How many tiles of a publication in the making are made is told too.
 abbrev pub MeansStatus : (failed : Type 0) → (new : Status) → ReplyView → List Happening → Type 0
-MeansStatus failed new = MeansChange failed check (λ outcome. status_reply new)
+MeansStatus failed new reply happenings = (made : ℕ) × MeansChange failed check (λ outcome. status_reply made new) reply happenings
 
 -- what GET and HEAD show
 abbrev pub MeansView : (failed : Type 0) → (old new : Status) → View → Method → AskView → ReplyView → List Happening → Type 0

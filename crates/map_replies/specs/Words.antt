@@ -226,6 +226,18 @@ truth_text truth = if truth then codes "true" else codes "false"
 unfoldable pub broken_part : Status → List ℕ
 broken_part s = codes "},\"broken\":" ++ truth_text s.broken ++ codes ",\"cells\":" ++ decimal s.cells
 
+-- how many tiles of a publication in the making are made, and how many places of the journal were in use when its map was fixed
+unfoldable pub making_text : (made places : ℕ) → List ℕ
+making_text made places = codes "{\"made\":" ++ decimal made ++ codes ",\"places\":" ++ decimal places ++ codes "}"
+
+-- the same, if there is one
+abbrev pub draft_text : (made : ℕ) → Option ℕ → List ℕ
+draft_text made None = codes "null"
+draft_text made (Some places) = making_text made places
+
+unfoldable pub draft_part : (made : ℕ) → Status → List ℕ
+draft_part made s = codes ",\"drafting\":" ++ draft_text made s.drafting
+
 -- the number of the last edit, how many features there are, and the generation
 unfoldable pub map_part : Status → List ℕ
 map_part s = codes ",\"edits\":" ++ decimal s.edits ++ codes ",\"features\":" ++ decimal s.features ++ codes ",\"generation\":" ++ decimal s.generation
@@ -249,11 +261,11 @@ unfoldable pub disk_part : Status → List ℕ
 disk_part s =
     codes ",\"sectors\":" ++ decimal s.sectors ++ codes ",\"stale\":" ++ decimal s.stale ++ codes ",\"version\":" ++ decimal s.version
 
-unfoldable pub status_body : Status → List ℕ
-status_body s = archive_part s ++ broken_part s ++ map_part s ++ journal_part s ++ published_part s ++ disk_part s ++ codes "}"
+unfoldable pub status_body : (made : ℕ) → Status → List ℕ
+status_body made s = archive_part s ++ broken_part s ++ draft_part made s ++ map_part s ++ journal_part s ++ published_part s ++ disk_part s ++ codes "}"
 
-abbrev pub status_reply : Status → ReplyView
-status_reply s = json_reply (status_body s)
+abbrev pub status_reply : (made : ℕ) → Status → ReplyView
+status_reply made s = json_reply (status_body made s)
 
 -- ---- tiles
 

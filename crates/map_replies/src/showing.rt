@@ -26,6 +26,7 @@ use http_values::{MAX_DIGITS, push_number, push_text};
 use sector_disk::Sectors;
 use std::alloc::{AllocError, Global};
 use tile_routes::TileFormat;
+use tile_service::Service;
 
 /// The text of a feature.
 pub(crate) fn feature_text(alloc: Global, feature: FeatureText<'_>) -> Result<Vec<u8>, AllocError>
@@ -79,6 +80,14 @@ fn numbered_value(alloc: Global, id: u64, feature: FeatureText<'_>) -> Result<Re
     match numbered_body(alloc, &feature, id) {
         Ok(text) => Ok(replies::json(text)),
         Err(AllocError) => Err(RequestFault::Memory),
+    }
+}
+
+/// How many tiles of the publication in the making are made, 0 if there is none.
+fn tiles_made<D: Sectors + Drop>(service: &Service<D>) -> u64 {
+    match service.drafting() {
+        Some(drafting) => drafting.made,
+        None => 0,
     }
 }
 
@@ -189,7 +198,8 @@ impl<D: Sectors + Drop> Calls<D> {
         };
         // The status tells what came of it.
         let _ = self.service.check();
-        Ok(telling::told(text, self.service.status()))
+        let made = tiles_made(&self.service);
+        Ok(telling::told(text, made, self.service.status()))
     }
 
     /// The metadata of the map.

@@ -1,8 +1,8 @@
 //! The status of the service, in JSON.
-ghost use Rattle.std.specs.Prelude.{◌≡◌, ◌≤◌, ◌+◌, ◌++◌, [], vec_len, vec_capacity, IfOk};
+ghost use Rattle.std.specs.Prelude.{◌≡◌, ◌≤◌, ◌+◌, ◌*◌, ◌++◌, [], vec_len, vec_capacity, IfOk};
 ghost use Rattle.http_serve.specs.Reply.{reply_view, IsWhole};
 ghost use Rattle.map_replies.specs.Words.{archive_part, truth_text, broken_part, map_part, journal_part, optional_text, published_part, disk_part};
-ghost use Rattle.map_replies.specs.Words.{status_body, status_reply};
+ghost use Rattle.map_replies.specs.Words.{making_text, draft_text, draft_part, status_body, status_reply};
 ghost use Rattle.map_replies.specs.declared.telling.TheConstants.{MAX_PART, MAX_STATUS};
 
 use crate::replies;
@@ -15,7 +15,7 @@ use tile_service::Status;
 const MAX_PART: usize = 3 * MAX_DIGITS + 40;
 
 /// Capacity for all parts, and the byte after them.
-const MAX_STATUS: usize = 6 * MAX_PART + 1;
+const MAX_STATUS: usize = 7 * MAX_PART + 1;
 
 /// Adds what the archive takes.
 #[tactic(auto, unfolding(crate::specs::Words::archive_part))]
@@ -61,6 +61,46 @@ fn push_broken_part(out: &mut Vec<u8>, status: Status)
     push_truth(out, status.broken);
     push_text(out, b",\"cells\":");
     push_number(out, status.cells);
+}
+
+/// Adds how far a publication in the making is: how many tiles are made, and how many places of the journal were in use when it began.
+#[tactic(auto, unfolding(crate::specs::Words::making_text))]
+fn push_making(out: &mut Vec<u8>, made: u64, places: u64)
+    requires room { vec_len out.old + 2 * MAX_DIGITS + 20 ≤ vec_capacity out.old }
+    ensures items { out.new.items ≡ out.old.items ++ making_text made places }
+    ensures len { vec_len out.new ≤ vec_len out.old + 2 * MAX_DIGITS + 20 }
+    ensures capacity { vec_capacity out.old ≤ vec_capacity out.new }
+{
+    push_text(out, b"{\"made\":");
+    push_number(out, made);
+    push_text(out, b",\"places\":");
+    push_number(out, places);
+    push_text(out, b"}");
+}
+
+/// Adds the same, or `null` if there is none.
+fn push_draft(out: &mut Vec<u8>, made: u64, places: Option<u64>)
+    requires room { vec_len out.old + 2 * MAX_DIGITS + 20 ≤ vec_capacity out.old }
+    ensures items { out.new.items ≡ out.old.items ++ draft_text made places }
+    ensures len { vec_len out.new ≤ vec_len out.old + 2 * MAX_DIGITS + 20 }
+    ensures capacity { vec_capacity out.old ≤ vec_capacity out.new }
+{
+    match places {
+        Some(places) => push_making(out, made, places),
+        None => push_text(out, b"null"),
+    }
+}
+
+/// Adds how far the publication in the making is, of which so many tiles are made.
+#[tactic(auto, unfolding(crate::specs::Words::draft_part))]
+fn push_draft_part(out: &mut Vec<u8>, made: u64, status: Status)
+    requires room { vec_len out.old + MAX_PART ≤ vec_capacity out.old }
+    ensures items { out.new.items ≡ out.old.items ++ draft_part made status }
+    ensures len { vec_len out.new ≤ vec_len out.old + MAX_PART }
+    ensures capacity { vec_capacity out.old ≤ vec_capacity out.new }
+{
+    push_text(out, b",\"drafting\":");
+    push_draft(out, made, status.drafting);
 }
 
 /// Adds how many edits, features and publications there are.
@@ -148,14 +188,15 @@ pub(crate) fn status_space(alloc: Global) -> Result<Vec<u8>, AllocError>
 
 /// The whole text.
 #[tactic(auto, unfolding(crate::specs::Words::status_body))]
-fn status_body(text: Vec<u8>, status: Status) -> Vec<u8>
+fn status_body(text: Vec<u8>, made: u64, status: Status) -> Vec<u8>
     requires empty { text.items ≡ [] }
     requires room { MAX_STATUS ≤ vec_capacity text }
-    ensures { result.items ≡ status_body status }
+    ensures { result.items ≡ status_body made status }
 {
     let mut text = text;
     push_archive_part(&mut text, status);
     push_broken_part(&mut text, status);
+    push_draft_part(&mut text, made, status);
     push_map_part(&mut text, status);
     push_journal_part(&mut text, status);
     push_published_part(&mut text, status);
@@ -164,12 +205,12 @@ fn status_body(text: Vec<u8>, status: Status) -> Vec<u8>
     text
 }
 
-/// The reply with a status.
-pub(crate) fn told(text: Vec<u8>, status: Status) -> Reply
+/// The reply with a status. Of a publication in the making so many tiles are made.
+pub(crate) fn told(text: Vec<u8>, made: u64, status: Status) -> Reply
     requires empty { text.items ≡ [] }
     requires room { MAX_STATUS ≤ vec_capacity text }
-    ensures reply { reply_view [] result ≡ status_reply status }
+    ensures reply { reply_view [] result ≡ status_reply made status }
     ensures writable { IsWhole result }
 {
-    replies::json(status_body(text, status))
+    replies::json(status_body(text, made, status))
 }

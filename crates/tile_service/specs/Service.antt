@@ -250,6 +250,7 @@ status_of service = record {
   cells = LEVEL_CELLS;
   -- what edits after the last published one have touched
   stale = stale_cells service.touched service.journal.edits;
+  drafting = option_map (λ d. d.places) service.drafting;
   left = option_map left_of service.publication;
   broken = service.broken;
 }

@@ -40,6 +40,8 @@ pub struct Status {
     pub cells: u64,
     /// How many of them an edit after `published` has touched, by the boxes that its features had before and have after it.
     pub stale: u64,
+    /// If a publication is in the making: how many places of the journal were in use when its map was fixed.
+    pub drafting: Option<u64>,
     /// How much is left of the publication under way: the sectors to write, and one for the root.
     pub left: Option<u64>,
     /// Whether a write or a sync of the disk has failed.
@@ -53,6 +55,16 @@ impl<D: Sectors + Drop> Service<D> {
     {
         match &self.publication {
             Some(publication) => { Some(publication.content.sectors() - publication.written + 1) }
+            None => None,
+        }
+    }
+
+    /// How many places of the journal were in use when the publication in the making began.
+    fn places_drafted(&self) -> Option<u64>
+        ensures { result ≡ option_map (λ d. d.places) self.now.drafting }
+    {
+        match &self.draft {
+            Some(draft) => Some(draft.places),
             None => None,
         }
     }
@@ -90,6 +102,7 @@ impl<D: Sectors + Drop> Service<D> {
             area_used: self.area_used(),
             cells: LEVEL_CELLS as u64,
             stale: self.stale(),
+            drafting: self.places_drafted(),
             left: self.left(),
             broken: self.broken,
         }
