@@ -2,12 +2,8 @@
 use Rattle.std.proofs.Common.{◌≡◌, refl}
 use Rattle.map_replies.specs.declared.feed.TheConstants.{FEED_BYTES}
 use Rattle.map_replies.specs.declared.pages.TheConstants.{PAGE_BYTES}
-use Rattle.map_replies.specs.declared.parts.TheConstants.{FIRST_BYTES}
 use Rattle.map_replies.specs.declared.replies.TheConstants.{MAX_TEXT}
 use Rattle.map_replies.specs.declared.telling.TheConstants.{MAX_PART, MAX_STATUS}
-
-first_bytes_are : FIRST_BYTES ≡ 16384
-first_bytes_are = refl
 
 feed_bytes_are : FEED_BYTES ≡ 16384
 feed_bytes_are = refl

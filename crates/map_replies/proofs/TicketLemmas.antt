@@ -1,17 +1,17 @@
 -- Downloads: what is read by a ticket, and what that leaves.
-use Rattle.std.proofs.Common.{◌≡◌, ◌≢◌, ◌∙◌, ℕ, ◌+◌, ◌≤◌, List, length, take, drop, slice_range, Option, Some, None, false, refl, sym, ap, subst, arith}
+use Rattle.std.proofs.Common.{◌≡◌, ◌≢◌, ◌∙◌, ℕ, ◌+◌, ◌≤◌, List, length, take, drop, slice_range, Option, Some, false, refl, sym, ap, subst, arith}
 use Rattle.std.specs.Prelude.{Result, Ok, Err, IfErr}
 use Rattle.http_requests.specs.Requests.{RequestView}
 use Rattle.http_serve.specs.Reply.{ReplyView}
 use Rattle.sector_disk.specs.Asked.{OnlyReads}
-use Rattle.sector_disk.specs.Disk.{History, HasFailed, moment, seen}
-use Rattle.sector_disk.proofs.AskedLaws.{writes_on, reads_may, reads_none}
+use Rattle.sector_disk.specs.Disk.{History, moment, seen}
+use Rattle.sector_disk.proofs.AskedLaws.{writes_on, reads_may}
 use Rattle.published_tiles.specs.declared.place.ArchivePlace.{ArchivePlace}
 use Rattle.tile_service.specs.Machine.{Happening, Runs}
 use Rattle.tile_service.specs.Runs.{IsTrusted, Way, way_of}
 use Rattle.edit_journal.specs.Appends.{ring_of}
 use Rattle.edit_journal.specs.Ring.{sector_at}
-use Rattle.tile_service.specs.Service.{ServiceView, StaysInUse, IsUp, IsPlaceIn, HasArchive, ShowsArchive, state_of, status_of, archive_of}
+use Rattle.tile_service.specs.Service.{ServiceView, StaysInUse, IsUp, IsPlaceIn, HasArchive, ShowsArchive, state_of, archive_of}
 use Rattle.tile_service.specs.Stored.{Stored}
 use Rattle.tile_service.specs.Tickets.{IsHeld}
 use Rattle.tile_service.proofs.Runs.Callers.{HasRun}
@@ -21,13 +21,10 @@ use Rattle.tile_service.specs.declared.fault.ServiceFault.{ServiceFault}
 use Rattle.tile_service.specs.declared.fault.ServiceFault.TheVariants.{Device}
 use Rattle.tile_service.proofs.Archive.Tickets as tickets
 use Rattle.tile_service.proofs.Tiles.Tags.{knows_same}
-use Rattle.http_serve.specs.declared.handlers.RestFault.TheVariants.{Failed, Gone}
-use Rattle.http_serve.specs.declared.handlers.Ticket.{Ticket}
-use Rattle.map_replies.specs.declared.calls.Calls.{Calls}
 use Rattle.map_replies.specs.declared.service.MapReplies.{MapReplies}
-use Rattle.map_replies.specs.Parts.{start_of, archive_tag}
+use Rattle.map_replies.specs.Parts.{start_of}
 use Rattle.map_replies.specs.State.{asked_service, ServiceSends}
-use Rattle.map_replies.specs.Tickets.{place_of, ticket_for, oldest_after, IsThere, KeepsTickets, ReadsRest}
+use Rattle.map_replies.specs.Tickets.{ticket_for, oldest_after, KeepsTickets, ReadsRest}
 use Rattle.map_replies.proofs.SendingLemmas.{content_of, slice_inner, shows_on}
 
 -- what some events left of a history is what they left of the same one
@@ -126,62 +123,6 @@ module _ {D : Type 0} (sectors : D → ℕ) (honest : D → Type 0) (history : D
   held_stepped (Err Device) place first oldest old new refused stepped held = stepped
   held_stepped (Err fault) place first oldest old new refused stepped held =
       subst (λ (s : ServiceView D). IsHeld honest history place first oldest s) (sym (refused (λ e. cc))) held
-
-  -- ---- reads
-
-  module _ (faults : D → ℕ) where
-    -- nothing is read: the bytes aren't there
-    pub rest_unread : (old : Calls D) (ticket : Ticket) (offset count : ℕ) → (IsThere old.service.size old.oldest ticket offset count → ⊥)
-        → ReadsRest sectors honest history faults old ticket offset count (Err Gone) old
-    rest_unread old ticket offset count none = record {
-      same = refl;
-      oldest = refl;
-      sending = refl;
-      disk = reads_none old.service.disk;
-      up = λ stored up is_honest. up;
-      gone = (λ _. none, λ _. refl);
-      failed = λ e. absurd (cc);
-      there = tt;
-      shown = λ archive has is_honest. tt;
-    }
-
-    -- the disk was read: the bytes are there
-    module _ (old : Calls D) (new : ServiceView D) (same : new ≡ record old.service { disk = new.disk })
-        (disk : OnlyReads sectors honest history old.service.disk new.disk)
-        (up : (stored : Stored) → IsUp (sectors old.service.disk) (history old.service.disk) stored old.service → honest new.disk
-        → IsUp (sectors new.disk) (history new.disk) stored new) (ticket : Ticket) (offset count : ℕ)
-        (there : IsThere old.service.size old.oldest ticket offset count) where
-      pub rest_failed : HasFailed (faults old.service.disk) (faults new.disk)
-          → ReadsRest sectors honest history faults old ticket offset count (Err Failed) (record old { service = new })
-      rest_failed failed = record {
-        same = same;
-        oldest = refl;
-        sending = refl;
-        disk = disk;
-        up = up;
-        gone = (λ e. absurd (cc), λ none. absurd (none there));
-        failed = λ _. failed;
-        there = tt;
-        shown = λ archive has is_honest. tt;
-      }
-
-      pub rest_read : (place : ArchivePlace) (bytes : List ℕ) → place ≡ place_of ticket → length bytes ≡ count
-          → ((archive : List ℕ) → HasArchive (history old.service.disk) place archive → honest new.disk
-          → bytes ≡ slice_range archive (ticket.first + offset) (ticket.first + offset + count))
-          → ReadsRest sectors honest history faults old ticket offset count (Ok bytes) (record old { service = new })
-      rest_read place bytes at long shown = record {
-        same = same;
-        oldest = refl;
-        sending = refl;
-        disk = disk;
-        up = up;
-        gone = (λ e. absurd (cc), λ none. absurd (none there));
-        failed = λ e. absurd (cc);
-        there = (long, subst (λ (n : ℕ). IsThere old.service.size old.oldest ticket offset n) (sym long) there);
-        shown = λ archive has is_honest.
-            subst (λ (n : ℕ). bytes ≡ slice_range archive (ticket.first + offset) (ticket.first + offset + n)) (sym long)
-            (shown archive (subst (λ (p : ArchivePlace). HasArchive (history old.service.disk) p archive) (sym at) has) is_honest);
-      }
 
 -- ---- a download
 

@@ -7,13 +7,12 @@ use Rattle.http_serve.specs.declared.handlers.RestFault.TheVariants.{Failed, Gon
 use Rattle.http_serve.specs.declared.handlers.Ticket.{Ticket}
 use Rattle.sector_disk.specs.Asked.{OnlyReads}
 use Rattle.sector_disk.specs.Disk.{History, HasFailed}
-use Rattle.generations.specs.Areas.{IsSize}
 use Rattle.published_tiles.specs.declared.place.ArchivePlace.{ArchivePlace}
 use Rattle.tile_routes.specs.Paths.{Asked, asked_action}
 use Rattle.tile_routes.specs.declared.target.Action.TheVariants.{Publish, PublishStep}
-use Rattle.tile_service.specs.Service.{ServiceView, IsUp, IsPlaceIn, HasArchive, archive_of}
+use Rattle.tile_service.specs.Service.{ServiceView, IsUp, HasArchive, archive_of}
 use Rattle.tile_service.specs.Stored.{Stored}
-use Rattle.tile_service.specs.Tickets.{IsHeld}
+use Rattle.tile_service.specs.Tickets.{IsHeld, IsThere}
 use Rattle.tile_service.specs.declared.fault.ServiceFault.{ServiceFault}
 use Rattle.tile_service.specs.declared.fault.ServiceFault.TheVariants.{Device}
 use Rattle.map_replies.specs.declared.calls.Calls.{Calls}
@@ -31,14 +30,6 @@ ticket_for calls = record {
   total = (archive_of calls.service).len;
   first = calls.sending.first;
 }
-
--- On a disk of this size, where no step has written since into the area of a generation from oldest on: these bytes of a ticket's content are
--- there.
-pub record IsThere (size oldest : ℕ) (ticket : Ticket) (offset count : ℕ) : Type 0 where
-  pub sized : IsSize size
-  pub kept : oldest ≤ ticket.generation
-  pub inside : IsPlaceIn size (place_of ticket)
-  pub within : ticket.first + offset + count ≤ ticket.total
 
 -- the generation at the last step that may have written an area, after a call at this generation: one that is refused writes nothing
 abbrev pub oldest_after : {A : Type 0} → Result A ServiceFault → (oldest generation : ℕ) → ℕ
@@ -81,11 +72,12 @@ pub record ReadsRest {D : Type 0} (sectors : D → ℕ) (honest : D → Type 0) 
   pub up : (stored : Stored) → IsUp (sectors old.service.disk) (history old.service.disk) stored old.service → honest new.service.disk
       → IsUp (sectors new.service.disk) (history new.service.disk) stored new.service
   -- they are gone exactly if they aren't there
-  pub gone : (outcome ≡ Err Gone) ↔ (IsThere old.service.size old.oldest ticket offset count → ⊥)
+  pub gone : (outcome ≡ Err Gone) ↔ (IsThere old.service.size old.oldest (place_of ticket) (ticket.first + offset) count → ⊥)
   -- another fault is one of the disk
   pub failed : outcome ≡ Err Failed → HasFailed (faults old.service.disk) (faults new.service.disk)
   -- so they are read only if they are there, all of them
-  pub there : IfOk outcome (λ bytes. (length bytes ≡ count) × IsThere old.service.size old.oldest ticket offset (length bytes))
+  pub there : IfOk outcome (λ bytes. (length bytes ≡ count)
+      × IsThere old.service.size old.oldest (place_of ticket) (ticket.first + offset) (length bytes))
   -- they are those of the archive that the disk has in the ticket's place
   pub shown : (archive : List ℕ) → HasArchive (history old.service.disk) (place_of ticket) archive → honest new.service.disk
       → IfOk outcome (λ bytes. bytes ≡ slice_range archive (ticket.first + offset) (ticket.first + offset + length bytes))

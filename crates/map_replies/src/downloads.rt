@@ -1,18 +1,18 @@
 //! The rest of a download, which is read by its ticket between other replies.
-ghost use Rattle.std.specs.Prelude.{◌≡◌, ◌≤◌, ◌<◌, ◌↔◌, ◌+◌, ℕ, List, Ok, IsTrue, false, length, take, drop};
+ghost use Rattle.std.specs.Prelude.{◌≡◌, ◌≤◌, ◌<◌, ◌+◌, ℕ, List, Ok, MatchOption, length, take, drop};
 ghost use Rattle.http_serve.specs.Parts.{rest_outcome};
 ghost use Rattle.http_requests.specs.Requests.{RequestView};
 ghost use Rattle.http_serve.specs.Reply.{ReplyView};
-ghost use Rattle.tile_service.specs.Service.{IsPlaceIn, ShowsArchive};
+ghost use Rattle.tile_service.specs.Service.{ShowsArchive};
 ghost use Rattle.map_replies.specs.State.{ServiceSends, asked_service};
-ghost use Rattle.map_replies.specs.Tickets.{place_of, ticket_for, IsThere, KeepsTickets, ReadsRest};
+ghost use Rattle.map_replies.specs.Tickets.{place_of, ticket_for, KeepsTickets, ReadsRest};
 ghost use Rattle.map_replies.specs.declared.service.MapReplies.{MapReplies};
 
 use crate::calls::Calls;
-use generations::{Layout, sectors_for};
 use http_serve::{RestFault, Ticket};
 use published_tiles::ArchivePlace;
 use sector_disk::Sectors;
+use tile_service::TicketFault;
 
 /// Where the archive of a ticket is.
 fn place_of(ticket: Ticket) -> ArchivePlace
@@ -25,24 +25,11 @@ fn place_of(ticket: Ticket) -> ArchivePlace
     }
 }
 
-/// Whether a place is in the area of its generation.
-fn is_inside(layout: Layout, place: ArchivePlace) -> bool
-    ensures inside { IsTrue result → IsPlaceIn layout.sectors place }
-    ensures outside { result ≡ false → IsPlaceIn layout.sectors place → ⊥ }
+/// Where a byte of a ticket's content is in the archive, or `None` if that exceeds 64 bits: then it is after the archive's end.
+fn archive_offset(ticket: Ticket, offset: u64) -> Option<u64>
+    ensures { MatchOption result (ticket.total < ticket.first + offset) (λ at. at ≡ ticket.first + offset) }
 {
-    let start = layout.area_start(place.generation);
-    if place.first < start {
-        return false;
-    }
-    let end = u128::from(place.first) + u128::from(sectors_for(place.len));
-    end <= u128::from(start) + u128::from(layout.area)
-}
-
-/// Whether so many bytes of a ticket's content from an offset on are within its archive.
-fn is_within(ticket: Ticket, offset: u64, count: usize) -> bool
-    ensures { IsTrue result ↔ (ticket.first + offset + count ≤ ticket.total) }
-{
-    u128::from(ticket.first) + u128::from(offset) + count as u128 <= u128::from(ticket.total)
+    ticket.first.checked_add(offset)
 }
 
 impl<D: Sectors + Drop> Calls<D> {
@@ -59,20 +46,6 @@ impl<D: Sectors + Drop> Calls<D> {
         }
     }
 
-    /// Whether so many bytes of a ticket's content from an offset on are there: no step has begun since that may write their area.
-    fn is_there(&self, ticket: Ticket, offset: u64, count: usize) -> bool
-        ensures there { IsTrue result → IsThere self.now.service.size self.now.oldest ticket offset count }
-        ensures gone { result ≡ false → IsThere self.now.service.size self.now.oldest ticket offset count → ⊥ }
-    {
-        if ticket.generation < self.oldest {
-            return false;
-        }
-        if !is_inside(self.service.layout(), place_of(ticket)) {
-            return false;
-        }
-        is_within(ticket, offset, count)
-    }
-
     /// Reads bytes of a ticket's content from an offset on, if they are there.
     pub(crate) fn read_rest(
         &mut self,
@@ -85,16 +58,16 @@ impl<D: Sectors + Drop> Calls<D> {
         ensures held { KeepsTickets D.honest D.history self.old self.new }
         ensures length { length part.new ≡ length part.old }
     {
-        if !self.is_there(ticket, offset, part.len()) {
+        let Some(at) = archive_offset(ticket, offset) else {
             return Err(RestFault::Gone);
-        }
-        let place = place_of(ticket);
+        };
         match self
             .service
-            .archive_read_at(place, ticket.first + offset, part)
+            .read_ticket(place_of(ticket), self.oldest, at, part)
         {
             Ok(()) => Ok(()),
-            Err(_) => Err(RestFault::Failed),
+            Err(TicketFault::Gone) => Err(RestFault::Gone),
+            Err(TicketFault::Device) => Err(RestFault::Failed),
         }
     }
 }

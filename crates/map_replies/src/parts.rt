@@ -4,14 +4,14 @@ ghost use Rattle.http_serve.specs.Reply.{content_bytes, reply_view, head_view, H
 ghost use Rattle.http_serve.specs.declared.replies.Tag.{Tag};
 ghost use Rattle.tile_routes.specs.declared.method.Method.TheVariants.{Head};
 ghost use Rattle.tile_service.specs.declared.fault.ServiceFault.TheVariants.{Device};
-ghost use Rattle.map_replies.specs.declared.parts.TheConstants.{FIRST_BYTES};
+ghost use Rattle.tile_service.specs.declared.tickets.TheConstants.{FIRST_BYTES};
 ghost use Rattle.map_replies.specs.Parts.{IsPart, octets_type, range_word, part_reply, unchanged_reply};
 ghost use Rattle.map_replies.specs.Words.{text_type, service_refusal};
 
 use http_serve::{Content, ContentRange, Reply, Status, Tag};
 use http_values::byte_range;
-use sector_disk::SECTOR_BYTES;
 use tile_routes::Method;
+use tile_service::first_bytes;
 
 /// The bytes of the archive to send.
 #[derive(Clone, Copy)]
@@ -58,9 +58,6 @@ pub(crate) struct Sending {
     pub(crate) length: u64,
 }
 
-/// How many bytes of the archive are read at most before a reply is made, and sent with its head: those of 32 sectors.
-pub(crate) const FIRST_BYTES: u64 = 16_384;
-
 /// How many of `length` bytes from `first` on are read before a reply is made: those in the first sectors, or 0 if `bare`.
 pub(crate) fn begin_size(first: u64, length: u64, bare: bool) -> u64
     ensures within { result ≤ length }
@@ -70,7 +67,7 @@ pub(crate) fn begin_size(first: u64, length: u64, bare: bool) -> u64
     if bare {
         return 0;
     }
-    (FIRST_BYTES - first % SECTOR_BYTES as u64).min(length)
+    first_bytes(first, length)
 }
 
 /// The reply with the whole archive, which has this tag.

@@ -20,6 +20,7 @@ mod service;
 mod showing;
 mod snapshot_reading;
 mod status;
+mod tickets;
 
 pub use drafting::Drafting;
 pub use event::{Answer, Event};
@@ -28,3 +29,4 @@ pub use listing::{broken_still_shows_its_edits, listed_edits_are_kept};
 pub use publishing_whole::Published;
 pub use service::Service;
 pub use status::Status;
+pub use tickets::{FIRST_BYTES, TicketFault, first_bytes};

@@ -33,7 +33,8 @@ impl<D: Sectors + Drop> Service<D> {
         self.journal.last
     }
 
-    /// Where the published archive is.
+    /// Where the published archive is: a ticket for it, by which `read_ticket` reads it until the first step of the publication after the next
+    /// one.
     pub fn archive(&self) -> ArchivePlace
         ensures is { result ≡ archive_of self.now }
         ensures place { IsPlaceIn self.now.size result }
@@ -45,14 +46,13 @@ impl<D: Sectors + Drop> Service<D> {
         }
     }
 
-    /// Reads bytes of the archive in a place from an offset, to fill `into`. The place is one that `archive` returned, now or before: the
-    /// archive before the published one can be read until the next step of a publication. It allocates nothing and writes nothing. After
-    /// an error the content of `into` is undefined, and the service continues as before.
+    /// Reads bytes of the archive in a place from an offset, to fill `into`. It allocates nothing and writes nothing. After an error the
+    /// content of `into` is undefined, and the service continues as before.
     ///
     /// # Errors
     ///
     /// `Device`.
-    pub fn archive_read_at(
+    pub(crate) fn archive_read_at(
         &mut self,
         place: ArchivePlace,
         at: u64,
