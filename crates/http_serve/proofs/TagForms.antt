@@ -4,7 +4,7 @@ use Rattle.std.proofs.lemmas.Fmt.{decimal_digit}
 use Rattle.std.specs.Prelude.{codes}
 use Rattle.http_serve.specs.Tags.{tag_text}
 
-written : tag_text (record { generation = 3; edit = 4; length = 5 }) ≡ codes "\"3-4-5\""
+written : tag_text (record { version = 3; change = 4; length = 5 }) ≡ codes "\"3-4-5\""
 unfolding tag_text
 written =
     let three = decimal_digit 3 (omega arith) in

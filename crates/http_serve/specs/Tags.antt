@@ -7,7 +7,7 @@ use Rattle.http_serve.specs.declared.replies.WeakTag.{WeakTag}
 
 -- a strong entity tag, as it is written: three numbers with dashes between them, in quotation marks (RFC 9110, 8.8.3)
 unfoldable pub tag_text : EntityTag → List ℕ
-tag_text tag = codes "\"" ++ decimal tag.generation ++ codes "-" ++ decimal tag.edit ++ codes "-" ++ decimal tag.length ++ codes "\""
+tag_text tag = codes "\"" ++ decimal tag.version ++ codes "-" ++ decimal tag.change ++ codes "-" ++ decimal tag.length ++ codes "\""
 
 -- what is quoted in a weak entity tag: two numbers with a dash between them, with the quotation marks
 unfoldable pub weak_text : WeakTag → List ℕ

@@ -87,8 +87,8 @@ pub trait Handler {
 #[derive(Clone, Copy)]
 pub struct Ticket {
     /// Which state of its source it is a part of.
-    pub generation: u64,
-    /// Where the source is.
+    pub version: u64,
+    /// Where that state is.
     pub place: u64,
     /// The length of the source in bytes.
     pub total: u64,

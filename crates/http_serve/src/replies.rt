@@ -74,13 +74,13 @@ pub enum ContentRange {
 }
 
 /// A strong entity tag: three numbers that together tell one state of a resource from another (RFC 9110, 8.8.3). It is sent as
-/// `"GENERATION-EDIT-LENGTH"`.
+/// `"VERSION-CHANGE-LENGTH"`.
 #[derive(Clone, Copy)]
 pub struct EntityTag {
     /// How often the resource was replaced.
-    pub generation: u64,
-    /// The number of the last edit in it.
-    pub edit: u64,
+    pub version: u64,
+    /// The number of the last change in it.
+    pub change: u64,
     /// Its length in bytes.
     pub length: u64,
 }

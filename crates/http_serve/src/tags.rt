@@ -19,9 +19,9 @@ pub(crate) fn put_tag_text(out: &mut Vec<u8>, tag: EntityTag)
     ensures capacity { vec_capacity out.old ≤ vec_capacity out.new }
 {
     push_text(out, b"\"");
-    push_number(out, tag.generation);
+    push_number(out, tag.version);
     push_text(out, b"-");
-    push_number(out, tag.edit);
+    push_number(out, tag.change);
     push_text(out, b"-");
     push_number(out, tag.length);
     push_text(out, b"\"");

@@ -45,7 +45,7 @@ range_word = codes "Range\n"
 -- The entity tag of the published archive: how often one was published, the number of its last edit, and its length. Of archives that were
 -- published on one disk no two have the same.
 abbrev pub archive_tag : Status → EntityTag
-archive_tag status = record { generation = status.generation; edit = status.published; length = status.archive_len }
+archive_tag status = record { version = status.generation; change = status.published; length = status.archive_len }
 
 -- the same in a reply, where replies have entity tags
 abbrev pub shown_tag : (tags : Option ℕ) → EntityTag → Option Tag

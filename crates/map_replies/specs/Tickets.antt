@@ -20,12 +20,12 @@ use Rattle.map_replies.specs.declared.fault.RequestFault.{RequestFault}
 
 -- where the archive of a ticket is
 abbrev pub place_of : Ticket → ArchivePlace
-place_of ticket = record { generation = ticket.generation; first = ticket.place; len = ticket.total }
+place_of ticket = record { generation = ticket.version; first = ticket.place; len = ticket.total }
 
 -- the ticket for what the last reply with the archive sends
 abbrev pub ticket_for : {D : Type 0} → Calls D → Ticket
 ticket_for calls = record {
-  generation = (archive_of calls.service).generation;
+  version = (archive_of calls.service).generation;
   place = (archive_of calls.service).first;
   total = (archive_of calls.service).len;
   first = calls.sending.first;

@@ -91,8 +91,8 @@ impl<D: Sectors + Drop> Calls<D> {
     {
         let place = self.service.archive();
         EntityTag {
-            generation: place.generation,
-            edit: self.service.published(),
+            version: place.generation,
+            change: self.service.published(),
             length: place.len,
         }
     }

@@ -19,7 +19,7 @@ fn place_of(ticket: Ticket) -> ArchivePlace
     ensures { result ≡ place_of ticket }
 {
     ArchivePlace {
-        generation: ticket.generation,
+        generation: ticket.version,
         first: ticket.place,
         len: ticket.total,
     }
@@ -39,7 +39,7 @@ impl<D: Sectors + Drop> Calls<D> {
     {
         let place = self.service.archive();
         Ticket {
-            generation: place.generation,
+            version: place.generation,
             place: place.first,
             total: place.len,
             first: self.sending.first,

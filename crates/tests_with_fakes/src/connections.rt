@@ -100,8 +100,8 @@ fn no_content() -> Reply
 
 /// The entity tag of 1,234 bytes.
 const WHOLE: EntityTag = EntityTag {
-    generation: 3,
-    edit: 42,
+    version: 3,
+    change: 42,
     length: 1_234,
 };
 

@@ -94,7 +94,7 @@ static ROWS: [Row; 5] = [
 
 /// The ticket of handlers whose contents are whole.
 const NO_TICKET: Ticket = Ticket {
-    generation: 0,
+    version: 0,
     place: 0,
     total: 0,
     first: 0,
@@ -158,7 +158,7 @@ impl Handler for Counter<'_> {
 impl Downloads for Counter<'_> {
     ghost reads = { λ _ _ _ _ _ _. Unit {0} };
 
-    ghost ticket_of = { λ _. record { generation = 0; place = 0; total = 0; first = 0 } };
+    ghost ticket_of = { λ _. record { version = 0; place = 0; total = 0; first = 0 } };
 
     fn ticket(&self) -> Ticket {
         NO_TICKET
