@@ -1,23 +1,38 @@
--- The bytes that are answered are those of what was found.
-use Rattle.std.proofs.Common.{◌≡◌, ℕ, List, [], length, take, refl, ap, sym, ◌∙◌, arith}
+-- What is answered of an input is one request, or bytes that begin with none.
+use Rattle.std.proofs.Common.{◌≡◌, ℕ, List, [], ◌++◌, length, take, refl, ap, sym, subst, inl, inr, append-nil, arith}
 use Rattle.std.proofs.lemmas.List.{take_all}
+use Rattle.std.specs.declared.option.Option.{Option}
+use Rattle.httparse.specs.Grammar.{RequestHead}
 use Rattle.httparse.specs.declared.spans.HeaderSpan.{HeaderSpan}
 use Rattle.http_requests.specs.declared.frames.Next.{Next}
 use Rattle.http_requests.specs.declared.frames.Next.TheVariants.{Whole, Refused, More}
-use Rattle.http_requests.proofs.HeadLemmas.{empty_missing}
-use Rattle.http_serve.specs.Found.{found_bytes}
-use Rattle.http_listen.specs.Asked.{found_end, IsFound}
-use Rattle.http_listen.specs.declared.inputs.Asked.{Asked}
-use Rattle.http_listen.specs.declared.inputs.TheConstants.{NOTHING_ASKED}
+use Rattle.http_requests.specs.declared.refusals.Refusal.{Refusal}
+use Rattle.http_requests.specs.Frame.{IsNext}
+use Rattle.http_requests.specs.Requests.{Request, IsRequest, IsRefused}
+use Rattle.http_requests.proofs.HeadLemmas.{empty_missing, missing_now, refused_none}
+use Rattle.http_requests.proofs.ReadingLemmas.{request_alone}
+use Rattle.http_serve.specs.Connections.{IsFound, found_end}
+use Rattle.http_serve.specs.declared.inputs.Asked.{Asked}
+use Rattle.http_serve.specs.declared.inputs.TheConstants.{NOTHING_ASKED}
+use Rattle.http_listen.specs.Asked.{HasNoRequest, IsOneOrNone}
 
-found_front : (input : List ℕ) (found : Next) → take (found_end input found) input ≡ found_bytes input found
-found_front input (Whole frame) = refl
-found_front input (Refused rejection) = take_all (length input) input (omega arith)
-found_front input (More missing) = take_all (length input) input (omega arith)
+none_refused : (input : List ℕ) (head : Option RequestHead) (refusal : Refusal) → IsRefused input head refusal → HasNoRequest (take (length input) input)
+none_refused input head refusal is request rest whole =
+    refused_none input head refusal request rest is
+    (subst (λ (bytes : List ℕ). IsRequest bytes request rest) (take_all (length input) input (omega arith)) whole)
 
-pub asked_bytes : (input : List ℕ) (fields : List HeaderSpan) (asked : Asked) → IsFound input fields asked
-    → take asked.end input ≡ found_bytes input asked.found
-asked_bytes input fields asked is = ap (λ (n : ℕ). take n input) is.1 ∙ found_front input asked.found
+found_one : (input : List ℕ) (fields : List HeaderSpan) (found : Next) → IsNext input fields found → IsOneOrNone (take (found_end input found) input)
+found_one input fields (Whole frame) is = inl (is.0, request_alone input is.0 frame.body.end is.1.body_within.1 is.1.is)
+found_one input fields (Refused rejection) is =
+    inr (none_refused input is.head rejection.refusal
+    (subst (λ (bytes : List ℕ). IsRefused bytes is.head rejection.refusal) (append-nil input) (is.refused [])))
+found_one input fields (More missing) is =
+    let now = missing_now input missing.rejection missing.until is in
+    inr (none_refused input now.1 missing.rejection.refusal now.3)
+
+pub asked_one : (input : List ℕ) (fields : List HeaderSpan) (asked : Asked) → IsFound input fields asked → IsOneOrNone (take asked.end input)
+asked_one input fields asked is =
+    subst (λ (end : ℕ). IsOneOrNone (take end input)) (sym is.1) (found_one input fields asked.found is.0)
 
 -- Nothing is asked in no bytes.
 pub nothing_asked : (input : List ℕ) (fields : List HeaderSpan) → input ≡ [] → IsFound input fields NOTHING_ASKED

@@ -16,7 +16,7 @@ module _ {S : Type 0} (replies fails : S → RequestView → ReplyView → S →
   act_happens (answered bytes out result ticket) old new d = (
     at_stretch (record { first = false; result = result; left = Some bytes; held = Some []; leaves = d.0.0; holds = Some out }),
     d.0.1,
-    (refl, refl, refl, refl),
+    (refl, refl, refl, refl, d.2),
   )
   act_happens (fetched ticket offset count outcome) old new d = (at_part ticket offset count outcome, d, (refl, refl, refl, refl))
   act_happens prepared old new d = (at_preparation, d, tt)

@@ -2,11 +2,11 @@
 use Rattle.std.proofs.Common.{◌≡◌, refl}
 use Rattle.http_listen.specs.declared.accepting.TheConstants.{QUEUE_MILLISECONDS}
 use Rattle.http_listen.specs.declared.deadlines.TheConstants.{LOOK_NANOSECONDS}
-use Rattle.http_listen.specs.declared.kept.TheConstants.{LAST_WAIT_SECONDS, LEAST_WAIT_SECONDS, MAX_DROPPED, PIECE}
+use Rattle.http_listen.specs.declared.peers.TheConstants.{LAST_WAIT_SECONDS, LEAST_WAIT_SECONDS, MAX_DROPPED, PIECE}
 use Rattle.http_listen.specs.declared.paces.TheConstants.{WAIT_SECONDS, BYTES_A_SECOND}
-use Rattle.http_listen.specs.declared.rooms.TheConstants.{LONG_ANSWER_SECONDS}
+use Rattle.http_listen.specs.declared.pool.TheConstants.{LONG_ANSWER_SECONDS}
 use Rattle.http_listen.specs.declared.waiting.TheConstants.{STOP_SECONDS, MAX_ACCEPTS}
-use Rattle.http_listen.specs.declared.waits.TheConstants.{MAX_HELD, MAX_KEPT}
+use Rattle.http_listen.specs.declared.waits.TheConstants.{MAX_HELD, MAX_OPEN}
 
 wait_seconds_are : WAIT_SECONDS ≡ 60
 wait_seconds_are = refl
@@ -44,5 +44,5 @@ piece_is = refl
 max_held_is : MAX_HELD ≡ 268435456
 max_held_is = refl
 
-max_kept_is : MAX_KEPT ≡ 16384
+max_kept_is : MAX_OPEN ≡ 16384
 max_kept_is = refl

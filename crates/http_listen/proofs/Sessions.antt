@@ -4,7 +4,7 @@ use Rattle.std.proofs.Common.{lt_of_le_of_lt, eq-zero-or-pos}
 use Rattle.std.proofs.lemmas.Bool.{cases_lt}
 use Rattle.std.specs.Prelude.{◌⊎◌, ⊤}
 use Rattle.std.specs.declared.option.Option.{Option}
-use Rattle.http_listen.specs.declared.kept.Kept.{Kept}
+use Rattle.http_listen.specs.declared.peers.Peer.{Peer}
 use Rattle.http_listen.specs.declared.rests.Unsent.{Unsent}
 use Rattle.http_listen.specs.Conversations.{Act, Deed, acts_of, deeds_of, Follows}
 use Rattle.http_listen.specs.Goes.{Acts, AreOver, Goes, IsOver, IsThere, Ledger, Passes}
@@ -18,17 +18,17 @@ use Rattle.http_listen.proofs.StepLemmas.{talking_new}
 
 module _ {S : Type 0} (told : S → Option Told) where
   -- So many connections were opened, this was done for them, and a log was told more.
-  pub record Session (begun : ℕ) (deeds : List Deed) (before after : Option (List (Mark S))) (places : ℕ → Option (Kept S)) : Type 0 where
+  pub record Session (begun : ℕ) (deeds : List Deed) (before after : Option (List (Mark S))) (places : ℕ → Option (Peer S)) : Type 0 where
     pub marks : List (Mark S)
     pub adds : Adds before marks after
     pub ledger : Ledger told begun deeds marks places None ⊤
 
   -- None was.
-  pub session_none : {before : Option (List (Mark S))} {places : ℕ → Option (Kept S)} → ((key : ℕ) → places key ≡ None) → Session 0 [] before before places
+  pub session_none : {before : Option (List (Mark S))} {places : ℕ → Option (Peer S)} → ((key : ℕ) → places key ≡ None) → Session 0 [] before before places
   session_none {before} {places} none = record { marks = []; adds = adds_none before; ledger = ledger_none told places none }
 
   -- Turns without an act.
-  pub session_goes : {begun : ℕ} {deeds : List Deed} {before between after : Option (List (Mark S))} {old new : ℕ → Option (Kept S)}
+  pub session_goes : {begun : ℕ} {deeds : List Deed} {before between after : Option (List (Mark S))} {old new : ℕ → Option (Peer S)}
       → Session begun deeds before between old → Goes told between old after new → Session begun deeds before after new
   session_goes {begun} {deeds} {before} {between} {after} s goes = record {
     marks = s.marks ++ goes.more;
@@ -37,28 +37,28 @@ module _ {S : Type 0} (told : S → Option Told) where
   }
 
   -- Acts of a connection that was taken out.
-  pub session_acts : {begun : ℕ} {deeds : List Deed} {before between taken after : Option (List (Mark S))} {old mid new : ℕ → Option (Kept S)}
-      (kept : Kept S) (acts : List Act) → Session begun deeds before between old → Passes told between old None ⊤ taken mid (Some kept) ⊤
-      → Acts told taken mid kept acts after new → Session begun (deeds ++ deeds_of kept.turn.number acts) before after new
-  session_acts {begun} {deeds} {before} {between} {taken} {after} kept acts s p a = record {
+  pub session_acts : {begun : ℕ} {deeds : List Deed} {before between taken after : Option (List (Mark S))} {old mid new : ℕ → Option (Peer S)}
+      (peer : Peer S) (acts : List Act) → Session begun deeds before between old → Passes told between old None ⊤ taken mid (Some peer) ⊤
+      → Acts told taken mid peer acts after new → Session begun (deeds ++ deeds_of peer.state.number acts) before after new
+  session_acts {begun} {deeds} {before} {between} {taken} {after} peer acts s p a = record {
     marks = (s.marks ++ p.more) ++ a.more;
     adds = adds_both before taken after (s.marks ++ p.more) a.more (adds_both before between taken s.marks p.more s.adds p.adds) a.adds;
     ledger = a.goes begun deeds (s.marks ++ p.more) (p.goes begun deeds s.marks s.ledger);
   }
 
   -- The first acts of a new connection.
-  pub session_new : {begun : ℕ} {deeds : List Deed} {before between found opened after : Option (List (Mark S))} {old mid new : ℕ → Option (Kept S)}
-      (kept : Kept S) (acts : List Act) (stream : S) → Session begun deeds before between old → Goes told between old found mid
-      → kept.turn.number ≡ begun + 1 → kept.stream ≡ stream → kept.input ≡ [] → kept.output ≡ [] → kept.turn.unsent ≡ None
-      → Adds found (at_opening (begun + 1) stream ∷ []) opened → Acts told opened mid kept acts after new
-      → Session (begun + 1) (deeds ++ deeds_of kept.turn.number acts) before after new
-  session_new {begun} {deeds} {before} {between} {found} {opened} {after} {old} {mid} {new} kept acts stream s p number is input output unsent adds a =
+  pub session_new : {begun : ℕ} {deeds : List Deed} {before between found opened after : Option (List (Mark S))} {old mid new : ℕ → Option (Peer S)}
+      (peer : Peer S) (acts : List Act) (stream : S) → Session begun deeds before between old → Goes told between old found mid
+      → peer.state.number ≡ begun + 1 → peer.stream ≡ stream → peer.connection.input ≡ [] → peer.connection.output ≡ [] → peer.state.unsent ≡ None
+      → Adds found (at_opening (begun + 1) stream ∷ []) opened → Acts told opened mid peer acts after new
+      → Session (begun + 1) (deeds ++ deeds_of peer.state.number acts) before after new
+  session_new {begun} {deeds} {before} {between} {found} {opened} {after} {old} {mid} {new} peer acts stream s p number is input output unsent adds a =
       let t = session_goes s p in
-      let mark : Mark S = at_opening kept.turn.number kept.stream in
+      let mark : Mark S = at_opening peer.state.number peer.stream in
       let adds_it : Adds found (mark ∷ []) opened =
-      subst (λ (n : ℕ). Adds found (at_opening n kept.stream ∷ []) opened) (sym number)
+      subst (λ (n : ℕ). Adds found (at_opening n peer.stream ∷ []) opened) (sym number)
       (subst (λ (x : S). Adds found (at_opening (begun + 1) x ∷ []) opened) (sym is) adds) in
-      let open_one = ledger_new told begun deeds t.marks mid kept number (talking_new told kept input output unsent) t.ledger in
+      let open_one = ledger_new told begun deeds t.marks mid peer number (talking_new told peer input output unsent) t.ledger in
       record {
         marks = (t.marks ++ mark ∷ []) ++ a.more;
         adds = adds_both before opened after (t.marks ++ mark ∷ []) a.more (adds_both before found opened t.marks (mark ∷ []) t.adds adds_it) a.adds;
@@ -66,9 +66,9 @@ module _ {S : Type 0} (told : S → Option Told) where
       }
 
   -- All are closed.
-  module _ (begun : ℕ) (deeds : List Deed) (before after : Option (List (Mark S))) (places : ℕ → Option (Kept S))
+  module _ (begun : ℕ) (deeds : List Deed) (before after : Option (List (Mark S))) (places : ℕ → Option (Peer S))
       (none : (key : ℕ) → places key ≡ None) (s : Session begun deeds before after places) where
-    gone : (number : ℕ) → (t : IsThere number places None) → ((key : ℕ) × (places key ≡ Some t.kept)) ⊎ (None ≡ Some t.kept) → ⊥
+    gone : (number : ℕ) → (t : IsThere number places None) → ((key : ℕ) × (places key ≡ Some t.peer)) ⊎ (None ≡ Some t.peer) → ⊥
     gone number t (inl at) = none_some (sym (none at.0) ∙ at.1)
     gone number t (inr at) = none_some at
 

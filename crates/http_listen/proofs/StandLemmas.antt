@@ -4,24 +4,24 @@ use Rattle.std.specs.Prelude.{nat_eq}
 use Rattle.std.specs.declared.option.Option.{Option}
 use Rattle.std.specs.Option.{option_map}
 use Rattle.mio.specs.declared.event.event.Event.{Event}
-use Rattle.http_listen.specs.declared.kept.Kept.{Kept}
+use Rattle.http_listen.specs.declared.peers.Peer.{Peer}
 use Rattle.http_listen.specs.declared.waits.Change.{Change}
 use Rattle.http_listen.specs.Listeners.{key_of, is_of_listener, change_of, after_event, after_events}
 use Rattle.http_listen.specs.Places.{with_change}
 use Rattle.http_listen.specs.Stays.{StandsAt, AllStand}
 
 module _ {S : Type 0} where
-  stand_same : (at : Option (Kept S)) → StandsAt at at
+  stand_same : (at : Option (Peer S)) → StandsAt at at
   stand_same None = tt
-  stand_same (Some kept) = record { stream = refl; input = refl; output = refl; number = refl; drops = refl; unsent = refl }
+  stand_same (Some peer) = record { stream = refl; input = refl; output = refl; number = refl; drops = refl; unsent = refl }
 
-  stand_both : (old mid new : Option (Kept S)) → StandsAt old mid → StandsAt mid new → StandsAt old new
+  stand_both : (old mid new : Option (Peer S)) → StandsAt old mid → StandsAt mid new → StandsAt old new
   stand_both None None None s t = tt
   stand_both (Some before) None new s t = absurd s
-  stand_both None (Some kept) new s t = absurd s
+  stand_both None (Some peer) new s t = absurd s
   stand_both old None (Some now) s t = absurd t
-  stand_both old (Some kept) None s t = absurd t
-  stand_both (Some before) (Some kept) (Some now) s t = record {
+  stand_both old (Some peer) None s t = absurd t
+  stand_both (Some before) (Some peer) (Some now) s t = record {
     stream = t.stream ∙ s.stream;
     input = t.input ∙ s.input;
     output = t.output ∙ s.output;
@@ -30,28 +30,28 @@ module _ {S : Type 0} where
     unsent = t.unsent ∙ s.unsent;
   }
 
-  stand_changed : (change : Change) (at : Option (Kept S)) → StandsAt at (option_map (with_change change) at)
+  stand_changed : (change : Change) (at : Option (Peer S)) → StandsAt at (option_map (with_change change) at)
   stand_changed change None = tt
-  stand_changed change (Some kept) = record { stream = refl; input = refl; output = refl; number = refl; drops = refl; unsent = refl }
+  stand_changed change (Some peer) = record { stream = refl; input = refl; output = refl; number = refl; drops = refl; unsent = refl }
 
-  stand_cond : (b : Bool) (at x y : Option (Kept S)) → StandsAt at x → StandsAt at y → StandsAt at (cond b x y)
+  stand_cond : (b : Bool) (at x y : Option (Peer S)) → StandsAt at x → StandsAt at y → StandsAt at (cond b x y)
   stand_cond true at x y s t = s
   stand_cond false at x y s t = t
 
-  stand_event : (key : ℕ) (event : Event) (at : Option (Kept S)) → StandsAt at (after_event key event at)
+  stand_event : (key : ℕ) (event : Event) (at : Option (Peer S)) → StandsAt at (after_event key event at)
   stand_event key event at = stand_cond (is_of_listener event) at at _ (stand_same at)
       (stand_cond (nat_eq key (key_of event)) at (option_map (with_change (change_of event)) at) at (stand_changed (change_of event) at) (stand_same at))
 
-  stand_events : (key : ℕ) (events : List Event) (at : Option (Kept S)) → StandsAt at (after_events key events at)
+  stand_events : (key : ℕ) (events : List Event) (at : Option (Peer S)) → StandsAt at (after_events key events at)
   stand_events key [] at = stand_same at
   stand_events key (event ∷ events) at =
       stand_both at (after_event key event at) (after_events key events (after_event key event at)) (stand_event key event at)
       (stand_events key events (after_event key event at))
 
   -- After the events of a wait.
-  pub all_stand_events : (events : List Event) (old new : ℕ → Option (Kept S)) → ((key : ℕ) → new key ≡ after_events key events (old key)) → AllStand old new
-  all_stand_events events old new same key = subst (λ (x : Option (Kept S)). StandsAt (old key) x) (sym (same key)) (stand_events key events (old key))
+  pub all_stand_events : (events : List Event) (old new : ℕ → Option (Peer S)) → ((key : ℕ) → new key ≡ after_events key events (old key)) → AllStand old new
+  all_stand_events events old new same key = subst (λ (x : Option (Peer S)). StandsAt (old key) x) (sym (same key)) (stand_events key events (old key))
 
   -- The connections are the same.
-  pub all_stand_same : (old new : ℕ → Option (Kept S)) → ((key : ℕ) → new key ≡ old key) → AllStand old new
-  all_stand_same old new same key = subst (λ (x : Option (Kept S)). StandsAt (old key) x) (sym (same key)) (stand_same (old key))
+  pub all_stand_same : (old new : ℕ → Option (Peer S)) → ((key : ℕ) → new key ≡ old key) → AllStand old new
+  all_stand_same old new same key = subst (λ (x : Option (Peer S)). StandsAt (old key) x) (sym (same key)) (stand_same (old key))

@@ -9,7 +9,7 @@ use Rattle.http_serve.specs.declared.connection.Served.{Served}
 use Rattle.http_serve.specs.declared.handlers.RestFault.{RestFault}
 use Rattle.http_serve.specs.declared.handlers.Ticket.{Ticket}
 use Rattle.http_listen.specs.declared.ends.EndFault.{EndFault}
-use Rattle.http_listen.specs.declared.kept.Kept.{Kept}
+use Rattle.http_listen.specs.declared.peers.Peer.{Peer}
 use Rattle.http_listen.specs.declared.rests.Unsent.{Unsent}
 use Rattle.http_listen.specs.declared.turns.Next.{Next}
 use Rattle.http_listen.specs.declared.turns.Next.TheVariants.{Asks, Reads, Rests, Closes}
@@ -61,49 +61,49 @@ module _ {S : Type 0} (told : S → Option Told) where
   stands_grow {old} {new} e = subst (λ (s : S). Grows (told old) [] [] (told s)) (sym e) (grows_none (told old))
 
   -- A conversation goes on with what was done.
-  pub talking_on : (first : Option Told) (acts more : List Act) (whole : Type 0) (old new : Kept S) → IsTalking told first acts old
+  pub talking_on : (first : Option Told) (acts more : List Act) (whole : Type 0) (old new : Peer S) → IsTalking told first acts old
       → Steps told old more whole new → whole → IsTalking told first (acts ++ more) new
   talking_on first acts more whole old new t s w =
-      let lost : s.lost ≡ [] = (s.kept w).0 in
-      let cut : s.cut ≡ [] = (s.kept w).1 in
-      let input : old.input ++ s.given ≡ asked more ++ new.input =
-      s.input ∙ ap (λ l. asked more ++ (new.input ++ l)) lost ∙ ap (λ l. asked more ++ l) (append-nil new.input) in
-      let moved : Moves (told old.stream) old.output s.given (replied more) (told new.stream) new.output =
-      subst (λ (l : List ℕ). Moves (told old.stream) old.output s.given (replied more) (told new.stream) l)
-      (ap (λ l. new.output ++ l) cut ∙ append-nil new.output) s.moved in
-      let both = moves_both first (told old.stream) (told new.stream) [] old.output new.output (asked acts ++ old.input) s.given (replied acts) (replied more)
+      let lost : s.lost ≡ [] = (s.lossless w).0 in
+      let cut : s.cut ≡ [] = (s.lossless w).1 in
+      let input : old.connection.input ++ s.given ≡ asked more ++ new.connection.input =
+      s.input ∙ ap (λ l. asked more ++ (new.connection.input ++ l)) lost ∙ ap (λ l. asked more ++ l) (append-nil new.connection.input) in
+      let moved : Moves (told old.stream) old.connection.output s.given (replied more) (told new.stream) new.connection.output =
+      subst (λ (l : List ℕ). Moves (told old.stream) old.connection.output s.given (replied more) (told new.stream) l)
+      (ap (λ l. new.connection.output ++ l) cut ∙ append-nil new.connection.output) s.moved in
+      let both = moves_both first (told old.stream) (told new.stream) [] old.connection.output new.connection.output (asked acts ++ old.connection.input) s.given (replied acts) (replied more)
       t.moved moved in
-      let given : (asked acts ++ old.input) ++ s.given ≡ asked (acts ++ more) ++ new.input =
-      append_assoc (asked acts) old.input s.given ∙ ap (λ l. asked acts ++ l) input
-      ∙ sym (append_assoc (asked acts) (asked more) new.input) ∙ ap (λ l. l ++ new.input) (sym (asked_both acts more)) in
+      let given : (asked acts ++ old.connection.input) ++ s.given ≡ asked (acts ++ more) ++ new.connection.input =
+      append_assoc (asked acts) old.connection.input s.given ∙ ap (λ l. asked acts ++ l) input
+      ∙ sym (append_assoc (asked acts) (asked more) new.connection.input) ∙ ap (λ l. l ++ new.connection.input) (sym (asked_both acts more)) in
       record {
-        moved = subst (λ (l : List ℕ). Moves first [] l (replied (acts ++ more)) (told new.stream) new.output) given
-            (subst (λ (l : List ℕ). Moves first [] ((asked acts ++ old.input) ++ s.given) l (told new.stream) new.output) (sym (replied_both acts more)) both);
-        follows = subst (λ (u : Option Unsent). Follows None (acts ++ more) u) (sym (s.kept w).2)
-            (follows_both None old.turn.unsent s.left acts more t.follows s.follows);
+        moved = subst (λ (l : List ℕ). Moves first [] l (replied (acts ++ more)) (told new.stream) new.connection.output) given
+            (subst (λ (l : List ℕ). Moves first [] ((asked acts ++ old.connection.input) ++ s.given) l (told new.stream) new.connection.output) (sym (replied_both acts more)) both);
+        follows = subst (λ (u : Option Unsent). Follows None (acts ++ more) u) (sym (s.lossless w).2)
+            (follows_both None old.state.unsent s.left acts more t.follows s.follows);
       }
 
   -- After a step it is in its conversation, whatever was lost.
-  pub talking_held : (first : Option Told) (acts more : List Act) (whole : Type 0) (old new : Kept S) → IsTalking told first acts old
+  pub talking_held : (first : Option Told) (acts more : List Act) (whole : Type 0) (old new : Peer S) → IsTalking told first acts old
       → Steps told old more whole new → IsHeld told first (acts ++ more) new
   talking_held first acts more whole old new t s =
-      let both = moves_both first (told old.stream) (told new.stream) [] old.output (new.output ++ s.cut) (asked acts ++ old.input) s.given (replied acts)
+      let both = moves_both first (told old.stream) (told new.stream) [] old.connection.output (new.connection.output ++ s.cut) (asked acts ++ old.connection.input) s.given (replied acts)
       (replied more) t.moved s.moved in
-      let given : (asked acts ++ old.input) ++ s.given ≡ asked (acts ++ more) ++ (new.input ++ s.lost) =
-      append_assoc (asked acts) old.input s.given ∙ ap (λ l. asked acts ++ l) s.input
-      ∙ sym (append_assoc (asked acts) (asked more) (new.input ++ s.lost)) ∙ ap (λ l. l ++ (new.input ++ s.lost)) (sym (asked_both acts more)) in
+      let given : (asked acts ++ old.connection.input) ++ s.given ≡ asked (acts ++ more) ++ (new.connection.input ++ s.lost) =
+      append_assoc (asked acts) old.connection.input s.given ∙ ap (λ l. asked acts ++ l) s.input
+      ∙ sym (append_assoc (asked acts) (asked more) (new.connection.input ++ s.lost)) ∙ ap (λ l. l ++ (new.connection.input ++ s.lost)) (sym (asked_both acts more)) in
       let replies : replied acts ++ replied more ≡ replied (acts ++ more) ++ [] =
       sym (replied_both acts more) ∙ sym (append-nil (replied (acts ++ more))) in
       record {
         talk = record {
-          rest = new.input ++ s.lost;
+          rest = new.connection.input ++ s.lost;
           refusal = [];
-          waits = new.output ++ s.cut;
-          moved = subst (λ (l : List ℕ). Moves first [] l (replied (acts ++ more) ++ []) (told new.stream) (new.output ++ s.cut)) given
-              (subst (λ (l : List ℕ). Moves first [] ((asked acts ++ old.input) ++ s.given) l (told new.stream) (new.output ++ s.cut)) replies both);
+          waits = new.connection.output ++ s.cut;
+          moved = subst (λ (l : List ℕ). Moves first [] l (replied (acts ++ more) ++ []) (told new.stream) (new.connection.output ++ s.cut)) given
+              (subst (λ (l : List ℕ). Moves first [] ((asked acts ++ old.connection.input) ++ s.given) l (told new.stream) (new.connection.output ++ s.cut)) replies both);
           refused = inl refl;
           left = s.left;
-          follows = follows_both None old.turn.unsent s.left acts more t.follows s.follows;
+          follows = follows_both None old.state.unsent s.left acts more t.follows s.follows;
         };
         cut = s.cut;
         waits = refl;
@@ -111,43 +111,43 @@ module _ {S : Type 0} (told : S → Option Told) where
       }
 
   -- A connection of which nothing was read, and to which nothing is sent.
-  pub talking_new : (kept : Kept S) → kept.input ≡ [] → kept.output ≡ [] → kept.turn.unsent ≡ None → IsTalking told (told kept.stream) [] kept
-  talking_new kept input output unsent = record {
-    moved = subst (λ (l : List ℕ). Moves (told kept.stream) [] l [] (told kept.stream) kept.output) (sym input)
-        (subst (λ (l : List ℕ). Moves (told kept.stream) [] [] [] (told kept.stream) l) (sym output) (moves_none (told kept.stream) []));
+  pub talking_new : (peer : Peer S) → peer.connection.input ≡ [] → peer.connection.output ≡ [] → peer.state.unsent ≡ None → IsTalking told (told peer.stream) [] peer
+  talking_new peer input output unsent = record {
+    moved = subst (λ (l : List ℕ). Moves (told peer.stream) [] l [] (told peer.stream) peer.connection.output) (sym input)
+        (subst (λ (l : List ℕ). Moves (told peer.stream) [] [] [] (told peer.stream) l) (sym output) (moves_none (told peer.stream) []));
     follows = unsent;
   }
 
   -- What was sent is the front of what waited.
-  pub steps_sent : (old new : Kept S) (whole : Type 0) → Moves (told old.stream) old.output [] [] (told new.stream) new.output → Beside old new
-      → new.turn.unsent ≡ old.turn.unsent → Steps told old [] whole new
+  pub steps_sent : (old new : Peer S) (whole : Type 0) → Moves (told old.stream) old.connection.output [] [] (told new.stream) new.connection.output → Beside old new
+      → new.state.unsent ≡ old.state.unsent → Steps told old [] whole new
   steps_sent old new whole moves beside unsent = record {
     number = beside.number;
     drops = ap is_some beside.drops;
     given = [];
     lost = [];
     cut = [];
-    input = append-nil old.input ∙ sym beside.input ∙ sym (append-nil new.input);
-    moved = subst (λ (l : List ℕ). Moves (told old.stream) old.output [] [] (told new.stream) l) (sym (append-nil new.output)) moves;
-    left = old.turn.unsent;
+    input = append-nil old.connection.input ∙ sym beside.input ∙ sym (append-nil new.connection.input);
+    moved = subst (λ (l : List ℕ). Moves (told old.stream) old.connection.output [] [] (told new.stream) l) (sym (append-nil new.connection.output)) moves;
+    left = old.state.unsent;
     follows = refl;
-    kept = λ _. (refl, refl, unsent);
+    lossless = λ _. (refl, refl, unsent);
     cuts = λ _. refl;
   }
 
   -- Nothing was sent or read.
-  pub steps_none : (kept : Kept S) (whole : Type 0) → Steps told kept [] whole kept
-  steps_none kept whole = steps_sent kept kept whole (moves_none (told kept.stream) kept.output) (record { input = refl; number = refl; drops = refl }) refl
+  pub steps_none : (peer : Peer S) (whole : Type 0) → Steps told peer [] whole peer
+  steps_none peer whole = steps_sent peer peer whole (moves_none (told peer.stream) peer.connection.output) (record { input = refl; number = refl; drops = refl }) refl
 
   -- Nothing was sent or read, and something else changed.
-  pub steps_stand : (old new : Kept S) (whole : Type 0) → Stands old new → Steps told old [] whole new
+  pub steps_stand : (old new : Peer S) (whole : Type 0) → Stands old new → Steps told old [] whole new
   steps_stand old new whole s = steps_sent old new whole
-      (subst (λ (x : S). Moves (told old.stream) old.output [] [] (told x) new.output) (sym s.stream)
-      (subst (λ (l : List ℕ). Moves (told old.stream) old.output [] [] (told old.stream) l) (sym s.output) (moves_none (told old.stream) old.output)))
+      (subst (λ (x : S). Moves (told old.stream) old.connection.output [] [] (told x) new.connection.output) (sym s.stream)
+      (subst (λ (l : List ℕ). Moves (told old.stream) old.connection.output [] [] (told old.stream) l) (sym s.output) (moves_none (told old.stream) old.connection.output)))
       (record { input = s.input; number = s.number; drops = s.drops }) s.unsent
 
   -- First a step of the preparation of a reply was made.
-  pub steps_prepared : (old new : Kept S) (acts : List Act) (whole : Type 0) → old.turn.unsent ≡ None → Steps told old acts whole new
+  pub steps_prepared : (old new : Peer S) (acts : List Act) (whole : Type 0) → old.state.unsent ≡ None → Steps told old acts whole new
       → Steps told old (prepared ∷ acts) whole new
   steps_prepared old new acts whole none s = record {
     number = s.number;
@@ -159,19 +159,19 @@ module _ {S : Type 0} (told : S → Option Told) where
     moved = s.moved;
     left = s.left;
     follows = (None, (none, refl), subst (λ (u : Option Unsent). Follows u acts s.left) none s.follows);
-    kept = s.kept;
+    lossless = s.lossless;
     cuts = s.cuts;
   }
 
   -- First several of these were made.
-  pub steps_before : (steps : ℕ) (old new : Kept S) (acts : List Act) (whole : Type 0) → old.turn.unsent ≡ None → Steps told old acts whole new
+  pub steps_before : (steps : ℕ) (old new : Peer S) (acts : List Act) (whole : Type 0) → old.state.unsent ≡ None → Steps told old acts whole new
       → Steps told old (prepared_first steps acts) whole new
   steps_before zero old new acts whole none s = s
   steps_before (suc more) old new acts whole none s =
       steps_prepared old new (prepared_first more acts) whole none (steps_before more old new acts whole none s)
 
   -- What was read is the end of the input.
-  pub steps_read : (old new : Kept S) (result : Next) (whole : Type 0) → (whole → GoesOn result) → IsRead told old result new → Steps told old [] whole new
+  pub steps_read : (old new : Peer S) (result : Next) (whole : Type 0) → (whole → GoesOn result) → IsRead told old result new → Steps told old [] whole new
   steps_read old new result whole goes_on r = record {
     number = r.number;
     drops = r.drops;
@@ -179,27 +179,27 @@ module _ {S : Type 0} (told : S → Option Told) where
     lost = r.lost;
     cut = [];
     input = sym r.input;
-    moved = subst (λ (l : List ℕ). Moves (told old.stream) old.output r.given [] (told new.stream) l) (sym r.output ∙ sym (append-nil new.output))
-        (moves_read (told old.stream) (told new.stream) old.output r.given r.grows);
-    left = old.turn.unsent;
+    moved = subst (λ (l : List ℕ). Moves (told old.stream) old.connection.output r.given [] (told new.stream) l) (sym r.output ∙ sym (append-nil new.connection.output))
+        (moves_read (told old.stream) (told new.stream) old.connection.output r.given r.grows);
+    left = old.state.unsent;
     follows = refl;
-    kept = λ w. (r.kept (goes_on w), refl, r.unsent);
+    lossless = λ w. (r.lossless (goes_on w), refl, r.unsent);
     cuts = λ _. refl;
   }
 
-  pub turned_read : (old new : Kept S) (fields : List HeaderSpan) (result : Next) → IsRead told old result new
-      → IsSearched new.input new.turn.ended fields result → old.output ≡ []
-      → old.turn.unsent ≡ None
-      → old.turn.drops ≡ None → Turned told old fields result new
+  pub turned_read : (old new : Peer S) (fields : List HeaderSpan) (result : Next) → IsRead told old result new
+      → IsSearched new.connection.input new.state.ended fields result → old.connection.output ≡ []
+      → old.state.unsent ≡ None
+      → old.state.drops ≡ None → Turned told old fields result new
   turned_read old new fields (Asks end) r s output unsent drops =
-      (steps_read old new (Asks end) ⊤ (λ _. tt) r, r.output ∙ output, r.unsent ∙ unsent, none_of new.turn.drops (r.drops ∙ ap is_some drops), s.is)
+      (steps_read old new (Asks end) ⊤ (λ _. tt) r, r.output ∙ output, r.unsent ∙ unsent, none_of new.state.drops (r.drops ∙ ap is_some drops), s.is)
   turned_read old new fields (Reads u) r s output unsent drops = absurd s.is
   turned_read old new fields (Rests None) r s output unsent drops = steps_read old new (Rests None) _ (λ _. tt) r
   turned_read old new fields (Rests (Some outcome)) r s output unsent drops = steps_read old new (Rests (Some outcome)) _ (λ w. absurd (not_some w.0)) r
   turned_read old new fields Closes r s output unsent drops = absurd s.is
 
   -- A search reads nothing.
-  pub stands_read : (old new : Kept S) (result : Next) → Stands old new → IsRead told old result new
+  pub stands_read : (old new : Peer S) (result : Next) → Stands old new → IsRead told old result new
   stands_read old new result s = record {
     given = [];
     lost = [];
@@ -209,17 +209,17 @@ module _ {S : Type 0} (told : S → Option Told) where
     number = s.number;
     drops = ap is_some s.drops;
     unsent = s.unsent;
-    kept = λ _. refl;
+    lossless = λ _. refl;
   }
 
   -- Nothing was read.
-  pub none_read : (kept : Kept S) (result : Next) → IsRead told kept result kept
-  none_read kept result =
-      stands_read kept kept result (record { stream = refl; input = refl; output = refl; number = refl; drops = refl; unsent = refl })
+  pub none_read : (peer : Peer S) (result : Next) → IsRead told peer result peer
+  none_read peer result =
+      stands_read peer peer result (record { stream = refl; input = refl; output = refl; number = refl; drops = refl; unsent = refl })
 
   -- Bytes were read and dropped.
-  pub steps_dropped : (old new : Kept S) (given : List ℕ) → Grows (told old.stream) given [] (told new.stream) → new.input ≡ old.input → new.output ≡ old.output
-      → new.turn.number ≡ old.turn.number → is_some new.turn.drops ≡ is_some old.turn.drops → Steps told old [] ⊥ new
+  pub steps_dropped : (old new : Peer S) (given : List ℕ) → Grows (told old.stream) given [] (told new.stream) → new.connection.input ≡ old.connection.input → new.connection.output ≡ old.connection.output
+      → new.state.number ≡ old.state.number → is_some new.state.drops ≡ is_some old.state.drops → Steps told old [] ⊥ new
   steps_dropped old new given grows input output number drops = record {
     number = number;
     drops = drops;
@@ -227,40 +227,48 @@ module _ {S : Type 0} (told : S → Option Told) where
     lost = given;
     cut = [];
     input = ap (λ l. l ++ given) (sym input);
-    moved = subst (λ (l : List ℕ). Moves (told old.stream) old.output given [] (told new.stream) l) (sym output ∙ sym (append-nil new.output))
-        (moves_read (told old.stream) (told new.stream) old.output given grows);
-    left = old.turn.unsent;
+    moved = subst (λ (l : List ℕ). Moves (told old.stream) old.connection.output given [] (told new.stream) l) (sym output ∙ sym (append-nil new.connection.output))
+        (moves_read (told old.stream) (told new.stream) old.connection.output given grows);
+    left = old.state.unsent;
     follows = refl;
-    kept = λ w. absurd w;
+    lossless = λ w. absurd w;
     cuts = λ _. refl;
   }
 
-  -- The first bytes of the input were answered.
-  pub steps_answered : (old front new : Kept S) (end : ℕ) (out : List ℕ) (result : Result Served ServeFault) (ticket : Ticket) (whole : Type 0)
-      → Moves (told old.stream) old.output [] out (told front.stream) front.output → Moves (told front.stream) front.output [] [] (told new.stream) new.output
-      → new.input ≡ drop end old.input → new.turn.number ≡ old.turn.number → is_some new.turn.drops ≡ is_some old.turn.drops
-      → IsNext old.turn.unsent (answered (take end old.input) out result ticket) new.turn.unsent
-      → Steps told old (answered (take end old.input) out result ticket ∷ []) whole new
-  steps_answered old front new end out result ticket whole first then input number drops next = record {
-    number = number;
-    drops = drops;
-    given = [];
-    lost = [];
-    cut = [];
-    input = append-nil old.input ∙ sym (take-append-drop end old.input) ∙ ap (λ l. take end old.input ++ l) (sym input)
-        ∙ both_same (sym (append-nil (take end old.input))) (sym (append-nil new.input));
-    moved = subst (λ (l : List ℕ). Moves (told old.stream) old.output [] (out ++ []) (told new.stream) l) (sym (append-nil new.output))
-        (moves_both (told old.stream) (told front.stream) (told new.stream) old.output front.output new.output [] [] out [] first then);
-    left = new.turn.unsent;
-    follows = (new.turn.unsent, next, refl);
-    kept = λ _. (refl, refl, refl);
-    cuts = λ _. refl;
-  }
+  -- The first bytes of the input were answered, and then some of the replies sent. Nothing waited to be sent before.
+  pub steps_answered : (old front new : Peer S) (end : ℕ) (result : Result Served ServeFault) (ticket : Ticket) (whole : Type 0)
+      → old.connection.output ≡ [] → front.stream ≡ old.stream
+      → Moves (told front.stream) front.connection.output [] [] (told new.stream) new.connection.output
+      → new.connection.input ≡ drop end old.connection.input → new.state.number ≡ old.state.number → is_some new.state.drops ≡ is_some old.state.drops
+      → IsNext old.state.unsent (answered (take end old.connection.input) front.connection.output result ticket) new.state.unsent
+      → Steps told old (answered (take end old.connection.input) front.connection.output result ticket ∷ []) whole new
+  steps_answered old front new end result ticket whole none stream then input number drops next =
+      let before = old.connection.input in
+      let out = front.connection.output in
+      let first : Moves (told old.stream) old.connection.output [] out (told front.stream) out =
+      subst (λ (l : List ℕ). Moves (told old.stream) l [] out (told front.stream) out) (sym none)
+      (subst (λ (s : S). Moves (told old.stream) [] [] out (told s) out) (sym stream) (moves_added (told old.stream) [] out)) in
+      record {
+        number = number;
+        drops = drops;
+        given = [];
+        lost = [];
+        cut = [];
+        input = append-nil before ∙ sym (take-append-drop end before) ∙ ap (λ l. take end before ++ l) (sym input)
+            ∙ both_same (sym (append-nil (take end before))) (sym (append-nil new.connection.input));
+        moved = subst (λ (l : List ℕ). Moves (told old.stream) old.connection.output [] (out ++ []) (told new.stream) l)
+            (sym (append-nil new.connection.output))
+            (moves_both (told old.stream) (told front.stream) (told new.stream) old.connection.output out new.connection.output [] [] out [] first then);
+        left = new.state.unsent;
+        follows = (new.state.unsent, next, refl);
+        lossless = λ _. (refl, refl, refl);
+        cuts = λ _. refl;
+      }
 
   -- Bytes of a content were read, and added to the output, of which nothing waited.
-  pub steps_fetched : (old new : Kept S) (unsent : Unsent) (count : ℕ) (bytes : List ℕ) (whole : Type 0)
-      → old.turn.unsent ≡ Some unsent → old.output ≡ [] → Moves (told old.stream) bytes [] [] (told new.stream) new.output → Beside old new
-      → count ≤ unsent.end - unsent.at → IsLeft unsent (Ok bytes) new.turn.unsent
+  pub steps_fetched : (old new : Peer S) (unsent : Unsent) (count : ℕ) (bytes : List ℕ) (whole : Type 0)
+      → old.state.unsent ≡ Some unsent → old.connection.output ≡ [] → Moves (told old.stream) bytes [] [] (told new.stream) new.connection.output → Beside old new
+      → count ≤ unsent.end - unsent.at → IsLeft unsent (Ok bytes) new.state.unsent
       → Steps told old (fetched unsent.ticket unsent.at count (Ok bytes) ∷ []) whole new
   steps_fetched old new unsent count bytes whole rest none moves beside few left = record {
     number = beside.number;
@@ -268,13 +276,13 @@ module _ {S : Type 0} (told : S → Option Told) where
     given = [];
     lost = [];
     cut = [];
-    input = append-nil old.input ∙ sym beside.input ∙ sym (append-nil new.input);
-    moved = subst (λ (l : List ℕ). Moves (told old.stream) l [] (bytes ++ []) (told new.stream) (new.output ++ [])) (sym none)
-        (subst (λ (l : List ℕ). Moves (told old.stream) [] [] (bytes ++ []) (told new.stream) l) (sym (append-nil new.output))
-        (moves_both (told old.stream) (told old.stream) (told new.stream) [] bytes new.output [] [] bytes [] (moves_added (told old.stream) [] bytes) moves));
-    left = new.turn.unsent;
-    follows = (new.turn.unsent, (unsent, rest, refl, refl, few, left), refl);
-    kept = λ _. (refl, refl, refl);
+    input = append-nil old.connection.input ∙ sym beside.input ∙ sym (append-nil new.connection.input);
+    moved = subst (λ (l : List ℕ). Moves (told old.stream) l [] (bytes ++ []) (told new.stream) (new.connection.output ++ [])) (sym none)
+        (subst (λ (l : List ℕ). Moves (told old.stream) [] [] (bytes ++ []) (told new.stream) l) (sym (append-nil new.connection.output))
+        (moves_both (told old.stream) (told old.stream) (told new.stream) [] bytes new.connection.output [] [] bytes [] (moves_added (told old.stream) [] bytes) moves));
+    left = new.state.unsent;
+    follows = (new.state.unsent, (unsent, rest, refl, refl, few, left), refl);
+    lossless = λ _. (refl, refl, refl);
     cuts = λ _. refl;
   }
 
@@ -284,9 +292,9 @@ module _ {S : Type 0} (told : S → Option Told) where
   some_left unsent (Ok bytes) = (Some (record unsent { at = unsent.at + length bytes }), refl)
 
   -- They couldn't be read, or weren't added, and the connection ends.
-  pub steps_failed : (old new : Kept S) (unsent : Unsent) (count : ℕ) (outcome : Result (List ℕ) RestFault) (whole : Type 0) → (whole → ⊥)
-      → old.turn.unsent ≡ Some unsent → old.output ≡ [] → Moves (told old.stream) [] [] [] (told new.stream) new.output → Beside old new
-      → new.turn.unsent ≡ old.turn.unsent → count ≤ unsent.end - unsent.at
+  pub steps_failed : (old new : Peer S) (unsent : Unsent) (count : ℕ) (outcome : Result (List ℕ) RestFault) (whole : Type 0) → (whole → ⊥)
+      → old.state.unsent ≡ Some unsent → old.connection.output ≡ [] → Moves (told old.stream) [] [] [] (told new.stream) new.connection.output → Beside old new
+      → new.state.unsent ≡ old.state.unsent → count ≤ unsent.end - unsent.at
       → Steps told old (fetched unsent.ticket unsent.at count outcome ∷ []) whole new
   steps_failed old new unsent count outcome whole never rest none moves beside same few =
       let bytes = fetched_bytes outcome in
@@ -297,13 +305,13 @@ module _ {S : Type 0} (told : S → Option Told) where
         given = [];
         lost = [];
         cut = bytes ++ [];
-        input = append-nil old.input ∙ sym beside.input ∙ sym (append-nil new.input);
-        moved = subst (λ (l : List ℕ). Moves (told old.stream) l [] (bytes ++ []) (told new.stream) (new.output ++ (bytes ++ []))) (sym none)
-            (moves_both (told old.stream) (told new.stream) (told new.stream) [] new.output (new.output ++ (bytes ++ [])) [] [] [] (bytes ++ []) moves
-            (moves_added (told new.stream) new.output (bytes ++ [])));
+        input = append-nil old.connection.input ∙ sym beside.input ∙ sym (append-nil new.connection.input);
+        moved = subst (λ (l : List ℕ). Moves (told old.stream) l [] (bytes ++ []) (told new.stream) (new.connection.output ++ (bytes ++ []))) (sym none)
+            (moves_both (told old.stream) (told new.stream) (told new.stream) [] new.connection.output (new.connection.output ++ (bytes ++ [])) [] [] [] (bytes ++ []) moves
+            (moves_added (told new.stream) new.connection.output (bytes ++ [])));
         left = left.0;
         follows = (left.0, (unsent, rest, refl, refl, few, left.1), refl);
-        kept = λ w. absurd (never w);
+        lossless = λ w. absurd (never w);
         cuts = λ e. absurd (not_some (sym rest ∙ sym same ∙ e));
       }
 
@@ -314,17 +322,17 @@ module _ {S : Type 0} (told : S → Option Told) where
   ended_by ticket offset count (Err cause) fault ending at ends = ends ∙ ap (λ (f : EndFault). Some (Err f)) at
 
   -- The act of a connection of whose content bytes were to be read.
-  pub fetched_act : {H : Type 0} (reads : H → Ticket → (offset count : ℕ) → Result (List ℕ) RestFault → H → Type 0) (h k : H) (old new : Kept S)
+  pub fetched_act : {H : Type 0} (reads : H → Ticket → (offset count : ℕ) → Result (List ℕ) RestFault → H → Type 0) (h k : H) (old new : Peer S)
       (unsent : Unsent) (before output : List ℕ) (result : Result (Option Unsent) EndFault) (ending : Option (Result Served EndFault))
-      → old.turn.unsent ≡ Some unsent → old.output ≡ [] → before ≡ []
+      → old.state.unsent ≡ Some unsent → old.connection.output ≡ [] → before ≡ []
       → (count : ℕ) × (outcome : Result (List ℕ) RestFault) × (count ≤ unsent.end - unsent.at) × reads h unsent.ticket unsent.at count outcome k
       × IfErr result (EndsAt outcome)
       → IfOk result (λ left. (count : ℕ) × (bytes : List ℕ) × (count ≤ unsent.end - unsent.at) × reads h unsent.ticket unsent.at count (Ok bytes) k
       × (output ≡ before ++ bytes)
       × MatchOption left (unsent.end ≤ unsent.at + length bytes) (λ next. next ≡ record unsent { at = unsent.at + length bytes }))
-      → OnErr result (output ≡ before) → Moves (told old.stream) output [] [] (told new.stream) new.output → Beside old new
-      → IfOk result (λ left. new.turn.unsent ≡ left) → IfErr result (λ fault. ending ≡ Some (Err fault))
-      → OnErr result (new.turn.unsent ≡ old.turn.unsent)
+      → OnErr result (output ≡ before) → Moves (told old.stream) output [] [] (told new.stream) new.connection.output → Beside old new
+      → IfOk result (λ left. new.state.unsent ≡ left) → IfErr result (λ fault. ending ≡ Some (Err fault))
+      → OnErr result (new.state.unsent ≡ old.state.unsent)
       → (count : ℕ) × (outcome : Result (List ℕ) RestFault) × reads h unsent.ticket unsent.at count outcome k
       × Steps told old (fetched unsent.ticket unsent.at count outcome ∷ []) (ending ≡ None) new
       × IsEndedBy (fetched unsent.ticket unsent.at count outcome) ending
@@ -335,7 +343,7 @@ module _ {S : Type 0} (told : S → Option Told) where
         Ok bytes,
         added.3,
         steps_fetched old new unsent added.0 bytes (ending ≡ None) rest none
-            (subst (λ (l : List ℕ). Moves (told old.stream) l [] [] (told new.stream) new.output) all moves)
+            (subst (λ (l : List ℕ). Moves (told old.stream) l [] [] (told new.stream) new.connection.output) all moves)
             beside added.2 (subst (λ (u : Option Unsent). IsLeft unsent (Ok bytes) u) (sym next) added.5),
         tt,
       )
@@ -344,6 +352,6 @@ module _ {S : Type 0} (told : S → Option Told) where
     read.1,
     read.3,
     steps_failed old new unsent read.0 read.1 (ending ≡ None) (λ e. true≢false (ap is_some (sym failed ∙ e))) rest none
-        (subst (λ (l : List ℕ). Moves (told old.stream) l [] [] (told new.stream) new.output) (same ∙ empty) moves) beside stays read.2,
+        (subst (λ (l : List ℕ). Moves (told old.stream) l [] [] (told new.stream) new.connection.output) (same ∙ empty) moves) beside stays read.2,
     ended_by unsent.ticket unsent.at read.0 read.1 fault ending read.4 failed,
   )

@@ -1,11 +1,9 @@
 -- What follows from what a stream told.
-use Rattle.std.proofs.Common.{◌≡◌, ℕ, List, [], ◌++◌, None, Some, refl, sym, ap, ◌∙◌, append_assoc, append-nil, length, take, drop, take-append-drop}
-use Rattle.std.proofs.lemmas.List.{append_cancel_left}
-use lib.Seq.{take-append_seam}
+use Rattle.std.proofs.Common.{◌≡◌, ℕ, List, [], ◌++◌, None, Some, refl, sym, ap, ◌∙◌, append_assoc, append-nil, length, take, drop, take-append-drop, subst}
+use Rattle.std.proofs.lemmas.List.{take-append-le}
+use Rattle.std.specs.Prelude.{◌≤◌}
 use Rattle.std.specs.declared.option.Option.{Option}
-use Rattle.std.specs.Prelude.{get_or}
-use Rattle.std.specs.Io.KnownBytes.{Appends}
-use Rattle.http_listen.specs.Talks.{Told, Grows, Moves, notes}
+use Rattle.http_listen.specs.Talks.{Told, Grows, Moves}
 
 -- Nothing was given or taken.
 pub grows_none : (a : Option Told) → Grows a [] [] a
@@ -58,21 +56,9 @@ pub moves_added : (a : Option Told) (w m : List ℕ) → Moves a w [] m a (w ++ 
 moves_added None w m = tt
 moves_added (Some t) w m = (sym (append-nil t.given), refl)
 
--- the first element, and the others
-abbrev first : List ℕ → ℕ
-first xs = get_or xs 0 0
-
--- What it has in one list tells both.
-pub noted_moves : (a b : Option Told) (w v m : List ℕ) → Appends (notes a w) (notes b v) m → Moves a w [] m b v
-noted_moves None b w v m p = tt
-noted_moves (Some a) None w v m p = absurd p
-noted_moves (Some a) (Some b) w v m p =
-    let sizes : length b.given ≡ length a.given = ap first p in
-    let rests : b.given ++ (b.taken ++ v) ≡ a.given ++ ((a.taken ++ w) ++ m) = ap (drop 1) p ∙ append_assoc a.given (a.taken ++ w) m in
-    let same : b.given ≡ a.given =
-    sym (take-append_seam b.given (b.taken ++ v)) ∙ ap (λ n. take n (b.given ++ (b.taken ++ v))) sizes ∙ ap (take (length a.given)) rests
-    ∙ take-append_seam a.given ((a.taken ++ w) ++ m) in
-    let both : b.given ++ (b.taken ++ v) ≡ b.given ++ ((a.taken ++ w) ++ m) = rests ∙ ap (λ l. l ++ ((a.taken ++ w) ++ m)) (sym same) in (
-      same ∙ sym (append-nil a.given),
-      append_cancel_left b.given _ _ both ∙ append_assoc a.taken w m,
-    )
+-- A write of the first bytes of a piece.
+pub moves_piece : (a b : Option Told) (piece behind w : List ℕ) (n : ℕ) → w ≡ piece ++ behind → n ≤ length piece → Grows a [] (take n piece) b
+    → Moves a w [] [] b (drop n w)
+moves_piece a b piece behind w n is few grows =
+    let same : take n piece ≡ take n w = sym (take-append-le n piece behind few) ∙ sym (ap (take n) is) in
+    moves_sent a b w n (subst (λ (l : List ℕ). Grows a [] l b) same grows)

@@ -1,27 +1,15 @@
--- Which bytes of an input are answered.
-use Rattle.std.specs.Prelude.{◌≡◌, ℕ, Bool, List, length, IsTrue, ⊤}
-use Rattle.httparse.specs.declared.spans.HeaderSpan.{HeaderSpan}
-use Rattle.http_requests.specs.declared.frames.Next.{Next}
-use Rattle.http_requests.specs.declared.frames.Next.TheVariants.{Whole, Refused, More}
-use Rattle.http_requests.specs.Frame.{IsNext}
-use Rattle.http_listen.specs.declared.inputs.Asked.{Asked}
+-- Which bytes are answered at once.
+use Rattle.std.specs.Prelude.{◌⊎◌, ℕ, List, []}
+use Rattle.http_requests.specs.Requests.{Request, IsRequest}
 
--- where what was found ends: a request, or else the input
-abbrev pub found_end : (input : List ℕ) → Next → ℕ
-found_end input (Whole frame) = frame.body.end
-found_end input (Refused rejection) = length input
-found_end input (More missing) = length input
+-- bytes are one whole request, with nothing behind it
+abbrev pub IsOneRequest : List ℕ → Type 0
+IsOneRequest bytes = (request : Request) × IsRequest bytes request []
 
--- the input begins with this, and there it ends; the header fields of a request are at these spans
-abbrev pub IsFound : (input : List ℕ) → (fields : List HeaderSpan) → Asked → Type 0
-IsFound input fields asked = IsNext input fields asked.found × (asked.end ≡ found_end input asked.found)
+-- bytes begin with no request
+abbrev pub HasNoRequest : List ℕ → Type 0
+HasNoRequest bytes = (request : Request) (rest : List ℕ) → ¬ (IsRequest bytes request rest)
 
--- it may be answered: it is a request, or bytes that begin with none, whatever follows, or nothing follows
-abbrev pub MayAnswer : (ended : Bool) → Next → Type 0
-MayAnswer ended (Whole frame) = ⊤
-MayAnswer ended (Refused rejection) = ⊤
-MayAnswer ended (More missing) = IsTrue ended
-
--- so it is of what is answered
-abbrev pub IsAsked : (input : List ℕ) → (ended : Bool) → (fields : List HeaderSpan) → Asked → Type 0
-IsAsked input ended fields asked = IsFound input fields asked × MayAnswer ended asked.found
+-- what is answered at once: one request, or bytes that begin with none
+abbrev pub IsOneOrNone : List ℕ → Type 0
+IsOneOrNone bytes = IsOneRequest bytes ⊎ HasNoRequest bytes

@@ -9,11 +9,12 @@ use Rattle.http_serve.specs.declared.handlers.Ticket.{Ticket}
 use Rattle.http_requests.specs.Requests.{RequestView}
 use Rattle.http_serve.specs.Reply.{ReplyView}
 use Rattle.http_listen.specs.declared.ends.EndFault.{EndFault}
-use Rattle.http_listen.specs.declared.kept.Kept.{Kept}
+use Rattle.http_listen.specs.declared.peers.Peer.{Peer}
 use Rattle.http_listen.specs.declared.rests.Unsent.{Unsent}
 use Rattle.http_listen.specs.declared.turns.Next.{Next}
 use Rattle.http_listen.specs.declared.turns.Next.TheVariants.{Asks, Reads, Rests, Closes}
-use Rattle.http_listen.specs.Asked.{IsAsked}
+use Rattle.http_serve.specs.Connections.{IsAsked}
+use Rattle.http_listen.specs.Asked.{IsOneOrNone}
 use Rattle.http_listen.specs.Connections.{CameTo}
 use Rattle.http_listen.specs.NoMemory.{no_memory}
 use Rattle.http_listen.specs.Rests.{rest_after, cut_by}
@@ -95,51 +96,51 @@ module _ {S : Type 0} (replies fails : S → RequestView → ReplyView → S →
 -- the same handler, with its reads, tickets and preparations
 module _ {S : Type 0} (replies fails : S → RequestView → ReplyView → S → Type 0)
     (reads : S → Ticket → (offset count : ℕ) → Result (List ℕ) RestFault → S → Type 0) (ticket_of : S → Ticket) (prepares : S → S → Type 0) where
-  -- an act leads from a state to the next
+  -- An act leads from a state to the next. What is answered is one request, or bytes that begin with none.
   abbrev pub Does : S → Act → S → Type 0
-  Does old (answered bytes out result ticket) new = Answers replies fails old bytes out result new × (ticket ≡ ticket_of new)
+  Does old (answered bytes out result ticket) new = Answers replies fails old bytes out result new × (ticket ≡ ticket_of new) × IsOneOrNone bytes
   Does old (fetched ticket offset count outcome) new = reads old ticket offset count outcome new
   Does old prepared new = prepares old new
 
 -- what streams told
 module _ {S : Type 0} (told : S → Option Told) where
   -- Acts lead from a connection to what it is then. Only if it isn't whole, bytes of its input or its output are lost.
-  pub record Steps (old : Kept S) (acts : List Act) (whole : Type 0) (new : Kept S) : Type 0 where
-    pub number : new.turn.number ≡ old.turn.number
-    pub drops : is_some new.turn.drops ≡ is_some old.turn.drops
+  pub record Steps (old : Peer S) (acts : List Act) (whole : Type 0) (new : Peer S) : Type 0 where
+    pub number : new.state.number ≡ old.state.number
+    pub drops : is_some new.state.drops ≡ is_some old.state.drops
     pub given : List ℕ
     pub lost : List ℕ
     pub cut : List ℕ
-    pub input : old.input ++ given ≡ asked acts ++ (new.input ++ lost)
-    pub moved : Moves (told old.stream) old.output given (replied acts) (told new.stream) (new.output ++ cut)
+    pub input : old.connection.input ++ given ≡ asked acts ++ (new.connection.input ++ lost)
+    pub moved : Moves (told old.stream) old.connection.output given (replied acts) (told new.stream) (new.connection.output ++ cut)
     pub left : Option Unsent
-    pub follows : Follows old.turn.unsent acts left
-    pub kept : whole → (lost ≡ []) × (cut ≡ []) × (new.turn.unsent ≡ left)
+    pub follows : Follows old.state.unsent acts left
+    pub lossless : whole → (lost ≡ []) × (cut ≡ []) × (new.state.unsent ≡ left)
     -- if no rest of a content is left, nothing of the output is lost
-    pub cuts : new.turn.unsent ≡ None → cut ≡ []
+    pub cuts : new.state.unsent ≡ None → cut ≡ []
 
   -- A connection in the middle of its conversation: all that was read and isn't answered is its input, and all that is to be sent its output.
-  pub record IsTalking (first : Option Told) (acts : List Act) (kept : Kept S) : Type 0 where
-    pub moved : Moves first [] (asked acts ++ kept.input) (replied acts) (told kept.stream) kept.output
-    pub follows : Follows None acts kept.turn.unsent
+  pub record IsTalking (first : Option Told) (acts : List Act) (peer : Peer S) : Type 0 where
+    pub moved : Moves first [] (asked acts ++ peer.connection.input) (replied acts) (told peer.stream) peer.connection.output
+    pub follows : Follows None acts peer.state.unsent
 
   -- A connection in its conversation, open or ended. Of what waited to be sent, the last bytes are lost. While it is open, only that is lost of which
   -- a rest is left, and there was enough memory.
-  pub record IsHeld (first : Option Told) (acts : List Act) (kept : Kept S) : Type 0 where
-    pub talk : Conversation first acts (told kept.stream)
+  pub record IsHeld (first : Option Told) (acts : List Act) (peer : Peer S) : Type 0 where
+    pub talk : Conversation first acts (told peer.stream)
     pub cut : List ℕ
-    pub waits : talk.waits ≡ kept.output ++ cut
-    pub opened : kept.turn.drops ≡ None → (talk.refusal ≡ []) × (kept.turn.unsent ≡ None → cut ≡ [])
+    pub waits : talk.waits ≡ peer.connection.output ++ cut
+    pub opened : peer.state.drops ≡ None → (talk.refusal ≡ []) × (peer.state.unsent ≡ None → cut ≡ [])
 
   -- A connection is ended: bytes of its output are lost, and if nothing was to be sent, the reply for want of memory may be.
-  pub record Ends (old new : Kept S) : Type 0 where
+  pub record Ends (old new : Peer S) : Type 0 where
     pub cut : List ℕ
     pub refusal : List ℕ
-    pub moved : Moves (told old.stream) old.output [] refusal (told new.stream) (new.output ++ cut)
-    pub refused : (refusal ≡ []) ⊎ ((refusal ≡ no_memory) × (old.turn.unsent ≡ None))
+    pub moved : Moves (told old.stream) old.connection.output [] refusal (told new.stream) (new.connection.output ++ cut)
+    pub refused : (refusal ≡ []) ⊎ ((refusal ≡ no_memory) × (old.state.unsent ≡ None))
 
   -- It was ended: its conversation is over, and if it is kept, in its conversation still.
-  pub record IsEnded (old : Kept S) (is_kept : Type 0) (new : Kept S) : Type 0 where
+  pub record IsEnded (old : Peer S) (is_kept : Type 0) (new : Peer S) : Type 0 where
     pub talk : (first : Option Told) (acts : List Act) → IsHeld first acts old → Conversation first acts (told new.stream)
     pub held : is_kept → (first : Option Told) (acts : List Act) → IsHeld first acts old → IsHeld first acts new
 
@@ -164,39 +165,39 @@ GoesOn Closes = ⊥
 -- what streams told
 module _ {S : Type 0} (told : S → Option Told) where
   -- bytes were read and are the end of the input; if it ends now, some may be lost
-  pub record IsRead (old : Kept S) (result : Next) (new : Kept S) : Type 0 where
+  pub record IsRead (old : Peer S) (result : Next) (new : Peer S) : Type 0 where
     pub given : List ℕ
     pub lost : List ℕ
     pub grows : Grows (told old.stream) given [] (told new.stream)
-    pub input : new.input ++ lost ≡ old.input ++ given
-    pub output : new.output ≡ old.output
-    pub number : new.turn.number ≡ old.turn.number
-    pub drops : is_some new.turn.drops ≡ is_some old.turn.drops
-    pub unsent : new.turn.unsent ≡ old.turn.unsent
-    pub kept : GoesOn result → lost ≡ []
+    pub input : new.connection.input ++ lost ≡ old.connection.input ++ given
+    pub output : new.connection.output ≡ old.connection.output
+    pub number : new.state.number ≡ old.state.number
+    pub drops : is_some new.state.drops ≡ is_some old.state.drops
+    pub unsent : new.state.unsent ≡ old.state.unsent
+    pub lossless : GoesOn result → lost ≡ []
 
   -- What a turn did, by what follows it. Nothing waits to be sent where bytes are to be answered or a content read.
-  abbrev pub Turned : Kept S → List HeaderSpan → Next → Kept S → Type 0
-  Turned old fields (Asks asked) new = Steps told old [] ⊤ new × (new.output ≡ []) × (new.turn.unsent ≡ None) × (new.turn.drops ≡ None)
-      × IsAsked new.input new.turn.ended fields asked
-  Turned old fields (Reads unsent) new = Steps told old [] ⊤ new × (new.output ≡ []) × (new.turn.unsent ≡ Some unsent) × (new.turn.drops ≡ None)
-  Turned old fields (Rests ending) new = Steps told old [] ((ending ≡ None) × (old.turn.drops ≡ None)) new
+  abbrev pub Turned : Peer S → List HeaderSpan → Next → Peer S → Type 0
+  Turned old fields (Asks asked) new = Steps told old [] ⊤ new × (new.connection.output ≡ []) × (new.state.unsent ≡ None) × (new.state.drops ≡ None)
+      × IsAsked new.connection.input new.state.ended fields asked
+  Turned old fields (Reads unsent) new = Steps told old [] ⊤ new × (new.connection.output ≡ []) × (new.state.unsent ≡ Some unsent) × (new.state.drops ≡ None)
+  Turned old fields (Rests ending) new = Steps told old [] ((ending ≡ None) × (old.state.drops ≡ None)) new
   Turned old fields Closes new = Steps told old [] ⊥ new
 
 -- A connection whose stream and output may have moved is else the same, but for what is left of a content.
-pub record Beside {S : Type 0} (old new : Kept S) : Type 0 where
-  pub input : new.input ≡ old.input
-  pub number : new.turn.number ≡ old.turn.number
-  pub drops : new.turn.drops ≡ old.turn.drops
+pub record Beside {S : Type 0} (old new : Peer S) : Type 0 where
+  pub input : new.connection.input ≡ old.connection.input
+  pub number : new.state.number ≡ old.state.number
+  pub drops : new.state.drops ≡ old.state.drops
 
 -- a connection whose stream, bytes and rest of a content are the same
-pub record Stands {S : Type 0} (old new : Kept S) : Type 0 where
+pub record Stands {S : Type 0} (old new : Peer S) : Type 0 where
   pub stream : new.stream ≡ old.stream
-  pub input : new.input ≡ old.input
-  pub output : new.output ≡ old.output
-  pub number : new.turn.number ≡ old.turn.number
-  pub drops : new.turn.drops ≡ old.turn.drops
-  pub unsent : new.turn.unsent ≡ old.turn.unsent
+  pub input : new.connection.input ≡ old.connection.input
+  pub output : new.connection.output ≡ old.connection.output
+  pub number : new.state.number ≡ old.state.number
+  pub drops : new.state.drops ≡ old.state.drops
+  pub unsent : new.state.unsent ≡ old.state.unsent
 
 -- ---- all connections
 
@@ -224,11 +225,11 @@ module _ {S : Type 0} (replies fails : S → RequestView → ReplyView → S →
   Runs old (deed ∷ deeds) new = (middle : S) × Does replies fails reads ticket_of prepares old deed.act middle × Runs middle deeds new
 
 -- no two connections have one number
-abbrev pub AreApart : {S : Type 0} → (ℕ → Option (Kept S)) → Type 0
-AreApart {S} places = (key other : ℕ) (kept neighbour : Kept S) → places key ≡ Some kept → places other ≡ Some neighbour
-    → kept.turn.number ≡ neighbour.turn.number → key ≡ other
+abbrev pub AreApart : {S : Type 0} → (ℕ → Option (Peer S)) → Type 0
+AreApart {S} places = (key other : ℕ) (peer neighbour : Peer S) → places key ≡ Some peer → places other ≡ Some neighbour
+    → peer.state.number ≡ neighbour.state.number → key ≡ other
 
 -- the connection at a key is this one, and the others are the same
-pub record Puts {S : Type 0} (old : ℕ → Option (Kept S)) (key : ℕ) (kept : Kept S) (new : ℕ → Option (Kept S)) : Type 0 where
-  pub here : new key ≡ Some kept
+pub record Puts {S : Type 0} (old : ℕ → Option (Peer S)) (key : ℕ) (peer : Peer S) (new : ℕ → Option (Peer S)) : Type 0 where
+  pub here : new key ≡ Some peer
   pub others : (other : ℕ) → other ≢ key → new other ≡ old other

@@ -1,12 +1,14 @@
 -- What was done for connections, as events of the handler.
 use Rattle.std.specs.Prelude.{◌≡◌, List, [], ◌∷◌, Some, ⊤}
+use Rattle.http_listen.specs.Asked.{IsOneOrNone}
 use Rattle.http_listen.specs.Connections.{Event, at_stretch, at_part, at_preparation}
 use Rattle.http_listen.specs.Conversations.{Act, answered, fetched, prepared, Deed}
 
--- it is the event of an act: a stretch over the bytes that were answered, after which a writer that held nothing holds the replies; or that read or step
+-- It is the event of an act: a stretch over the bytes that were answered, which are one request, or begin with none, and after it a writer that held
+-- nothing holds the replies; or that read or step.
 abbrev pub IsEventOf : Act → Event → Type 0
 IsEventOf (answered bytes out result ticket) (at_stretch s) =
-    (s.result ≡ result) × (s.left ≡ Some bytes) × (s.held ≡ Some []) × (s.holds ≡ Some out)
+    (s.result ≡ result) × (s.left ≡ Some bytes) × (s.held ≡ Some []) × (s.holds ≡ Some out) × IsOneOrNone bytes
 IsEventOf (answered bytes out result ticket) (at_part t o n r) = ⊥
 IsEventOf (answered bytes out result ticket) at_preparation = ⊥
 IsEventOf (fetched ticket offset count outcome) (at_stretch s) = ⊥

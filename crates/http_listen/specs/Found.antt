@@ -1,15 +1,15 @@
 -- What is to be done next for a connection.
 use Rattle.std.specs.Prelude.{◌≡◌, List, [], None, Some, ⊤}
 use Rattle.httparse.specs.declared.spans.HeaderSpan.{HeaderSpan}
-use Rattle.http_listen.specs.declared.rooms.Found.{Found}
-use Rattle.http_listen.specs.Asked.{IsAsked}
-use Rattle.http_listen.specs.declared.rooms.Found.TheVariants.{New, Asks, Reads, Nothing, Over}
+use Rattle.http_listen.specs.declared.pool.Found.{Found}
+use Rattle.http_serve.specs.Connections.{IsAsked}
+use Rattle.http_listen.specs.declared.pool.Found.TheVariants.{New, Asks, Reads, Nothing, Over}
 
 -- Nothing waits to be sent of a connection whose bytes are to be answered, and no content is left of its last reply; they are a whole request,
 -- whose header fields are at these spans, or all there are. What is to be read of a content is what is left.
 abbrev pub IsReady : {S : Type 0} → (fields : List HeaderSpan) → Found S → Type 0
 IsReady fields (New stream) = ⊤
-IsReady fields (Asks kept asked) = (kept.output ≡ []) × (kept.turn.unsent ≡ None) × IsAsked kept.input kept.turn.ended fields asked
-IsReady fields (Reads kept unsent) = (kept.output ≡ []) × (kept.turn.unsent ≡ Some unsent)
+IsReady fields (Asks peer asked) = (peer.connection.output ≡ []) × (peer.state.unsent ≡ None) × IsAsked peer.connection.input peer.state.ended fields asked
+IsReady fields (Reads peer unsent) = (peer.connection.output ≡ []) × (peer.state.unsent ≡ Some unsent)
 IsReady fields Nothing = ⊤
 IsReady fields Over = ⊤

@@ -3,7 +3,7 @@ use Rattle.std.specs.Prelude.{ℕ, Bool, false, cond, nat_eq, ◌||◌, List, []
 use Rattle.std.specs.Option.{option_map}
 use Rattle.mio.specs.Event.{event_token, is_readable, is_writable, is_error, is_read_closed, is_write_closed}
 use Rattle.mio.specs.declared.event.event.Event.{Event}
-use Rattle.http_listen.specs.declared.kept.Kept.{Kept}
+use Rattle.http_listen.specs.declared.peers.Peer.{Peer}
 use Rattle.http_listen.specs.declared.system_listener.TheConstants.{LISTENER}
 use Rattle.http_listen.specs.declared.waits.Change.{Change}
 use Rattle.http_listen.specs.Places.{with_change}
@@ -40,11 +40,11 @@ change_of event = record {
 
 module _ {S : Type 0} where
   -- what is at a key after an event: that of the listener itself changes no connection
-  abbrev pub after_event : ℕ → Event → Option (Kept S) → Option (Kept S)
-  after_event key event kept =
-      cond (is_of_listener event) kept (cond (nat_eq key (key_of event)) (option_map (with_change (change_of event)) kept) kept)
+  abbrev pub after_event : ℕ → Event → Option (Peer S) → Option (Peer S)
+  after_event key event peer =
+      cond (is_of_listener event) peer (cond (nat_eq key (key_of event)) (option_map (with_change (change_of event)) peer) peer)
 
   -- what is at it after these events, from the first to the last
-  abbrev pub after_events : ℕ → List Event → Option (Kept S) → Option (Kept S)
-  after_events key [] kept = kept
-  after_events key (event ∷ events) kept = after_events key events (after_event key event kept)
+  abbrev pub after_events : ℕ → List Event → Option (Peer S) → Option (Peer S)
+  after_events key [] peer = peer
+  after_events key (event ∷ events) peer = after_events key events (after_event key event peer)

@@ -2,7 +2,7 @@
 use Rattle.std.specs.Prelude.{◌≡◌, ◌≢◌, ◌||◌, ℕ, Option}
 use Rattle.std.specs.Option.{option_map}
 use Rattle.slab.specs.Slab.{Slab, get}
-use Rattle.http_listen.specs.declared.kept.Kept.{Kept}
+use Rattle.http_listen.specs.declared.peers.Peer.{Peer}
 use Rattle.http_listen.specs.declared.places.Place.{Place}
 use Rattle.http_listen.specs.declared.places.Places.{Places}
 use Rattle.http_listen.specs.declared.readiness.Readiness.{Readiness}
@@ -15,12 +15,12 @@ after_change change ready =
 
 module _ {S : Type 0} where
   -- the connection at a key of a list of places, if there is one
-  abbrev pub kept_in : Slab (Place S) → ℕ → Option (Kept S)
-  kept_in places key = option_map (λ place. place.kept) (get places key)
+  abbrev pub peer_in : Slab (Place S) → ℕ → Option (Peer S)
+  peer_in places key = option_map (λ place. place.peer) (get places key)
 
   -- the same of all open connections
-  abbrev pub kept_at : Places S → ℕ → Option (Kept S)
-  kept_at places key = kept_in places.places key
+  abbrev pub peer_at : Places S → ℕ → Option (Peer S)
+  peer_at places key = peer_in places.places key
 
   -- the key that the next connection gets
   abbrev pub next_key : Places S → ℕ
@@ -28,13 +28,13 @@ module _ {S : Type 0} where
 
   -- the connections are the same
   abbrev pub KeepsAll : Places S → Places S → Type 0
-  KeepsAll old new = (key : ℕ) → kept_at new key ≡ kept_at old key
+  KeepsAll old new = (key : ℕ) → peer_at new key ≡ peer_at old key
 
   -- a connection of whose stream a change was reported
-  abbrev pub with_change : Change → Kept S → Kept S
-  with_change change kept = record kept { turn = record kept.turn { ready = after_change change kept.turn.ready } }
+  abbrev pub with_change : Change → Peer S → Peer S
+  with_change change peer = record peer { state = record peer.state { ready = after_change change peer.state.ready } }
 
   -- A change of the stream at a key was reported: the connection there, if there is one, has it, and every other one is the same.
   pub record Reports (key : ℕ) (change : Change) (old new : Places S) : Type 0 where
-    pub here : kept_at new key ≡ option_map (with_change change) (kept_at old key)
-    pub others : (other : ℕ) → other ≢ key → kept_at new other ≡ kept_at old other
+    pub here : peer_at new key ≡ option_map (with_change change) (peer_at old key)
+    pub others : (other : ℕ) → other ≢ key → peer_at new other ≡ peer_at old other

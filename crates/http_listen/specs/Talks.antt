@@ -1,6 +1,5 @@
 -- What a stream told, and what follows for its connection.
-use Rattle.std.specs.Prelude.{◌≡◌, ℕ, List, ◌∷◌, ◌++◌, length, Option, None, Some, ⊤}
-use Rattle.std.specs.Option.{option_map}
+use Rattle.std.specs.Prelude.{◌≡◌, ℕ, List, ◌++◌, Option, None, Some, ⊤}
 
 -- the bytes that a stream's reads gave, and those that its writes took, each from the first on
 pub record Told : Type 0 where
@@ -19,11 +18,3 @@ Moves None waiting given more new waits = ⊤
 Moves (Some old) waiting given more None waits = ⊥
 Moves (Some old) waiting given more (Some new) waits =
     (new.given ≡ old.given ++ given) × (new.taken ++ waits ≡ old.taken ++ (waiting ++ more))
-
--- what a stream told and what waits for it, in one list, from which both can be read: a writer has only one
-abbrev pub noted : List ℕ → Told → List ℕ
-noted waiting told = length told.given ∷ (told.given ++ (told.taken ++ waiting))
-
--- the same, if the stream tells
-abbrev pub notes : Option Told → (waiting : List ℕ) → Option (List ℕ)
-notes told waiting = option_map (noted waiting) told

@@ -2,15 +2,15 @@
 ghost use Rattle.std.specs.Prelude.{◌≡◌, None};
 ghost use Rattle.http_listen.specs.Found.{IsReady};
 ghost use Rattle.http_listen.specs.Goes.{Goes, hand_of};
-ghost use Rattle.http_listen.specs.Places.{kept_at};
+ghost use Rattle.http_listen.specs.Places.{peer_at};
 
-use crate::kept::GivenUp;
 use crate::logs::Logs;
+use crate::peers::GivenUp;
 use crate::places::List;
+use crate::pool::{Found, Pool, fails_too_often};
 use crate::refusals::{Refusal, refusal_of};
-use crate::rooms::{Found, Room, fails_too_often};
 use crate::talks::Talks;
-use crate::waits::{MAX_KEPT, Waits};
+use crate::waits::{MAX_OPEN, Waits};
 use std::io;
 use std::net::OpenStream;
 use std::time::Duration;
@@ -26,7 +26,7 @@ fn next_stream<L: Waits>(came: &mut Option<L::Stream>, listener: &L) -> io::Resu
     }
 }
 
-impl<S: Talks + OpenStream + Drop> Room<S> {
+impl<S: Talks + OpenStream + Drop> Pool<S> {
     /// The connection that is closed for one that comes: one that has ended, or else the one that has waited longest for a request, if it
     /// has waited for a second and has sent nothing.
     fn giving_way(&self, now: Duration) -> Option<usize> {
@@ -35,7 +35,7 @@ impl<S: Talks + OpenStream + Drop> Room<S> {
         }
         let key = self.places.ends(List::Idle).first?;
         match self.places.get(key) {
-            Some(kept) if kept.may_give_way(now) => Some(key),
+            Some(peer) if peer.may_give_way(now) => Some(key),
             _ => None,
         }
     }
@@ -47,7 +47,7 @@ impl<S: Talks + OpenStream + Drop> Room<S> {
         listener: &mut L,
         log: &mut W,
     )
-        ensures goes { Goes S.told (W.marks log.old) (kept_at self.old.places) (W.marks log.new) (kept_at self.new.places) }
+        ensures goes { Goes S.told (W.marks log.old) (peer_at self.old.places) (W.marks log.new) (peer_at self.new.places) }
     {
         let pause = Duration::from_millis(QUEUE_MILLISECONDS);
         self.crowded = now.saturating_add(pause);
@@ -68,7 +68,7 @@ impl<S: Talks + OpenStream + Drop> Room<S> {
         refusal: Refusal,
         log: &mut W,
     ) -> bool
-        ensures goes { Goes S.told (W.marks log.old) (kept_at self.old.places) (W.marks log.new) (kept_at self.new.places) }
+        ensures goes { Goes S.told (W.marks log.old) (peer_at self.old.places) (W.marks log.new) (peer_at self.new.places) }
     {
         match refusal {
             Refusal::Empty => {
@@ -93,14 +93,14 @@ impl<S: Talks + OpenStream + Drop> Room<S> {
         log: &mut W,
     ) -> Found<S>
         ensures ready { IsReady self.new.fields result }
-        ensures goes { Goes S.told (W.marks log.old) (kept_at self.old.places) (W.marks log.new) (kept_at self.new.places) }
+        ensures goes { Goes S.told (W.marks log.old) (peer_at self.old.places) (W.marks log.new) (peer_at self.new.places) }
         ensures none { hand_of result ≡ None }
     {
         self.accepts = self.accepts.saturating_sub(1);
         let refusal = match next_stream(&mut self.came, listener) {
             Ok(stream) => {
                 self.failed_accepts = 0;
-                if self.places.count() < listener.max_open().min(MAX_KEPT) {
+                if self.places.count() < listener.max_open().min(MAX_OPEN) {
                     return Found::New(stream);
                 }
                 self.came = Some(stream);

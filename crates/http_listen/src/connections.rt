@@ -1,26 +1,21 @@
 //! The connections of a listener.
-ghost use Rattle.std.specs.Prelude.{◌≡◌, ◌<◌, ◌≤◌, ◌∷◌, [], ℕ, Bool, Result, List, None, Some, take, OnOk, OnErr};
-ghost use Rattle.http_serve.specs.declared.connection.ServeFault.{ServeFault};
-ghost use Rattle.http_serve.specs.declared.connection.Served.{Served};
+ghost use Rattle.std.specs.Prelude.{◌≡◌, ◌<◌, ◌≤◌, ◌∷◌, [], ℕ, Result, List, None, Some, take, drop, OnOk, OnErr};
 ghost use Rattle.http_listen.specs.Rests.{rest_after};
-ghost use Rattle.http_listen.specs.Asked.{IsAsked, IsFound};
+ghost use Rattle.http_serve.specs.Connections.{IsAsked, IsFound};
 ghost use Rattle.http_listen.specs.Conversations.{Act, Deed, Answers, Does, IsEndedBy, Runs, Stands, Steps, deeds_of};
 ghost use Rattle.http_listen.specs.Orders.{AreInOrder};
 ghost use Rattle.http_listen.specs.Goes.{Acts, AreOver};
-ghost use Rattle.http_listen.specs.Places.{kept_at};
-ghost use Rattle.http_listen.specs.Talks.{Moves};
+ghost use Rattle.http_listen.specs.Places.{peer_at};
 ghost use Rattle.http_listen.specs.Connections.{Event, Serves, ComesTo, NextStretch, NextAnswer, NextPart, AreOverKnown, AreSteps, begun};
 
-use crate::inputs::{Asked, NOTHING_ASKED};
-use crate::kept::{Ending, Kept, Turn};
 use crate::logs::Logs;
+use crate::peers::{Ending, Peer};
+use crate::pool::{Found, Pool, time_of};
 use crate::rests::{Unsent, add_part, once_sent};
-use crate::rooms::{Found, Room, time_of};
 use crate::talks::Talks;
 use crate::waits::Waits;
-use crate::writers::ReplyWriter;
 use http_requests::FieldSpans;
-use http_serve::{Buffers, Downloads, Preparation, Prepares, ServeFault, Served, serve_found};
+use http_serve::{Asked, Downloads, NOTHING_ASKED, Preparation, Prepares, ServeFault, Served};
 use std::alloc::Global;
 use std::net::OpenStream;
 use std::time::{Clock, Duration};
@@ -47,84 +42,55 @@ fn prepare<S: OpenStream>(stream: &S) {
     let _ = stream.set_nonblocking(true);
 }
 
-/// What a stretch of a connection came to.
-#[derive(Drop)]
-struct Past<S> {
-    outcome: Result<Served, ServeFault>,
-    kept: Kept<S>,
-}
-
-/// Answers what was found at the front of a connection's input. Of the replies its output has what the stream doesn't take at once. The rest of
-/// a content is left, and read later.
+/// Answers what was found at the front of a connection's input. What is to be sent of the replies waits in its output then. The rest of a content is
+/// left, and read later.
 fn serve_front<S, H>(
-    buffers: &mut Buffers,
-    kept: Kept<S>,
+    peer: &mut Peer<S>,
     fields: &FieldSpans,
     asked: Asked,
     handler: &mut H,
-) -> Past<S>
+) -> Result<Served, ServeFault>
 where
     S: Talks + OpenStream + Drop,
     H: Downloads,
-    requires { IsFound kept.input fields.now asked }
-    ensures comes { ComesTo H.replies H.fails result.outcome handler.old handler.new }
+    requires sent { peer.old.connection.output ≡ [] }
+    requires found { IsFound peer.old.connection.input fields.now asked }
+    ensures comes { ComesTo H.replies H.fails result handler.old handler.new }
     // What is left is read by the ticket of the reply that stopped.
-    ensures unsent { result.kept.turn.unsent ≡ rest_after (H.ticket_of handler.new) result.outcome }
-    // What the stream took and what waits for it grew by the replies to these bytes, at the end. Nothing was read.
-    ensures answers { (out : List ℕ) × Answers H.replies H.fails handler.old (take asked.end kept.input) out result.outcome handler.new
-        × Moves (S.told kept.stream) kept.output [] out (S.told result.kept.stream) result.kept.output }
-    ensures turn { result.kept.turn ≡ record kept.turn { unsent = result.kept.turn.unsent } }
-    ensures input { result.kept.input ≡ kept.input }
+    ensures unsent { peer.new.state.unsent ≡ rest_after (H.ticket_of handler.new) result }
+    // The replies to these bytes are to be sent. Nothing was read.
+    ensures answers { Answers H.replies H.fails handler.old (take asked.end peer.old.connection.input) peer.new.connection.output result handler.new }
+    ensures input { peer.new.connection.input ≡ drop asked.end peer.old.connection.input }
+    ensures stream { peer.new.stream ≡ peer.old.stream }
+    ensures state { peer.new.state ≡ record peer.old.state { unsent = peer.new.state.unsent } }
 {
-    let Kept {
-        stream,
-        turn,
-        input,
-        output,
-        pace,
-    } = kept;
-    let mut writer = ReplyWriter::new(stream, pace, output);
-    let bytes = input.bytes();
-    let outcome = serve_found(buffers, bytes, fields, asked.found, &mut writer, handler);
-    let (stream, pace, output) = writer.into_parts();
-    let unsent = Unsent::after(&outcome, handler);
-    let kept = Kept {
-        stream,
-        turn: Turn { unsent, ..turn },
-        input,
-        output,
-        pace,
-    };
-    Past { outcome, kept }
+    let outcome = peer.connection.answer(handler, fields, asked);
+    peer.state.unsent = Unsent::after(&outcome, handler);
+    outcome
 }
 
 /// Opens a new connection: its first stretch is over no bytes.
-fn open<S, H, W>(
-    buffers: &mut Buffers,
-    room: &mut Room<S>,
-    kept: Kept<S>,
-    handler: &mut H,
-    log: &mut W,
-)
+fn open<S, H, W>(pool: &mut Pool<S>, mut peer: Peer<S>, handler: &mut H, log: &mut W)
 where
     S: Talks + OpenStream + Drop,
     H: Prepares,
     W: Logs<S>,
-    requires whole { kept.turn.unsent ≡ None }
-    requires fresh { kept.input ≡ [] }
+    requires whole { peer.state.unsent ≡ None }
+    requires fresh { peer.connection.input ≡ [] }
+    requires sent { peer.connection.output ≡ [] }
     ensures comes { NextStretch H.replies H.fails handler.old handler.new }
     ensures acted { (act : Act) × Does H.replies H.fails H.reads H.ticket_of H.prepares handler.old act handler.new
-        × Acts S.told (W.marks log.old) (kept_at room.old.places) kept (act ∷ []) (W.marks log.new) (kept_at room.new.places) }
+        × Acts S.told (W.marks log.old) (peer_at pool.old.places) peer (act ∷ []) (W.marks log.new) (peer_at pool.new.places) }
 {
-    let past = serve_front(buffers, kept, &room.fields, NOTHING_ASKED, handler);
-    room.opened(past.kept, once_sent(past.outcome), log);
+    let outcome = serve_front(&mut peer, &pool.fields, NOTHING_ASKED, handler);
+    pool.opened(peer, once_sent(outcome), log);
 }
 
 /// A connection after an act, at this time, and what it came to, if it ends.
 #[derive(Drop)]
 struct Acted<S> {
     now: Duration,
-    kept: Kept<S>,
+    peer: Peer<S>,
     ending: Ending,
 }
 
@@ -133,9 +99,8 @@ struct Acted<S> {
 fn answer_front<S, H, C>(
     clock: &C,
     start: Duration,
-    buffers: &mut Buffers,
-    room: &mut Room<S>,
-    kept: Kept<S>,
+    pool: &mut Pool<S>,
+    mut peer: Peer<S>,
     asked: Asked,
     handler: &mut H,
 ) -> Acted<S>
@@ -143,38 +108,35 @@ where
     S: Talks + OpenStream + Drop,
     H: Prepares,
     C: Clock,
-    requires sent { kept.output ≡ [] }
-    requires whole { kept.turn.unsent ≡ None }
-    requires asked { IsAsked kept.input kept.turn.ended room.old.fields asked }
+    requires sent { peer.connection.output ≡ [] }
+    requires whole { peer.state.unsent ≡ None }
+    requires asked { IsAsked peer.connection.input peer.state.ended pool.old.fields asked }
     ensures comes { NextStretch H.replies H.fails handler.old handler.new }
-    ensures places { room.new.places ≡ room.old.places }
+    ensures places { pool.new.places ≡ pool.old.places }
     ensures acts { (act : Act) × Does H.replies H.fails H.reads H.ticket_of H.prepares handler.old act handler.new
-        × Steps S.told kept (act ∷ []) (result.ending ≡ None) result.kept }
+        × Steps S.told peer (act ∷ []) (result.ending ≡ None) result.peer }
 {
-    let Past { outcome, mut kept } = serve_front(buffers, kept, &room.fields, asked, handler);
-    let now = room.spend(clock, start);
-    kept.answered(now, asked.end, outcome);
-    let ending = match outcome {
-        Err(ServeFault::Write { .. }) => Some(once_sent(outcome)),
-        _ => kept.send_replies(now),
-    };
-    Acted { now, kept, ending }
+    let outcome = serve_front(&mut peer, &pool.fields, asked, handler);
+    let now = pool.spend(clock, start);
+    peer.answered(now, outcome);
+    let ending = peer.send_replies(now);
+    Acted { now, peer, ending }
 }
 
 /// A connection has another turn before it is answered. The time since `start` is that of steps of its reply's preparation.
-fn put_off<S, C>(clock: &C, start: Duration, room: &mut Room<S>, mut kept: Kept<S>) -> Acted<S>
+fn put_off<S, C>(clock: &C, start: Duration, pool: &mut Pool<S>, mut peer: Peer<S>) -> Acted<S>
 where
     S: Talks + OpenStream + Drop,
     C: Clock,
-    ensures stands { Stands kept result.kept }
+    ensures stands { Stands peer result.peer }
     ensures goes_on { result.ending ≡ None }
-    ensures places { room.new.places ≡ room.old.places }
+    ensures places { pool.new.places ≡ pool.old.places }
 {
-    let now = room.spend(clock, start);
-    kept.put_off(now);
+    let now = pool.spend(clock, start);
+    peer.put_off(now);
     Acted {
         now,
-        kept,
+        peer,
         ending: None,
     }
 }
@@ -208,9 +170,8 @@ fn prepare_for<H: Prepares, C: Clock>(
 /// if none is left.
 fn prepare_front<S, H, C>(
     clock: &C,
-    buffers: &mut Buffers,
-    room: &mut Room<S>,
-    kept: Kept<S>,
+    pool: &mut Pool<S>,
+    peer: Peer<S>,
     asked: Asked,
     handler: &mut H,
 ) -> Acted<S>
@@ -218,34 +179,33 @@ where
     S: Talks + OpenStream + Drop,
     H: Prepares,
     C: Clock,
-    requires sent { kept.output ≡ [] }
-    requires whole { kept.turn.unsent ≡ None }
-    requires asked { IsAsked kept.input kept.turn.ended room.old.fields asked }
+    requires sent { peer.connection.output ≡ [] }
+    requires whole { peer.state.unsent ≡ None }
+    requires asked { IsAsked peer.connection.input peer.state.ended pool.old.fields asked }
     ensures comes { NextAnswer H.replies H.fails H.prepares handler.old handler.new }
-    ensures places { room.new.places ≡ room.old.places }
-    ensures acts { (acts : List Act) × Runs H.replies H.fails H.reads H.ticket_of H.prepares handler.old (deeds_of kept.turn.number acts) handler.new
-        × Steps S.told kept acts (result.ending ≡ None) result.kept }
+    ensures places { pool.new.places ≡ pool.old.places }
+    ensures acts { (acts : List Act) × Runs H.replies H.fails H.reads H.ticket_of H.prepares handler.old (deeds_of peer.state.number acts) handler.new
+        × Steps S.told peer acts (result.ending ≡ None) result.peer }
 {
     let start = time_of(clock);
     if prepare_for(
         clock,
         start,
-        room.preparing_time,
-        kept.turn.number,
-        kept.input.front(asked.end),
+        pool.preparing_time,
+        peer.state.number,
+        peer.connection.front(asked.end),
         handler,
     ) {
-        return put_off(clock, start, room, kept);
+        return put_off(clock, start, pool, peer);
     }
-    answer_front(clock, start, buffers, room, kept, asked, handler)
+    answer_front(clock, start, pool, peer, asked, handler)
 }
 
 /// Prepares or answers what was found at the front of a connection's input, and keeps or ends it.
 fn answer<S, H, W, C>(
     clock: &C,
-    buffers: &mut Buffers,
-    room: &mut Room<S>,
-    kept: Kept<S>,
+    pool: &mut Pool<S>,
+    peer: Peer<S>,
     asked: Asked,
     handler: &mut H,
     log: &mut W,
@@ -255,22 +215,22 @@ where
     H: Prepares,
     W: Logs<S>,
     C: Clock,
-    requires sent { kept.output ≡ [] }
-    requires whole { kept.turn.unsent ≡ None }
-    requires asked { IsAsked kept.input kept.turn.ended room.old.fields asked }
+    requires sent { peer.connection.output ≡ [] }
+    requires whole { peer.state.unsent ≡ None }
+    requires asked { IsAsked peer.connection.input peer.state.ended pool.old.fields asked }
     ensures comes { NextAnswer H.replies H.fails H.prepares handler.old handler.new }
-    ensures acted { (acts : List Act) × Runs H.replies H.fails H.reads H.ticket_of H.prepares handler.old (deeds_of kept.turn.number acts) handler.new
-        × Acts S.told (W.marks log.old) (kept_at room.old.places) kept acts (W.marks log.new) (kept_at room.new.places) }
+    ensures acted { (acts : List Act) × Runs H.replies H.fails H.reads H.ticket_of H.prepares handler.old (deeds_of peer.state.number acts) handler.new
+        × Acts S.told (W.marks log.old) (peer_at pool.old.places) peer acts (W.marks log.new) (peer_at pool.new.places) }
 {
-    let Acted { now, kept, ending } = prepare_front(clock, buffers, room, kept, asked, handler);
-    room.keep_or_end(now, kept, ending, log);
+    let Acted { now, peer, ending } = prepare_front(clock, pool, peer, asked, handler);
+    pool.keep_or_end(now, peer, ending, log);
 }
 
 /// Reads the next part of the content that a connection sends, and begins to send it. Nothing waits to be sent before.
 fn read_part<S, H, C>(
     clock: &C,
-    room: &mut Room<S>,
-    mut kept: Kept<S>,
+    pool: &mut Pool<S>,
+    mut peer: Peer<S>,
     unsent: Unsent,
     handler: &mut H,
 ) -> Acted<S>
@@ -278,26 +238,26 @@ where
     S: Talks + OpenStream + Drop,
     H: Prepares,
     C: Clock,
-    requires sent { kept.output ≡ [] }
-    requires rest { kept.turn.unsent ≡ Some unsent }
+    requires sent { peer.connection.output ≡ [] }
+    requires rest { peer.state.unsent ≡ Some unsent }
     ensures reads { NextPart H.reads handler.old handler.new }
-    ensures places { room.new.places ≡ room.old.places }
+    ensures places { pool.new.places ≡ pool.old.places }
     // If the part can't be read, the connection ends with the word for why.
     ensures acts { (act : Act) × Does H.replies H.fails H.reads H.ticket_of H.prepares handler.old act handler.new
-        × Steps S.told kept (act ∷ []) (result.ending ≡ None) result.kept × IsEndedBy act result.ending }
+        × Steps S.told peer (act ∷ []) (result.ending ≡ None) result.peer × IsEndedBy act result.ending }
 {
     let start = time_of(clock);
-    let outcome = add_part(handler, unsent, &mut kept.output);
-    let now = room.spend(clock, start);
-    let ending = kept.send_part(now, outcome);
-    Acted { now, kept, ending }
+    let outcome = add_part(handler, unsent, &mut peer.connection);
+    let now = pool.spend(clock, start);
+    let ending = peer.send_part(now, outcome);
+    Acted { now, peer, ending }
 }
 
 /// Reads the next part of the content that a connection sends, and keeps or ends it.
 fn send_part<S, H, W, C>(
     clock: &C,
-    room: &mut Room<S>,
-    kept: Kept<S>,
+    pool: &mut Pool<S>,
+    peer: Peer<S>,
     unsent: Unsent,
     handler: &mut H,
     log: &mut W,
@@ -307,14 +267,14 @@ where
     H: Prepares,
     W: Logs<S>,
     C: Clock,
-    requires sent { kept.output ≡ [] }
-    requires rest { kept.turn.unsent ≡ Some unsent }
+    requires sent { peer.connection.output ≡ [] }
+    requires rest { peer.state.unsent ≡ Some unsent }
     ensures reads { NextPart H.reads handler.old handler.new }
     ensures acted { (act : Act) × Does H.replies H.fails H.reads H.ticket_of H.prepares handler.old act handler.new
-        × Acts S.told (W.marks log.old) (kept_at room.old.places) kept (act ∷ []) (W.marks log.new) (kept_at room.new.places) }
+        × Acts S.told (W.marks log.old) (peer_at pool.old.places) peer (act ∷ []) (W.marks log.new) (peer_at pool.new.places) }
 {
-    let Acted { now, kept, ending } = read_part(clock, room, kept, unsent, handler);
-    room.keep_or_end(now, kept, ending, log);
+    let Acted { now, peer, ending } = read_part(clock, pool, peer, unsent, handler);
+    pool.keep_or_end(now, peer, ending, log);
 }
 
 /// Serves this many connections of a listener by turns, and writes a line to the log as each ends: `connection I: R requests, END`. I
@@ -322,8 +282,8 @@ where
 /// `refused` or `turns`, or at a fault `memory`, `read`, `write`, `device` or `gone`.
 ///
 /// No peer is waited for. A turn of a connection is one read or one write, which returns at once. As soon as a whole request was read, or
-/// bytes that are none, they are answered in a stretch of the connection, as `http_serve::serve_found` does. The replies are kept in
-/// memory and sent as the peer takes them. The rest of a content is read part by part, 64 KiB each, once the peer has taken what comes
+/// bytes that are none, they are answered in a stretch of the connection, as `http_serve::Connection::answer` does. The replies are kept
+/// in memory and sent as the peer takes them. The rest of a content is read part by part, 64 KiB each, once the peer has taken what comes
 /// before; other requests are answered between two parts. While replies wait, or the rest of one, no further request of the connection is
 /// read or answered.
 ///
@@ -331,15 +291,15 @@ where
 /// being prepared is as many steps as begin within `Waits::preparing_time`, at least one. Between two rounds new connections are accepted.
 /// Until its reply nothing more is read of such a connection, its peer's time doesn't run, and it isn't ended to make room for others.
 ///
-/// Between two requests a connection holds no buffers. Otherwise it has at most `http_requests::MAX_REQUEST` bytes of input, and of its replies
-/// what its peer hasn't taken yet; a buffer takes at most twice as much as it has. Of a content that is read in parts one part is in memory.
+/// Between two requests a connection holds no buffers. Otherwise it has at most `http_requests::MAX_REQUEST` bytes of input, and the reply that
+/// its peer is taking; a buffer takes at most twice as much as it has. Of a content that is read in parts one part is in memory.
 ///
 /// All connections hold at most `Waits::max_held` bytes of requests and replies. Once a step exceeds that, connections are ended before the next
 /// one until it is met, first the one that has waited longest for its peer: if it has sent a part of a request, with the reply 503 `Memory` and
 /// logged as `memory`, otherwise as one whose write failed. If no connection waits for its peer, one that has sent a part of a request and is to
 /// be read gets that reply. So does each connection for whose input or buffers memory runs out before its request is answered.
 ///
-/// At most `Waits::max_open` connections are open, and never more than `MAX_KEPT`. At that limit, or when one can't be accepted for
+/// At most `Waits::max_open` connections are open, and never more than `MAX_OPEN`. At that limit, or when one can't be accepted for
 /// want of descriptors or memory, room is made for it: a connection that has ended is closed, or else the one that waits longest for a
 /// request is ended and logged as `closed`, if it has waited for a second and has sent nothing. If there is none, the new one waits, and is
 /// served once it can be. At the limit none is ended before another one was accepted.
@@ -386,39 +346,39 @@ where
         × (begun served ≡ connections) × AreOverKnown served) }
     ensures fewer_known { OnErr result ((served : List Event) × Serves H.replies H.fails H.reads H.prepares handler.old served handler.new
         × (begun served < connections) × AreOverKnown served) }
-    // What is done is done for the connections, each by its number. Of one of them nothing is answered or prepared while something of its last
-    // reply's content is left, and what is read of that is its next bytes, by that reply's ticket.
+    // What is done is done for the connections, each by its number, and what is answered at once is one request, or bytes that begin with none. Of
+    // a connection nothing is answered or prepared while something of its last reply's content is left, and what is read of that is its next
+    // bytes, by that reply's ticket.
     ensures named { (deeds : List Deed) × Runs H.replies H.fails H.reads H.ticket_of H.prepares handler.old deeds handler.new
         × AreInOrder connections deeds
         × ((count : ℕ) × (count ≤ connections) × OnOk result (count ≡ connections)
         × AreOver L.Stream.Talks.told count deeds (W.marks log.old) (W.marks log.new)) }
 {
-    let mut room = Room::new(
+    let mut pool = Pool::new(
         alloc,
         listener.max_held(),
         listener.max_reads(),
         listener.preparing_time(),
     );
-    let mut buffers = Buffers::new(alloc);
     let mut begun = 0;
     'turns: for _turn in 0..MAX_TURNS {
-        match room.find(clock, listener, begun < connections, log) {
+        match pool.find(clock, listener, begun < connections, log) {
             Found::New(stream) => {
                 begun += 1;
                 log.opened(begun, &stream);
                 prepare(&stream);
-                let kept = Kept::new(alloc, stream, begun, room.now(clock));
-                open(&mut buffers, &mut room, kept, handler, log);
+                let peer = Peer::new(alloc, stream, begun, pool.now(clock));
+                open(&mut pool, peer, handler, log);
             }
-            Found::Asks(kept, asked) => {
-                answer(clock, &mut buffers, &mut room, kept, asked, handler, log);
+            Found::Asks(peer, asked) => {
+                answer(clock, &mut pool, peer, asked, handler, log);
             }
-            Found::Reads(kept, unsent) => send_part(clock, &mut room, kept, unsent, handler, log),
+            Found::Reads(peer, unsent) => send_part(clock, &mut pool, peer, unsent, handler, log),
             Found::Nothing => {}
             Found::Over => break,
         }
     }
-    room.close_all(log);
+    pool.close_all(log);
     if begun < connections {
         return Err(ListenFault::Accept);
     }

@@ -2,9 +2,9 @@
 ghost use Rattle.std.specs.Prelude.{◌≡◌, ◌≢◌, ◌≤◌, ℕ, None, IsSome, IfOk, IfErr, OnErr};
 ghost use Rattle.http_listen.specs.Conversations.{Puts};
 ghost use Rattle.http_listen.specs.Stays.{AllStand};
-ghost use Rattle.http_listen.specs.Places.{kept_at, next_key, KeepsAll, Reports};
+ghost use Rattle.http_listen.specs.Places.{peer_at, next_key, KeepsAll, Reports};
 
-use crate::kept::Kept;
+use crate::peers::Peer;
 use crate::waits::{Change, Waits};
 use slab::Slab;
 use std::alloc::Global;
@@ -41,7 +41,7 @@ const EMPTY: Ends = Ends {
 /// A connection, and its neighbours in its list.
 #[derive(Drop)]
 struct Place<S> {
-    kept: Kept<S>,
+    peer: Peer<S>,
     list: List,
     before: Option<usize>,
     after: Option<usize>,
@@ -65,7 +65,7 @@ pub struct Places<S> {
 impl<S> Places<S> {
     /// No connections.
     pub(crate) fn new(alloc: Global) -> Self
-        ensures { (key : ℕ) → kept_at result key ≡ None }
+        ensures { (key : ℕ) → peer_at result key ≡ None }
     {
         Places {
             places: Slab::new(alloc),
@@ -85,15 +85,15 @@ impl<S> Places<S> {
 
     /// A number above all keys.
     pub(crate) fn key_bound(&self) -> usize
-        ensures { (key : ℕ) → result ≤ key → kept_at self.now key ≡ None }
+        ensures { (key : ℕ) → result ≤ key → peer_at self.now key ≡ None }
     {
         self.places.capacity()
     }
 
     /// The connection at a key.
-    pub(crate) fn get(&self, key: usize) -> Option<&Kept<S>> {
+    pub(crate) fn get(&self, key: usize) -> Option<&Peer<S>> {
         match self.places.get(key) {
-            Some(place) => Some(&place.kept),
+            Some(place) => Some(&place.peer),
             None => None,
         }
     }
@@ -222,7 +222,7 @@ impl<S> Places<S> {
     /// The list that a connection is to be in.
     fn list_of(&self, key: usize) -> List {
         match self.places.get(key) {
-            Some(place) => place.kept.list(key),
+            Some(place) => place.peer.list(key),
             None => List::Ready,
         }
     }
@@ -261,16 +261,16 @@ impl<S> Places<S> {
 
     /// Adds a connection, at the end of the list that it is to be in. Returns its key, which is the one that the last connection had
     /// that was taken out, or the connection if memory runs out.
-    pub(crate) fn put(&mut self, kept: Kept<S>) -> Result<usize, Kept<S>>
-        ensures free { IfOk result (λ key. kept_at self.old key ≡ None) }
+    pub(crate) fn put(&mut self, peer: Peer<S>) -> Result<usize, Peer<S>>
+        ensures free { IfOk result (λ key. peer_at self.old key ≡ None) }
         ensures next { IfOk result (λ key. key ≡ next_key self.old) }
-        ensures put { IfOk result (λ key. Puts (kept_at self.old) key kept (kept_at self.new)) }
-        ensures back { IfErr result (λ back. back ≡ kept) }
+        ensures put { IfOk result (λ key. Puts (peer_at self.old) key peer (peer_at self.new)) }
+        ensures back { IfErr result (λ back. back ≡ peer) }
         ensures same { OnErr result (KeepsAll self.old self.new) }
     {
-        let held = kept.held();
+        let held = peer.connection.held();
         let place = Place {
-            kept,
+            peer,
             list: List::Ready,
             before: None,
             after: None,
@@ -279,8 +279,8 @@ impl<S> Places<S> {
         let key = match self.places.insert(place) {
             Ok(key) => key,
             Err(refused) => {
-                let Place { kept, .. } = refused.value;
-                return Err(kept);
+                let Place { peer, .. } = refused.value;
+                return Err(peer);
             }
         };
         self.held = self.held.saturating_add(held);
@@ -289,16 +289,16 @@ impl<S> Places<S> {
     }
 
     /// Takes a connection out.
-    pub(crate) fn take(&mut self, key: usize) -> Option<Kept<S>>
-        ensures taken { result ≡ kept_at self.old key }
-        ensures none { kept_at self.new key ≡ None }
+    pub(crate) fn take(&mut self, key: usize) -> Option<Peer<S>>
+        ensures taken { result ≡ peer_at self.old key }
+        ensures none { peer_at self.new key ≡ None }
         ensures next { IsSome result → next_key self.new ≡ key }
-        ensures others { (other : ℕ) → other ≢ key → kept_at self.new other ≡ kept_at self.old other }
+        ensures others { (other : ℕ) → other ≢ key → peer_at self.new other ≡ peer_at self.old other }
     {
         self.unlink(key);
-        let Place { kept, held, .. } = self.places.try_remove(key)?;
+        let Place { peer, held, .. } = self.places.try_remove(key)?;
         self.held = self.held.saturating_sub(held);
-        Some(kept)
+        Some(peer)
     }
 
     /// Reports what the stream of the connection at a key has become ready for. If there is none, nothing happens.
@@ -308,7 +308,7 @@ impl<S> Places<S> {
         let Some(place) = self.places.get_mut(key) else {
             return;
         };
-        place.kept.turn.ready = place.kept.turn.ready.changed(change);
+        place.peer.state.ready = place.peer.state.ready.changed(change);
         self.move_to_its_list(key);
     }
 
@@ -316,16 +316,16 @@ impl<S> Places<S> {
     pub(crate) fn watch<L>(&mut self, key: usize, listener: &mut L) -> bool
     where
         L: Waits<Stream = S>,
-        ensures { AllStand (kept_at self.old) (kept_at self.new) }
+        ensures { AllStand (peer_at self.old) (peer_at self.new) }
     {
         let Some(place) = self.places.get_mut(key) else {
             return false;
         };
-        let sends = place.kept.sends();
-        if listener.watch(&place.kept.stream, key, sends).is_err() {
+        let sends = place.peer.sends();
+        if listener.watch(&place.peer.stream, key, sends).is_err() {
             return false;
         }
-        place.kept.turn.watched = Some((key, sends));
+        place.peer.state.watched = Some((key, sends));
         self.move_to_its_list(key);
         true
     }

@@ -4,8 +4,7 @@ ghost use Rattle.http_serve.specs.declared.handlers.RestFault.{RestFault};
 ghost use Rattle.http_listen.specs.Rests.{rest_after, once_sent, EndsAt};
 
 use crate::ends::EndFault;
-use crate::outputs::Output;
-use http_serve::{Downloads, End, PART_SIZE, ServeFault, Served, Ticket};
+use http_serve::{Connection, Downloads, End, PART_SIZE, ServeFault, Served, Ticket};
 
 /// The rest of a content, which isn't sent yet.
 #[derive(Clone, Copy)]
@@ -89,28 +88,25 @@ pub(crate) fn once_sent(outcome: Result<Served, ServeFault>) -> Result<Served, E
 pub(crate) fn add_part<H: Downloads>(
     handler: &mut H,
     unsent: Unsent,
-    output: &mut Output,
+    connection: &mut Connection,
 ) -> Result<Option<Unsent>, EndFault>
-    requires empty { output.old ≡ [] }
+    requires empty { connection.old.output ≡ [] }
     // No more bytes are read than are left. The fault says why they couldn't be.
     ensures read { (count : ℕ) × (outcome : Result (List ℕ) RestFault) × (count ≤ unsent.end - unsent.at)
         × H.reads handler.old unsent.ticket unsent.at count outcome handler.new × IfErr result (EndsAt outcome) }
     // What is added is what was read by the ticket, and the next part is read after it.
     ensures added { IfOk result (λ left. (count : ℕ) × (bytes : List ℕ) × (count ≤ unsent.end - unsent.at)
-        × H.reads handler.old unsent.ticket unsent.at count (Ok bytes) handler.new × (output.new ≡ output.old ++ bytes)
+        × H.reads handler.old unsent.ticket unsent.at count (Ok bytes) handler.new × (connection.new.output ≡ connection.old.output ++ bytes)
         × MatchOption left (unsent.end ≤ unsent.at + length bytes) (λ next. next ≡ record unsent { at = unsent.at + length bytes })) }
     // Each part has bytes, so that a download comes to its end.
     ensures further { IfOk result (λ left. IfSome left (λ next. unsent.at < next.at)) }
-    ensures same { OnErr result (output.new ≡ output.old) }
+    ensures same { OnErr result (connection.new.output ≡ connection.old.output) }
+    ensures input { connection.new.input ≡ connection.old.input }
 {
     let wanted = unsent.part_len();
-    let count = output.begin(wanted);
-    match output.fill(handler, unsent.ticket, unsent.at) {
-        Ok(()) if count < wanted => Err(EndFault::Memory),
-        Ok(()) => Ok(unsent.less(count)),
-        Err(cause) => {
-            output.clear();
-            Err(EndFault::cut_by(cause))
-        }
+    match connection.fetch(handler, unsent.ticket, unsent.at, wanted) {
+        Ok(count) if count < wanted => Err(EndFault::Memory),
+        Ok(count) => Ok(unsent.less(count)),
+        Err(cause) => Err(EndFault::cut_by(cause)),
     }
 }

@@ -1,7 +1,7 @@
 //! Listeners of TCP whose streams the system watches.
 ghost use Rattle.std.specs.Prelude.{◌≡◌, ℕ, [], IfOk, OnOk, OnErr};
 ghost use Rattle.http_listen.specs.Listeners.{is_of_listener, has_listener, change_of, after_event, after_events};
-ghost use Rattle.http_listen.specs.Places.{kept_at, KeepsAll};
+ghost use Rattle.http_listen.specs.Places.{peer_at, KeepsAll};
 ghost use Rattle.http_listen.specs.Stays.{AllStand};
 
 use crate::places::Places;
@@ -87,7 +87,7 @@ fn change_of(event: &Event) -> Change
 /// Reports an event of a stream. Whether it is one of the listener itself, which isn't reported.
 fn report_event(event: &Event, places: &mut Places<TcpStream>) -> bool
     ensures is { result ≡ is_of_listener event.now }
-    ensures reported { (key : ℕ) → kept_at places.new key ≡ after_event key event.now (kept_at places.old key) }
+    ensures reported { (key : ℕ) → peer_at places.new key ≡ after_event key event.now (peer_at places.old key) }
 {
     let Token(key) = event.token();
     if key == LISTENER {
@@ -131,11 +131,11 @@ impl Waits for SystemListener {
     }
 
     fn wait(&mut self, longest: Duration, places: &mut Places<TcpStream>) -> io::Result<bool>
-        ensures stand { AllStand (kept_at places.old) (kept_at places.new) }
+        ensures stand { AllStand (peer_at places.old) (peer_at places.new) }
         ensures same { self.new ≡ record self.old { events = self.new.events } }
         // What the system gave is reported, and nothing else.
         ensures comes { IfOk result (λ comes. comes ≡ has_listener self.new.events) }
-        ensures reported { OnOk result ((key : ℕ) → kept_at places.new key ≡ after_events key self.new.events (kept_at places.old key)) }
+        ensures reported { OnOk result ((key : ℕ) → peer_at places.new key ≡ after_events key self.new.events (peer_at places.old key)) }
         ensures failed { OnErr result (KeepsAll places.old places.new) }
     {
         self.poll.poll(&mut self.events, Some(longest))?;

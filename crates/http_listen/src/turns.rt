@@ -4,11 +4,11 @@ ghost use Rattle.http_listen.specs.Conversations.{Beside, Stands, IsSearched, Tu
 ghost use Rattle.http_listen.specs.Talks.{Moves};
 
 use crate::ends::EndFault;
-use crate::inputs::Asked;
-use crate::kept::{Ending, Kept};
+use crate::peers::{Ending, Peer};
 use crate::rests::Unsent;
 use crate::talks::Talks;
 use http_requests::FieldSpans;
+use http_serve::Asked;
 use std::time::Duration;
 
 /// What follows the turn of a connection.
@@ -24,15 +24,15 @@ pub(crate) enum Next {
     Closes,
 }
 
-impl<S: Talks> Kept<S> {
+impl<S: Talks> Peer<S> {
     /// Sends what the stream can take of the replies. If it has taken all, the connection goes on, or ends. If there is a rest to be read,
     /// it waits until the stream can take more. Returns what the connection came to, if it ends.
     pub(crate) fn send_replies(&mut self, now: Duration) -> Ending
-        ensures moves { Moves (S.told self.old.stream) self.old.output [] [] (S.told self.new.stream) self.new.output }
+        ensures moves { Moves (S.told self.old.stream) self.old.connection.output [] [] (S.told self.new.stream) self.new.connection.output }
         ensures beside { Beside self.old self.new }
-        ensures unsent { self.new.turn.unsent ≡ self.old.turn.unsent }
+        ensures unsent { self.new.state.unsent ≡ self.old.state.unsent }
     {
-        if self.has_output() {
+        if self.connection.has_output() {
             if let Err(fault) = self.send(now) {
                 return Some(Err(fault));
             }
@@ -44,8 +44,8 @@ impl<S: Talks> Kept<S> {
                 None
             };
         }
-        if self.turn.last {
-            return Some(self.turn.outcome);
+        if self.state.last {
+            return Some(self.state.outcome);
         }
         self.replied(now);
         None
@@ -58,15 +58,15 @@ impl<S: Talks> Kept<S> {
         now: Duration,
         outcome: Result<Option<Unsent>, EndFault>,
     ) -> Ending
-        ensures moves { Moves (S.told self.old.stream) self.old.output [] [] (S.told self.new.stream) self.new.output }
+        ensures moves { Moves (S.told self.old.stream) self.old.connection.output [] [] (S.told self.new.stream) self.new.connection.output }
         ensures beside { Beside self.old self.new }
-        ensures unsent { IfOk outcome (λ left. self.new.turn.unsent ≡ left) }
+        ensures unsent { IfOk outcome (λ left. self.new.state.unsent ≡ left) }
         ensures failed { IfErr outcome (λ fault. result ≡ Some (Err fault)) }
-        ensures rest { OnErr outcome (self.new.turn.unsent ≡ self.old.turn.unsent) }
+        ensures rest { OnErr outcome (self.new.state.unsent ≡ self.old.state.unsent) }
     {
         match outcome {
             Ok(unsent) => {
-                self.turn.unsent = unsent;
+                self.state.unsent = unsent;
                 self.send_replies(now)
             }
             Err(fault) => Some(Err(fault)),
@@ -74,14 +74,14 @@ impl<S: Talks> Kept<S> {
     }
 }
 
-impl<S> Kept<S> {
+impl<S> Peer<S> {
     /// Searches the input for a request, or bytes that are none, whatever follows: these are answered, or all bytes at the input's end. If
     /// there is none, more is waited for. The header fields of a request are then at the first `fields`.
     pub(crate) fn search(&mut self, now: Duration, fields: &mut FieldSpans) -> Next
         ensures stands { Stands self.old self.new }
-        ensures searched { IsSearched self.new.input self.new.turn.ended fields.new result }
+        ensures searched { IsSearched self.new.connection.input self.new.state.ended fields.new result }
     {
-        if let Some(asked) = self.input.find(self.turn.ended, fields) {
+        if let Some(asked) = self.connection.find(self.state.ended, fields) {
             self.pace = self.pace.writes();
             return Next::Asks(asked);
         }
@@ -94,7 +94,7 @@ impl<S> Kept<S> {
     }
 }
 
-impl<S: Talks> Kept<S> {
+impl<S: Talks> Peer<S> {
     /// Has its turn: a read into `piece`, or a write. No request is looked for while replies wait, or the rest of one. The header fields of one
     /// that is found are at the first `fields`.
     pub(crate) fn take_turn(
@@ -107,20 +107,20 @@ impl<S: Talks> Kept<S> {
     ) -> Next
         ensures { Turned S.told self.old fields.new result self.new }
     {
-        if self.has_output() {
+        if self.connection.has_output() {
             return Next::Rests(self.send_replies(now));
         }
-        if let Some(left) = self.turn.drops {
+        if let Some(left) = self.state.drops {
             return if self.drop_piece(now, left, piece) {
                 Next::Rests(None)
             } else {
                 Next::Closes
             };
         }
-        if let Some(unsent) = self.turn.unsent {
+        if let Some(unsent) = self.state.unsent {
             return Next::Reads(unsent);
         }
-        if self.turn.searches {
+        if self.state.searches {
             return self.search(now, fields);
         }
         self.receive(now, is_full, max_reads, piece, fields)

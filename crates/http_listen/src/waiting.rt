@@ -1,12 +1,12 @@
 //! What is done between two rounds of turns.
 ghost use Rattle.http_listen.specs.Goes.{Goes};
-ghost use Rattle.http_listen.specs.Places.{kept_at};
+ghost use Rattle.http_listen.specs.Places.{peer_at};
 
-use crate::kept::GivenUp;
 use crate::logs::Logs;
 use crate::paces::nanoseconds_of;
+use crate::peers::GivenUp;
 use crate::places::List;
-use crate::rooms::{Room, fails_too_often};
+use crate::pool::{Pool, fails_too_often};
 use crate::talks::Talks;
 use crate::waits::Waits;
 use std::io::ErrorKind;
@@ -22,7 +22,7 @@ const STOP_SECONDS: u64 = 1;
 /// How many connections are accepted at most between two waits.
 const MAX_ACCEPTS: usize = 64;
 
-impl<S> Room<S> {
+impl<S> Pool<S> {
     /// Whether a connection has come, or may have.
     fn may_come(&self) -> bool {
         self.comes || self.came.is_some()
@@ -51,10 +51,10 @@ impl<S> Room<S> {
     }
 }
 
-impl<S: Talks + OpenStream + Drop> Room<S> {
+impl<S: Talks + OpenStream + Drop> Pool<S> {
     /// Ends one of the connections. Whether there was one.
     pub(crate) fn end_any<W: Logs<S>>(&mut self, now: Duration, log: &mut W) -> bool
-        ensures goes { Goes S.told (W.marks log.old) (kept_at self.old.places) (W.marks log.new) (kept_at self.new.places) }
+        ensures goes { Goes S.told (W.marks log.old) (peer_at self.old.places) (W.marks log.new) (peer_at self.new.places) }
     {
         match self.places.any() {
             Some(key) => {
@@ -67,13 +67,13 @@ impl<S: Talks + OpenStream + Drop> Room<S> {
 
     /// Ends the connections whose peers have no time left and which may not have their turn. All are looked at.
     fn end_late<W: Logs<S>>(&mut self, now: Duration, log: &mut W)
-        ensures goes { Goes S.told (W.marks log.old) (kept_at self.old.places) (W.marks log.new) (kept_at self.new.places) }
+        ensures goes { Goes S.told (W.marks log.old) (peer_at self.old.places) (W.marks log.new) (peer_at self.new.places) }
     {
         let time = nanoseconds_of(now);
         self.deadlines.begin_look(time, self.places.count());
         'looks: for key in 0..self.places.key_bound() {
             let deadline = match self.places.get(key) {
-                Some(kept) if kept.list(key) != List::Ready => kept.deadline(),
+                Some(peer) if peer.list(key) != List::Ready => peer.deadline(),
                 _ => continue,
             };
             if deadline <= time {
@@ -86,7 +86,7 @@ impl<S: Talks + OpenStream + Drop> Room<S> {
 
     /// Ends the connections of a server that stops, but for those whose replies are still sent. If there may be one, all are looked at.
     pub(crate) fn end_stopped<W: Logs<S>>(&mut self, now: Duration, log: &mut W)
-        ensures goes { Goes S.told (W.marks log.old) (kept_at self.old.places) (W.marks log.new) (kept_at self.new.places) }
+        ensures goes { Goes S.told (W.marks log.old) (peer_at self.old.places) (W.marks log.new) (peer_at self.new.places) }
     {
         let since = self.stops.unwrap_or(now);
         self.stops = Some(since);
@@ -97,7 +97,7 @@ impl<S: Talks + OpenStream + Drop> Room<S> {
         self.may_stop = false;
         'ends: for key in 0..self.places.key_bound() {
             match self.places.get(key) {
-                Some(kept) if over || !kept.sends() => {}
+                Some(peer) if over || !peer.sends() => {}
                 _ => continue,
             }
             self.end_at(now, key, GivenUp::Late, log);
@@ -112,7 +112,7 @@ impl<S: Talks + OpenStream + Drop> Room<S> {
         listener: &mut L,
         log: &mut W,
     )
-        ensures goes { Goes S.told (W.marks log.old) (kept_at self.old.places) (W.marks log.new) (kept_at self.new.places) }
+        ensures goes { Goes S.told (W.marks log.old) (peer_at self.old.places) (W.marks log.new) (peer_at self.new.places) }
     {
         'watches: for _ in 0..self.places.ends(List::Unwatched).count {
             let Some(key) = self.places.ends(List::Unwatched).first else {
@@ -132,7 +132,7 @@ impl<S: Talks + OpenStream + Drop> Room<S> {
         listener: &mut L,
         log: &mut W,
     )
-        ensures goes { Goes S.told (W.marks log.old) (kept_at self.old.places) (W.marks log.new) (kept_at self.new.places) }
+        ensures goes { Goes S.told (W.marks log.old) (peer_at self.old.places) (W.marks log.new) (peer_at self.new.places) }
     {
         if !self.is_full() {
             return;
@@ -159,7 +159,7 @@ impl<S: Talks + OpenStream + Drop> Room<S> {
         accepts: bool,
         log: &mut W,
     ) -> bool
-        ensures goes { Goes S.told (W.marks log.old) (kept_at self.old.places) (W.marks log.new) (kept_at self.new.places) }
+        ensures goes { Goes S.told (W.marks log.old) (peer_at self.old.places) (W.marks log.new) (peer_at self.new.places) }
     {
         self.watch_all(now, listener, log);
         let longest = self.longest(now, accepts);

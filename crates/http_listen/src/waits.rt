@@ -1,5 +1,5 @@
 //! Listeners whose connections can be waited for together.
-ghost use Rattle.http_listen.specs.Places.{kept_at};
+ghost use Rattle.http_listen.specs.Places.{peer_at};
 ghost use Rattle.http_listen.specs.Stays.{AllStand};
 
 use crate::places::Places;
@@ -8,7 +8,7 @@ use std::io;
 use std::time::Duration;
 
 /// The maximum number of open connections.
-pub const MAX_KEPT: usize = 16_384;
+pub const MAX_OPEN: usize = 16_384;
 
 /// How many bytes of requests and replies all connections hold at most: 256 MiB.
 pub const MAX_HELD: usize = 268_435_456;
@@ -39,9 +39,9 @@ pub trait Waits {
     /// `WouldBlock` if no connection is there; that of the system.
     fn accept(&self) -> io::Result<Self::Stream>;
 
-    /// How many connections may be open at once. More than `MAX_KEPT` never are. One more is accepted, and waits until another one has ended.
+    /// How many connections may be open at once. More than `MAX_OPEN` never are. One more is accepted, and waits until another one has ended.
     fn max_open(&self) -> usize {
-        MAX_KEPT
+        MAX_OPEN
     }
 
     /// How many bytes of requests and replies all connections may hold.
@@ -77,7 +77,7 @@ pub trait Waits {
     ///
     /// They can't be waited for.
     fn wait(&mut self, longest: Duration, places: &mut Places<Self::Stream>) -> io::Result<bool>
-        ensures stand { AllStand (kept_at places.old) (kept_at places.new) };
+        ensures stand { AllStand (peer_at places.old) (peer_at places.new) };
 
     /// Whether no more requests are to be read: the connections end then, once the replies that wait are sent, or after a second.
     fn stops(&self) -> bool {

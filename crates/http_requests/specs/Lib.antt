@@ -4,5 +4,4 @@ pub mod Frame
 pub mod Input
 pub mod Lines
 pub mod Requests
-pub mod Scans
 pub mod Search

@@ -9,7 +9,6 @@ mod inputs;
 mod lines;
 mod positions;
 mod refusals;
-mod scans;
 mod searches;
 
 pub use frames::{
@@ -18,5 +17,4 @@ pub use frames::{
 pub use headers::Fields;
 pub use inputs::{Input, READ_SPACE, ReadFault};
 pub use refusals::{NO_HEAD, Refusal, Rejection};
-pub use scans::Scan;
 pub use searches::{START, Search, find_next};

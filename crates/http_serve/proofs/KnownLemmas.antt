@@ -4,7 +4,7 @@ use Rattle.std.proofs.Common.{length-append}
 use Rattle.std.proofs.lemmas.List.{append-nil, take-append-le}
 use Rattle.std.proofs.Math.Seq.{take-append-add}
 use Rattle.http_serve.specs.Sent.{Sends}
-use Rattle.std.specs.Io.KnownBytes.{Appends, Consumes}
+use Rattle.std.specs.Io.KnownBytes.{Appends, Consumes, Keeps}
 
 pub Appends-then : (u v w : Option (List ℕ)) (a b : List ℕ) → Appends u v a → Appends v w b → Appends u w (a ++ b)
 Appends-then None v w a b x y = tt
@@ -25,6 +25,17 @@ Consumes-then (Some xs) (Some ys) (Some zs) a b x y = x ∙ ap (λ (t : List ℕ
 pub Consumes_none : (u : Option (List ℕ)) → Consumes u u []
 Consumes_none None = tt
 Consumes_none (Some xs) = refl
+
+pub Consumes-kept : (u v : Option (List ℕ)) → Keeps u v → Consumes u v []
+Consumes-kept None v x = tt
+Consumes-kept (Some xs) None x = absurd x
+Consumes-kept (Some xs) (Some ys) x = sym x
+
+pub Appends-kept : (u v w : Option (List ℕ)) (a : List ℕ) → Appends u v a → Keeps v w → Appends u w a
+Appends-kept None v w a x y = tt
+Appends-kept (Some xs) None w a x y = absurd x
+Appends-kept (Some xs) (Some ys) None a x y = absurd y
+Appends-kept (Some xs) (Some ys) (Some zs) a x y = y ∙ x
 
 -- ---- sending
 

@@ -1,3 +1,4 @@
+mod AnswerLemmas
 pub mod CarryLemmas
 pub mod ExitLemmas
 mod FoundLemmas
@@ -5,6 +6,7 @@ pub mod HandlerLemmas
 pub mod KnownLemmas
 mod LimitNumbers
 pub mod PartLemmas
+mod PieceLemmas
 pub mod ReplyLemmas
 pub mod ServeLemmas
 mod TagForms

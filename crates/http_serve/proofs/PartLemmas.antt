@@ -10,8 +10,8 @@ use Rattle.std.specs.Rc.{rc_slice_items}
 use Rattle.http_serve.specs.declared.replies.Content.{Content}
 use Rattle.http_serve.specs.declared.replies.Content.TheVariants.{Empty, Fixed, Whole, Shared, Parts}
 use Rattle.http_serve.specs.declared.replies.Reply.{Reply}
-use Rattle.http_serve.specs.Parts.{front_content, rest_content, front_bytes, rest_bytes, IsLater, IsReadable, IsCutIn, IsLeft, IsStopped}
-use Rattle.http_serve.specs.Parts.{IfRest, IsNoRest, IsNoContentFault, cut_after}
+use Rattle.http_serve.specs.Parts.{front_content, rest_content, front_bytes, rest_bytes, IsLater, IsCutIn, IsLeft, IsStopped}
+use Rattle.http_serve.specs.Parts.{cut_after}
 use Rattle.http_serve.specs.Reply.{ReplyView, HeadView, head_of, head_view, reply_view, content_bytes, content_size, FitsParts, IsReply, InParts, with_part}
 use Rattle.http_serve.specs.Reply.{has_no_content, reply_head, reply_bytes}
 use Rattle.http_values.specs.Codes.{code_of}
@@ -167,7 +167,7 @@ sent_both : (none : Bool) (a b c : List ℕ) → a ++ b ≡ c → cond none [] a
 sent_both true a b c is = refl
 sent_both false a b c is = is
 
-same_head : (parts : List ℕ) (reply : Reply) → FitsParts parts reply.content → head_view reply ≡ head_of (reply_view parts reply)
+pub same_head : (parts : List ℕ) (reply : Reply) → FitsParts parts reply.content → head_view reply ≡ head_of (reply_view parts reply)
 same_head parts reply fits = λ i. record {
   status = code_of reply.status;
   kind = (head_view reply).kind;
@@ -187,30 +187,6 @@ front_rest close bare parts reply fits =
     (sent_both none (front_content reply.content) (rest_content parts reply.content) (content_bytes parts reply.content) (joined parts reply.content fits))
     ∙ ap (λ (head : HeadView). reply_head close head ++ cond none [] (content_bytes parts reply.content)) (same_head parts reply fits)
 
--- Of a reply whose content isn't sent nothing follows the front.
-pub none_unsent : (none : Bool) (rest : List ℕ) (held : Option (List ℕ)) → not none ≡ false → Appends held held (cond none [] rest)
-none_unsent true rest held is = Appends_none held
-none_unsent false rest held is = absurd (false≢true (sym is))
-
--- A content that isn't read in parts has no rest.
-no_parts : (parts : List ℕ) (content : Content) → ((first : Vec ℕ Global) (size : ℕ) → ¬ (content ≡ Parts first size)) → rest_content parts content ≡ []
-no_parts parts Empty whole = refl
-no_parts parts (Fixed text) whole = refl
-no_parts parts (Whole bytes) whole = refl
-no_parts parts (Shared bytes) whole = refl
-no_parts parts (Parts first size) whole = absurd (whole first size refl)
-
--- Whether or not the content of a reply is sent, no bytes are written for an empty rest.
-none_written : (none : Bool) (rest : List ℕ) (held : Option (List ℕ)) → rest ≡ [] → Appends held held (cond none [] rest)
-none_written true rest held is = Appends_none held
-none_written false rest held is = subst (λ (t : List ℕ). Appends held held t) (sym is) (Appends_none held)
-
--- For a reply whose content isn't read in parts nothing is written behind the front.
-pub whole_unsent : (bare : Bool) (parts : List ℕ) (reply : Reply) (held : Option (List ℕ))
-    → ((first : Vec ℕ Global) (size : ℕ) → ¬ (reply.content ≡ Parts first size)) → Appends held held (rest_bytes bare parts reply)
-whole_unsent bare parts reply held whole =
-    none_written (bare || has_no_content (code_of reply.status)) (rest_content parts reply.content) held (no_parts parts reply.content whole)
-
 -- A reply whose content is sent has the bytes behind its first ones as rest.
 pub parts_rest : (bare : Bool) (parts : List ℕ) (reply : Reply) (first : Vec ℕ Global) (size from : ℕ)
     → (bare || has_no_content (code_of reply.status)) ≡ false → reply.content ≡ Parts first size → from ≡ length first.items
@@ -218,16 +194,6 @@ pub parts_rest : (bare : Bool) (parts : List ℕ) (reply : Reply) (first : Vec �
 parts_rest bare parts reply first size from sent is from_is =
     ap (λ (none : Bool). cond none [] (rest_content parts reply.content)) sent
     ∙ ap (rest_content parts) is ∙ ap (λ (n : ℕ). drop n parts) (sym from_is)
-
--- a reply whose content is read in parts says what it says with what was read of it
-pub later_reply : (reply : Reply) (view later : ReplyView) (first : Vec ℕ Global) (size : ℕ) → reply.content ≡ Parts first size
-    → IsReply reply view → IsLater (length first.items) view later → IsReply reply later
-later_reply reply view later first size parts is next =
-    let fits = subst (λ (c : Content). FitsParts view.content c) parts is.1 in (
-      next.same ∙ ap (λ (r : ReplyView). record r { content = later.content }) is.0
-          ∙ ap (λ (c : Content). record (reply_view view.content reply) { content = content_bytes later.content c }) (sym parts),
-      subst (λ (c : Content). FitsParts later.content c) (sym parts) (next.size ∙ fits.0, next.front ∙ fits.1),
-    )
 
 -- facts that are required only if a content is read in parts
 pub in_parts : (content : Content) (A B : Type 0) → (A → B) → InParts content A → InParts content B
@@ -237,81 +203,26 @@ in_parts (Whole bytes) A B f is = tt
 in_parts (Shared bytes) A B f is = tt
 in_parts (Parts first size) A B f is = f is
 
-pub readable : (size : ℕ) (content : Content) (parts : List ℕ) → FitsParts parts content → InParts content (size ≡ length parts) → IsReadable size content
-readable size Empty parts fits is = tt
-readable size (Fixed text) parts fits is = tt
-readable size (Whole bytes) parts fits is = tt
-readable size (Shared bytes) parts fits is = tt
-readable size (Parts first total) parts fits is = (is ∙ fits.0, omega (arith, is, ap length fits.1, length-take (length first.items) parts))
-
 -- the fault reported for a cut is the handler's only if a content is read in parts
-pub cut_content : (size requests : ℕ) (close : Bool) (fault : SendFault) → IsCutIn size fault → HasContent size (cut_after requests close fault)
-cut_content size requests close cuts.Write is = tt
-cut_content size requests close cuts.Content is = is
-cut_content size requests close (cuts.Rest from total) is = tt
+pub cut_content : (size requests : ℕ) (fault : SendFault) → IsCutIn size fault → HasContent size (cut_after requests fault)
+cut_content size requests cuts.Write is = tt
+cut_content size requests cuts.Content is = is
 
 -- and never Memory
-pub cut_no_memory : (requests : ℕ) (close : Bool) (fault : SendFault) → IsNotMemory (cut_after requests close fault)
-cut_no_memory requests close cuts.Write = tt
-cut_no_memory requests close cuts.Content = tt
-cut_no_memory requests close (cuts.Rest from total) = tt
+pub cut_no_memory : (requests : ℕ) (fault : SendFault) → IsNotMemory (cut_after requests fault)
+cut_no_memory requests cuts.Write = tt
+cut_no_memory requests cuts.Content = tt
 
--- and Rest only if a rest was left
-pub cut_whole : (requests : ℕ) (close : Bool) (fault : SendFault) → IsNoRest fault → IsNotRest (cut_after requests close fault)
-cut_whole requests close cuts.Write is = tt
-cut_whole requests close cuts.Content is = tt
-cut_whole requests close (cuts.Rest from total) is = is
-
--- and Content only if a read of the content failed
-pub cut_unread : (requests : ℕ) (close : Bool) (fault : SendFault) → IsNoContentFault fault → IsNotContent (cut_after requests close fault)
-cut_unread requests close cuts.Write is = tt
-cut_unread requests close cuts.Content is = is
-cut_unread requests close (cuts.Rest from total) is = tt
+-- or Rest
+pub cut_whole : (requests : ℕ) (fault : SendFault) → IsNotRest (cut_after requests fault)
+cut_whole requests cuts.Write = tt
+cut_whole requests cuts.Content = tt
 
 -- ---- a rest that is left
 
-pub if_rest : (r : Result (Unit {0}) SendFault) (P Q : ℕ → ℕ → Type 0) → ((from size : ℕ) → P from size → Q from size) → IfRest r P → IfRest r Q
-if_rest (Ok done) P Q f is = tt
-if_rest (Err cuts.Write) P Q f is = tt
-if_rest (Err cuts.Content) P Q f is = tt
-if_rest (Err (cuts.Rest from size)) P Q f is = f from size is
-
--- No rest was left of a reply whose fault isn't Rest.
-pub no_rest : (r : Result (Unit {0}) SendFault) (P : ℕ → ℕ → Type 0) → IfErr r IsNoRest → IfRest r P
-no_rest (Ok done) P is = tt
-no_rest (Err cuts.Write) P is = tt
-no_rest (Err cuts.Content) P is = tt
-no_rest (Err (cuts.Rest from size)) P is = absurd is
-
--- A fault that can't be says anything.
-pub no_fault : (r : Result (Unit {0}) SendFault) (P : SendFault → Type 0) (A : Type 0) → (¬ A) → IfErr r (λ _. A) → IfErr r P
-no_fault (Ok done) P A never is = tt
-no_fault (Err fault) P A never is = absurd (never is)
-
 module _ (bare : Bool) (reply : Reply) (view : ReplyView) (from size : ℕ) (left : IsLeft bare reply from size) (is : IsReply reply view) where
-  left_size : size ≡ length view.content
+  pub left_size : size ≡ length view.content
   left_size = sym (subst (λ (c : Content). FitsParts view.content c) left.parts is.1).0
-
-  left_rest : rest_bytes bare view.content reply ≡ drop from view.content
-  left_rest = parts_rest bare view.content reply left.first size from left.sent left.parts left.from_is
-
-  -- it has some bytes, of which none are written
-  pub left_unsent : (held : Option (List ℕ)) → (n : ℕ) × (n < length (rest_bytes bare view.content reply))
-      × Appends held held (take n (rest_bytes bare view.content reply))
-  left_unsent held = (0, omega (arith, left.some, left_size, ap length left_rest, length-drop from view.content), Appends_none held)
-
-  -- the front was written
-  pub left_stopped : (close : Bool) (held holds : Option (List ℕ)) → Appends held holds (front_bytes close bare reply)
-      → IsStopped (reply_bytes close bare view) view.content from size held holds
-  left_stopped close held holds sent = record {
-    size_is = left_size;
-    some = left.some;
-    front = front_bytes close bare reply;
-    whole =
-        sym (ap (λ (t : List ℕ). front_bytes close bare reply ++ t) (sym left_rest) ∙ front_rest close bare view.content reply is.1
-        ∙ ap (λ (r : ReplyView). reply_bytes close bare r) (sym is.0));
-    written = sent;
-  }
 
   pub left_sends : (fact : Type 0) → InParts reply.content fact → fact
   left_sends fact sends = subst (λ (c : Content). InParts c fact) left.parts sends

@@ -20,7 +20,7 @@ use Rattle.http_requests.specs.Input.{buffer_size}
 use Rattle.http_serve.specs.Reads.{Gives, GivesTimes}
 use Rattle.httparse.specs.declared.spans.HeaderSpan.{HeaderSpan}
 use Rattle.http_requests.specs.Frame.{IsFrameOf}
-use Rattle.http_serve.specs.Parts.{GivesOrFails, IsStopped, IfRest, cut_after}
+use Rattle.http_serve.specs.Parts.{GivesOrFails, cut_after}
 use Rattle.http_requests.specs.Requests.{Request, IsRequest, Ending, going, closed, asked, refused, EndsAs, IsRefused, Requests}
 use Rattle.http_requests.specs.Requests.{RequestView, request_view_at, has_head_method}
 use Rattle.http_serve.specs.Reply.{ReplyView, reply_at, refusal_bytes}
@@ -32,7 +32,7 @@ use Rattle.http_serve.specs.Told.{HasContent, IsNotRest, OnRest, StopsAtRest, Me
 use Rattle.http_requests.proofs.HeadLemmas.{empty_no_head, refused_none}
 use Rattle.http_serve.proofs.KnownLemmas.{Appends-then, Consumes-then, Consumes_none}
 use Rattle.http_serve.proofs.CarryLemmas.{Begins-append, Begins-then, Answers-then, Carries_start, Ends_push}
-use Rattle.http_serve.proofs.CarryLemmas.{Frame_next, Frame_stops, Breaks_at, Breaks_refused}
+use Rattle.http_serve.proofs.CarryLemmas.{Frame_next, Breaks_at, Breaks_refused}
 use Rattle.http_serve.proofs.CarryLemmas.{rises_then, reply_count-append}
 
 pub finished_other : (end : End) (ending : Ending) (last : List ℕ) → end ≡ end_of ending → HasPlainEnd ending last → end ≢ Turns
@@ -86,32 +86,13 @@ module _ {S : Type 0} (old : S) (bytes : List ℕ) (held : Option (List ℕ)) (b
       → Carries replies old bytes held before middle here holds so_far
       → GivesOrFails (Err fault) (replies middle (request_view_at input spans frame) reply new) (fails middle (request_view_at input spans frame) reply new)
       → n < length (reply_at input frame reply) → Appends holds now (take n (reply_at input frame reply))
-      → IsBroken replies fails old bytes held before (cut_after so_far frame.close fault) new now
+      → IsBroken replies fails old bytes held before (cut_after so_far fault) new now
   cut_breaks replies fails reply n new now cuts.Write so given cut sent =
       Breaks_at replies (RepliesNext replies Anything) old bytes held before middle here holds so_far (reply_at input frame reply) n new now so
       (inl (Frame_next replies middle input spans frame request here rest reply new is whole given)) cut sent
   cut_breaks replies fails reply n new now cuts.Content so given cut sent =
       Breaks_at replies (AnswersNext fails) old bytes held before middle here holds so_far (reply_at input frame reply) n new now so
       (Frame_next fails middle input spans frame request here rest reply new is whole given) cut sent
-  cut_breaks replies fails reply n new now (cuts.Rest from size) so given cut sent =
-      Breaks_at replies (AnswersNext replies) old bytes held before middle here holds so_far (reply_at input frame reply) n new now so
-      (Frame_next replies middle input spans frame request here rest reply new is whole given) cut sent
-
-  -- and where the rest of its content was left
-  pub cut_left : (replies sends : S → RequestView → ReplyView → S → Type 0) (new : S) (now : Option (List ℕ)) (fault : SendFault)
-      → Carries replies old bytes held before middle here holds so_far
-      → IfRest (Err fault) (λ from size. (reply : ReplyView) × replies middle (request_view_at input spans frame) reply new
-      × sends middle (request_view_at input spans frame) reply new × IsStopped (reply_at input frame reply) reply.content from size holds now)
-      → IsLeftAt replies sends old bytes held before (cut_after so_far frame.close fault) new now
-  cut_left replies sends new now cuts.Write so left = tt
-  cut_left replies sends new now cuts.Content so left = tt
-  cut_left replies sends new now (cuts.Rest from size) so left = record {
-    middle = middle;
-    rest = here;
-    between = holds;
-    carries = so;
-    next = Frame_stops replies sends middle input spans frame request here rest left.0 from size new holds now is whole left.1 left.2 left.3;
-  }
 
 pub not_rest : (fault : ServeFault) (fact : ℕ → Bool → ℕ → ℕ → Type 0) → IsNotRest fault → OnRest fault fact
 not_rest Memory fact is = tt

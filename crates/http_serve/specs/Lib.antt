@@ -1,4 +1,5 @@
 pub mod Buffers
+pub mod Connections
 pub mod Found
 pub mod Parts
 pub mod Reads

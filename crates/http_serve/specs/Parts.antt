@@ -39,10 +39,6 @@ front_bytes close bare reply =
 abbrev pub rest_bytes : Bool → List ℕ → Reply → List ℕ
 rest_bytes bare parts reply = cond (bare || has_no_content (code_of reply.status)) [] (rest_content parts reply.content)
 
--- if the content is read in parts, its declared length is size, and its first bytes are no longer than that
-abbrev pub IsReadable : ℕ → Content → Type 0
-IsReadable size content = InParts content ((size ≡ content_size content) × (length (front_content content) ≤ size))
-
 -- the same reply, with content of the same length that is unchanged before an offset
 pub record IsLater (offset : ℕ) (reply later : ReplyView) : Type 0 where
   pub same : later ≡ record reply { content = later.content }
@@ -53,21 +49,17 @@ pub record IsLater (offset : ℕ) (reply later : ReplyView) : Type 0 where
 abbrev pub IsCutIn : ℕ → SendFault → Type 0
 IsCutIn size cuts.Write = ⊤
 IsCutIn size cuts.Content = 0 < size
-IsCutIn size (cuts.Rest from total) = ⊤
 
--- the first fact if the reply was written, a write failed or the rest of its content was left; the second if its content couldn't be read to
--- its end
+-- the first fact if the reply was written or a write failed; the second if its content couldn't be read to its end
 abbrev pub GivesOrFails : Result (Unit {0}) SendFault → (gives fails : Type 0) → Type 0
 GivesOrFails (Ok done) gives fails = gives
 GivesOrFails (Err cuts.Write) gives fails = gives
 GivesOrFails (Err cuts.Content) gives fails = fails
-GivesOrFails (Err (cuts.Rest from total)) gives fails = gives
 
--- the fault of a connection on which this many replies were written in full and the next one, which may be the last, was cut
-abbrev pub cut_after : ℕ → (close : Bool) → SendFault → ServeFault
-cut_after requests close cuts.Write = ends.Write requests
-cut_after requests close cuts.Content = ends.Content requests
-cut_after requests close (cuts.Rest from total) = ends.Rest requests close from total
+-- the fault of a connection on which this many replies were written in full and the next one was cut
+abbrev pub cut_after : ℕ → SendFault → ServeFault
+cut_after requests cuts.Write = ends.Write requests
+cut_after requests cuts.Content = ends.Content requests
 
 -- ---- a reply that stops before the rest of its content
 
@@ -86,25 +78,6 @@ pub record IsStopped (all content : List ℕ) (from size : ℕ) (held holds : Op
   pub front : List ℕ
   pub whole : all ≡ front ++ drop from content
   pub written : Appends held holds front
-
--- a fact about the rest that was left, if that is why the reply is cut
-abbrev pub IfRest : Result (Unit {0}) SendFault → (ℕ → ℕ → Type 0) → Type 0
-IfRest (Ok done) fact = ⊤
-IfRest (Err cuts.Write) fact = ⊤
-IfRest (Err cuts.Content) fact = ⊤
-IfRest (Err (cuts.Rest from size)) fact = fact from size
-
--- no rest was left
-abbrev pub IsNoRest : SendFault → Type 0
-IsNoRest cuts.Write = ⊤
-IsNoRest cuts.Content = ⊤
-IsNoRest (cuts.Rest from size) = ⊥
-
--- no read of the content failed
-abbrev pub IsNoContentFault : SendFault → Type 0
-IsNoContentFault cuts.Write = ⊤
-IsNoContentFault cuts.Content = ⊥
-IsNoContentFault (cuts.Rest from size) = ⊤
 
 -- the bytes that a read returned, or None if it failed
 abbrev pub read_outcome : {E : Type 0} → Result (Unit {0}) E → (bytes : List ℕ) → Option (List ℕ)

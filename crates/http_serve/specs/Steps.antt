@@ -3,8 +3,8 @@ use Rattle.std.specs.Prelude.{◌≡◌, ◌≢◌, ℕ, ◌<◌, List, [], leng
 use Rattle.std.specs.Io.KnownBytes.{Appends}
 use Rattle.httparse.specs.Grammar.{RequestHead}
 use Rattle.http_serve.specs.declared.connection.End.TheVariants.{Turns}
-use Rattle.http_serve.specs.declared.connection.Pause.{Pause}
-use Rattle.http_serve.specs.declared.connection.Pause.TheVariants.{Ended, More}
+use Rattle.http_serve.specs.declared.serving.Pause.{Pause}
+use Rattle.http_serve.specs.declared.serving.Pause.TheVariants.{Ended, More}
 use Rattle.http_serve.specs.declared.connection.ServeFault.{ServeFault}
 use Rattle.http_serve.specs.declared.connection.ServeFault.TheVariants.{Memory, Read, Write, Content, Rest}
 use Rattle.http_serve.specs.declared.connection.Served.{Served}

@@ -1,35 +1,30 @@
-//! A connection: each request gets a reply.
-ghost use Rattle.std.specs.Prelude.{◌≡◌, ◌⊎◌, ◌≤◌, ◌<◌, All, length, take, Option, IsTrue, Err, IfOk, IfErr, OnOk, vec_capacity};
+//! A connection as steps over bytes: it makes no call of the system.
+ghost use Rattle.std.specs.Prelude.{◌≡◌, ◌≤◌, ◌<◌, ◌+◌, ◌++◌, [], ℕ, Option, true, false, None, Some, Ok, Err, length, take, drop, IfOk, IfErr, IfSome, IsOk, IsTrue, OnOk, OnErr};
 ghost use Rattle.httparse.specs.Grammar.{RequestHead};
-ghost use Rattle.httparse.specs.Spans.{IsHeaderWithin, IsWithin};
-ghost use Rattle.http_requests.specs.Requests.{request_view_at, has_head_method};
-ghost use Rattle.http_serve.specs.Reply.{ReplyView, reply_at, refusal_bytes};
-ghost use Rattle.http_requests.specs.Search.{IsKnown};
 ghost use Rattle.http_requests.specs.Frame.{IsNext};
+ghost use Rattle.http_requests.specs.Input.{buffer_size};
+ghost use Rattle.http_requests.specs.Requests.{has_head_method};
 ghost use Rattle.http_requests.specs.declared.frames.Next.TheVariants.{Whole};
-ghost use Rattle.http_serve.specs.Found.{ServesFound, found_bytes};
-ghost use Rattle.http_serve.specs.Sent.{Sends};
-ghost use Rattle.http_serve.specs.Steps.{IsPaused, IsBroken, IsFinished, IsUnfinished};
-ghost use Rattle.http_serve.specs.declared.handlers.TheConstants.{PART_SIZE};
-ghost use Rattle.http_serve.specs.declared.replies.TheConstants.{REPLY_SPACE};
+ghost use Rattle.http_serve.specs.Connections.{IsAsked, IsFound, IsNextPiece, IsOfAnswer, NeedsMore, Replied, answered, found_end};
+ghost use Rattle.http_serve.specs.Found.{ServesFound};
+ghost use Rattle.http_serve.specs.Reply.{refusal_bytes};
+ghost use Rattle.http_serve.specs.Steps.{IsFinished};
+ghost use Rattle.http_serve.specs.Told.{IsNotMemory};
 ghost use Rattle.http_serve.specs.declared.connection.ServeFault.TheVariants.{Memory};
-ghost use Rattle.http_serve.specs.declared.contents.Rests.TheVariants.{Sent, Left};
-ghost use Rattle.http_serve.specs.Told.{IsServed, IsServedUpTo, HasContent, IsNotMemory, IsNotRest, IsNotContent, MeetsTurns, KeepsTurns, Serves};
-ghost use Rattle.http_serve.specs.Parts.{GivesOrFails, IsCutIn, IsStopped, IfRest, IsNoRest, IsNoContentFault};
 
-use crate::contents::{Rests, SendFault, send_reply};
-use crate::refusals::refusal_reply;
-use crate::replies::send_front;
-use crate::sessions::{Buffers, Session};
-use crate::writes::WriteFault;
-use crate::{Handler, Request};
-use http_requests::{
-    FieldSpans, Fields, Frame, NO_FIELDS, NO_HEAD, Next, Rejection, START, find_next, is_head,
-    path_of,
-};
+use crate::answers::{Rest, refuse_in, reply_in};
+use crate::inputs::{Asked, Input};
+use crate::outputs::Output;
+use crate::replies::REPLY_SPACE;
+use crate::{Downloads, Handler, RestFault, Ticket};
+use http_requests::{FieldSpans, Frame, Next, READ_SPACE, Rejection};
+use std::alloc::{AllocError, Global};
 use std::fmt;
-use std::io::{Read, Write};
+use std::marker::Model;
 use thiserror::Error;
+
+/// The maximum number of reads per connection.
+pub const MAX_READS: u64 = 4_294_967_296;
 
 /// How a connection ended.
 #[derive(Clone, Copy, Debug, PartialEq, Eq)]
@@ -93,338 +88,351 @@ impl fmt::Display for ServeFault {
     }
 }
 
-/// Why answering requests stops.
-#[derive(Clone, Copy)]
-enum Pause {
-    /// The connection ended.
-    Ended(Served),
-    /// `requests` replies were written, and more bytes are needed. If none follow, `rejection` is the reason.
-    More { requests: u64, rejection: Rejection },
-}
-
-/// Answers the request at `frame` in `bytes`, whose header fields are at these spans.
-fn answer_one<H: Handler, W: Write>(
-    handler: &mut H,
-    writer: &mut W,
-    out: &mut Vec<u8>,
-    part: &mut Vec<u8>,
-    bytes: &[u8],
-    fields: &FieldSpans,
-    frame: &Frame,
-    rests: Rests,
-) -> Result<(), SendFault>
-    requires method { IsWithin (length bytes.now) frame.now.method }
-    requires target { IsWithin (length bytes.now) frame.now.target }
-    requires body { IsWithin (length bytes.now) frame.now.body }
-    requires fields { All (IsHeaderWithin (length bytes.now)) (take frame.now.fields fields.now) }
-    requires few { frame.now.fields ≤ length fields.now }
-    requires room { REPLY_SPACE ≤ vec_capacity out.old }
-    requires space { PART_SIZE ≤ vec_capacity part.old }
-    ensures room { REPLY_SPACE ≤ vec_capacity out.new }
-    ensures space { PART_SIZE ≤ vec_capacity part.new }
-    ensures reply { (reply : ReplyView) × GivesOrFails result (H.replies handler.old (request_view_at bytes.now fields.now frame.now) reply handler.new)
-        (H.fails handler.old (request_view_at bytes.now fields.now frame.now) reply handler.new)
-        × Sends result (W.contents writer.old) (W.contents writer.new) (reply_at bytes.now frame.now reply) }
-    ensures cut { IfErr result (IsCutIn (H.size handler.new)) }
-    ensures stopped { IfRest result (λ from size. (reply : ReplyView) × H.replies handler.old (request_view_at bytes.now fields.now frame.now) reply handler.new
-        × H.sends handler.old (request_view_at bytes.now fields.now frame.now) reply handler.new
-        × IsStopped (reply_at bytes.now frame.now reply) reply.content from size (W.contents writer.old) (W.contents writer.new)) }
-    ensures whole { rests ≡ Sent → IfErr result IsNoRest }
-    ensures unread { rests ≡ Left → IfErr result IsNoContentFault }
+/// What an answer to a request comes to whose reply has this rest. `close` says whether the connection ends after it.
+fn answered(close: bool, rest: Option<Rest>) -> Result<Served, ServeFault>
+    ensures { result ≡ answered close rest }
 {
-    let method = frame.method.of(bytes);
-    let request = Request {
-        method,
-        path: path_of(frame.target.of(bytes)),
-        fields: Fields::new(bytes, &fields[..frame.fields]),
-        body: frame.body.of(bytes),
-        close: frame.close,
-    };
-    let reply = handler.answer(&request);
-    send_reply(
-        handler,
-        writer,
-        out,
-        part,
-        &reply,
-        frame.close,
-        is_head(method),
-        rests,
-    )
-}
-
-/// Writes the reply for a rejection.
-fn refuse<W: Write>(
-    writer: &mut W,
-    out: &mut Vec<u8>,
-    rejection: Rejection,
-) -> Result<(), WriteFault>
-    requires room { REPLY_SPACE ≤ vec_capacity out.old }
-    ensures room { REPLY_SPACE ≤ vec_capacity out.new }
-    ensures sent { (head : Option RequestHead) → rejection.bare ≡ has_head_method head
-        → Sends result (W.contents writer.old) (W.contents writer.new) (refusal_bytes head rejection.refusal) }
-{
-    let reply = refusal_reply(rejection.refusal);
-    send_front(writer, out, &reply, true, rejection.bare)
-}
-
-/// Answers each whole request and drops it from the input. `requests` replies came before.
-fn answer_whole<H: Handler, W: Write>(
-    handler: &mut H,
-    writer: &mut W,
-    session: &mut Session,
-    mut requests: u64,
-) -> Result<Pause, ServeFault>
-    requires known { IsKnown session.old.input.waiting session.old.search }
-    ensures known { OnOk result (IsKnown session.new.input.waiting session.new.search) }
-    ensures ok { IfOk result (λ pause. IsPaused H.replies handler.old session.old.input.waiting (W.contents writer.old) requests pause
-        handler.new session.new.input.waiting (W.contents writer.new)) }
-    ensures err { IfErr result (λ fault. IsBroken H.replies H.fails handler.old session.old.input.waiting (W.contents writer.old) requests fault
-        handler.new (W.contents writer.new)) }
-    ensures content { IfErr result (HasContent (H.size handler.new)) }
-    ensures no_memory { IfErr result IsNotMemory }
-    ensures whole { IfErr result IsNotRest }
-{
-    let mut fields = NO_FIELDS;
-    'requests: loop {
-        let frame = match find_next(session.input.waiting(), &mut fields, &mut session.search) {
-            Next::Whole(frame) => frame,
-            Next::More(missing) => {
-                return Ok(Pause::More {
-                    requests,
-                    rejection: missing.rejection,
-                });
-            }
-            Next::Refused(rejection) => match refuse(writer, &mut session.out, rejection) {
-                Ok(()) => {
-                    return Ok(Pause::Ended(Served {
-                        requests: requests.saturating_add(1),
-                        end: End::Refused,
-                    }));
-                }
-                Err(_) => return Err(ServeFault::Write { requests }),
-            },
-        };
-        let waiting = session.input.waiting();
-        match answer_one(
-            handler,
-            writer,
-            &mut session.out,
-            &mut session.part,
-            waiting,
-            &fields,
-            &frame,
-            Rests::Sent,
-        ) {
-            Ok(()) => requests = requests.saturating_add(1),
-            Err(fault) => return Err(fault.after(requests, frame.close)),
-        }
-        if frame.close {
-            let end = End::Asked;
-            return Ok(Pause::Ended(Served { requests, end }));
-        }
-        session.input.drop_front(frame.body.end);
-        session.search = START;
-    }
-}
-
-/// Answers the end of the input after `requests` replies were written: these bytes of it wait.
-fn finish<W: Write>(
-    writer: &mut W,
-    out: &mut Vec<u8>,
-    waiting: &[u8],
-    requests: u64,
-    reason: Rejection,
-) -> Result<Served, ServeFault>
-    requires room { REPLY_SPACE ≤ vec_capacity out.old }
-    ensures room { REPLY_SPACE ≤ vec_capacity out.new }
-    ensures ends { (head : Option RequestHead) → reason.bare ≡ has_head_method head
-        → IfOk result (λ served. IsFinished waiting.now head reason.refusal (W.contents writer.old) requests served (W.contents writer.new)) }
-    ensures fault { (head : Option RequestHead) → reason.bare ≡ has_head_method head
-        → IfErr result (λ fault. IsUnfinished waiting.now head reason.refusal (W.contents writer.old) requests fault (W.contents writer.new)) }
-    ensures no_memory { IfErr result IsNotMemory }
-    ensures whole { IfErr result IsNotRest }
-    ensures unread { IfErr result IsNotContent }
-{
-    if waiting.is_empty() {
-        return Ok(Served {
+    let requests = 1;
+    match rest {
+        Some(Rest { from, length }) => Err(ServeFault::Rest {
+            requests: 0,
+            close,
+            from,
+            length,
+        }),
+        None if close => Ok(Served {
+            requests,
+            end: End::Asked,
+        }),
+        None => Ok(Served {
             requests,
             end: End::Closed,
-        });
-    }
-    match refuse(writer, out, reason) {
-        Ok(()) => Ok(Served {
-            requests: requests.saturating_add(1),
-            end: End::Refused,
         }),
-        Err(_) => Err(ServeFault::Write { requests }),
     }
 }
 
-/// Serves a connection with at most `turns` reads. An earlier one may have used the buffers.
-fn serve_session<R: Read, W: Write, H: Handler>(
-    session: &mut Session,
-    reader: &mut R,
-    writer: &mut W,
-    handler: &mut H,
-    turns: u64,
-) -> Result<Served, ServeFault>
-    ensures served { IfOk result (λ served. IsServed H.replies handler.old (R.remaining reader.old) (W.contents writer.old) served
-        handler.new (R.remaining reader.new) (W.contents writer.new)) }
-    ensures fault { IfErr result (λ fault. IsServedUpTo H.replies H.fails handler.old (R.remaining reader.old) (W.contents writer.old) fault
-        handler.new (R.remaining reader.new) (W.contents writer.new)) }
-    ensures content { IfErr result (HasContent (H.size handler.new)) }
-    ensures no_memory { IfErr result IsNotMemory }
-    ensures turns { IfOk result (λ served. MeetsTurns R.remaining turns reader.old reader.new served.end) }
-    ensures reads { KeepsTurns turns result (R.remaining reader.old) (R.remaining reader.new) }
-    ensures whole { IfErr result IsNotRest }
-{
-    session.begin();
-    let mut requests = 0;
-    let mut reason = NO_HEAD;
-    for _turn in 0..turns {
-        let Ok(count) = session.input.read_from(reader) else {
-            return Err(ServeFault::Read { requests });
-        };
-        if count == 0 {
-            let waiting = session.input.waiting();
-            return finish(writer, &mut session.out, waiting, requests, reason);
-        }
-        match answer_whole(handler, writer, session, requests)? {
-            Pause::Ended(served) => return Ok(served),
-            Pause::More {
-                requests: answered,
-                rejection,
-            } => {
-                requests = answered;
-                reason = rejection;
-            }
+/// A connection: the bytes that were read and not answered, and those that wait to be sent. It is given what was read, finds and answers the
+/// requests in it one by one, and shows what is to be sent. Where no bytes wait it holds no memory, unless its buffers are reserved.
+#[derive(Drop)]
+pub struct Connection {
+    input: Input,
+    output: Output,
+    /// Whether the memory of both is kept where no bytes wait.
+    reserved: bool,
+}
+
+impl Model for Connection {
+    ghost use Rattle.std.specs.Prelude.{◌≡◌, ◌≤◌, true};
+    ghost use Rattle.http_requests.specs.Input.{buffer_size};
+    ghost use Rattle.http_serve.specs.Connections.{ConnectionView};
+    ghost use Rattle.http_serve.specs.declared.replies.TheConstants.{REPLY_SPACE};
+
+    ghost Value = { ConnectionView };
+
+    ghost view = { λ c. record { input = c.input.waiting; output = c.output.waiting; reserved = c.reserved } };
+
+    ghost invariant = { λ c. c.reserved ≡ true → (buffer_size ≤ c.input.capacity) × (REPLY_SPACE ≤ c.output.capacity) };
+}
+
+impl Connection {
+    /// A connection of which nothing was read. It holds no memory.
+    pub fn new(alloc: Global) -> Self
+        ensures { result ≡ record { input = []; output = []; reserved = false } }
+    {
+        Connection {
+            input: Input::new(alloc),
+            output: Output::new(alloc),
+            reserved: false,
         }
     }
-    let end = End::Turns;
-    Ok(Served { requests, end })
-}
 
-/// The maximum number of reads per connection.
-pub const MAX_READS: u64 = 4_294_967_296;
+    /// The same, with memory for `READ_SPACE` bytes of input and a reply of 64 KiB, which is kept.
+    ///
+    /// # Errors
+    ///
+    /// There is no memory for them.
+    pub fn reserved(alloc: Global) -> Result<Self, AllocError>
+        ensures { IfOk result (λ connection. connection ≡ record { input = []; output = []; reserved = true }) }
+    {
+        let input = Input::with_capacity(alloc, READ_SPACE)?;
+        let output = Output::with_capacity(alloc, REPLY_SPACE)?;
+        Ok(Connection {
+            input,
+            output,
+            reserved: true,
+        })
+    }
 
-/// Serves a connection with at most `turns` reads: one reply per request, in order, and one to invalid input. After `turns` reads,
-/// the whole requests in the bytes read are answered. The first connection allocates the buffers, and those after it use them.
-///
-/// # Errors
-///
-/// `Memory` only if the buffers aren't allocated yet; `Read`, `Write` and `Content` otherwise.
-pub fn serve_with<R: Read, W: Write, H: Handler>(
-    buffers: &mut Buffers,
-    reader: &mut R,
-    writer: &mut W,
-    handler: &mut H,
-    turns: u64,
-) -> Result<Served, ServeFault>
-    ensures serves { Serves H.replies H.fails H.size R.remaining W.contents turns handler.old reader.old writer.old result
-        handler.new reader.new writer.new }
-    // Buffers that are allocated stay so, and then memory can't run out.
-    ensures kept { IsTrue buffers.old.allocated → IfErr result IsNotMemory }
-    ensures keeps { (result ≡ Err Memory) ⊎ IsTrue buffers.new.allocated }
-    // The rest of a content is never left.
-    ensures whole { IfErr result IsNotRest }
-{
-    if buffers.allocate().is_err() {
-        return Err(ServeFault::Memory);
+    /// How many bytes were read and not answered.
+    pub fn input_len(&self) -> usize
+        ensures { result ≡ length self.now.input }
+    {
+        self.input.len()
     }
-    match &mut buffers.session {
-        Some(session) => serve_session(session, reader, writer, handler, turns),
-        None => Err(ServeFault::Memory),
-    }
-}
 
-/// Answers the request at `frame` in `bytes`, up to the rest of its content, for a connection that has no bytes but this request's.
-fn answer_alone<H: Handler, W: Write>(
-    handler: &mut H,
-    writer: &mut W,
-    session: &mut Session,
-    bytes: &[u8],
-    fields: &FieldSpans,
-    frame: &Frame,
-) -> Result<Served, ServeFault>
-    requires found { IsNext bytes.now fields.now (Whole frame.now) }
-    ensures serves { ServesFound H.replies H.fails H.sends handler.old (take frame.now.body.end bytes.now) (W.contents writer.old) result
-        handler.new (W.contents writer.new) }
-    ensures no_memory { IfErr result IsNotMemory }
-    ensures unread { IfErr result IsNotContent }
-{
-    if let Err(fault) = answer_one(
-        handler,
-        writer,
-        &mut session.out,
-        &mut session.part,
-        bytes,
-        fields,
-        frame,
-        Rests::Left,
-    ) {
-        return Err(fault.after(0, frame.close));
+    /// Whether bytes wait to be sent.
+    pub fn has_output(&self) -> bool
+        ensures some { result ≡ true → 0 < length self.now.output }
+        ensures none { result ≡ false → self.now.output ≡ [] }
+    {
+        self.output.has_bytes()
     }
-    let requests = 1;
-    if frame.close {
-        let end = End::Asked;
-        return Ok(Served { requests, end });
-    }
-    let end = End::Closed;
-    Ok(Served { requests, end })
-}
 
-/// Answers what `bytes` begin with, for a connection that has no bytes but those of a request, or these, if they begin with none.
-fn answer_found<H: Handler, W: Write>(
-    handler: &mut H,
-    writer: &mut W,
-    session: &mut Session,
-    bytes: &[u8],
-    fields: &FieldSpans,
-    found: Next,
-) -> Result<Served, ServeFault>
-    requires found { IsNext bytes.now fields.now found }
-    ensures serves { ServesFound H.replies H.fails H.sends handler.old (found_bytes bytes.now found) (W.contents writer.old) result
-        handler.new (W.contents writer.new) }
-    ensures no_memory { IfErr result IsNotMemory }
-    ensures unread { IfErr result IsNotContent }
-{
-    match found {
-        Next::Whole(frame) => answer_alone(handler, writer, session, bytes, fields, &frame),
-        Next::Refused(rejection) => finish(writer, &mut session.out, bytes, 0, rejection),
-        Next::More(missing) => finish(writer, &mut session.out, bytes, 0, missing.rejection),
+    /// How many bytes it holds of requests and replies. A content that it shares with others counts too.
+    pub fn held(&self) -> usize
+        ensures { length self.now.output ≤ result }
+    {
+        self.output.held().saturating_add(self.input.len())
     }
-}
 
-/// Answers what was found at the front of `bytes`, whose header fields are at these spans: a request, or else all bytes, as `serve_with` answers
-/// an input of these bytes alone. It stops before the rest of a content: before the bytes of it that the reply doesn't hold.
-/// `Downloads::read_rest` reads these later.
-///
-/// # Errors
-///
-/// Those of `serve_with`, but for `Read` and `Content`, and `Rest`.
-pub fn serve_found<W: Write, H: Handler>(
-    buffers: &mut Buffers,
-    bytes: &[u8],
-    fields: &FieldSpans,
-    found: Next,
-    writer: &mut W,
-    handler: &mut H,
-) -> Result<Served, ServeFault>
-    requires { IsNext bytes.now fields.now found }
-    // With the fault Rest exactly what comes before the rest is written: with the rest it is the whole reply to a whole request.
-    ensures serves { ServesFound H.replies H.fails H.sends handler.old (found_bytes bytes.now found) (W.contents writer.old) result
-        handler.new (W.contents writer.new) }
-    ensures kept { IsTrue buffers.old.allocated → IfErr result IsNotMemory }
-    ensures keeps { (result ≡ Err Memory) ⊎ IsTrue buffers.new.allocated }
-    // No content is read here, so none fails.
-    ensures unread { IfErr result IsNotContent }
-{
-    if buffers.allocate().is_err() {
-        return Err(ServeFault::Memory);
+    /// Adds the bytes of a read to the input.
+    ///
+    /// # Errors
+    ///
+    /// Memory for them ran out, and none were added: not if the buffers are reserved, and the input has at most `READ_SPACE` bytes then.
+    pub fn receive(&mut self, more: &[u8]) -> Result<(), AllocError>
+        ensures ok { IfOk result (λ _. self.new ≡ record self.old { input = self.old.input ++ more.now }) }
+        ensures err { OnErr result (self.new ≡ self.old) }
+        ensures succeeds { IsTrue self.old.reserved → length self.old.input + length more.now ≤ buffer_size → IsOk result }
+    {
+        self.input.add(more)
     }
-    match &mut buffers.session {
-        Some(session) => answer_found(handler, writer, session, bytes, fields, found),
-        None => Err(ServeFault::Memory),
+
+    /// What is to be answered now, if `ended` says whether more bytes come: a request, whose header fields are at the first `fields`, bytes that
+    /// are none, whatever follows, or all bytes, if nothing follows.
+    pub fn find(&mut self, ended: bool, fields: &mut FieldSpans) -> Option<Asked>
+        ensures asked { IfSome result (IsAsked self.old.input ended fields.new) }
+        ensures more { result ≡ None → NeedsMore self.old.input }
+        ensures same { self.new ≡ self.old }
+    {
+        self.input.find(ended, fields)
+    }
+
+    /// The first `count` bytes of the input, or all if there are fewer.
+    pub fn front(&self, count: usize) -> &[u8]
+        ensures { result.now ≡ take count self.now.input }
+    {
+        self.input.front(count)
+    }
+
+    /// Answers what was found at the front of the input, whose header fields are at these spans, as `serve_with` answers an input of these bytes
+    /// alone, and drops it from the input. The reply is to be sent then, up to the rest of its content: up to the bytes of it that the reply
+    /// doesn't hold. `fetch` reads these later.
+    ///
+    /// # Errors
+    ///
+    /// `Memory` if there is none for the head of a reply, and not if the buffers are reserved: nothing was asked of the handler then. `Rest`.
+    pub fn answer<H: Handler>(
+        &mut self,
+        handler: &mut H,
+        fields: &FieldSpans,
+        asked: Asked,
+    ) -> Result<Served, ServeFault>
+        requires sent { self.old.output ≡ [] }
+        requires found { IsFound self.old.input fields.now asked }
+        // With the fault Rest exactly what comes before the rest is to be sent: with the rest it is the whole reply to a whole request.
+        ensures serves { ServesFound H.replies H.fails H.sends handler.old (take asked.end self.old.input) (Some []) result
+            handler.new (Some self.new.output) }
+        ensures input { self.new.input ≡ drop asked.end self.old.input }
+        ensures faults { IfErr result IsOfAnswer }
+        ensures reserved { self.new.reserved ≡ self.old.reserved }
+        ensures succeeds { IsTrue self.old.reserved → IfErr result IsNotMemory }
+    {
+        let served = self.answer_found(handler, fields, asked.found);
+        self.drop_input(asked.end);
+        served
+    }
+
+    /// Reads `count` bytes of a ticket's content from an offset to where they wait to be sent: nothing waits there before. If there is no memory
+    /// for them, none are read. Returns how many were read.
+    ///
+    /// # Errors
+    ///
+    /// The bytes couldn't be read, and nothing waits.
+    pub fn fetch<H: Downloads>(
+        &mut self,
+        handler: &mut H,
+        ticket: Ticket,
+        offset: u64,
+        count: usize,
+    ) -> Result<usize, RestFault>
+        requires sent { self.old.output ≡ [] }
+        ensures read { IfOk result (λ n. H.reads handler.old ticket offset n (Ok self.new.output) handler.new × (length self.new.output ≡ n)) }
+        ensures most { IfOk result (λ n. n ≤ count) }
+        ensures none { IfOk result (λ n. n < count → n ≡ 0) }
+        ensures unread { IfErr result (λ fault. (n : ℕ) × (n ≤ count) × H.reads handler.old ticket offset n (Err fault) handler.new) }
+        ensures cleared { OnErr result (self.new.output ≡ []) }
+        ensures input { self.new.input ≡ self.old.input }
+        ensures reserved { self.new.reserved ≡ self.old.reserved }
+    {
+        self.output.fetch(handler, ticket, offset, count)
+    }
+
+    /// The next bytes to send, as many as lie together: none only if none wait.
+    pub fn piece(&self) -> &[u8]
+        ensures { IsNextPiece result.now self.now.output }
+    {
+        self.output.piece()
+    }
+
+    /// `count` of the bytes that wait to be sent were taken.
+    pub fn took(&mut self, count: usize)
+        requires { count ≤ length self.old.output }
+        ensures { self.new ≡ record self.old { output = drop count self.old.output } }
+    {
+        self.output.took(count);
+    }
+
+    /// Drops what waits to be sent.
+    pub fn clear_output(&mut self)
+        ensures { self.new ≡ record self.old { output = [] } }
+    {
+        if self.reserved {
+            self.output.clear();
+        } else {
+            self.output.free();
+        }
+    }
+
+    /// Drops the whole input.
+    pub fn clear_input(&mut self)
+        ensures { self.new ≡ record self.old { input = [] } }
+    {
+        let count = self.input.len();
+        self.drop_input(count);
+    }
+
+    /// What the input begins with. If it is a request, its header fields are at the first `fields`.
+    pub(crate) fn next(&mut self, fields: &mut FieldSpans) -> Next
+        ensures next { IsNext self.old.input fields.new result }
+        ensures same { self.new ≡ self.old }
+    {
+        self.input.next(fields)
+    }
+
+    /// Puts the reply to the request at `frame`, whose header fields are at these spans, into the output, and returns the rest of its content.
+    ///
+    /// # Errors
+    ///
+    /// There is no memory for the head of a reply. Nothing was asked of the handler then.
+    pub(crate) fn reply<H: Handler>(
+        &mut self,
+        handler: &mut H,
+        fields: &FieldSpans,
+        frame: &Frame,
+    ) -> Result<Option<Rest>, AllocError>
+        requires sent { self.old.output ≡ [] }
+        requires found { IsNext self.old.input fields.now (Whole frame.now) }
+        ensures replied { IfOk result (λ rest. Replied H.replies H.sends H.size handler.old self.old.input fields.now frame.now rest
+            handler.new self.new.output) }
+        ensures err { OnErr result ((self.new ≡ self.old) × (handler.new ≡ handler.old)) }
+        ensures same { self.new ≡ record self.old { output = self.new.output } }
+        ensures succeeds { IsTrue self.old.reserved → IsOk result }
+    {
+        match self.output.begin() {
+            Ok(()) => {}
+            Err(fault) => return Err(fault),
+        }
+        let bytes = self.input.bytes();
+        Ok(reply_in(handler, &mut self.output, bytes, fields, frame))
+    }
+
+    /// Puts the reply for a rejection into the output.
+    ///
+    /// # Errors
+    ///
+    /// There is no memory for it.
+    pub(crate) fn refuse(&mut self, rejection: Rejection) -> Result<(), AllocError>
+        requires sent { self.old.output ≡ [] }
+        ensures refused { OnOk result ((head : Option RequestHead) → rejection.bare ≡ has_head_method head
+            → self.new.output ≡ refusal_bytes head rejection.refusal) }
+        ensures err { OnErr result (self.new ≡ self.old) }
+        ensures same { self.new ≡ record self.old { output = self.new.output } }
+        ensures succeeds { IsTrue self.old.reserved → IsOk result }
+    {
+        match self.output.begin() {
+            Ok(()) => {}
+            Err(fault) => return Err(fault),
+        }
+        refuse_in(&mut self.output, rejection);
+        Ok(())
+    }
+
+    /// Answers the request at `frame`, whose header fields are at these spans.
+    fn answer_request<H: Handler>(
+        &mut self,
+        handler: &mut H,
+        fields: &FieldSpans,
+        frame: &Frame,
+    ) -> Result<Served, ServeFault>
+        requires sent { self.old.output ≡ [] }
+        requires found { IsNext self.old.input fields.now (Whole frame.now) }
+        ensures serves { ServesFound H.replies H.fails H.sends handler.old (take frame.now.body.end self.old.input) (Some []) result
+            handler.new (Some self.new.output) }
+        ensures same { self.new ≡ record self.old { output = self.new.output } }
+        ensures faults { IfErr result IsOfAnswer }
+        ensures succeeds { IsTrue self.old.reserved → IfErr result IsNotMemory }
+    {
+        match self.reply(handler, fields, frame) {
+            Ok(rest) => answered(frame.close, rest),
+            Err(_) => Err(ServeFault::Memory),
+        }
+    }
+
+    /// Answers all bytes, which begin with no request, for this reason: nothing follows, or nothing that could begin with them is one.
+    fn answer_rest(&mut self, reason: Rejection) -> Result<Served, ServeFault>
+        requires sent { self.old.output ≡ [] }
+        ensures ends { (head : Option RequestHead) → reason.bare ≡ has_head_method head
+            → IfOk result (λ served. IsFinished self.old.input head reason.refusal (Some []) 0 served (Some self.new.output)) }
+        ensures memory { IfErr result (λ fault. (fault ≡ Memory) × (self.new.output ≡ [])) }
+        ensures same { self.new ≡ record self.old { output = self.new.output } }
+        ensures succeeds { IsTrue self.old.reserved → IsOk result }
+    {
+        if self.input.len() == 0 {
+            return Ok(Served {
+                requests: 0,
+                end: End::Closed,
+            });
+        }
+        match self.refuse(reason) {
+            Ok(()) => Ok(Served {
+                requests: 1,
+                end: End::Refused,
+            }),
+            Err(_) => Err(ServeFault::Memory),
+        }
+    }
+
+    /// Answers what the input begins with.
+    fn answer_found<H: Handler>(
+        &mut self,
+        handler: &mut H,
+        fields: &FieldSpans,
+        found: Next,
+    ) -> Result<Served, ServeFault>
+        requires sent { self.old.output ≡ [] }
+        requires found { IsNext self.old.input fields.now found }
+        ensures serves { ServesFound H.replies H.fails H.sends handler.old (take (found_end self.old.input found) self.old.input) (Some []) result
+            handler.new (Some self.new.output) }
+        ensures same { self.new ≡ record self.old { output = self.new.output } }
+        ensures faults { IfErr result IsOfAnswer }
+        ensures succeeds { IsTrue self.old.reserved → IfErr result IsNotMemory }
+    {
+        match found {
+            Next::Whole(frame) => self.answer_request(handler, fields, &frame),
+            Next::Refused(rejection) => self.answer_rest(rejection),
+            Next::More(missing) => self.answer_rest(missing.rejection),
+        }
+    }
+
+    /// Drops the first `count` bytes of the input, or all if there are fewer.
+    pub(crate) fn drop_input(&mut self, count: usize)
+        ensures { self.new ≡ record self.old { input = drop count self.old.input } }
+    {
+        if count >= self.input.len() && !self.reserved {
+            self.input.free();
+            return;
+        }
+        self.input.drop_front(count);
     }
 }

@@ -105,7 +105,7 @@ pub enum RestFault {
     Gone,
 }
 
-/// A handler whose contents can be read between later replies: the rest of a content that `serve_found` left.
+/// A handler whose contents can be read between later replies: the rest of a content that `Connection::answer` left.
 pub trait Downloads: Handler {
     /// In the first state this many bytes of a ticket's content were read from an offset on, or couldn't be, and the second state follows.
     ghost reads: { Self → Ticket → (offset count : ℕ) → Result (List ℕ) RestFault → Self → Type 0 };

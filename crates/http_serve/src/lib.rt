@@ -1,20 +1,26 @@
 //! Requests of an HTTP/1.1 connection, and a reply to each.
 #![tactic(auto)]
 
+mod answers;
 mod connection;
 mod contents;
 mod handlers;
+mod inputs;
+mod outputs;
 mod refusals;
 mod replies;
+mod serving;
 mod sessions;
 mod tags;
 mod writes;
 
-pub use connection::{End, MAX_READS, ServeFault, Served, serve_found, serve_with};
+pub use connection::{Connection, End, MAX_READS, ServeFault, Served};
 pub use handlers::{
     ContentFault, Downloads, Handler, PART_SIZE, Preparation, Prepares, Request, RestFault, Ticket,
 };
 pub use http_requests::{Fields, READ_SPACE};
 pub use http_values::Status;
+pub use inputs::{Asked, NOTHING_ASKED};
 pub use replies::{Content, ContentRange, EntityTag, MAX_WORD, Reply, Tag, WeakTag};
+pub use serving::serve_with;
 pub use sessions::Buffers;

@@ -3,26 +3,23 @@ ghost use Rattle.std.specs.Prelude.{◌≡◌, ◌≤◌, ◌<◌, ◌+◌, ◌*
 ghost use Rattle.std.specs.Option.{option_map};
 ghost use Rattle.http_values.specs.Codes.{code_of};
 ghost use Rattle.http_values.specs.declared.digits.TheConstants.{MAX_DIGITS};
-ghost use Rattle.http_serve.specs.Parts.{front_content, front_bytes};
+ghost use Rattle.http_serve.specs.Parts.{front_content};
 ghost use Rattle.http_serve.specs.Reply.{HasShortWords, head_view, content_size, part_line, unsatisfied_line};
 ghost use Rattle.http_serve.specs.Reply.{range_line, tag_line, tag_lines, word_line, length_line, closing_line, field_lines, reply_head, has_no_content};
-ghost use Rattle.http_serve.specs.Sent.{Sends};
 ghost use Rattle.http_serve.specs.Tags.{tag_text, weak_text};
-ghost use Rattle.http_serve.specs.declared.replies.TheConstants.{MAX_REPLY_HEAD, MAX_WORD, REPLY_SPACE};
+ghost use Rattle.http_serve.specs.declared.replies.TheConstants.{MAX_REPLY_HEAD, MAX_WORD};
 ghost use Rattle.http_serve.specs.declared.tags.TheConstants.{MAX_TAG};
 
 use crate::tags::{MAX_TAG, put_tag, put_tag_text, put_weak_text};
-use crate::writes::{WriteFault, send_all, send_both};
 use http_values::{Status, push_number, push_text};
 use std::alloc::{AllocError, Global};
-use std::io::Write;
 use std::rc::RcSlice;
 
 /// Maximum length in bytes of a content type and of a list of methods.
 pub const MAX_WORD: usize = 64;
 
 /// The most bytes that the head of a reply has.
-const MAX_REPLY_HEAD: usize = 512;
+pub(crate) const MAX_REPLY_HEAD: usize = 512;
 
 /// The content of a reply.
 #[derive(Drop)]
@@ -41,7 +38,7 @@ pub enum Content {
 
 impl Content {
     /// The bytes held by the reply.
-    fn front(&self) -> &[u8]
+    pub(crate) fn front(&self) -> &[u8]
         ensures { result.now ≡ front_content self.now }
     {
         match self {
@@ -331,7 +328,7 @@ fn put_field_lines(out: &mut Vec<u8>, reply: &Reply)
 
 /// Makes the head of a reply, which has at most `MAX_REPLY_HEAD` bytes.
 #[tactic(auto, unfolding(crate::specs::Reply::reply_head))]
-fn put_reply_head(out: &mut Vec<u8>, reply: &Reply, close: bool)
+pub(crate) fn put_reply_head(out: &mut Vec<u8>, reply: &Reply, close: bool)
     requires words { HasShortWords (head_view reply.now) }
     requires room { MAX_REPLY_HEAD ≤ vec_capacity out.old }
     ensures items { out.new.items ≡ reply_head close (head_view reply.now) }
@@ -351,30 +348,3 @@ fn put_reply_head(out: &mut Vec<u8>, reply: &Reply, close: bool)
 
 /// How many bytes of a reply are gathered for one write: a call of the system and a packet more cost more than a copy of these.
 pub(crate) const REPLY_SPACE: usize = 65_536;
-
-/// Writes the front of a reply: its head, which says whether it is the last one, and the content that the reply holds,
-/// unless only the head is sent. In one write, if all bytes fit into the buffer.
-pub(crate) fn send_front<W: Write>(
-    writer: &mut W,
-    out: &mut Vec<u8>,
-    reply: &Reply,
-    close: bool,
-    bare: bool,
-) -> Result<(), WriteFault>
-    requires words { HasShortWords (head_view reply.now) }
-    requires room { REPLY_SPACE ≤ vec_capacity out.old }
-    ensures room { REPLY_SPACE ≤ vec_capacity out.new }
-    ensures sent { Sends result (W.contents writer.old) (W.contents writer.new) (front_bytes close bare reply.now) }
-{
-    put_reply_head(out, reply, close);
-    let content = if reply.sends_content(bare) {
-        reply.content.front()
-    } else {
-        b""
-    };
-    if content.len() <= REPLY_SPACE - out.len() {
-        push_text(out, content);
-        return send_all(writer, out.as_slice());
-    }
-    send_both(writer, out.as_slice(), content)
-}

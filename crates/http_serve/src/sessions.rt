@@ -1,48 +1,111 @@
 //! The memory of a connection.
-ghost use Rattle.std.specs.Prelude.{◌≡◌, ◌≤◌, [], IsTrue, IsOk, OnOk, false, vec_capacity};
-ghost use Rattle.http_serve.specs.declared.handlers.TheConstants.{PART_SIZE};
-ghost use Rattle.http_serve.specs.declared.replies.TheConstants.{REPLY_SPACE};
-ghost use Rattle.http_requests.specs.Search.{IsKnown};
+ghost use Rattle.std.specs.Prelude.{◌≡◌, ◌≤◌, ◌<◌, ◌+◌, ◌++◌, ℕ, List, [], IsTrue, IsOk, OnOk, OnErr, IfOk, false, length, vec_len};
+ghost use Rattle.std.specs.Io.KnownBytes.{Consumes, IsAtEnd};
+ghost use Rattle.http_requests.specs.Input.{buffer_size};
+ghost use Rattle.http_requests.specs.declared.frames.TheConstants.{MAX_REQUEST};
 
-use crate::handlers::PART_SIZE;
-use crate::replies::REPLY_SPACE;
-use http_requests::{Input, START, Search};
+use crate::Connection;
+use http_requests::READ_SPACE;
 use std::alloc::{AllocError, Global};
+use std::io::Read;
 use std::marker::Model;
 
-/// The waiting bytes, what is known about them, and the buffers of a reply and of a part of its content.
+/// A read failed.
+#[derive(Clone, Copy)]
+pub(crate) struct ReadFault;
+
+/// A connection whose memory is reserved, and the buffer for a read or a part of a content.
 #[derive(Drop)]
 pub(crate) struct Session {
-    pub(crate) input: Input,
-    pub(crate) search: Search,
-    pub(crate) out: Vec<u8>,
-    /// As long as the longest part so far.
-    pub(crate) part: Vec<u8>,
-    ghost room: { REPLY_SPACE ≤ vec_capacity out },
-    ghost space: { PART_SIZE ≤ vec_capacity part },
+    pub(crate) connection: Connection,
+    pub(crate) piece: Vec<u8>,
+    ghost reserved: { IsTrue connection.reserved },
+    ghost space: { vec_len piece ≡ buffer_size },
+}
+
+/// Makes one read into a piece, and adds its bytes to the input of a connection.
+fn read_piece<R: Read>(
+    reader: &mut R,
+    piece: &mut [u8],
+    connection: &mut Connection,
+) -> Result<usize, ReadFault>
+    requires some { 0 < length piece.old }
+    requires reserved { IsTrue connection.old.reserved }
+    requires fits { length connection.old.input + length piece.old ≤ buffer_size }
+    ensures ok { IfOk result (λ n. (more : List ℕ) × Consumes (R.remaining reader.old) (R.remaining reader.new) more
+        × (connection.new.input ≡ connection.old.input ++ more) × (n ≡ length more) × (n ≡ 0 → IsAtEnd (R.remaining reader.new))) }
+    ensures few { IfOk result (λ n. n ≤ length piece.old) }
+    ensures err { OnErr result (Consumes (R.remaining reader.old) (R.remaining reader.new) []
+        × (connection.new.input ≡ connection.old.input)) }
+    ensures output { connection.new.output ≡ connection.old.output }
+    ensures reserved { connection.new.reserved ≡ connection.old.reserved }
+    ensures length { length piece.new ≡ length piece.old }
+{
+    match reader.read(piece) {
+        Ok(count) => {
+            connection.receive(&piece[..count]).unwrap();
+            Ok(count)
+        }
+        Err(_) => Err(ReadFault),
+    }
+}
+
+/// Makes one read and adds its bytes to the input of a connection, of which as many bytes wait then at most as the buffer has.
+fn read_more<R: Read>(
+    reader: &mut R,
+    buffer: &mut Vec<u8>,
+    connection: &mut Connection,
+) -> Result<usize, ReadFault>
+    requires space { vec_len buffer.old ≡ buffer_size }
+    requires reserved { IsTrue connection.old.reserved }
+    requires few { length connection.old.input < MAX_REQUEST }
+    ensures ok { IfOk result (λ n. (more : List ℕ) × Consumes (R.remaining reader.old) (R.remaining reader.new) more
+        × (connection.new.input ≡ connection.old.input ++ more) × (n ≡ length more) × (n ≡ 0 → IsAtEnd (R.remaining reader.new))) }
+    ensures few { IfOk result (λ n. n ≤ buffer_size) }
+    ensures err { OnErr result (Consumes (R.remaining reader.old) (R.remaining reader.new) []
+        × (connection.new.input ≡ connection.old.input)) }
+    ensures output { connection.new.output ≡ connection.old.output }
+    ensures reserved { connection.new.reserved ≡ connection.old.reserved }
+    ensures len { vec_len buffer.new ≡ vec_len buffer.old }
+{
+    let space = READ_SPACE - connection.input_len();
+    read_piece(reader, &mut buffer[..space], connection)
 }
 
 impl Session {
     /// The memory of a connection on which nothing was read.
     pub(crate) fn new(alloc: Global) -> Result<Self, AllocError> {
-        let input = Input::new(alloc)?;
-        let out = Vec::with_capacity(alloc, REPLY_SPACE)?;
-        let part = Vec::with_capacity(alloc, PART_SIZE)?;
-        Ok(Session {
-            input,
-            search: START,
-            out,
-            part,
-        })
+        let connection = Connection::reserved(alloc)?;
+        let mut piece = Vec::with_capacity(alloc, READ_SPACE)?;
+        piece.resize(READ_SPACE, 0)?;
+        Ok(Session { connection, piece })
     }
 
     /// Begins a connection: nothing of an earlier one is left.
     pub(crate) fn begin(&mut self)
-        ensures input { self.new.input.waiting ≡ [] }
-        ensures known { IsKnown self.new.input.waiting self.new.search }
+        ensures input { self.new.connection.input ≡ [] }
+        ensures output { self.new.connection.output ≡ [] }
     {
-        self.input.clear();
-        self.search = START;
+        self.connection.clear_input();
+        self.connection.clear_output();
+    }
+
+    /// Makes one read and adds its bytes to the input, of which `READ_SPACE` bytes wait then at most. Returns how many were read: 0 only at the
+    /// end of the input.
+    ///
+    /// # Errors
+    ///
+    /// The read failed. The waiting bytes are the same then.
+    pub(crate) fn read_from<R: Read>(&mut self, reader: &mut R) -> Result<usize, ReadFault>
+        requires { length self.old.connection.input < MAX_REQUEST }
+        ensures ok { IfOk result (λ n. (more : List ℕ) × Consumes (R.remaining reader.old) (R.remaining reader.new) more
+            × (self.new.connection.input ≡ self.old.connection.input ++ more) × (n ≡ length more) × (n ≡ 0 → IsAtEnd (R.remaining reader.new))) }
+        ensures few { IfOk result (λ n. n ≤ buffer_size) }
+        ensures err { OnErr result (Consumes (R.remaining reader.old) (R.remaining reader.new) []
+            × (self.new.connection.input ≡ self.old.connection.input)) }
+        ensures output { self.new.connection.output ≡ self.old.connection.output }
+    {
+        read_more(reader, &mut self.piece, &mut self.connection)
     }
 }
 

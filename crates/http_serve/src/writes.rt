@@ -1,7 +1,8 @@
 //! Writes of all bytes or a prefix.
-ghost use Rattle.std.specs.Prelude.{◌++◌};
+ghost use Rattle.std.specs.Prelude.{◌≡◌, [], OnOk};
 ghost use Rattle.http_serve.specs.Sent.{Sends};
 
+use crate::Connection;
 use std::io::Write;
 
 /// A write failed or took 0 bytes.
@@ -22,14 +23,28 @@ pub(crate) fn send_all<W: Write>(writer: &mut W, bytes: &[u8]) -> Result<(), Wri
     Ok(())
 }
 
-/// Writes two texts in order.
-pub(crate) fn send_both<W: Write>(
+/// Writes what waits to be sent on a connection, or a proper prefix if a write fails or takes 0 bytes.
+pub(crate) fn send_output<W: Write>(
     writer: &mut W,
-    first: &[u8],
-    second: &[u8],
+    connection: &mut Connection,
 ) -> Result<(), WriteFault>
-    ensures { Sends result (W.contents writer.old) (W.contents writer.new) (first.now ++ second.now) }
+    ensures sent { Sends result (W.contents writer.old) (W.contents writer.new) connection.old.output }
+    ensures all { OnOk result (connection.new.output ≡ []) }
+    ensures input { connection.new.input ≡ connection.old.input }
+    ensures reserved { connection.new.reserved ≡ connection.old.reserved }
 {
-    send_all(writer, first)?;
-    send_all(writer, second)
+    'pieces: loop {
+        if !connection.has_output() {
+            return Ok(());
+        }
+        match writer.write(connection.piece()) {
+            Ok(count) => {
+                if count == 0 {
+                    return Err(WriteFault);
+                }
+                connection.took(count);
+            }
+            Err(_) => return Err(WriteFault),
+        }
+    }
 }

@@ -55,8 +55,9 @@ where
         × TakesRun D.sectors D.honest D.history (inner_service service.old) run (inner_service service.new)
         × TakesBetweenReads D.sectors D.honest D.history (inner_service service.old) run (inner_service service.new)) }
     // Each connection that was accepted was given to the log as it was opened and as it was closed. Between the two its stream gave the bytes that were
-    // answered by its acts, and a rest, and took the replies, in order, or the first bytes of them, and perhaps the reply for want of memory. The acts
-    // of all connections, in the order in which they were made, report one run of the service.
+    // answered by its acts, by each one request, or bytes that begin with none, and a rest, and took the replies, in order, or the first bytes of
+    // them, and perhaps the reply for want of memory. The acts of all connections, in the order in which they were made, report one run of the
+    // service.
     ensures named { (deeds : List Deed) × (served : List Event) × AreEventsOf deeds served × (run : List Happening) × (fixed : Option ℕ)
         × Serves (TellsMeanwhile D.sectors D.honest D.history D.faults) (TellsMeanwhileCut D.sectors D.honest D.history D.faults)
         (TellsMeanwhileRead D.sectors D.honest D.history D.faults) (TellsPrepared D.sectors D.honest D.history D.faults)

@@ -1,16 +1,16 @@
 use Rattle.std.proofs.Common.{◌≡◌, [], ◌∷◌, None}
-use Rattle.http_listen.proofs.RoomLemmas.{acts_then, passes_both, passes_less}
+use Rattle.http_listen.proofs.PoolLemmas.{acts_then, passes_both, passes_less}
 use Rattle.http_listen.proofs.connections.send_part.Goals as goal
 
 pub returns-clause-acted : goal.returns-clause-acted
 returns-clause-acted g c =
     let told = g.S.Talks.told in
-    let did = c.read_part-kept.ensures.acts in
-    let now = c.read_part-kept.result.kept in (
+    let did = c.read_part-peer.ensures.acts in
+    let now = c.read_part-peer.result.peer in (
       did.0,
       did.1,
-      rw (← c.read_part-kept.ensures.places) (
-          acts_then told c.args.kept now (did.0 ∷ []) (c.read_part-kept.result.ending ≡ None) did.2
+      rw (← c.read_part-peer.ensures.places) (
+          acts_then told c.args.peer now (did.0 ∷ []) (c.read_part-peer.result.ending ≡ None) did.2
           (passes_both told (passes_less told now _ _ (λ e. e.0)) c.keep_or_end.ensures)
           ),
     )

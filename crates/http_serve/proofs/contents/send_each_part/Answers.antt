@@ -86,8 +86,7 @@ send_part-requires-clause-within g c =
 pub send_part-requires-clause-some : goal.send_part-requires-clause-some
 send_part-requires-clause-some g c =
     let part = part_count c.args.size c.loop-at.at c.min-count.result c.loop-at.buffer c.loop-at-test.true c.min-count.ensures in
-    let some = c.requires.some (omega (arith, c.loop-at.invariant.behind, c.loop-at-test.true)) in
-    omega (arith, part.2, part.3 (omega (arith, some, c.loop-at.invariant.length)))
+    omega (arith, part.2, part.3 (omega (arith, c.requires.some, c.loop-at.invariant.length)))
 
 pub send_part-requires-clause-few : goal.send_part-requires-clause-few
 send_part-requires-clause-few g c =
@@ -98,15 +97,6 @@ pub returns-in_err-send_part-clause-cut : goal.returns-in_err-send_part-clause-c
 returns-in_err-send_part-clause-cut g c =
     exit_fault c.from_residual.result _ c.in_err-send_part.field-0.0 c.from_residual.ensures.1 c.in_err-send_part.ensures.cut
 
-pub returns-in_err-send_part-clause-whole : goal.returns-in_err-send_part-clause-whole
-returns-in_err-send_part-clause-whole g c =
-    exit_fault c.from_residual.result _ c.in_err-send_part.field-0.0 c.from_residual.ensures.1 c.in_err-send_part.ensures.whole
-
-pub returns-in_err-send_part-clause-some : goal.returns-in_err-send_part-clause-some
-returns-in_err-send_part-clause-some g c =
-    exit_fault c.from_residual.result _ c.in_err-send_part.field-0.0 c.from_residual.ensures.1
-    (omega (arith, c.loop-at.invariant.behind, c.loop-at-test.true))
-
 pub overflow_add-at : goal.overflow_add-at
 overflow_add-at g c =
     let part = part_count c.args.size c.loop-at.at c.min-count.result c.loop-at.buffer c.loop-at-test.true c.min-count.ensures in
@@ -116,8 +106,7 @@ overflow_add-at g c =
 pub loop-at-smaller : goal.loop-at-smaller
 loop-at-smaller g c =
     let part = part_count c.args.size c.loop-at.at c.min-count.result c.loop-at.buffer c.loop-at-test.true c.min-count.ensures in
-    let some = c.requires.some (omega (arith, c.loop-at.invariant.behind, c.loop-at-test.true)) in
-    omega (arith, part.1, part.3 (omega (arith, some, c.loop-at.invariant.length)))
+    omega (arith, part.1, part.3 (omega (arith, c.requires.some, c.loop-at.invariant.length)))
 
 pub returns-clause-sent : goal.returns-clause-sent
 returns-clause-sent g c =

@@ -1,5 +1,5 @@
 //! A listener to which peers connect.
-ghost use Rattle.http_listen.specs.Places.{kept_at};
+ghost use Rattle.http_listen.specs.Places.{peer_at};
 ghost use Rattle.http_listen.specs.Stays.{AllStand};
 
 use super::{Peer, Room, Stream, Watch, is_interrupted};
@@ -39,7 +39,7 @@ pub(super) struct Listener<'a> {
 
 /// Reports a change of the stream at a key. Whether there is one.
 fn report_change(key: usize, change: Option<Change>, places: &mut Places<Stream<'_>>) -> bool
-    ensures { AllStand (kept_at places.old) (kept_at places.new) }
+    ensures { AllStand (peer_at places.old) (peer_at places.new) }
 {
     match change {
         Some(change) => {
@@ -91,7 +91,7 @@ impl<'a> Listener<'a> {
 
     /// Reports what the streams have become ready for. Returns `None` if one has, and otherwise when one may.
     fn report(&self, now: u64, places: &mut Places<Stream<'_>>) -> Option<u64>
-        ensures { AllStand (kept_at places.old) (kept_at places.new) }
+        ensures { AllStand (peer_at places.old) (peer_at places.new) }
     {
         let mut any = false;
         let mut next = u64::MAX;

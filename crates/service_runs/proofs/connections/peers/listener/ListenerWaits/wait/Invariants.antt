@@ -1,6 +1,6 @@
-use Rattle.http_listen.specs.Places.{kept_at}
+use Rattle.http_listen.specs.Places.{peer_at}
 use Rattle.http_listen.specs.Stays.{AllStand}
 use Rattle.service_runs.proofs.connections.peers.listener.ListenerWaits.wait.Given as goal
 
 abbrev pub invariant-waits : goal.invariant-waits
-invariant-waits l = AllStand (kept_at l.fn.places) (kept_at l.places)
+invariant-waits l = AllStand (peer_at l.fn.places) (peer_at l.places)

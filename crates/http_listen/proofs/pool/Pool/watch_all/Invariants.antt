@@ -1,0 +1,7 @@
+use Rattle.http_listen.specs.Goes.{Goes}
+use Rattle.http_listen.specs.Places.{peer_at}
+use Rattle.http_listen.proofs.pool.Pool.watch_all.Given as goal
+
+abbrev pub invariant-watches : goal.invariant-watches
+invariant-watches g l =
+    Goes g.S.Talks.told (g.W.Logs.marks l.fn.log) (peer_at l.fn.self.places) (g.W.Logs.marks l.log) (peer_at l.self.places)

@@ -1,5 +1,0 @@
-use Rattle.http_listen.proofs.RoomLemmas.{passes_none}
-use Rattle.http_listen.proofs.rooms.Room.accept.Goals as goal
-
-pub returns-then-count-min-clause-goes : goal.returns-then-count-min-clause-goes
-returns-then-count-min-clause-goes g c = passes_none g.S.Talks.told

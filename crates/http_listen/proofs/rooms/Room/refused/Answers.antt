@@ -1,8 +1,0 @@
-use Rattle.http_listen.proofs.RoomLemmas.{passes_none}
-use Rattle.http_listen.proofs.rooms.Room.refused.Goals as goal
-
-pub returns-in-Empty : goal.returns-in-Empty
-returns-in-Empty g c = record { goes = passes_none g.S.Talks.told }
-
-pub returns-in-Passing : goal.returns-in-Passing
-returns-in-Passing g c = record { goes = passes_none g.S.Talks.told }

@@ -1,7 +1,0 @@
-use Rattle.http_listen.specs.Goes.{Goes}
-use Rattle.http_listen.specs.Places.{kept_at}
-use Rattle.http_listen.proofs.rooms.Room.watch_all.Given as goal
-
-abbrev pub invariant-watches : goal.invariant-watches
-invariant-watches g l =
-    Goes g.S.Talks.told (g.W.Logs.marks l.fn.log) (kept_at l.fn.self.places) (g.W.Logs.marks l.log) (kept_at l.self.places)

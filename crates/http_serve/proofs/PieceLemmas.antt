@@ -1,0 +1,33 @@
+-- What waits to be sent is sent piece by piece.
+use Rattle.std.proofs.Common.{◌≡◌, ◌<◌, ◌≤◌, ℕ, List, [], ◌++◌, refl, sym, ap, ◌∙◌, subst, take, drop, length, length-append, length-drop, append_assoc, arith, Option}
+use Rattle.std.proofs.lemmas.List.{append-nil, take-append-drop, take-append-le, take_at}
+use Rattle.std.specs.Io.KnownBytes.{Appends}
+
+-- bytes of a piece were taken
+pub taken_on : (all sent output piece behind new : List ℕ) (count : ℕ) → all ≡ sent ++ output → output ≡ piece ++ behind → count ≤ length piece
+    → new ≡ drop count output → all ≡ (sent ++ take count piece) ++ new
+taken_on all sent output piece behind new count is next within left =
+    is ∙ ap (λ (t : List ℕ). sent ++ t) (sym (take-append-drop count output))
+    ∙ ap (λ (t : List ℕ). sent ++ (t ++ drop count output)) (ap (take count) next ∙ take-append-le count piece behind within)
+    ∙ sym (append_assoc sent (take count piece) (drop count output))
+    ∙ ap (λ (t : List ℕ). (sent ++ take count piece) ++ t) (sym left)
+
+-- fewer bytes wait then
+pub taken_less : (output piece behind new : List ℕ) (count : ℕ) → output ≡ piece ++ behind → count ≤ length piece → 0 < count
+    → new ≡ drop count output → length new < length output
+taken_less output piece behind new count next within some left =
+    omega (arith, ap length left, length-drop count output, ap length next, length-append piece behind, within, some)
+
+-- what was sent isn't all while bytes wait
+pub cut_before : (all sent output : List ℕ) (u v : Option (List ℕ)) → all ≡ sent ++ output → 0 < length output → Appends u v sent
+    → (n : ℕ) × (n < length all) × Appends u v (take n all)
+cut_before all sent output u v is some written = (
+  length sent,
+  omega (arith, ap length is, length-append sent output, some),
+  subst (λ (t : List ℕ). Appends u v t) (sym (ap (take (length sent)) is ∙ take_at sent output (length sent) refl)) written,
+)
+
+-- all was sent
+pub all_sent : (all sent output : List ℕ) (u v : Option (List ℕ)) → all ≡ sent ++ output → output ≡ [] → Appends u v sent → Appends u v all
+all_sent all sent output u v is none written =
+    subst (λ (t : List ℕ). Appends u v t) (sym (is ∙ ap (λ (t : List ℕ). sent ++ t) none ∙ append-nil sent)) written

@@ -1,0 +1,91 @@
+-- A connection as its bytes: those that were read and not answered, and those that wait to be sent.
+use Rattle.std.specs.Prelude.{◌≡◌, ◌<◌, ℕ, Bool, false, List, [], ◌++◌, ◌||◌, length, take, IsTrue, Option, None, Some, IfSome, Result, Ok, Err, cond, ⊤}
+use Rattle.httparse.specs.declared.spans.HeaderSpan.{HeaderSpan}
+use Rattle.http_requests.specs.declared.frames.Next.{Next}
+use Rattle.http_requests.specs.declared.frames.Next.TheVariants.{Whole, Refused, More}
+use Rattle.http_requests.specs.declared.frames.Missing.{Missing}
+use Rattle.http_requests.specs.Frame.{IsNext, IsMissing}
+use Rattle.http_requests.specs.declared.frames.Frame.{Frame}
+use Rattle.http_requests.specs.Requests.{RequestView, request_view_at, is_head}
+use Rattle.httparse.specs.Spans.{span_bytes}
+use Rattle.http_serve.specs.Reply.{ReplyView, head_of, reply_head, reply_bytes, has_no_content}
+use Rattle.http_serve.specs.declared.answers.Rest.{Rest}
+use Rattle.http_serve.specs.declared.connection.End.TheVariants as ends
+use Rattle.http_serve.specs.declared.connection.Served.{Served}
+use Rattle.http_serve.specs.declared.connection.ServeFault.{ServeFault}
+use Rattle.http_serve.specs.declared.connection.ServeFault.TheVariants as faults
+use Rattle.http_serve.specs.declared.inputs.Asked.{Asked}
+
+-- both, and whether its buffers are reserved and kept
+pub record ConnectionView : Type 0 where
+  pub input : List ℕ
+  pub output : List ℕ
+  pub reserved : Bool
+
+-- ---- what is answered
+
+-- where what was found ends: a request, or else the input
+abbrev pub found_end : (input : List ℕ) → Next → ℕ
+found_end input (Whole frame) = frame.body.end
+found_end input (Refused rejection) = length input
+found_end input (More missing) = length input
+
+-- the input begins with this, and there it ends; the header fields of a request are at these spans
+abbrev pub IsFound : (input : List ℕ) → (fields : List HeaderSpan) → Asked → Type 0
+IsFound input fields asked = IsNext input fields asked.found × (asked.end ≡ found_end input asked.found)
+
+-- it may be answered: it is a request, or bytes that begin with none, whatever follows, or nothing follows
+abbrev pub MayAnswer : (ended : Bool) → Next → Type 0
+MayAnswer ended (Whole frame) = ⊤
+MayAnswer ended (Refused rejection) = ⊤
+MayAnswer ended (More missing) = IsTrue ended
+
+-- so it is of what is answered
+abbrev pub IsAsked : (input : List ℕ) → (ended : Bool) → (fields : List HeaderSpan) → Asked → Type 0
+IsAsked input ended fields asked = IsFound input fields asked × MayAnswer ended asked.found
+
+-- the input begins with no whole request, but may with more bytes behind it
+abbrev pub NeedsMore : (input : List ℕ) → Type 0
+NeedsMore input = (missing : Missing) × IsMissing input missing.rejection missing.until
+
+-- ---- what is sent
+
+-- a piece is the first bytes that wait to be sent: some, if any do
+pub record IsNextPiece (piece output : List ℕ) : Type 0 where
+  pub behind : List ℕ
+  pub is : output ≡ piece ++ behind
+  pub some : piece ≡ [] → output ≡ []
+
+-- the fault is one of an answer: there is no memory for the reply, or the rest of its content is left
+abbrev pub IsOfAnswer : ServeFault → Type 0
+IsOfAnswer faults.Memory = ⊤
+IsOfAnswer (faults.Read requests) = ⊥
+IsOfAnswer (faults.Write requests) = ⊥
+IsOfAnswer (faults.Content requests) = ⊥
+IsOfAnswer (faults.Rest requests close from size) = ⊤
+
+-- Of a reply only its head and the content up to its rest is to be sent, which is none of a reply that is sent without its content.
+pub record Leaves (close bare : Bool) (reply : ReplyView) (rest : Rest) (output : List ℕ) : Type 0 where
+  pub size_is : rest.length ≡ length reply.content
+  pub some : rest.from < rest.length
+  pub sent : (bare || has_no_content reply.status) ≡ false
+  pub output_is : output ≡ reply_head close (head_of reply) ++ take rest.from reply.content
+
+-- of a reply this is to be sent: all, or what comes before the rest of its content
+abbrev pub IsToSend : (close bare : Bool) → ReplyView → Option Rest → (output : List ℕ) → Type 0
+IsToSend close bare reply None output = output ≡ reply_bytes close bare reply
+IsToSend close bare reply (Some rest) output = Leaves close bare reply rest output
+
+module _ {S : Type 0} (replies sends : S → RequestView → ReplyView → S → Type 0) (size : S → ℕ) where
+  -- A handler replied to the request in a frame of the bytes, and this is to be sent. The rest is the handler's to read.
+  pub record Replied (old : S) (bytes : List ℕ) (fields : List HeaderSpan) (frame : Frame) (rest : Option Rest) (new : S)
+      (output : List ℕ) : Type 0 where
+    pub reply : ReplyView
+    pub given : replies old (request_view_at bytes fields frame) reply new
+    pub shown : IsToSend frame.close (is_head (span_bytes bytes frame.method)) reply rest output
+    pub left : IfSome rest (λ r. sends old (request_view_at bytes fields frame) reply new × (size new ≡ r.length))
+
+-- what an answer to a request comes to whose reply has this rest; close says whether the connection ends after it
+abbrev pub answered : (close : Bool) → Option Rest → Result Served ServeFault
+answered close None = Ok (record { requests = 1; end = cond close ends.Asked ends.Closed })
+answered close (Some rest) = Err (faults.Rest 0 close rest.from rest.length)

@@ -1,0 +1,206 @@
+//! The bytes of a reply that wait to be sent: a front in a buffer, and behind it a content that is lent.
+ghost use Rattle.std.specs.Prelude.{◌≡◌, ◌≤◌, ◌<◌, ◌++◌, [], ℕ, true, false, Ok, Err, length, drop, vec_len, vec_capacity, IfOk, IfErr, IsOk, OnOk, OnErr};
+ghost use Rattle.http_serve.specs.Connections.{IsNextPiece};
+ghost use Rattle.http_serve.specs.Parts.{front_bytes, front_content};
+ghost use Rattle.http_serve.specs.Reply.{HasShortWords, head_view};
+ghost use Rattle.http_serve.specs.declared.replies.TheConstants.{MAX_REPLY_HEAD, REPLY_SPACE};
+
+use crate::replies::{MAX_REPLY_HEAD, REPLY_SPACE, put_reply_head};
+use crate::{Content, Downloads, Reply, RestFault, Ticket};
+use std::alloc::{AllocError, Global};
+use std::marker::Model;
+
+/// Bytes that wait to be sent.
+#[derive(Drop)]
+pub(crate) struct Output {
+    alloc: Global,
+    /// The head of a reply, and a short content that was copied behind it, or a part of a content.
+    front: Vec<u8>,
+    /// A content that is lent.
+    lent: Content,
+    /// How many bytes of both were taken.
+    taken: usize,
+}
+
+impl Model for Output {
+    ghost use Rattle.std.specs.Prelude.{◌≤◌, ◌+◌, ◌++◌, drop, length, vec_len, vec_capacity};
+    ghost use Rattle.http_serve.specs.Buffers.{BufferView};
+    ghost use Rattle.http_serve.specs.Parts.{front_content};
+
+    ghost Value = { BufferView };
+
+    ghost view = { λ o. record { waiting = drop o.taken (o.front.items ++ front_content o.lent); capacity = vec_capacity o.front } };
+
+    ghost invariant = { λ o. o.taken ≤ vec_len o.front + length (front_content o.lent) };
+}
+
+/// Copies a content behind the front, if both fit into `REPLY_SPACE` and there is memory for it. What it returns follows the front.
+fn join(front: &mut Vec<u8>, content: Content) -> Content
+    ensures bytes { front.new.items ++ front_content result ≡ front.old.items ++ front_content content }
+    ensures capacity { vec_capacity front.old ≤ vec_capacity front.new }
+{
+    if content.front().len() > REPLY_SPACE.saturating_sub(front.len()) {
+        return content;
+    }
+    match front.extend_from_slice(content.front()) {
+        Ok(()) => Content::Empty,
+        Err(_) => content,
+    }
+}
+
+/// Has a front of `count` bytes, whatever they are, or of none if memory runs out. Returns how many it has.
+fn widen(front: &mut Vec<u8>, count: usize) -> usize
+    ensures len { vec_len front.new ≡ result }
+    ensures most { result ≤ count }
+    ensures none { result < count → result ≡ 0 }
+    ensures capacity { vec_capacity front.old ≤ vec_capacity front.new }
+{
+    match front.resize(count, 0) {
+        Ok(()) => count,
+        Err(_) => {
+            front.clear();
+            0
+        }
+    }
+}
+
+impl Output {
+    /// No bytes, and no memory.
+    pub(crate) fn new(alloc: Global) -> Self
+        ensures { result.waiting ≡ [] }
+    {
+        Output {
+            alloc,
+            front: Vec::new(alloc),
+            lent: Content::Empty,
+            taken: 0,
+        }
+    }
+
+    /// No bytes, and memory for this many.
+    pub(crate) fn with_capacity(alloc: Global, capacity: usize) -> Result<Self, AllocError>
+        ensures waiting { IfOk result (λ output. output.waiting ≡ []) }
+        ensures capacity { IfOk result (λ output. capacity ≤ output.capacity) }
+    {
+        let front = Vec::with_capacity(alloc, capacity)?;
+        Ok(Output {
+            alloc,
+            front,
+            lent: Content::Empty,
+            taken: 0,
+        })
+    }
+
+    /// How many bytes it holds: those that wait, and those that were taken before them. A content that is lent counts its length.
+    pub(crate) fn held(&self) -> usize
+        ensures { length self.now.waiting ≤ result }
+    {
+        self.front.len() + self.lent.front().len()
+    }
+
+    /// Whether bytes wait.
+    pub(crate) fn has_bytes(&self) -> bool
+        ensures some { result ≡ true → 0 < length self.now.waiting }
+        ensures none { result ≡ false → self.now.waiting ≡ [] }
+    {
+        self.taken < self.front.len() + self.lent.front().len()
+    }
+
+    /// Makes room for the head of a reply, where nothing waits.
+    pub(crate) fn begin(&mut self) -> Result<(), AllocError>
+        requires { self.old.waiting ≡ [] }
+        ensures same { self.new.waiting ≡ [] }
+        ensures room { OnOk result (MAX_REPLY_HEAD ≤ self.new.capacity) }
+        ensures capacity { self.old.capacity ≤ self.new.capacity }
+        ensures succeeds { REPLY_SPACE ≤ self.old.capacity → IsOk result }
+    {
+        self.front.clear();
+        self.lent = Content::Empty;
+        self.taken = 0;
+        self.front.reserve(MAX_REPLY_HEAD)
+    }
+
+    /// The front of a reply waits, in place of what did: its head, and the content that it holds, unless only the head is sent.
+    pub(crate) fn put(&mut self, reply: Reply, close: bool, bare: bool)
+        requires words { HasShortWords (head_view reply) }
+        requires room { MAX_REPLY_HEAD ≤ self.old.capacity }
+        ensures waiting { self.new.waiting ≡ front_bytes close bare reply }
+        ensures capacity { self.old.capacity ≤ self.new.capacity }
+    {
+        put_reply_head(&mut self.front, &reply, close);
+        self.taken = 0;
+        if reply.sends_content(bare) {
+            self.lent = join(&mut self.front, reply.content);
+        } else {
+            self.lent = Content::Empty;
+        }
+    }
+
+    /// Reads `count` bytes of a ticket's content from an offset to where they wait, where nothing does. If there is no memory for them, none are
+    /// read. Returns how many were.
+    pub(crate) fn fetch<H: Downloads>(
+        &mut self,
+        handler: &mut H,
+        ticket: Ticket,
+        offset: u64,
+        count: usize,
+    ) -> Result<usize, RestFault>
+        ensures read { IfOk result (λ n. H.reads handler.old ticket offset n (Ok self.new.waiting) handler.new × (length self.new.waiting ≡ n)) }
+        ensures most { IfOk result (λ n. n ≤ count) }
+        ensures none { IfOk result (λ n. n < count → n ≡ 0) }
+        ensures unread { IfErr result (λ fault. (n : ℕ) × (n ≤ count) × H.reads handler.old ticket offset n (Err fault) handler.new) }
+        ensures cleared { OnErr result (self.new.waiting ≡ []) }
+        ensures capacity { self.old.capacity ≤ self.new.capacity }
+    {
+        self.lent = Content::Empty;
+        self.taken = 0;
+        let count = widen(&mut self.front, count);
+        match handler.read_rest(ticket, offset, self.front.as_mut_slice()) {
+            Ok(()) => Ok(count),
+            Err(fault) => {
+                self.clear();
+                Err(fault)
+            }
+        }
+    }
+
+    /// The next bytes to send, as many as lie together.
+    pub(crate) fn piece(&self) -> &[u8]
+        ensures { IsNextPiece result.now self.now.waiting }
+    {
+        if self.taken < self.front.len() {
+            return &self.front[self.taken..];
+        }
+        &self.lent.front()[self.taken - self.front.len()..]
+    }
+
+    /// So many of the bytes that wait were taken.
+    pub(crate) fn took(&mut self, count: usize)
+        requires { count ≤ length self.old.waiting }
+        ensures waiting { self.new.waiting ≡ drop count self.old.waiting }
+        ensures capacity { self.new.capacity ≡ self.old.capacity }
+    {
+        let most = self.front.len() + self.lent.front().len();
+        self.taken += count;
+        prove!(self.taken <= most);
+    }
+
+    /// Drops all bytes. The memory of the front is kept.
+    pub(crate) fn clear(&mut self)
+        ensures waiting { self.new.waiting ≡ [] }
+        ensures capacity { self.new.capacity ≡ self.old.capacity }
+    {
+        self.front.clear();
+        self.lent = Content::Empty;
+        self.taken = 0;
+    }
+
+    /// Drops all bytes, and their memory.
+    pub(crate) fn free(&mut self)
+        ensures { self.new.waiting ≡ [] }
+    {
+        self.front = Vec::new(self.alloc);
+        self.lent = Content::Empty;
+        self.taken = 0;
+    }
+}
