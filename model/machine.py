@@ -8,12 +8,14 @@ from crashes import Failed, Seen
 from disk import FIRST_VERSION, LAST_NUMBER, LONGEST, MAX_CHANGES, SECTOR, Change, Record, Root, after, in_order, parts_of, read_disk
 from disk import record_text, snapshot_text, text_of, whole_sectors
 from limits import MAX_ZOOM, MAX_TILES
-from map_archive import archive_of, id_of, metadata, points_of, reach, tiles_of
+from map_archive import archive_of, id_of, metadata, parts_of_tiles, points_of, reach
 from tiles import tile
 
 NUMBER_END = 2**63
 MAX_ELEMENTS = 65535
 STEP_SECTORS = 64
+# How many features a step of a draft reads, and how many are in a part of a tile.
+READ_AT_ONCE, FEATURES_OF_A_PART = 256, 32
 
 
 class Refused(Exception):
@@ -127,16 +129,25 @@ class Publication:
 
 
 class Draft:
-    """A publication in the making: its moment, and how many tiles of its map are made. After the last one comes a step that makes none."""
+    """A publication in the making: its moment, and how many tiles of its map are made. First its features are read, so many at a step; after the
+    last part of the last tile comes a step that makes none."""
 
     def __init__(self, moment):
-        self.moment, self.made, self.left = moment, 0, tiles_of(moment.map)
+        self.moment, self.made, self.left = moment, 0, self.steps()
+
+    def steps(self):
+        """Each step, and how many tiles it makes."""
+        for _ in range(len(self.moment.map) // READ_AT_ONCE + 1):
+            yield 0
+        for parts, shown in parts_of_tiles(self.moment.map, FEATURES_OF_A_PART):
+            yield from [0] * (parts - 1) + [shown]
 
     def advance(self):
-        """Makes the next tile. Whether there was one."""
-        if next(self.left, None) is None:
+        """Makes the next step. Whether there was one."""
+        made = next(self.left, None)
+        if made is None:
             return False
-        self.made += 1
+        self.made += made
         return True
 
 

@@ -62,14 +62,26 @@ def reach(feature):
     return sum(len(columns) * len(rows) for columns, rows in covers)
 
 
-def tiles_of(found):
-    """Yields the tiles of a map in ascending id."""
+def near_tiles(found):
+    """Yields the tiles of a map that may show something, in ascending id: the id, the place, and the features that may be shown."""
     for zoom in range(MAX_ZOOM + 1):
         shown = [(number, feature, covered(feature, zoom)) for number, feature in found.items() if feature["minzoom"] <= zoom <= feature["maxzoom"]]
         for number, place in sorted((id_of(zoom, *place), place) for place in set().union(*(places for _, _, places in shown))):
-            held = tile({feature: found[feature] for feature, _, places in shown if place in places}, zoom, *place)
-            if held:
-                yield number, held
+            yield number, (zoom, *place), {feature: found[feature] for feature, _, places in shown if place in places}
+
+
+def tiles_of(found):
+    """Yields the tiles of a map in ascending id."""
+    for number, place, near in near_tiles(found):
+        held = tile(near, *place)
+        if held:
+            yield number, held
+
+
+def parts_of_tiles(found, features):
+    """Yields of each tile that may show something in how many parts it is made, of so many features each, and how many tiles that is: 1 or 0."""
+    for _, place, near in near_tiles(found):
+        yield -(-len(near) // features), 1 if tile(near, *place) else 0
 
 
 def runs_of(tiles):

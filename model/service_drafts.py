@@ -1,5 +1,5 @@
-"""Blocks of `service_script.py` about publications that are prepared in parts: the first call fixes the map, each later one makes a tile of it, and
-edits, failing calls and crashes come between them. The archive is that of the map as it was at the first call."""
+"""Blocks of `service_script.py` about publications that are prepared in parts: the first call fixes the map, the next ones read its features, each
+later one makes a part of a tile of it, and edits, failing calls and crashes come between them. The archive is that of the map as it was at the first call."""
 import copy
 
 from chance import Chance
@@ -30,16 +30,18 @@ def corner(number, letters=0):
 
 def parts():
     yield from heading(
-        "The documented archive in parts: a call fixes the map, three make its tiles, and one finds none left. Nothing is written before a step.",
+        "The documented archive in parts: a call fixes the map, one reads its features, three make its tiles, and one finds none left. Nothing is",
+        "written before a step.",
     )
-    yield from [*opened(), "drafting", put(7), "prepare", "drafting", "prepare", "drafting", "prepare", "prepare", "drafting", "prepare", "prepare"]
+    yield from [*opened(), "drafting", put(7), "prepare", "drafting", "prepare", "drafting", "prepare", "drafting", "prepare", "prepare", "drafting", "prepare"]
+    yield from ["prepare"]
     yield from ["drafting", "archive", "drafted", "drafting", "drafted", "step", "archive", "verify", "stop", "resume", "sector 2"]
-    yield from heading("The same without a tile made before it is begun, with one, and with all in one call.")
-    for prepared in (["prepare"], ["prepare 2"], ["prepare 4"], [ALL], ["prepare 0", "prepare 1", "prepare 0"]):
+    yield from heading("The same without a feature read before it is begun, without a tile made, with one, and with all in one call.")
+    for prepared in (["prepare"], ["prepare 2"], ["prepare 3"], ["prepare 5"], [ALL], ["prepare 0", "prepare 1", "prepare 0"]):
         yield from [*opened(), put(7), *prepared, "drafted", "step", "archive", "stop"]
-    yield from heading("An empty map and one without tiles have no archive: the second call finds no tile.")
-    yield from [*opened(), "prepare", "prepare", put(7), "drafted", "step", "archive", "stop", "resume", "sector 2"]
-    yield from [*opened(), f"put 7 {HIDDEN}", "prepare", put(8), "prepare", "drafted", "step", "archive", looks(7, 8), *PUBLISHED]
+    yield from heading("An empty map and one without tiles have no archive: the third call finds no tile.")
+    yield from [*opened(), "prepare", "prepare", "prepare", put(7), "drafted", "step", "archive", "stop", "resume", "sector 2"]
+    yield from [*opened(), f"put 7 {HIDDEN}", "prepare", put(8), "prepare 2", "drafted", "step", "archive", looks(7, 8), *PUBLISHED]
 
 
 def edits_between():
@@ -49,7 +51,7 @@ def edits_between():
     )
     edits = [[put(9)], [put(1, 3)], ["delete 2"], ["delete 3", put(3, 5)], [put(10), "delete 10"], [put(4, 1), put(4, 2)], [corner(5, 7), corner(6)]]
     for edit in [*edits, sum(edits, [])]:
-        for before in (1, 2, 5):
+        for before in (1, 2, 3, 6):
             yield from [*opened(256), *(corner(number) for number in range(1, 5)), f"prepare {before}", *edit]
             yield from ["tile 0 0 0", "tile 1 0 0", ALL, *edit, "drafted"]
             yield from ["tile 0 0 0", "step", "archive", "verify", "tile 0 0 0", "metadata", "stop", *crashed(), "archive", "tile 0 0 0", looks(*range(1, 11))]
@@ -80,8 +82,31 @@ def every_part():
         trial.answer(line)
     tiles = len(list(tiles_of(trial.session.map)))
     for edit in ("delete 3", corner(2, 8), put(9), batch("delete 1", corner(4, 4), put(10))):
-        for count in range(1, tiles + 4):
+        for count in range(1, tiles + 5):
             yield from [*opened(256), *rows, f"prepare {count}", edit, "prepare", "drafted", "step", "archive", "tile 0 0 0", "stop"]
+
+
+def large_maps():
+    yield from heading(
+        "600 features: three steps read them, and 19 parts make the tile of zoom 0. Edits between these, of features that are read or not, and in the tile",
+        "or not: the archive is that of the map when it was fixed, and what is shown that of now.",
+    )
+
+    def spread(number):
+        return f"put {number} p 0 1 points {number * 7919 % 4096 * 2**20},{number * 1237 % 4096 * 2**20} n={number % 40} t='{'abcdefg'[number % 7]}*{number % 9}"
+
+    rows = [batch(*(spread(number) for number in range(first, first + 60))) for first in range(1, 601, 60)]
+    edits = [
+        ["delete 1", "delete 600", put(601)],
+        [put(300, 5), put(2), "delete 2"],
+        [batch(*(f"delete {number}" for number in range(200, 260))), put(250, 3)],
+        [batch(*(put(number, number % 5) for number in range(570, 630)))],
+    ]
+    for count, before in enumerate((1, 2, 3, 4, 5, 6, 14, 23, 24)):
+        edit = edits[count % len(edits)]
+        yield from [*opened(4096), *rows, f"prepare {before}", "drafting", *edit, "prepare", "drafting", *edits[(count + 1) % len(edits)], ALL, "drafting"]
+        yield from ["drafted", "step; step; step; step", "archive", "verify", "tile 0 0 0", "metadata", ALL, "drafted", "step; step; step; step"]
+        yield from ["archive", "stop"]
 
 
 # ---- the journal
@@ -301,4 +326,4 @@ def large_drafts():
         assert left.last - ended.last in (0, 1) and left.root.generation - ended.root.generation in (0, 1)
 
 
-BLOCKS = [parts, edits_between, every_part, journals, refusals, areas, stops_between, random_drafts, random_stops, large_drafts]
+BLOCKS = [parts, edits_between, every_part, large_maps, journals, refusals, areas, stops_between, random_drafts, random_stops, large_drafts]

@@ -126,7 +126,7 @@ def main():
     limit = resource.getrlimit(resource.RLIMIT_NOFILE)[1]
     resource.setrlimit(resource.RLIMIT_NOFILE, (limit, limit))
     disk = made_disk(program, folder)
-    server = subprocess.Popen([program, "serve", "--port", str(PORT), disk], stdout=subprocess.PIPE, stderr=subprocess.DEVNULL)
+    server = subprocess.Popen([program, "serve", "--port", str(PORT), "--connections", "10000000", disk], stdout=subprocess.PIPE, stderr=subprocess.DEVNULL)
     try:
         server.stdout.readline()
         for count in counts:

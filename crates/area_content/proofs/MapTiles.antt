@@ -5,13 +5,14 @@ use Rattle.std.specs.List.{Contains}
 use Rattle.std.specs.Map.{keys_of}
 use Rattle.std.proofs.lemmas.Bool.{cases_lt, eqb-true, eqb-false}
 use Rattle.std.proofs.lemmas.Bool.Decides.{nat_tests}
-use Rattle.std.proofs.lemmas.List.{nil_from_length}
+use Rattle.std.proofs.lemmas.List.{length-map, nil_from_length}
+use Rattle.std.proofs.lemmas.Map.Views.{length-le_from_below}
 use Rattle.std.proofs.lemmas.Option.{slice_get_within}
-use Rattle.std.proofs.lemmas.List.Elements.{All-nil, All-cons, All-head, All-append, All-weaker, All-contains, Contains-append_right, Contains-get_or}
+use Rattle.std.proofs.lemmas.List.Elements.{All-nil, All-cons, All-head, All-append, All-map, All-weaker, All-contains, Contains-append_right, Contains-get_or}
 use Rattle.feature_model.specs.declared.limits.TheConstants.{MAX_ZOOM}
 use Rattle.feature_store.specs.Layers.{is_tile, layers}
 use Rattle.feature_store.specs.Store.{FeatureMap, IsMap}
-use Rattle.feature_store.specs.Tiles.{IsTile, AreTiles, AreTilesBelow, IsNextTile}
+use Rattle.feature_store.specs.Tiles.{IsTile, AreTiles, AreTilesBelow, IsNextTile, ShowsNothing}
 use Rattle.feature_store.proofs.Below.{none_below, one_more}
 use Rattle.feature_store.proofs.Laws.{layers_outside, written_layers_read}
 use Rattle.hilbert_id.specs.Curve.{IsTileId, first_id}
@@ -106,10 +107,6 @@ module _ (m : FeatureMap) where
         (id_below t next.tile, some_bytes t next.tile, short),
       )
 
-  -- ids of tiles are of the curve, so that there is an end
-  pub below_end : (from : ℕ) (t : Tile) → IsNextTile m from t → (from ≤ t.0) × (t.0 < TILE_IDS)
-  below_end from t next = (next.here, id_below t next.tile)
-
   -- tiles of one id have the same layers
   the_place : (z x y w a b id : ℕ) → IsTileId z x y id → IsTileId w a b id → layers m w a b ≡ layers m z x y
   the_place z x y w a b id is other =
@@ -133,6 +130,29 @@ module _ (m : FeatureMap) where
     short = All-append IsShort ts (t ∷ []) added.short (All-cons IsShort t [] short (All-nil IsShort));
     few = few;
   }
+
+  -- ids whose tiles show nothing are passed
+  pub passed_added : (from new : ℕ) (ts : List Tile) → AreAdded m from ts → from ≤ new → ShowsNothing m from new → AreAdded m new ts
+  passed_added from new ts added le nothing = record {
+    below = record {
+      ascending = added.below.ascending;
+      each = All-weaker (λ (u : Tile). (u.0 < from) × IsTile m u) (λ (u : Tile). (u.0 < new) × IsTile m u)
+          (λ u h. (let lt = h.0 in omega (arith, lt, le), h.1)) ts added.below.each;
+      every = λ z x y id is lt some. elim (cases_lt id from) [
+        | inl low ↦ added.below.every z x y id is low some
+        | inr ge ↦ absurd (omega (arith, some, ap (λ (ls : List LayerView). length ls) (nothing z x y id is ge lt)))
+      ];
+    };
+    short = added.short;
+    few = added.few;
+  }
+
+  -- there are no more tiles than ids
+  pub few_tiles : (from : ℕ) (ts : List Tile) → AreAdded m from ts → length ts ≤ TILE_IDS
+  few_tiles from ts added =
+      let ids = All-map (λ (id : ℕ). id < TILE_IDS) (λ (u : Tile). u.0) ts
+      (All-weaker (λ (u : Tile). (u.0 < from) × IsTile m u) (λ (u : Tile). u.0 < TILE_IDS) (λ u h. id_below u h.1) ts added.below.each) in
+      omega (arith, length-le_from_below TILE_IDS (keys_of ts) added.below.ascending ids, length-map ts (λ (u : Tile). u.0))
 
   -- ---- the contents are the tiles of the map
 

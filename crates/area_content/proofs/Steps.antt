@@ -1,8 +1,9 @@
 -- One tile more of an archive in the making.
-use Rattle.std.proofs.Common.{◌≡◌, ℕ, ◌+◌, ◌<◌, List, [], ◌∷◌, ◌++◌, All, Option, Some, None, sym, subst}
+use Rattle.std.proofs.Common.{◌≡◌, ℕ, ◌+◌, ◌<◌, ◌≤◌, List, [], ◌∷◌, ◌++◌, length, All, Option, Some, None, sym, ap, subst, ◌∙◌}
+use Rattle.std.proofs.lemmas.List.{length_push}
 use Rattle.std.proofs.lemmas.List.Elements.{All-weaker}
 use Rattle.feature_store.specs.Store.{FeatureMap}
-use Rattle.feature_store.specs.Tiles.{IsNextTile, IsTile, ShowsNothingFrom}
+use Rattle.feature_store.specs.Tiles.{IsNextTile, IsTile, ShowsNothing, ShowsNothingFrom}
 use Rattle.feature_store.proofs.Below.{none_left}
 use Rattle.pm_build.specs.Building.{AreFew, CanAdd}
 use Rattle.pm_build.specs.Tiles.{Tile}
@@ -10,7 +11,7 @@ use Rattle.area_content.specs.declared.collected.Collected.{Collected}
 use Rattle.area_content.specs.Collected.{AreGoing, AreMade, tiles_of}
 use Rattle.area_content.specs.Faults.{AreAdded, IsShort}
 use Rattle.area_content.specs.Room.{AreBeyond, AreBeyondIf, AreWithin, added_so_far}
-use Rattle.area_content.proofs.MapTiles.{can_be_added, next_added}
+use Rattle.area_content.proofs.MapTiles.{can_be_added, next_added, passed_added}
 use Rattle.area_content.proofs.Written.{beyond_more}
 
 module _ (m : FeatureMap) (metadata : List ℕ) (area from : ℕ) (c : Collected) (going : AreGoing m metadata area from c) where
@@ -24,6 +25,14 @@ module _ (m : FeatureMap) (metadata : List ℕ) (area from : ℕ) (c : Collected
 
   pub counted_beyond : (ts : List Tile) → c.counted ≡ Some ts → AreBeyond m metadata area ts
   counted_beyond ts is = subst (λ (o : Option (List Tile)). AreBeyondIf m metadata area o) is going.beyond
+
+  -- ids whose tiles show nothing are passed
+  pub going_passed : (new : ℕ) → from ≤ new → ShowsNothing m from new → AreGoing m metadata area new c
+  going_passed new le nothing = record {
+    added = passed_added m from new (tiles_of c) going.added le nothing;
+    within = going.within;
+    beyond = going.beyond;
+  }
 
   -- once no tile is left, all are added
   pub all_made : ShowsNothingFrom m from → AreMade m metadata area c
@@ -58,3 +67,15 @@ going_on m metadata area from new_from ts t new added next short at grown few wi
 pub still_beyond : (m : FeatureMap) (metadata : List ℕ) (area : ℕ) (ts new : List Tile) (t : Tile) → AreBeyond m metadata area ts → new ≡ ts ++ t ∷ []
     → AreBeyond m metadata area new
 still_beyond m metadata area ts new t beyond grown = subst (AreBeyond m metadata area) (sym grown) (beyond_more m metadata area ts t beyond)
+
+-- one tile more is counted
+pub counted_more : (c : Collected) (counter : List Tile) (new : List Tile) (t : Tile) → c.counted ≡ Some counter → new ≡ counter ++ t ∷ []
+    → length new ≡ length (tiles_of c) + 1
+counted_more c counter new t is grown =
+    ap (λ (ts : List Tile). length ts) grown ∙ length_push counter t
+    ∙ ap (λ (o : Option (List Tile)). length (added_so_far c.kept o) + 1) (sym is)
+
+pub kept_more : (c : Collected) (new : List Tile) (t : Tile) → c.counted ≡ None → new ≡ c.kept ++ t ∷ [] → length new ≡ length (tiles_of c) + 1
+kept_more c new t none grown =
+    ap (λ (ts : List Tile). length ts) grown ∙ length_push c.kept t
+    ∙ ap (λ (o : Option (List Tile)). length (added_so_far c.kept o) + 1) (sym none)

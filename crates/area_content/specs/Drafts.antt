@@ -4,10 +4,11 @@ use Rattle.feature_store.specs.Store.{FeatureMap}
 use Rattle.area_content.specs.declared.draft.Stage.{Stage}
 
 -- what contracts see of a draft: the map of the moment, the metadata, how many sectors the area has, the least id that the next tile may
--- have, and how far it is
+-- have, a number that falls with each step, and how far it is
 pub record DraftView : Type 0 where
   pub features : FeatureMap
   pub metadata : List ℕ
   pub area : ℕ
   pub from : ℕ
+  pub ahead : ℕ
   pub stage : Stage

@@ -4,5 +4,6 @@ pub mod DraftInside
 pub mod Drafts
 pub mod Faults
 pub mod Inside
+pub mod Progress
 pub mod Room
 pub mod Tiles

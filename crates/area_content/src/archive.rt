@@ -1,47 +1,62 @@
 //! The archive of the tiles of a map.
-ghost use Rattle.std.specs.Prelude.{◌≡◌, ◌<◌, ◌≤◌, ◌^◌, ◌+◌, ◌++◌, ◌∷◌, [], ℕ, List, Ok, true, false, length, OnOk, IfOk, IfErr, IfSome, IfNone};
-ghost use Rattle.hilbert_id.specs.declared.number.TheConstants.{TILE_IDS};
+ghost use Rattle.std.specs.Prelude.{◌≡◌, ◌<◌, ◌≤◌, ◌^◌, ◌+◌, ℕ, List, Ok, false, length, IfOk, IfErr};
 ghost use Rattle.feature_store.specs.Moments.{IsAsOf};
 ghost use Rattle.feature_store.specs.Store.{snapshot};
-ghost use Rattle.feature_store.specs.Tiles.{IsNextTile, ShowsNothingFrom};
+ghost use Rattle.feature_store.specs.Tiles.{GoesOn, IfTile, IsNextTile, ShowsNothing, ShowsNothingFrom};
+ghost use Rattle.feature_store.specs.declared.all_tiles.Making.TheVariants.{Part, Over};
 ghost use Rattle.pm_metadata.specs.Archive.{IsMetadata};
 ghost use Rattle.pm_build.specs.Bounded.{IsSize};
 ghost use Rattle.pm_build.specs.Built.{archive_bytes};
 ghost use Rattle.pm_build.specs.Tiles.{Tile};
-ghost use Rattle.area_content.specs.Collected.{AreGoing, AreMade};
+ghost use Rattle.area_content.specs.Collected.{AreGoing, AreMade, tiles_of};
 ghost use Rattle.area_content.specs.Faults.{AreAdded, IsContentFault, IsShort};
+ghost use Rattle.area_content.specs.Progress.{IfGoing, tiles_in};
 ghost use Rattle.area_content.specs.Tiles.{IsArchiveOfTiles};
+ghost use Rattle.area_content.specs.declared.archive.Progress.TheVariants as progress;
 
 use crate::collected::Collected;
 use crate::content::sectors_for;
 use crate::counting::count_tile;
 use crate::fault::ContentFault;
-use feature_store::{Moment, Store, Tile, Tiles};
+use feature_store::{Making, Moment, Store, Tiles};
 use pm_build::{ArchiveBuilder, BuiltArchive};
 use std::alloc::{AllocError, Global};
 
-/// The next tile of a moment, if there is one, for an area of `area` sectors. `store` is the map as it is now. A tile too large for an archive
+/// What a step of an archive in the making made.
+#[derive(Clone, Copy)]
+pub(crate) enum Progress {
+    /// A part of a tile.
+    Part,
+    /// A tile.
+    Tile,
+    /// Nothing, since no tile is left.
+    Over,
+}
+
+/// Makes a part of the next tile of a moment, for an area of `area` sectors. `store` is the map as it is now. A tile too large for an archive
 /// entry is larger than every area.
 fn next_short(
     tiles: &mut Tiles,
     store: &Store,
     moment: &Moment,
     area: u64,
-) -> Result<Option<Tile>, ContentFault>
+) -> Result<Making, ContentFault>
     requires same { moment.now.features ≡ tiles.old.features }
     requires there { moment.now.lost ≡ false }
     requires as_of { IsAsOf moment.now store.now.features }
     requires area { area < 2 ^ 23 }
     ensures map { tiles.new.features ≡ tiles.old.features }
-    ensures tile { IfOk result (λ o. IfSome o (λ t. IsNextTile tiles.old.features tiles.old.from (t.0, t.1.items) × IsShort (t.0, t.1.items)
-        × (tiles.new.from ≡ t.0 + 1))) }
-    ensures none { IfOk result (λ o. IfNone o (ShowsNothingFrom tiles.old.features tiles.old.from)) }
+    ensures part { result ≡ Ok Part → (tiles.old.from ≤ tiles.new.from) × ShowsNothing tiles.old.features tiles.old.from tiles.new.from }
+    ensures tile { IfOk result (IfTile (λ t. IsNextTile tiles.old.features tiles.old.from t × IsShort t × (tiles.new.from ≡ t.0 + 1))) }
+    ensures over { result ≡ Ok Over → ShowsNothingFrom tiles.old.features tiles.old.from }
+    ensures ahead { IfOk result (GoesOn tiles.old tiles.new) }
     ensures fault { IfErr result (λ fault. (before : List Tile) (metadata : List ℕ) → AreAdded tiles.old.features tiles.old.from before
         → IsContentFault tiles.old.features metadata area fault) }
 {
     let tile = match tiles.next(store, moment) {
-        Ok(Some(tile)) => tile,
-        Ok(None) => return Ok(None),
+        Ok(Making::Whole(tile)) => tile,
+        Ok(Making::Part) => return Ok(Making::Part),
+        Ok(Making::Over) => return Ok(Making::Over),
         Err(_) => return Err(ContentFault::Memory),
     };
     if tile.1.len() > u32::MAX as usize {
@@ -50,11 +65,11 @@ fn next_short(
             free: area,
         });
     }
-    Ok(Some(tile))
+    Ok(Making::Whole(tile))
 }
 
-/// Adds the next tile of a moment to its archive. It is false if there is none. `store` is the map as it is now, `text` the snapshot of the
-/// moment.
+/// Makes a part of the next tile of a moment, and at its last part adds the tile to its archive. `store` is the map as it is now, `text` the
+/// snapshot of the moment.
 pub(crate) fn make_next(
     tiles: &mut Tiles,
     collected: &mut Collected,
@@ -63,7 +78,7 @@ pub(crate) fn make_next(
     text: &[u8],
     metadata: &[u8],
     area: u64,
-) -> Result<bool, ContentFault>
+) -> Result<Progress, ContentFault>
     requires same { moment.now.features ≡ tiles.old.features }
     requires there { moment.now.lost ≡ false }
     requires as_of { IsAsOf moment.now store.now.features }
@@ -71,23 +86,25 @@ pub(crate) fn make_next(
     requires snapshot { text.now ≡ snapshot tiles.old.features }
     requires area { area < 2 ^ 23 }
     ensures map { tiles.new.features ≡ tiles.old.features }
-    ensures going { result ≡ Ok true → AreGoing tiles.old.features metadata.now area tiles.new.from collected.new }
-    ensures further { result ≡ Ok true → (tiles.old.from < tiles.new.from) × (tiles.new.from ≤ TILE_IDS) }
-    ensures made { result ≡ Ok false → AreMade tiles.old.features metadata.now area collected.new }
+    ensures going { IfOk result (IfGoing (AreGoing tiles.old.features metadata.now area tiles.new.from collected.new)) }
+    ensures ahead { IfOk result (IfGoing (tiles.new.ahead < tiles.old.ahead)) }
+    ensures count { IfOk result (λ progress. length (tiles_of collected.new) ≡ length (tiles_of collected.old) + tiles_in progress) }
+    ensures made { result ≡ Ok progress.Over → AreMade tiles.old.features metadata.now area collected.new }
     ensures fault { IfErr result (IsContentFault tiles.old.features metadata.now area) }
 {
     let (id, content) = match next_short(tiles, store, moment, area) {
-        Ok(Some(tile)) => tile,
-        Ok(None) => return Ok(false),
+        Ok(Making::Whole(tile)) => tile,
+        Ok(Making::Part) => return Ok(Progress::Part),
+        Ok(Making::Over) => return Ok(Progress::Over),
         Err(fault) => return Err(fault),
     };
     match &mut collected.counted {
         Some(counter) => match count_tile(counter, id, content, tiles, store, moment) {
-            Ok(()) => Ok(true),
+            Ok(()) => Ok(Progress::Tile),
             Err(fault) => Err(fault),
         },
         None => match collected.keep(id, &content, text, metadata, area) {
-            Ok(()) => Ok(true),
+            Ok(()) => Ok(Progress::Tile),
             Err(fault) => Err(fault),
         },
     }

@@ -1,19 +1,20 @@
 //! The content of an area in the making, by steps between which the map may be edited.
-ghost use Rattle.std.specs.Prelude.{◌≡◌, ◌≢◌, ◌<◌, ◌≤◌, ◌^◌, [], All, Ok, true, false, IfOk, IfErr};
-ghost use Rattle.hilbert_id.specs.declared.number.TheConstants.{TILE_IDS};
+ghost use Rattle.std.specs.Prelude.{◌≡◌, ◌≢◌, ◌<◌, ◌≤◌, ◌^◌, [], List, length, All, Ok, true, false, IfOk, IfErr};
 ghost use Rattle.feature_store.specs.Moments.{IsAsOf};
+ghost use Rattle.feature_store.specs.Reading.{IsRead};
 ghost use Rattle.feature_store.specs.Store.{FeatureMap, IsMap, snapshot};
-ghost use Rattle.feature_store.specs.Tiles.{AreTiles};
+ghost use Rattle.feature_store.specs.Tiles.{AreTiles, AreTilesBelow};
+ghost use Rattle.pm_build.specs.Tiles.{Tile};
 ghost use Rattle.pm_metadata.specs.Archive.{IsMetadata};
 ghost use Rattle.area_content.specs.Content.{sectors_taken};
 ghost use Rattle.area_content.specs.Faults.{IsBuiltFor, IsContentFault, IsShort};
 ghost use Rattle.area_content.specs.Room.{AreBeyond};
 
-use crate::archive::{archive_of, make_next};
+use crate::archive::{Progress, archive_of, make_next};
 use crate::collected::Collected;
 use crate::content::{AreaContent, sectors_for, within};
 use crate::fault::ContentFault;
-use feature_store::{Moment, Store, Tiles};
+use feature_store::{Moment, MomentReader, Store, Tiles};
 use pm_build::{ArchiveBuilder, ArchiveCounter};
 use std::alloc::{AllocError, Global};
 use std::marker::Model;
@@ -29,8 +30,8 @@ pub enum Stage {
     Failed,
 }
 
-/// The content of an area for a map as of a moment, in the making. Each step makes one tile, and the map may be edited between two of them
-/// (`feature_store::Store::place_after`, `remove_after`). What it holds is the snapshot, the boxes of the features, the contents of the
+/// The content of an area for a map as of a moment, in the making. Each step makes a part of a tile, and the map may be edited between two of
+/// them (`feature_store::Store::place_after`, `remove_after`). What it holds is the snapshot, the boxes of the features, the contents of the
 /// tiles so far, which fit into the area, and the tile in hand. Once a tile doesn't fit, no content is kept: what it holds then is a record
 /// for each run and for each different content, and two tiles.
 #[derive(Drop)]
@@ -39,6 +40,8 @@ pub struct ContentDraft {
     metadata: Vec<u8>,
     tiles: Tiles,
     collected: Collected,
+    /// How many tiles are collected.
+    made: u64,
     area: u64,
     stage: Stage,
     alloc: Global,
@@ -97,37 +100,44 @@ fn content_with(
 impl ContentDraft {
     ghost use Rattle.area_content.specs.declared.draft.Stage.TheVariants.{Going, Made};
 
-    /// The content of the map as it is now, for an area of `area` sectors, with no tile made. `metadata` is the JSON object in the archive.
-    /// The only error is out of memory.
+    /// The content of a map whose features are all read, for an area of `area` sectors, with no tile made. `metadata` is the JSON object in the
+    /// archive. The only error is out of memory.
     pub fn of(
         alloc: Global,
-        store: &Store,
-        metadata: &[u8],
+        reader: MomentReader,
+        metadata: Vec<u8>,
         area: u64,
     ) -> Result<ContentDraft, AllocError>
-        requires metadata { IsMetadata metadata.now }
+        requires read { IsRead reader }
+        requires metadata { IsMetadata metadata.items }
         requires area { area < 2 ^ 23 }
-        ensures features { IfOk result (λ d. d.features ≡ store.now.features) }
-        ensures metadata { IfOk result (λ d. d.metadata ≡ metadata.now) }
+        ensures features { IfOk result (λ d. d.features ≡ reader.features) }
+        ensures metadata { IfOk result (λ d. d.metadata ≡ metadata.items) }
         ensures area { IfOk result (λ d. d.area ≡ area) }
         ensures stage { IfOk result (λ d. d.stage ≡ Going) }
     {
-        let text = store.snapshot_text()?;
-        let mut kept = Vec::with_capacity(alloc, metadata.len())?;
-        kept.extend_from_slice(metadata)?;
-        let tiles = store.tiles()?;
+        let (text, tiles) = reader.finish()?;
         Ok(ContentDraft {
             text,
-            metadata: kept,
+            metadata,
             tiles,
             collected: Collected::new(alloc),
+            made: 0,
             area,
             stage: Stage::Going,
             alloc,
         })
     }
 
-    /// Makes the next tile of the moment, `store` being the map as it is now. It is true if tiles are left.
+    /// How many tiles are made.
+    pub fn made(&self) -> u64
+        ensures { self.now.stage ≡ Going
+            → (tiles : List Tile) × AreTilesBelow self.now.features self.now.from tiles × (result ≡ length tiles) }
+    {
+        self.made
+    }
+
+    /// Makes a part of the next tile of the moment, `store` being the map as it is now. It is true if tiles may be left.
     ///
     /// # Errors
     ///
@@ -141,7 +151,8 @@ impl ContentDraft {
         ensures metadata { self.new.metadata ≡ self.old.metadata }
         ensures area { self.new.area ≡ self.old.area }
         ensures going { result ≡ Ok true → self.new.stage ≡ Going }
-        ensures further { result ≡ Ok true → (self.old.from < self.new.from) × (self.new.from ≤ TILE_IDS) }
+        // So steps until it is false end.
+        ensures ahead { result ≡ Ok true → self.new.ahead < self.old.ahead }
         ensures made { result ≡ Ok false → self.new.stage ≡ Made }
         ensures fault { IfErr result (IsContentFault self.old.features self.old.metadata self.old.area) }
     {
@@ -156,11 +167,16 @@ impl ContentDraft {
             self.area,
         );
         match result {
-            Ok(true) => {
+            Ok(Progress::Part) => {
                 self.stage = Stage::Going;
                 Ok(true)
             }
-            Ok(false) => {
+            Ok(Progress::Tile) => {
+                self.made += 1;
+                self.stage = Stage::Going;
+                Ok(true)
+            }
+            Ok(Progress::Over) => {
                 self.stage = Stage::Made;
                 Ok(false)
             }
@@ -185,6 +201,7 @@ impl ContentDraft {
             metadata,
             tiles: _,
             collected,
+            made: _,
             area,
             stage: _,
             alloc,

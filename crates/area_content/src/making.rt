@@ -10,8 +10,8 @@ ghost use Rattle.area_content.specs.declared.draft.Stage.TheVariants.{Going, Mad
 use crate::content::AreaContent;
 use crate::draft::ContentDraft;
 use crate::fault::ContentFault;
-use feature_store::{Moment, Store};
-use std::alloc::Global;
+use feature_store::{Moment, MomentReader, Store};
+use std::alloc::{AllocError, Global};
 
 /// Makes the tiles of a draft, one after the other.
 fn make_all(draft: &mut ContentDraft, store: &Store, moment: &Moment) -> Result<(), ContentFault>
@@ -32,6 +32,26 @@ fn make_all(draft: &mut ContentDraft, store: &Store, moment: &Moment) -> Result<
             Err(fault) => return Err(fault),
         }
     }
+}
+
+/// The content of the map as it is now, with no tile made. The only error is out of memory.
+fn draft_of(
+    alloc: Global,
+    store: &Store,
+    metadata: &[u8],
+    area: u64,
+) -> Result<ContentDraft, AllocError>
+    requires metadata { IsMetadata metadata.now }
+    requires area { area < 2 ^ 23 }
+    ensures features { IfOk result (λ d. d.features ≡ store.now.features) }
+    ensures metadata { IfOk result (λ d. d.metadata ≡ metadata.now) }
+    ensures area { IfOk result (λ d. d.area ≡ area) }
+    ensures stage { IfOk result (λ d. d.stage ≡ Going) }
+{
+    let reader = MomentReader::whole(alloc, store)?;
+    let mut kept = Vec::with_capacity(alloc, metadata.len())?;
+    kept.extend_from_slice(metadata)?;
+    ContentDraft::of(alloc, reader, kept, area)
 }
 
 /// The snapshot and the archive of a map, for an area of `area` sectors. `metadata` is the JSON object in the
@@ -62,7 +82,7 @@ pub fn content_of(
     ensures fault { IfErr result (IsContentFault store.now.features metadata.now area) }
 {
     let moment = store.moment();
-    let mut draft = match ContentDraft::of(alloc, store, metadata, area) {
+    let mut draft = match draft_of(alloc, store, metadata, area) {
         Ok(draft) => draft,
         Err(_) => return Err(ContentFault::Memory),
     };

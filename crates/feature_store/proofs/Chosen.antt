@@ -1,7 +1,7 @@
 -- What a tile shows of the features of a few numbers is what it shows of all, where each that it shows is among them.
-use Rattle.std.proofs.Common.{◌≡◌, ◌≢◌, ℕ, zero, suc, ◌+◌, ◌<◌, Bool, true, false, List, [], ◌∷◌, ◌++◌, length, get_or, take, map, All}
+use Rattle.std.proofs.Common.{◌≡◌, ◌≢◌, ℕ, zero, suc, ◌+◌, ◌-◌, ◌<◌, ◌≤◌, Bool, true, false, List, [], ◌∷◌, ◌++◌, length, get_or, take, drop, map, All}
 use Rattle.std.proofs.Common.{Option, Some, None, IsSome, inl, inr}
-use Rattle.std.proofs.Common.{◌==◌, refl, sym, ap, subst, ◌∙◌, arith, if◌then◌else◌}
+use Rattle.std.proofs.Common.{refl, sym, ap, subst, ◌∙◌, arith, if◌then◌else◌}
 use Rattle.std.specs.List.{Contains, AllByRecursion, cons_option}
 use Rattle.std.specs.List.Sorted.{IsStrictlySortedBy}
 use Rattle.std.specs.Option.{option_map_or}
@@ -9,8 +9,7 @@ use Rattle.std.specs.Ordering.{nat_cmp}
 use Rattle.std.specs.Str.{bytes_eq}
 use Rattle.std.specs.declared.cmp.Ordering.TheVariants.{Less}
 use Rattle.std.proofs.lemmas.Bool.{cases_eq}
-use Rattle.std.proofs.lemmas.Bool.Decides.{nat_tests}
-use Rattle.std.proofs.lemmas.List.{take_more, append-nil, map-append}
+use Rattle.std.proofs.lemmas.List.{take_more, append-nil, map-append, take_all, take-append-drop, take-take, drop-take}
 use Rattle.std.proofs.lemmas.List.Concat.{flat_map-append}
 use Rattle.std.proofs.lemmas.List.Elements.{All-nil, All-cons, All-head, All-tail, All-append, filter_map-append}
 use Rattle.std.proofs.lemmas.Map.Keys.{sorted_head, sorted_tail}
@@ -22,9 +21,13 @@ use Rattle.mvt_layer.specs.Tile.{FeatureView}
 use Rattle.tile_cutter.specs.Cut.{feature_cut}
 use Rattle.feature_store.specs.Chosen.{chosen, found_data}
 use Rattle.feature_store.specs.declared.gathered.Found.{Found}
+use Rattle.feature_store.specs.declared.tile_parts.TileParts.{TileParts}
+use Rattle.feature_store.specs.Gathered.{Gathers}
 use Rattle.feature_store.specs.Indexed.{ShowsAll}
 use Rattle.feature_store.specs.Layers.{numbered_cut, cut_for, cuts_of}
+use Rattle.feature_store.specs.Parts.{IsInMaking, added}
 use Rattle.feature_store.specs.Store.{FeatureMap, IsMap, feature_at, entry_at}
+use Rattle.feature_store.proofs.Gathers.{gathers_same}
 
 -- numbers, and one more
 pub chosen_more : (m : FeatureMap) (ns : List ℕ) (i : ℕ) → i < length ns
@@ -47,14 +50,6 @@ found_more xs i one name z x y lt is =
     ap (λ t. cuts_of (map found_data t) name z x y) (take_more xs i one lt ∙ ap (λ f. take i xs ++ f ∷ []) (sym is))
     ∙ ap (λ es. cuts_of es name z x y) (map-append found_data (take i xs) (one ∷ []))
     ∙ cuts_both (map found_data (take i xs)) (found_data one ∷ []) name z x y
-
--- numbers of which none is left
-none_left : (n : ℕ) (empty : Bool) → empty ≡ (n == 0) → empty ≡ true → n ≡ 0
-none_left n empty is so = grind (arith, nat_tests)
-
-pub nothing_left : (ns : List ℕ) (empty : Bool) → empty ≡ (length ns == 0) → empty ≡ true → ns ≡ []
-nothing_left [] empty is so = refl
-nothing_left (n ∷ ns) empty is so = let none : length (n ∷ ns) ≡ 0 = none_left (length (n ∷ ns)) empty is so in absurd (omega (arith, none))
 
 -- those of some numbers and of others
 pub chosen_both : (m : FeatureMap) (ns os : List ℕ) → chosen m (ns ++ os) ≡ chosen m ns ++ chosen m os
@@ -176,3 +171,39 @@ module _ (name : List ℕ) (z x y : ℕ) where
 pub all_chosen : (m : FeatureMap) (ns : List ℕ) (name : List ℕ) (z x y : ℕ) → IsMap m → ShowsAll m z x y ns
     → cuts_of (chosen m ns) name z x y ≡ cuts_of m name z x y
 all_chosen m ns name z x y is_map shows = chosen_are name z x y m ns is_map.ascending shows.ascending shows.every
+
+-- ---- a tile in the making
+
+-- once all numbers are added, all is gathered that the tile shows
+pub all_shown : (m : FeatureMap) (p : TileParts) → IsMap m → IsInMaking m p → p.left ≡ 0
+    → Gathers p.gathered (λ name. cuts_of m name p.at.z p.at.x p.at.y)
+all_shown m p is_map making none =
+    let numbers = p.numbers.items in
+    let all : added p ≡ numbers = take_all (length numbers - p.left) numbers (omega (arith, none)) in
+    gathers_same p.gathered _ _
+    (λ name. ap (λ ns. cuts_of (chosen m ns) name p.at.z p.at.x p.at.y) all ∙ all_chosen m numbers name p.at.z p.at.x p.at.y is_map making.shown)
+    making.gathers
+
+-- the first numbers, and a part of those that are left
+pub parted : (ns : List ℕ) (left count : ℕ) → count ≤ left → left ≤ length ns
+    → take (length ns - (left - count)) ns ≡ take (length ns - left) ns ++ take count (drop (length ns - left) ns)
+parted ns left count le within =
+    let start = length ns - left in
+    let end : length ns - (left - count) ≡ start + count = omega (arith, le, within) in
+    ap (λ n. take n ns) end
+    ∙ sym (take-append-drop start (take (start + count) ns))
+    ∙ ap (λ front. front ++ drop start (take (start + count) ns)) (take-take start (start + count) ns (omega arith))
+    ∙ ap (λ back. take start ns ++ back) (drop-take start count ns)
+
+pub next_part : (ns now : List ℕ) (len left count : ℕ) → len ≡ length ns → now ≡ ns
+    → take ((len - left) + count - (len - left)) (drop (len - left) now) ≡ take count (drop (length ns - left) ns)
+next_part ns now len left count is same =
+    let few : (len - left) + count - (len - left) ≡ count = omega arith in
+    ap (λ n. take n (drop (len - left) now)) few ∙ ap (λ n. take count (drop (n - left) now)) is
+    ∙ ap (λ os. take count (drop (length ns - left) os)) same
+
+-- what a tile shows of the features of some numbers and of others
+pub cuts_parted : (m : FeatureMap) (ns os : List ℕ) (name : List ℕ) (z x y : ℕ)
+    → cuts_of (chosen m ns) name z x y ++ cuts_of (chosen m os) name z x y ≡ cuts_of (chosen m (ns ++ os)) name z x y
+cuts_parted m ns os name z x y =
+    sym (cuts_both (chosen m ns) (chosen m os) name z x y) ∙ ap (λ es. cuts_of es name z x y) (sym (chosen_both m ns os))

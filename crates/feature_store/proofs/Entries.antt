@@ -1,21 +1,23 @@
 -- Entries and the map that they keep.
-use Rattle.std.proofs.Common.{◌≡◌, ℕ, true, false, Bool, cond, ◌+◌, ◌<◌, refl, sym, ap, subst, ◌∙◌}
+use Rattle.std.proofs.Common.{◌≡◌, ℕ, true, false, Bool, cond, ◌+◌, ◌<◌, inl, inr, refl, sym, ap, subst, ◌∙◌}
 use Rattle.std.proofs.Common.{List, [], ◌∷◌, ◌++◌, All, length, get_or, take, drop, append_assoc, Option, Some, None, Bor}
-use Rattle.std.specs.Option.{is_some, option_map}
+use Rattle.std.specs.Option.{IfSome, is_some, option_map}
 use Rattle.std.specs.Ordering.{nat_cmp, match_ordering}
 use Rattle.std.specs.declared.cmp.Ordering.{Ordering}
 use Rattle.std.specs.declared.cmp.Ordering.TheVariants.{Less, Equal, Greater}
 use Rattle.std.specs.BTreeMap.{insert_entry, is_at}
 use Rattle.std.specs.List.{last_or}
+use Rattle.std.specs.List.Sorted.{IsStrictlySortedBy}
 use Rattle.std.specs.Map.{keys_of, lookup, remove_entry}
+use Rattle.std.proofs.lemmas.Bool.{cases_eq}
 use Rattle.std.proofs.lemmas.List.{map-append, append-nil, take_more, drop_more, take-append-drop}
 use Rattle.std.proofs.lemmas.List.Elements.{All-cons, All-head, All-tail}
-use Rattle.number_map.proofs.Entries.{set_step}
+use Rattle.number_map.proofs.Entries.{lookup_here, lookup_on, set_step}
 use Rattle.number_map.proofs.Numbers.{less, equal, greater, by_order}
 use Rattle.std.proofs.lemmas.List.Concat.{flat_map-append}
 use Rattle.std.proofs.lemmas.Map.Made.{lookup-map_values}
 use Rattle.std.specs.Prelude.{nat_le}
-use Rattle.number_map.specs.Blocks.{joined, first_from, last_number}
+use Rattle.number_map.specs.Blocks.{Ascends, joined, first_from, last_number}
 use Rattle.feature_model.specs.Data.{FeatureData}
 use Rattle.tile_cutter.specs.WorldBox.{bounding_box}
 use Rattle.feature_store.specs.Inside.{Stored, stored_data, entry_data, entries_data, IsOwn}
@@ -45,11 +47,14 @@ is_some_box m n = by (feature_at m n)
     by None = refl
     by (Some f) = refl
 
--- the greatest number
 same_keys : (es : List (ℕ × Stored)) → keys_of es ≡ keys_of (entries_data es)
 same_keys [] = refl
 same_keys (e ∷ es) = ap (λ ks. e.0 ∷ ks) (same_keys es)
 
+pub entries_ascend : (es : List (ℕ × Stored)) → Ascends (entries_data es) → Ascends es
+entries_ascend es ascends = subst (IsStrictlySortedBy nat_cmp) (sym (same_keys es)) ascends
+
+-- the greatest number
 pub greatest_found : (es : List (ℕ × Stored)) → last_number es ≡ greatest_id (entries_data es)
 unfolding greatest_id
 greatest_found es = ap (last_or None) (same_keys es)
@@ -179,3 +184,11 @@ own_removed (e ∷ es) n all = by (is_at (nat_cmp n) e.0) (own_removed es n (All
     by : (b : Bool) → All IsOwn (remove_entry (is_at (nat_cmp n)) es) → All IsOwn (cond b es (e ∷ remove_entry (is_at (nat_cmp n)) es))
     by true rest = All-tail IsOwn e es all
     by false rest = All-cons IsOwn e (remove_entry (is_at (nat_cmp n)) es) (All-head IsOwn e es all) rest
+
+-- what is found of a number gives the feature to that number
+pub own_found : (es : List (ℕ × Stored)) (n : ℕ) → All IsOwn es → IfSome (lookup (is_at (nat_cmp n)) es) (λ s. s.0 ≡ n)
+own_found [] n all = tt
+own_found (e ∷ es) n all = elim (cases_eq n e.0) [
+  | inl same ↦ subst (λ o. IfSome o (λ s. s.0 ≡ n)) (sym (lookup_here n e es same)) (All-head IsOwn e es all ∙ sym same)
+  | inr differs ↦ subst (λ o. IfSome o (λ s. s.0 ≡ n)) (sym (lookup_on n e es differs)) (own_found es n (All-tail IsOwn e es all))
+]

@@ -2,10 +2,8 @@
 use Rattle.std.proofs.Common.{◌≡◌, ℕ, Bool, true, false, List, [], ◌∷◌, ◌++◌, map, Option, Some, None, refl, sym, ap, subst, ◌∙◌, arith}
 use Rattle.std.proofs.Common.{if◌then◌else◌}
 use Rattle.std.specs.Option.{UnwrapsOrElse, option_map}
-use Rattle.std.specs.Ordering.{nat_cmp}
 use Rattle.std.specs.Str.{bytes_eq}
-use Rattle.std.specs.Cmp.Lexicographic.{slice_cmp}
-use Rattle.std.specs.BTreeMap.{get_by}
+use Rattle.std.specs.BTreeMap.{get_by_text}
 use Rattle.std.proofs.lemmas.List.{append-nil, append_assoc, length-append}
 use Rattle.std.proofs.lemmas.Slice.Eq.{bytes_eq-Decides}
 use Rattle.feature_model.specs.Data.{FeatureData, TagData}
@@ -45,7 +43,7 @@ tags_over start new name fs left all none before writes =
 
 -- the writer of a name
 abbrev pub writer_of : List ℕ → Gathered → Option LayerWriter
-writer_of name g = get_by (λ k. slice_cmp nat_cmp name k.now) g
+writer_of name g = get_by_text g name
 
 pub gathers_same : (g : Gathered) (fs gs : List ℕ → List FeatureView) → ((name : List ℕ) → fs name ≡ gs name) → Gathers g fs → Gathers g gs
 gathers_same g fs gs same gathers name = subst (IsGathered (writer_of name g) name) (same name) (gathers name)

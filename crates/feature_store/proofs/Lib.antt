@@ -13,6 +13,7 @@ mod Near
 mod Shown
 mod Sizes
 mod Writable
+pub mod Reading
 mod TilesRead
 mod Walk
 mod Zooms

@@ -1,6 +1,6 @@
 -- What is gathered for a tile is the tile's list of layers.
 use Rattle.std.proofs.Common.{◌≡◌, ℕ, zero, suc, ◌⊎◌, inl, inr, ◌<◌, Bool, true, false, cond, List, [], ◌∷◌, length, map, Option, Some, None}
-use Rattle.std.proofs.Common.{IsSome, is_some, All, Bor, refl, sym, ap, subst, ◌∙◌, arith}
+use Rattle.std.proofs.Common.{IsSome, is_some, All, Global, refl, sym, ap, subst, ◌∙◌, arith}
 use mathlib.Core.Bool.{false≢true}
 use Rattle.std.specs.Str.{bytes_eq}
 use Rattle.std.specs.List.{Contains, cons_option, AllByRecursion}
@@ -10,7 +10,8 @@ use Rattle.std.specs.declared.cmp.Ordering.TheVariants.{Less}
 use Rattle.std.specs.Cmp.Lexicographic.{slice_cmp}
 use Rattle.std.specs.BTreeMap.{is_at, IsOrdered}
 use Rattle.std.specs.Map.{keys_of, lookup}
-use Rattle.std.proofs.lemmas.Cmp.{nat_list_cmp_total, on_total}
+use Rattle.std.specs.Prelude.{String}
+use Rattle.std.specs.String.{string_bytes, string_cmp, string_cmp_total}
 use Rattle.std.proofs.lemmas.List.Elements.{All-nil, All-cons, All-map, All-weaker, Contains-append_right}
 use Rattle.std.proofs.lemmas.Slice.Eq.{bytes_eq-Decides}
 use Rattle.std.proofs.lemmas.Map.Text.{is_eq-slice_cmp}
@@ -38,11 +39,11 @@ contains_cases n ns x (suc k, lt, is) = inr (k, omega arith, is)
 
 -- the entries of what is gathered
 abbrev pub Entries : Type 0
-Entries = List (Bor (List ℕ) × LayerWriter)
+Entries = List (String Global × LayerWriter)
 
 -- whether a key is the name
-abbrev pub is_name : List ℕ → Bor (List ℕ) → Bool
-is_name name = is_at (λ k. slice_cmp nat_cmp name k.now)
+abbrev pub is_name : List ℕ → String Global → Bool
+is_name name = is_at (λ k. slice_cmp nat_cmp name (string_bytes k))
 
 pub same_name : (name other : List ℕ) → is_eq (slice_cmp nat_cmp name other) ≡ true → name ≡ other
 same_name name other h = (bytes_eq-Decides name other).0 (sym (is_eq-slice_cmp name other) ∙ h)
@@ -58,19 +59,19 @@ module _ (fs : List ℕ → List FeatureView) where
     where
       by : (b : Bool) → is_name name e.0 ≡ b → (is_some (lookup (is_name name) es) ≡ true → Contains (names_in es) name)
           → Contains (names_in (e ∷ es)) name
-      by true is rest = subst (λ n. Contains (names_in (e ∷ es)) n) (sym (same_name name e.0.now is)) (contains_here e.0.now (names_in es))
+      by true is rest = subst (λ n. Contains (names_in (e ∷ es)) n) (sym (same_name name (string_bytes e.0) is)) (contains_here (string_bytes e.0) (names_in es))
       by false is rest =
-          contains_on e.0.now (names_in es) name (rest (sym (ap (λ b. is_some (cond b (Some e.1) (lookup (is_name name) es))) is) ∙ h))
+          contains_on (string_bytes e.0) (names_in es) name (rest (sym (ap (λ b. is_some (cond b (Some e.1) (lookup (is_name name) es))) is) ∙ h))
 
   -- the names of layers ascend as the keys do
-  names_ascend : (es : Entries) → IsStrictlySortedBy (λ a b. slice_cmp nat_cmp a.now b.now) (keys_of es)
+  names_ascend : (es : Entries) → IsStrictlySortedBy string_cmp (keys_of es)
       → IsStrictlySortedBy (slice_cmp nat_cmp) (names_in es)
   unfolding IsStrictlySortedBy
   names_ascend [] s = tt
   names_ascend (e ∷ es) s = (along es s.0, names_ascend es s.1)
     where
-      along : (fs : Entries) → AllByRecursion (λ k. slice_cmp nat_cmp e.0.now k.now ≡ Less) (keys_of fs)
-          → AllByRecursion (λ n. slice_cmp nat_cmp e.0.now n ≡ Less) (names_in fs)
+      along : (fs : Entries) → AllByRecursion (λ k. slice_cmp nat_cmp (string_bytes e.0) (string_bytes k) ≡ Less) (keys_of fs)
+          → AllByRecursion (λ n. slice_cmp nat_cmp (string_bytes e.0) n ≡ Less) (names_in fs)
       along [] a = tt
       along (f ∷ fs) a = (a.0, along fs a.1)
 
@@ -103,22 +104,22 @@ shown_among z x y (e ∷ m) =
 -- ---- all of it
 
 -- what a name finds is what is there
-abbrev pub IsFound : Gathered → Bor (List ℕ) × LayerWriter → Type 0
-IsFound g e = lookup (is_name e.0.now) g.entries ≡ Some e.1
+abbrev pub IsFound : Gathered → String Global × LayerWriter → Type 0
+IsFound g e = lookup (is_name (string_bytes e.0)) g.entries ≡ Some e.1
 
 abbrev pub IsAscending : Gathered → Type 0
-IsAscending g = IsOrdered (λ a b. slice_cmp nat_cmp a.now b.now) g
+IsAscending g = IsOrdered string_cmp g
 
 found : (g : Gathered) → IsAscending g → All (IsFound g) g.entries
-found g ordered = All-found (on_total (λ (k : Bor (List ℕ)). k.now) nat_list_cmp_total) g ordered
+found g ordered = All-found string_cmp_total g ordered
 
 -- the features of a name that is there
-abbrev pub HasWritten : (List ℕ → List FeatureView) → Bor (List ℕ) × LayerWriter → Type 0
-HasWritten fs e = (0 < length (fs e.0.now)) × Writes e.1 e.0.now (fs e.0.now) []
+abbrev pub HasWritten : (List ℕ → List FeatureView) → String Global × LayerWriter → Type 0
+HasWritten fs e = (0 < length (fs (string_bytes e.0))) × Writes e.1 (string_bytes e.0) (fs (string_bytes e.0)) []
 
 pub all_written : (g : Gathered) (fs : List ℕ → List FeatureView) → Gathers g fs → IsAscending g → All (HasWritten fs) g.entries
 all_written g fs gathers ordered =
-    All-weaker (IsFound g) (HasWritten fs) (λ e is. subst (λ o. IsGathered o e.0.now (fs e.0.now)) is (gathers e.0.now)) g.entries (found g ordered)
+    All-weaker (IsFound g) (HasWritten fs) (λ e is. subst (λ o. IsGathered o (string_bytes e.0) (fs (string_bytes e.0))) is (gathers (string_bytes e.0))) g.entries (found g ordered)
 
 module _ (m : FeatureMap) (z x y : ℕ) (g : Gathered) where
   abbrev shown : List ℕ → List FeatureView
@@ -131,7 +132,7 @@ module _ (m : FeatureMap) (z x y : ℕ) (g : Gathered) where
       by None h = absurd (omega (arith, some, ap length h))
       by (Some w) h = refl
 
-  layer_is : (e : Bor (List ℕ) × LayerWriter) → HasWritten shown e → IsLayer m z x y (layer_of shown e)
+  layer_is : (e : String Global × LayerWriter) → HasWritten shown e → IsLayer m z x y (layer_of shown e)
   layer_is e is = record { version = refl; extent = refl; some = is.0; cuts = refl }
 
   pub are_layers : Gathers g shown → IsAscending g → AreLayers m z x y (layers_of shown g)

@@ -61,13 +61,16 @@ map_changed m (delete id) is_map edit short = map_without m id is_map
 
 -- ---- one entry more
 
-snapshot_none : snapshot [] ≡ []
+pub snapshot_none : snapshot [] ≡ []
 unfolding snapshot
 snapshot_none = refl
 
 snapshot_of_first : (e : ℕ × FeatureData) (m : FeatureMap) → snapshot (e ∷ m) ≡ entry_text e ++ snapshot m
 unfolding snapshot
 snapshot_of_first e m = refl
+
+pub one_text : (e : ℕ × FeatureData) → snapshot (e ∷ []) ≡ entry_text e
+one_text e = snapshot_of_first e [] ∙ ap (λ t. entry_text e ++ t) snapshot_none ∙ append-nil (entry_text e)
 
 pub none_put : (front : List ℕ) → front ≡ front ++ snapshot []
 none_put front = sym (ap (λ r. front ++ r) snapshot_none ∙ append-nil front)

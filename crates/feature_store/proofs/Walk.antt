@@ -1,9 +1,8 @@
 -- The tiles of a map, one after the other.
-use Rattle.std.proofs.Common.{◌≡◌, ℕ, ◌+◌, ◌<◌, ◌≤◌, List, [], ◌∷◌, length, map, refl, sym, ap, subst, ◌∙◌}
-use Rattle.std.proofs.Common.{arith, inl, inr, Bool, true, false, Option, Some, None, IfSome, Vec, Global, Result, Ok, Err}
-use Rattle.std.specs.Prelude.{IfNone, OnErr}
-use Rattle.std.specs.Option.{option_map}
-use Rattle.std.proofs.lemmas.Bool.{cases_lt}
+use Rattle.std.proofs.Common.{◌≡◌, ℕ, ◌+◌, ◌<◌, ◌≤◌, List, [], ◌∷◌, length, refl, sym, ap, subst, ◌∙◌}
+use Rattle.std.proofs.Common.{arith, inl, inr, Bool, true, false, Option, Some, None, IfSome, Result, Ok, Err}
+use Rattle.std.specs.Prelude.{◌⊎◌, ◌↔◌, ◌-◌, IsTrue, OnErr}
+use Rattle.std.proofs.lemmas.Bool.{cases_lt, false≢true}
 use Rattle.std.proofs.lemmas.Bool.Decides.{nat_tests}
 use Rattle.feature_model.specs.declared.limits.TheConstants.{MAX_ZOOM}
 use Rattle.hilbert_id.specs.Curve.{IsTileId}
@@ -14,18 +13,18 @@ use Rattle.mvt_layer.specs.Tile.{LayerView}
 use Rattle.mvt_write.specs.Written.{written}
 use Rattle.feature_store.specs.Layers.{is_tile, layers}
 use Rattle.feature_store.specs.Store.{FeatureMap}
-use Rattle.feature_store.specs.Tiles.{ShowsNothing, ShowsNothingFrom, IsNextTile, IsTile, TilesView, HasPlace, IsBytesAt, IsStep, tile_bytes}
+use Rattle.feature_store.specs.declared.tile_parts.TileParts.{TileParts}
+use Rattle.feature_store.specs.declared.tile_parts.TheConstants.{AHEAD}
+use Rattle.feature_store.specs.Parts.{IsBegun, IsInHand, NONE_IN_HAND}
+use Rattle.feature_store.specs.Tiles.{ShowsNothing, IsNextTile, IsTile, HasPlace, tile_bytes}
+use Rattle.feature_store.specs.Walk.{ahead_of, least_id, left_in}
 use Rattle.feature_store.proofs.Below.{the_place}
 use Rattle.feature_store.proofs.Laws.{layers_outside}
 
--- ---- what a step does
+-- ---- a tile that is begun
 
 module _ (m : FeatureMap) where
-  -- the bytes of the tile of an id, by its layers
-  pub bytes_are : (z x y id : ℕ) (bytes : Option (List ℕ)) → IsTileId z x y id → bytes ≡ tile_bytes (layers m z x y) → IsBytesAt m id bytes
-  bytes_are z x y id bytes is same w a b other = same ∙ ap tile_bytes (sym (the_place m z x y w a b id is other))
-
-  -- those of some layers are what is written of them
+  -- the bytes of some layers are what is written of them
   pub some_written : (ls : List LayerView) (bytes : List ℕ) → 0 < length ls → bytes ≡ written ls → Some bytes ≡ tile_bytes ls
   some_written [] bytes some same = absurd (omega (arith, some))
   some_written (l ∷ ls) bytes some same = ap (λ (bs : List ℕ). Some bs) same
@@ -38,40 +37,68 @@ module _ (m : FeatureMap) where
   no_bytes [] same = refl
   no_bytes (l ∷ ls) same = absurd (cc)
 
-  -- what was shown nothing of before, and then up to the step's tile
-  both_nothing : (a b c : ℕ) → ShowsNothing m a b → ShowsNothing m b c → ShowsNothing m a c
-  both_nothing a b c first second z x y id is from to = elim (cases_lt id b) [
-    | inl low ↦ first z x y id is from low
-    | inr ge ↦ second z x y id is ge to
-  ]
+  module _ (from : ℕ) (hand : ℕ × TileParts) (begun : IsBegun m from hand) where
+    abbrev bytes_of : Option (List ℕ)
+    bytes_of = tile_bytes (layers m hand.1.at.z hand.1.at.x hand.1.at.y)
 
-  pub step_shows : (start from id : ℕ) (bytes : List ℕ) → start ≤ from → ShowsNothing m start from → IsStep m from id (Some bytes)
-      → IsNextTile m start (id, bytes)
-  step_shows start from id bytes le nothing step =
-      let here = step.here in
-      let place = step.place in
-      let some = some_bytes (layers m place.0 place.1 place.2) bytes (step.bytes_are place.0 place.1 place.2 place.4) in
-      record {
-        here = omega (arith, le, here);
-        tile = (place.0, place.1, place.2, place.4, some.0, some.1);
-        between = both_nothing start from id nothing step.between;
-      }
+    -- where it shows something it is the next tile
+    pub next_tile : (bytes : List ℕ) → Some bytes ≡ bytes_of → IsNextTile m from (hand.0, bytes)
+    next_tile bytes is =
+        let at = hand.1.at in
+        let some = some_bytes (layers m at.z at.x at.y) bytes is in
+        record { here = begun.here; tile = (at.z, at.x, at.y, begun.tile.id, some.0, some.1); between = begun.between }
 
-  pub step_nothing : (start from id : ℕ) → start ≤ from → ShowsNothing m start from → IsStep m from id None → ShowsNothing m start (id + 1)
-  step_nothing start from id le nothing step =
-      let here = step.here in
-      both_nothing start id (id + 1) (both_nothing start from id nothing step.between) only
-    where
-      only : ShowsNothing m id (id + 1)
-      only z x y k is above under =
-          let same : k ≡ id = omega (arith, above, under) in
-          no_bytes (layers m z x y) (step.bytes_are z x y (subst (IsTileId z x y) same is))
+    -- where it doesn't, neither does any up to it
+    pub none_shown : None ≡ bytes_of → ShowsNothing m from (hand.0 + 1)
+    none_shown none z x y id is above under = elim (cases_lt id hand.0) [
+      | inl low ↦ begun.between z x y id is above low
+      | inr ge ↦
+          let at = hand.1.at in
+          let same : id ≡ hand.0 = omega (arith, ge, under) in
+          the_place m at.z at.x at.y z x y hand.0 begun.tile.id (subst (IsTileId z x y) same is) ∙ no_bytes (layers m at.z at.x at.y) none
+    ]
 
-  pub last_nothing : (start from : ℕ) → ShowsNothing m start from → ShowsNothingFrom m from → ShowsNothingFrom m start
-  last_nothing start from nothing none z x y id is above = elim (cases_lt id from) [
-    | inl low ↦ nothing z x y id is above low
-    | inr ge ↦ none z x y id is ge
-  ]
+-- ---- how far a walk is
+
+-- while no tile is in hand
+pub from_before : (hand : Option (ℕ × TileParts)) (from : ℕ) → hand ≡ None → least_id hand from ≡ from
+from_before hand from none = ap (λ (h : Option (ℕ × TileParts)). least_id h from) none
+
+pub ahead_before : (hand : Option (ℕ × TileParts)) (from id left : ℕ) → hand ≡ None → from ≤ id → left < NONE_IN_HAND
+    → ahead_of id left ≤ ahead_of (least_id hand from) (left_in hand)
+unfolding ahead_of
+ahead_before hand from id left none le few = rw none (omega (arith, le, few))
+
+-- a part more of the tile in hand
+pub ahead_part : (id left new start : ℕ) → new < left → ahead_of id left ≤ start → ahead_of id new < start
+unfolding ahead_of
+ahead_part id left new start fewer le = omega (arith, fewer, le)
+
+-- the tile in hand is made
+pub ahead_whole : (id left start : ℕ) → id < TILE_IDS → ahead_of id left ≤ start → ahead_of (id + 1) NONE_IN_HAND < start
+unfolding ahead_of
+ahead_whole id left start within le = omega (arith, within, le)
+
+-- a part of a tile that isn't whole after it leaves fewer features
+pub fewer_left : (old new : ℕ) (whole : Bool) → new ≡ old - AHEAD → IsTrue whole ↔ (new ≡ 0) → whole ≡ false → new < old
+fewer_left old new whole less is not = by (cases_lt 0 new)
+  where
+    by : (0 < new) ⊎ (new ≤ 0) → new < old
+    by (inl some) = omega (arith, some, less)
+    by (inr none) = absurd (false≢true (sym not ∙ is.1 (omega (arith, none))))
+
+-- where no tile is in hand, the least id of the next tile is that of those that aren't begun
+pub none_in_hand : (m : FeatureMap) (hand : Option (ℕ × TileParts)) (from id : ℕ) → IfSome hand (λ h. (from ≡ h.0 + 1) × IsInHand m h)
+    → least_id hand from ≡ id → ahead_of (least_id hand from) (left_in hand) ≡ ahead_of id NONE_IN_HAND → from ≡ id
+unfolding ahead_of
+none_in_hand m None from id is least ahead = least
+none_in_hand m (Some h) from id is least ahead = let few = is.1.few in absurd (omega (arith, few, least, ahead))
+
+-- the tile that is begun has the zoom of a tile
+pub begun_place : (m : FeatureMap) (hand : ℕ × TileParts) → IsInHand m hand → HasPlace hand.0
+begun_place m hand tile = let at = hand.1.at in (at.z, at.x, at.y, tile.making.zoom, tile.id)
+
+-- ---- the place of an id
 
 -- an id of a zoom of the map is one of a tile, and the tile is of that zoom
 pub place_within : (id : ℕ) → HasPlace id → id < TILE_IDS
@@ -85,59 +112,6 @@ zoom_within z x y id place is =
     let one = one_tile_of z x y place.0 place.1 place.2 id is place.4 in
     let zoom = place.3 in
     omega (arith, zoom, one.0)
-
--- ---- the loop over the steps
-
-abbrev Step : Type 0
-Step = ℕ × Option (Vec ℕ Global)
-
-abbrev bytes_of : Option (Vec ℕ Global) → Option (List ℕ)
-bytes_of o = option_map (λ (v : Vec ℕ Global). v.items) o
-
--- what is told of a step that was made
-pub step_made : (m : FeatureMap) (old new : TilesView) (o : Option Step) (id : ℕ) (bytes : Option (Vec ℕ Global)) → o ≡ Some (id, bytes) → old.features ≡ m
-    → IfSome o (λ t. IsStep old.features old.from t.0 (bytes_of t.1) × (new.from ≡ t.0 + 1))
-    → IsStep m old.from id (bytes_of bytes) × (new.from ≡ id + 1)
-step_made m old new o id bytes is map told =
-    let here = subst (λ (x : Option Step). IfSome x (λ t. IsStep old.features old.from t.0 (bytes_of t.1) × (new.from ≡ t.0 + 1))) is told in
-    (subst (λ (n : FeatureMap). IsStep n old.from id (bytes_of bytes)) map here.0, here.1)
-
-pub tile_made : (m : FeatureMap) (start : ℕ) (old new : TilesView) (o : Option Step) (id : ℕ) (bytes : Option (Vec ℕ Global)) (found : Vec ℕ Global)
-    → o ≡ Some (id, bytes) → bytes ≡ Some found → old.features ≡ m → start ≤ old.from → ShowsNothing m start old.from
-    → IfSome o (λ t. IsStep old.features old.from t.0 (bytes_of t.1) × (new.from ≡ t.0 + 1))
-    → IsNextTile m start (id, found.items) × (new.from ≡ id + 1)
-tile_made m start old new o id bytes found is there map le nothing told =
-    let step = step_made m old new o id bytes is map told in
-    (step_shows m start old.from id found.items le nothing (subst (λ (b : Option (Vec ℕ Global)). IsStep m old.from id (bytes_of b)) there step.0), step.1)
-
--- after a step that shows nothing
-pub record IsPassed (m : FeatureMap) (start : ℕ) (old new : TilesView) : Type 0 where
-  pub above : start ≤ new.from
-  pub nothing : ShowsNothing m start new.from
-  pub further : old.from < new.from
-  pub within : new.from ≤ TILE_IDS
-
-pub passed : (m : FeatureMap) (start : ℕ) (old new : TilesView) (o : Option Step) (id : ℕ) (bytes : Option (Vec ℕ Global))
-    → o ≡ Some (id, bytes) → bytes ≡ None → old.features ≡ m → start ≤ old.from → ShowsNothing m start old.from
-    → IfSome o (λ t. IsStep old.features old.from t.0 (bytes_of t.1) × (new.from ≡ t.0 + 1))
-    → IsPassed m start old new
-passed m start old new o id bytes is none map le nothing told =
-    let step = step_made m old new o id bytes is map told in
-    let here = step.0.here in
-    let low = place_within id step.0.place in
-    let shows = step_nothing m start old.from id le nothing (subst (λ (b : Option (Vec ℕ Global)). IsStep m old.from id (bytes_of b)) none step.0) in
-    record {
-      above = omega (arith, le, here, step.1);
-      nothing = subst (λ (n : ℕ). ShowsNothing m start n) (sym step.1) shows;
-      further = omega (arith, here, step.1);
-      within = omega (arith, low, step.1);
-    }
-
-pub last_step : (m : FeatureMap) (start : ℕ) (old : TilesView) (o : Option Step) → o ≡ None → old.features ≡ m → ShowsNothing m start old.from
-    → IfNone o (ShowsNothingFrom old.features old.from) → ShowsNothingFrom m start
-last_step m start old o none map nothing told =
-    let here = subst (λ (x : Option Step). IfNone x (ShowsNothingFrom old.features old.from)) none told in
-    last_nothing m start old.from nothing (subst (λ (n : FeatureMap). ShowsNothingFrom n old.from) map here)
 
 -- what holds anyway holds after an error
 pub on_err : {X E P : Type 0} (r : Result X E) → P → OnErr r P

@@ -1,9 +1,8 @@
 -- What a tile shows, gathered by the names of layers.
-use Rattle.std.specs.Prelude.{◌≡◌, ℕ, ◌<◌, List, [], length, map, Option, Some, None}
-use Rattle.std.specs.Borrow.{Bor}
-use Rattle.std.specs.Ordering.{nat_cmp}
-use Rattle.std.specs.Cmp.Lexicographic.{slice_cmp}
-use Rattle.std.specs.BTreeMap.{BTreeMap, get_by}
+use Rattle.std.specs.Prelude.{◌≡◌, ℕ, ◌<◌, List, [], length, map, Option, Some, None, String}
+use Rattle.std.specs.BTreeMap.{BTreeMap, get_by_text}
+use Rattle.std.specs.Global.{Global}
+use Rattle.std.specs.String.{string_bytes}
 use Rattle.mvt_layer.specs.Tile.{FeatureView, LayerView}
 use Rattle.mvt_write.specs.declared.layer_writer.LayerWriter.{LayerWriter}
 use Rattle.mvt_write.specs.Writes as layers
@@ -11,7 +10,7 @@ use Rattle.mvt_write.specs.Writes.{Writes}
 
 -- a layer that is being written, by its name
 abbrev pub Gathered : Type 0
-Gathered = BTreeMap (Bor (List ℕ)) LayerWriter
+Gathered = BTreeMap (String Global) LayerWriter
 
 -- the writer of a name, if there is one, has these features, and there is one if there are any
 abbrev pub IsGathered : Option LayerWriter → List ℕ → List FeatureView → Type 0
@@ -20,11 +19,11 @@ IsGathered (Some w) name fs = (0 < length fs) × Writes w name fs []
 
 -- for each name, what is gathered has these features
 abbrev pub Gathers : Gathered → (List ℕ → List FeatureView) → Type 0
-Gathers g fs = (name : List ℕ) → IsGathered (get_by (λ k. slice_cmp nat_cmp name k.now) g) name (fs name)
+Gathers g fs = (name : List ℕ) → IsGathered (get_by_text g name) name (fs name)
 
 -- a name and its features as a layer
-abbrev pub layer_of : (List ℕ → List FeatureView) → Bor (List ℕ) × LayerWriter → LayerView
-layer_of fs e = layers.layer_of e.0.now (fs e.0.now)
+abbrev pub layer_of : (List ℕ → List FeatureView) → String Global × LayerWriter → LayerView
+layer_of fs e = layers.layer_of (string_bytes e.0) (fs (string_bytes e.0))
 
 -- the layers of what is gathered
 abbrev pub layers_of : (List ℕ → List FeatureView) → Gathered → List LayerView

@@ -9,7 +9,10 @@ pub mod Layers
 pub mod Left
 pub mod MomentInside
 pub mod Moments
+pub mod Parts
 pub mod Prepared
+pub mod ReaderInside
+pub mod Reading
 pub mod Records
 pub mod Snapshots
 pub mod Store

@@ -1,10 +1,11 @@
 -- A map as of a moment, while it is edited.
-use Rattle.std.specs.Prelude.{◌≡◌, ℕ, Bool, false, List, Option}
+use Rattle.std.specs.Prelude.{◌≡◌, ℕ, Bool, false, List, All, Option}
 use Rattle.std.specs.BTreeMap.{is_at}
 use Rattle.std.specs.Map.{lookup}
 use Rattle.std.specs.Option.{IfSome, option_map, option_map_or}
 use Rattle.std.specs.Ordering.{nat_cmp}
 use Rattle.feature_model.specs.Data.{FeatureData}
+use Rattle.number_map.specs.Blocks.{Ascends}
 use Rattle.feature_store.specs.Inside.{Stored, stored_data}
 use Rattle.feature_store.specs.Store.{FeatureMap, IsMap, feature_at}
 
@@ -28,9 +29,15 @@ had_by kept now = option_map_or (option_map stored_data) kept now
 abbrev pub had_at : Kept → ℕ → Option FeatureData → Option FeatureData
 had_at kept n now = had_by (lookup (is_at (nat_cmp n)) kept) now
 
+-- the numbers ascend, and the text of what was kept of a number gives it to that number
+pub record AreKept (kept : Kept) : Type 0 where
+  pub ascending : Ascends kept
+  pub own : All (λ e. IfSome e.1 (λ s. s.0 ≡ e.0)) kept
+
 -- `m` is the map now: unless it is lost, a number had at the moment what was kept of it, or what it has now if nothing was kept
 pub record IsAsOf (t : MomentView) (m : FeatureMap) : Type 0 where
   pub is_map : IsMap t.features
+  pub kept : AreKept t.kept
   pub each : (n : ℕ) → t.lost ≡ false → feature_at t.features n ≡ had_at t.kept n (feature_at m n)
 
 -- ---- a moment that there may be

@@ -1,5 +1,5 @@
 -- All tiles of a map.
-use Rattle.std.specs.Prelude.{◌≡◌, ◌<◌, ◌≤◌, [], ◌∷◌, ℕ, List, length, All, Option, Some, None}
+use Rattle.std.specs.Prelude.{◌≡◌, ◌<◌, ◌≤◌, [], ◌∷◌, ℕ, List, length, All, Option, Some, None, ⊤}
 use Rattle.std.specs.List.{Contains}
 use Rattle.std.specs.List.Sorted.{IsStrictlySortedBy}
 use Rattle.std.specs.Map.{keys_of}
@@ -8,6 +8,8 @@ use Rattle.feature_model.specs.declared.limits.TheConstants.{MAX_ZOOM}
 use Rattle.hilbert_id.specs.Curve.{IsTileId}
 use Rattle.mvt_layer.specs.Tile.{LayerView}
 use Rattle.mvt_write.specs.Written.{written}
+use Rattle.feature_store.specs.declared.all_tiles.Making.{Making}
+use Rattle.feature_store.specs.declared.all_tiles.Making.TheVariants.{Part, Whole, Over}
 use Rattle.feature_store.specs.Layers.{layers}
 use Rattle.feature_store.specs.Store.{FeatureMap}
 
@@ -29,10 +31,24 @@ pub record AreTilesBelow (m : FeatureMap) (end : ℕ) (ts : List (ℕ × List �
 
 -- ---- one after the other
 
--- what contracts see of a walk over the tiles of a map: the map, and the least id that the next tile may have
+-- what contracts see of a walk over the tiles of a map: the map, the least id that the next tile may have, and a number that falls with each
+-- part that is made
 pub record TilesView : Type 0 where
   pub features : FeatureMap
   pub from : ℕ
+  pub ahead : ℕ
+
+-- if a tile was made, this is true of its id and its bytes
+abbrev pub IfTile : (ℕ × List ℕ → Type 0) → Making → Type 0
+IfTile P Part = ⊤
+IfTile P (Whole t) = P (t.0, t.1.items)
+IfTile P Over = ⊤
+
+-- nothing is left to make of a walk, or `ahead` has fallen
+abbrev pub GoesOn : (old new : TilesView) → Making → Type 0
+GoesOn old new Part = new.ahead < old.ahead
+GoesOn old new (Whole t) = new.ahead < old.ahead
+GoesOn old new Over = ⊤
 
 -- no tile with an id from `from` on and below `end` shows anything of the map
 abbrev pub ShowsNothing : FeatureMap → (from end : ℕ) → Type 0
@@ -56,14 +72,3 @@ HasPlace id = (z : ℕ) × (x : ℕ) × (y : ℕ) × (z ≤ MAX_ZOOM) × IsTileI
 abbrev pub tile_bytes : List LayerView → Option (List ℕ)
 tile_bytes [] = None
 tile_bytes (l ∷ ls) = Some (written (l ∷ ls))
-
--- the bytes of the tile with this id, if it shows something of the map
-abbrev pub IsBytesAt : FeatureMap → ℕ → Option (List ℕ) → Type 0
-IsBytesAt m id bytes = (z x y : ℕ) → IsTileId z x y id → bytes ≡ tile_bytes (layers m z x y)
-
--- the id of the first tile from `from` on that may show something of the map, and its bytes if it does
-pub record IsStep (m : FeatureMap) (from id : ℕ) (bytes : Option (List ℕ)) : Type 0 where
-  pub here : from ≤ id
-  pub place : HasPlace id
-  pub between : ShowsNothing m from id
-  pub bytes_are : IsBytesAt m id bytes

@@ -1,17 +1,35 @@
 -- How a walk over the tiles of a map is kept.
-use Rattle.std.specs.Prelude.{◌+◌, ◌≤◌}
+use Rattle.std.specs.Prelude.{◌≡◌, ◌+◌, ◌-◌, ◌*◌, ◌≤◌, ℕ, Option, Some, None, IfSome}
+use Rattle.hilbert_id.specs.declared.number.TheConstants.{TILE_IDS}
 use Rattle.feature_model.specs.declared.limits.TheConstants.{MAX_ZOOM}
 use Rattle.feature_store.specs.declared.all_tiles.Tiles.TheInside.{Inside}
+use Rattle.feature_store.specs.declared.tile_parts.TileParts.{TileParts}
 use Rattle.feature_store.specs.Left.{AreLeft, left_of}
+use Rattle.feature_store.specs.Parts.{IsInHand, NONE_IN_HAND}
 use Rattle.feature_store.specs.Store.{IsMap}
 use Rattle.feature_store.specs.Tiles.{TilesView}
 
--- the map, and the least id that the next tile may have
-abbrev pub tiles_view : Inside → TilesView
-tiles_view w = record { features = w.map; from = w.from }
+-- the least id that the next tile may have: that of the tile in hand, or else the least of those that aren't begun
+abbrev pub least_id : Option (ℕ × TileParts) → ℕ → ℕ
+least_id None from = from
+least_id (Some hand) from = hand.0
 
--- the tiles of the walk are all that are left of the zooms that were begun
+-- how many numbers of the tile in hand are left
+abbrev pub left_in : Option (ℕ × TileParts) → ℕ
+left_in None = NONE_IN_HAND
+left_in (Some hand) = hand.1.left
+
+-- a number that falls as the id of the next tile rises, and at the same id as fewer of its numbers are left
+unfoldable pub ahead_of : (id left : ℕ) → ℕ
+ahead_of id left = (TILE_IDS - id) * (NONE_IN_HAND + 1) + left
+
+-- the map, and how far the walk is
+abbrev pub tiles_view : Inside → TilesView
+tiles_view w = record { features = w.map; from = least_id w.hand w.from; ahead = ahead_of (least_id w.hand w.from) (left_in w.hand) }
+
+-- The tiles that aren't begun are all that are left of the zooms that were begun. The tile in hand is of the map, and the last before them.
 pub record IsWalk (w : Inside) : Type 0 where
   pub is_map : IsMap w.map
   pub zoom : w.left.zoom ≤ MAX_ZOOM + 1
   pub left : AreLeft w.map w.left.zoom w.from (left_of w.left.walk)
+  pub hand : IfSome w.hand (λ hand. (w.from ≡ hand.0 + 1) × IsInHand w.map hand)

@@ -1,24 +1,18 @@
 //! All tiles of a map, one after the other.
-ghost use Rattle.std.specs.Prelude.{◌≡◌, ◌≤◌, ◌+◌, ℕ, List, false, IfOk, IfSome, IfNone, option_map};
-ghost use Rattle.feature_model.specs.declared.limits.TheConstants.{MAX_ZOOM};
-ghost use Rattle.hilbert_id.specs.Curve.{IsTileId};
-ghost use Rattle.feature_store.specs.Indexed.{ShowsAll};
+ghost use Rattle.std.specs.Prelude.{◌≡◌, ◌≤◌, ◌+◌, ℕ, List, Ok, false, IfOk, IfSome, IfNone};
 ghost use Rattle.feature_store.specs.Inside.{entries_data};
-ghost use Rattle.feature_store.specs.Layers.{layers};
 ghost use Rattle.feature_store.specs.Moments.{IsAsOf};
 ghost use Rattle.feature_store.specs.Store.{IsMap};
-ghost use Rattle.feature_store.specs.Tiles.{HasPlace, IsBytesAt, IsNextTile, IsStep, IsTile, ShowsNothingFrom, tile_bytes};
+ghost use Rattle.feature_store.specs.Tiles.{GoesOn, IfTile, IsNextTile, IsTile, ShowsNothing, ShowsNothingFrom};
 
 use crate::cutter::Cutter;
 use crate::feature_boxes::FeatureBoxes;
-use crate::gathered::gather;
-use crate::layers::written;
 use crate::moment::Moment;
 use crate::store::Store;
+use crate::tile_parts::{TileParts, tile_of_numbers};
 use crate::tiles_left::TilesLeft;
 use edit_text::StoredFeature;
-use feature_model::MAX_ZOOM;
-use hilbert_id::{TileAt, tile_of};
+use hilbert_id::tile_of;
 use number_map::NumberMap;
 use std::alloc::{AllocError, Global};
 use std::marker::Model;
@@ -26,16 +20,32 @@ use std::marker::Model;
 /// The id of a tile, and its bytes.
 pub type Tile = (u64, Vec<u8>);
 
-/// The tiles that show something of a map, in ascending order of their ids, each made when it is asked for.
+/// What a call of `Tiles::next` made.
+#[derive(Drop)]
+pub enum Making {
+    /// A part of a tile, or a tile that shows nothing.
+    Part,
+    /// The last part of a tile that shows something: this tile.
+    Whole(Tile),
+    /// Nothing, since no tile is left.
+    Over,
+}
+
+/// The id of a tile in the making, and what is made of it.
+type InHand = (u64, TileParts);
+
+/// The tiles that show something of a map, in ascending order of their ids, each made by parts when it is asked for.
 ///
 /// The map may be edited meanwhile: they are those of the moment that each call is given.
 #[derive(Drop)]
 pub struct Tiles {
     map: FeatureBoxes,
-    /// The tiles that aren't made yet.
+    /// The tiles that aren't begun.
     left: TilesLeft,
-    /// No such tile has this id or a greater one.
+    /// None of them has a lesser id.
     from: u64,
+    /// The tile before them, if it is begun.
+    hand: Option<InHand>,
     cutter: Cutter,
     alloc: Global,
 }
@@ -52,46 +62,11 @@ impl Model for Tiles {
     ghost invariant = { IsWalk };
 }
 
-/// The bytes of a tile of a moment, or `None` if it shows nothing, by the numbers of the features of which it shows something, and maybe
-/// of others.
-pub(crate) fn tile_of_numbers(
-    alloc: Global,
-    cutter: &mut Cutter,
-    features: &NumberMap<StoredFeature>,
-    moment: &Moment,
-    numbers: &[u64],
-    at: TileAt,
-) -> Result<Option<Vec<u8>>, AllocError>
-    requires zoom { at.z ≤ MAX_ZOOM }
-    requires there { moment.now.lost ≡ false }
-    requires as_of { IsAsOf moment.now (entries_data features.now.entries) }
-    requires shown { ShowsAll moment.now.features at.z at.x at.y numbers.now }
-    ensures { IfOk result (λ o. option_map (λ v. v.items) o ≡ tile_bytes (layers moment.now.features at.z at.x at.y)) }
-{
-    let gathered = gather(alloc, cutter, features, moment, numbers, at)?;
-    written(alloc, gathered)
-}
-
-/// The bytes of the tile of an id, if it shows something, by the numbers as above.
-fn bytes_at(
-    alloc: Global,
-    cutter: &mut Cutter,
-    features: &NumberMap<StoredFeature>,
-    moment: &Moment,
-    numbers: &[u64],
-    id: u64,
-) -> Result<Option<Vec<u8>>, AllocError>
-    requires place { HasPlace id }
-    requires there { moment.now.lost ≡ false }
-    requires as_of { IsAsOf moment.now (entries_data features.now.entries) }
-    requires shown { (z x y : ℕ) → z ≤ MAX_ZOOM → IsTileId z x y id → ShowsAll moment.now.features z x y numbers.now }
-    ensures { IfOk result (λ o. IsBytesAt moment.now.features id (option_map (λ v. v.items) o)) }
-{
-    let at = tile_of(id).unwrap();
-    tile_of_numbers(alloc, cutter, features, moment, numbers, at)
-}
-
 impl Tiles {
+    ghost use Rattle.feature_store.specs.Parts.{IsBegun, NONE_IN_HAND};
+    ghost use Rattle.feature_store.specs.Walk.{ahead_of};
+    ghost use Rattle.feature_store.specs.declared.all_tiles.Making.TheVariants.{Part, Over};
+
     /// The tiles of a map. The only error is out of memory.
     pub(crate) fn of(
         alloc: Global,
@@ -102,55 +77,71 @@ impl Tiles {
         ensures start { IfOk result (λ tiles. tiles.from ≡ 0) }
     {
         let map = FeatureBoxes::of(alloc, features)?;
+        Tiles::of_boxes(alloc, map)
+    }
+
+    /// The tiles of a map whose boxes are these. The only error is out of memory.
+    pub(crate) fn of_boxes(alloc: Global, map: FeatureBoxes) -> Result<Tiles, AllocError>
+        requires { IsMap map }
+        ensures map { IfOk result (λ tiles. tiles.features ≡ map) }
+        ensures start { IfOk result (λ tiles. tiles.from ≡ 0) }
+    {
         let left = TilesLeft::of(alloc, &map)?;
         Ok(Tiles {
             map,
             left,
             from: 0,
+            hand: None,
             cutter: Cutter::new(alloc),
             alloc,
         })
     }
 
-    /// The id of the next tile that may show something, and its bytes if it does. The only error is out of memory.
-    fn step(
-        &mut self,
-        features: &NumberMap<StoredFeature>,
-        moment: &Moment,
-    ) -> Result<Option<(u64, Option<Vec<u8>>)>, AllocError>
-        requires same { moment.now.features ≡ self.old.features }
-        requires there { moment.now.lost ≡ false }
-        requires as_of { IsAsOf moment.now (entries_data features.now.entries) }
+    /// Takes the tile in hand, or else begins the next one that may show something, if there is one. The only error is out of memory.
+    fn take_in_hand(&mut self) -> Result<Option<InHand>, AllocError>
         ensures map { self.new.features ≡ self.old.features }
-        ensures tile { IfOk result (λ o. IfSome o (λ t. IsStep self.old.features self.old.from t.0 (option_map (λ v. v.items) t.1)
-            × (self.new.from ≡ t.0 + 1))) }
+        ensures tile { IfOk result (λ o. IfSome o (IsBegun self.old.features self.old.from)) }
+        ensures from { IfOk result (λ o. IfSome o (λ hand. self.new.from ≡ hand.0 + 1)) }
+        ensures ahead { IfOk result (λ o. IfSome o (λ hand. ahead_of hand.0 hand.1.left ≤ self.old.ahead)) }
+        ensures after { IfOk result (λ o. IfSome o (λ hand. self.new.ahead ≡ ahead_of (hand.0 + 1) NONE_IN_HAND)) }
         ensures none { IfOk result (λ o. IfNone o (ShowsNothingFrom self.old.features self.old.from)) }
     {
+        if let Some(hand) = self.hand.take() {
+            return Ok(Some(hand));
+        }
         let Some((id, numbers)) = self.left.take_next(self.alloc, &self.map)? else {
             return Ok(None);
         };
         self.from = id + 1;
-        let bytes = bytes_at(self.alloc, &mut self.cutter, features, moment, &numbers, id)?;
-        Ok(Some((id, bytes)))
+        let at = tile_of(id).unwrap();
+        Ok(Some((id, TileParts::of(self.alloc, at, numbers))))
     }
 
-    /// The next tile that shows something of the moment, if there is one. `store` is the map as it is now. The only error is out of memory; the
+    /// Makes a part of the next tile that shows something of the moment. `store` is the map as it is now. The only error is out of memory; the
     /// walk is of no use then.
-    pub fn next(&mut self, store: &Store, moment: &Moment) -> Result<Option<Tile>, AllocError>
+    pub fn next(&mut self, store: &Store, moment: &Moment) -> Result<Making, AllocError>
         requires same { moment.now.features ≡ self.old.features }
         requires there { moment.now.lost ≡ false }
         requires as_of { IsAsOf moment.now store.now.features }
         ensures map { self.new.features ≡ self.old.features }
-        ensures tile { IfOk result (λ o. IfSome o (λ t. IsNextTile self.old.features self.old.from (t.0, t.1.items) × (self.new.from ≡ t.0 + 1))) }
-        ensures none { IfOk result (λ o. IfNone o (ShowsNothingFrom self.old.features self.old.from)) }
+        ensures part { result ≡ Ok Part → (self.old.from ≤ self.new.from) × ShowsNothing self.old.features self.old.from self.new.from }
+        ensures tile { IfOk result (IfTile (λ t. IsNextTile self.old.features self.old.from t × (self.new.from ≡ t.0 + 1))) }
+        ensures over { result ≡ Ok Over → ShowsNothingFrom self.old.features self.old.from }
+        // So calls until `Over` end.
+        ensures ahead { IfOk result (GoesOn self.old self.new) }
     {
-        let features = store.features();
-        while let Some((id, bytes)) = self.step(features, moment)? {
-            if let Some(bytes) = bytes {
-                return Ok(Some((id, bytes)));
-            }
+        let Some((id, mut parts)) = self.take_in_hand()? else {
+            return Ok(Making::Over);
+        };
+        parts.add_part(&mut self.cutter, store.features(), moment)?;
+        if !parts.is_whole() {
+            self.hand = Some((id, parts));
+            return Ok(Making::Part);
         }
-        Ok(None)
+        match parts.written()? {
+            Some(bytes) => Ok(Making::Whole((id, bytes))),
+            None => Ok(Making::Part),
+        }
     }
 
     /// The bytes of a tile of the moment, which shows something, once more, by its id. `store` is the map as it is now. It looks at the box of
@@ -170,7 +161,7 @@ impl Tiles {
             &mut self.cutter,
             store.features(),
             moment,
-            &numbers,
+            numbers,
             at,
         )?;
         match bytes {

@@ -139,10 +139,18 @@ impl FeatureBoxes {
     {
         let mut boxes = Vec::with_capacity(alloc, features.len())?;
         append_blocks(&mut boxes, features.blocks())?;
-        Ok(FeatureBoxes {
-            features: Snapshot::of(features),
-            boxes,
-        })
+        Ok(FeatureBoxes::with(Snapshot::of(features), boxes))
+    }
+
+    /// The boxes of the features of a map, which were read before.
+    pub(crate) fn with(
+        features: Snapshot<NumberMap<StoredFeature>>,
+        boxes: Vec<IndexEntry>,
+    ) -> FeatureBoxes
+        requires { boxes.items ≡ map index_entry (entries_data features.value.entries) }
+        ensures { result ≡ entries_data features.value.entries }
+    {
+        FeatureBoxes { features, boxes }
     }
 
     /// The walk over the tiles of a zoom that the features cover. The only error is out of memory.

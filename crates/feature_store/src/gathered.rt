@@ -10,7 +10,6 @@ ghost use Rattle.tile_cutter.specs.Cut.{shown_tag};
 ghost use Rattle.tile_cutter.specs.Put.{IsPut};
 ghost use Rattle.feature_store.specs.Chosen.{chosen, borrowed_data, found_data};
 ghost use Rattle.feature_store.specs.Gathered.{Gathers};
-ghost use Rattle.feature_store.specs.Indexed.{ShowsAll};
 ghost use Rattle.feature_store.specs.Inside.{entries_data};
 ghost use Rattle.feature_store.specs.Layers.{numbered, added_to, cuts_of};
 ghost use Rattle.feature_store.specs.Moments.{IsAsOf};
@@ -29,10 +28,10 @@ use std::collections::BTreeMap;
 use tile_cutter::{put_cut, shown_value};
 
 /// The layers, by their names.
-pub(crate) type Gathered<'a> = BTreeMap<&'a str, LayerWriter<'a>>;
+pub(crate) type Gathered = BTreeMap<String, LayerWriter>;
 
 /// Adds the tags of the feature that comes next.
-fn put_tags<'a>(writer: &mut LayerWriter<'a>, tags: Tags<'a>) -> Result<(), AllocError>
+fn put_tags(writer: &mut LayerWriter, tags: Tags<'_>) -> Result<(), AllocError>
     requires { All (λ t. ValueFits t.value) (tags_view tags) }
     ensures { OnOk result ((name : List ℕ) (fs : List FeatureView)
         → Writes writer.old name fs [] → Writes writer.new name fs (map shown_tag (tags_view tags.entry))) }
@@ -44,10 +43,10 @@ fn put_tags<'a>(writer: &mut LayerWriter<'a>, tags: Tags<'a>) -> Result<(), Allo
 }
 
 /// Adds a feature of this number, whose shape is packed.
-fn put_feature<'a>(
-    writer: &mut LayerWriter<'a>,
+fn put_feature(
+    writer: &mut LayerWriter,
     id: u64,
-    feature: FeatureText<'a>,
+    feature: FeatureText<'_>,
     kind: ShapeKind,
     shape: &PackedShape,
 ) -> Result<(), AllocError>
@@ -61,11 +60,11 @@ fn put_feature<'a>(
 }
 
 /// Adds a feature to its layer, which is begun with its first feature.
-fn add<'a>(
+fn add(
     alloc: Global,
-    gathered: &mut Gathered<'a>,
+    gathered: &mut Gathered,
     id: u64,
-    feature: FeatureText<'a>,
+    feature: FeatureText<'_>,
     kind: ShapeKind,
     shape: &PackedShape,
 ) -> Result<(), AllocError>
@@ -77,19 +76,20 @@ fn add<'a>(
     if let Some(writer) = gathered.get_mut(feature.layer) {
         return put_feature(writer, id, feature, kind, shape);
     }
+    let name = String::from_str(alloc, feature.layer)?;
     let mut writer = LayerWriter::new(alloc, feature.layer)?;
     put_feature(&mut writer, id, feature, kind, shape)?;
-    gathered.insert(feature.layer, writer)?;
+    gathered.insert(name, writer)?;
     Ok(())
 }
 
 /// Adds what the tile shows of a feature to what it shows of those before.
-fn add_shown<'a>(
+fn add_shown(
     alloc: Global,
     cutter: &mut Cutter,
-    gathered: &mut Gathered<'a>,
+    gathered: &mut Gathered,
     id: u64,
-    feature: FeatureText<'a>,
+    feature: FeatureText<'_>,
     at: TileAt,
 ) -> Result<(), AllocError>
     requires zoom { at.z ≤ MAX_ZOOM }
@@ -102,10 +102,6 @@ fn add_shown<'a>(
     };
     add(alloc, gathered, id, feature, kind, &cutter.shape)
 }
-
-/// How many features are looked up before the first of them is cut: most of their searches and first reads miss the caches, and these misses
-/// overlap.
-const AHEAD: usize = 32;
 
 /// A feature that is looked up, and its number.
 #[derive(Clone, Copy)]
@@ -132,47 +128,47 @@ fn push_stored<'a>(
     Ok(())
 }
 
-/// Puts the numbers that had a feature at a moment into `stored`, each with its feature. What was there is dropped.
+/// The numbers that had a feature at a moment, each with its feature.
 fn look_up<'a>(
-    stored: &mut Vec<(u64, &'a StoredFeature)>,
+    alloc: Global,
     features: &'a NumberMap<StoredFeature>,
     moment: &'a Moment,
     numbers: &[u64],
-) -> Result<(), AllocError>
+) -> Result<Vec<(u64, &'a StoredFeature)>, AllocError>
     requires there { moment.now.lost ≡ false }
     requires as_of { IsAsOf moment.now (entries_data features.now.entries) }
-    ensures { OnOk result (map borrowed_data stored.new.items ≡ chosen moment.entry.now.features numbers.now) }
+    ensures { IfOk result (λ stored. map borrowed_data stored.items ≡ chosen moment.entry.now.features numbers.now) }
 {
-    stored.clear();
+    let mut stored = Vec::with_capacity(alloc, numbers.len())?;
     for number in numbers {
-        push_stored(stored, features, moment, *number)?;
+        push_stored(&mut stored, features, moment, *number)?;
     }
-    Ok(())
+    Ok(stored)
 }
 
-/// Puts what each of these features shows into `found`. What was there is dropped.
+/// What each of these features shows.
 fn view_each<'a>(
-    found: &mut Vec<Found<'a>>,
+    alloc: Global,
     stored: &[(u64, &'a StoredFeature)],
-) -> Result<(), AllocError>
-    ensures { OnOk result (map found_data found.new.items ≡ map borrowed_data stored.now) }
+) -> Result<Vec<Found<'a>>, AllocError>
+    ensures { IfOk result (λ found. map found_data found.items ≡ map borrowed_data stored.now) }
 {
-    found.clear();
+    let mut found = Vec::with_capacity(alloc, stored.len())?;
     for &(id, feature) in stored {
         found.push(Found {
             id,
             feature: feature.view(),
         })?;
     }
-    Ok(())
+    Ok(found)
 }
 
 /// Adds what the tile shows of features to what it shows of those before.
-fn add_each<'a>(
+fn add_each(
     alloc: Global,
     cutter: &mut Cutter,
-    gathered: &mut Gathered<'a>,
-    found: &[Found<'a>],
+    gathered: &mut Gathered,
+    found: &[Found<'_>],
     at: TileAt,
 ) -> Result<(), AllocError>
     requires zoom { at.z ≤ MAX_ZOOM }
@@ -186,31 +182,24 @@ fn add_each<'a>(
     Ok(())
 }
 
-/// What the tile shows of the features of a moment, by the numbers of those of which it shows something, and maybe of others.
-pub(crate) fn gather<'a>(
+/// Adds what the tile shows of the features that these numbers had at a moment to what it shows of those before. All are looked up before
+/// the first of them is cut.
+pub(crate) fn add_numbers(
     alloc: Global,
     cutter: &mut Cutter,
-    features: &'a NumberMap<StoredFeature>,
-    moment: &'a Moment,
+    gathered: &mut Gathered,
+    features: &NumberMap<StoredFeature>,
+    moment: &Moment,
     numbers: &[u64],
     at: TileAt,
-) -> Result<Gathered<'a>, AllocError>
+) -> Result<(), AllocError>
     requires zoom { at.z ≤ MAX_ZOOM }
     requires there { moment.now.lost ≡ false }
     requires as_of { IsAsOf moment.now (entries_data features.now.entries) }
-    requires shown { ShowsAll moment.now.features at.z at.x at.y numbers.now }
-    ensures { IfOk result (λ g. Gathers g (λ name. cuts_of moment.now.features name at.z at.x at.y)) }
+    ensures { OnOk result ((fs : List ℕ → List FeatureView) → Gathers gathered.old fs
+        → Gathers gathered.new (λ name. fs name ++ cuts_of (chosen moment.now.features numbers.now) name at.z at.x at.y)) }
 {
-    let mut gathered = BTreeMap::new(alloc);
-    let mut stored = Vec::with_capacity(alloc, AHEAD.min(numbers.len()))?;
-    let mut found = Vec::with_capacity(alloc, AHEAD.min(numbers.len()))?;
-    let mut rest = numbers;
-    while !rest.is_empty() {
-        let (part, later) = rest.split_at(AHEAD.min(rest.len()));
-        look_up(&mut stored, features, moment, part)?;
-        view_each(&mut found, &stored)?;
-        add_each(alloc, cutter, &mut gathered, &found, at)?;
-        rest = later;
-    }
-    Ok(gathered)
+    let stored = look_up(alloc, features, moment, numbers)?;
+    let found = view_each(alloc, &stored)?;
+    add_each(alloc, cutter, gathered, &found, at)
 }

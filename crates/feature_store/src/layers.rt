@@ -10,8 +10,8 @@ use crate::gathered::Gathered;
 use std::alloc::{AllocError, Global};
 
 /// What is gathered as the bytes of a tile, or `None` if that is nothing.
-pub(crate) fn written(alloc: Global, gathered: Gathered<'_>) -> Result<Option<Vec<u8>>, AllocError>
-    ensures { IfOk result (λ o. (m : FeatureMap) (z x y : ℕ) → Gathers gathered.entry (λ name. cuts_of m name z x y) → is_tile z x y ≡ true
+pub(crate) fn written(alloc: Global, gathered: Gathered) -> Result<Option<Vec<u8>>, AllocError>
+    ensures { IfOk result (λ o. (m : FeatureMap) (z x y : ℕ) → Gathers gathered (λ name. cuts_of m name z x y) → is_tile z x y ≡ true
         → option_map (λ v. v.items) o ≡ tile_bytes (layers m z x y)) }
 {
     if gathered.is_empty() {

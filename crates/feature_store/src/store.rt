@@ -5,11 +5,11 @@ ghost use Rattle.std.specs.Prelude.{All, OnOk, OnErr, option_map};
 ghost use Rattle.feature_model.specs.Data.{change_data};
 ghost use Rattle.feature_model.specs.Limits.{IsAllowed, IsAllowedChange};
 ghost use Rattle.edit_text.specs.Views.{feature_view};
-ghost use Rattle.number_map.specs.Blocks.{joined};
+ghost use Rattle.number_map.specs.Blocks.{Ascends, joined};
 ghost use Rattle.tile_cutter.specs.WorldBox.{bounding_box};
 ghost use Rattle.feature_store.specs.Content.{IsTileContent};
 ghost use Rattle.feature_store.specs.Indexed.{ShowsAll};
-ghost use Rattle.feature_store.specs.Inside.{stored_data, entries_data};
+ghost use Rattle.feature_store.specs.Inside.{IsOwn, stored_data, entries_data};
 ghost use Rattle.feature_store.specs.Layers.{layers};
 ghost use Rattle.feature_store.specs.Moments.{IsAsOf};
 ghost use Rattle.feature_store.specs.Prepared.{prepared_data};
@@ -18,7 +18,7 @@ ghost use Rattle.feature_store.specs.Tiles.{tile_bytes};
 ghost use Rattle.feature_store.specs.declared.fault.SnapshotFault.TheVariants.{Bad, Memory};
 ghost use Rattle.feature_store.specs.Store.{IsMap, HasRoom, feature_at, box_at, feature_from, greatest_id, with_feature, without_feature, snapshot, puts_in};
 
-use crate::all_tiles::{Tiles, tile_of_numbers};
+use crate::all_tiles::Tiles;
 use crate::cutter::Cutter;
 use crate::fault::SnapshotFault;
 use crate::feature_boxes::FeatureBoxes;
@@ -29,6 +29,7 @@ use crate::moment::Moment;
 use crate::placed::PlacedBoxes;
 use crate::prepared::{Prepared, count_puts, prepare_each};
 use crate::snapshot_texts::{append_block_texts, read_map};
+use crate::tile_parts::tile_of_numbers;
 use box_index::BoxIndex;
 use edit_text::{FeatureText, StoredFeature};
 use feature_model::{Change, MAX_ZOOM, WorldBox};
@@ -193,6 +194,7 @@ impl Store {
         ensures before { result.0.before ≡ box_at self.old.features stored.0 }
         ensures after { result.0.after ≡ bounding_box stored.1.geometry }
         ensures replaced { option_map stored_data result.1 ≡ feature_at self.old.features stored.0 }
+        ensures own { IfSome result.1 (λ s. s.0 ≡ stored.0) }
         ensures map { self.new.features ≡ with_feature self.old.features stored.0 stored.1 }
         ensures spare { self.old.spare ≤ self.new.spare + 1 }
         ensures here { feature_at self.new.features stored.0 ≡ Some stored.1 }
@@ -247,6 +249,7 @@ impl Store {
         ensures found { IsSome result.0 ↔ IsSome (feature_at self.old.features id) }
         ensures bounds { result.0 ≡ box_at self.old.features id }
         ensures removed { option_map stored_data result.1 ≡ feature_at self.old.features id }
+        ensures own { IfSome result.1 (λ s. s.0 ≡ id) }
         ensures map { self.new.features ≡ without_feature self.old.features id }
         ensures spare { self.old.spare ≤ self.new.spare }
         ensures gone { feature_at self.new.features id ≡ None }
@@ -316,7 +319,7 @@ impl Store {
         let numbers = self.numbers_near(at)?;
         let mut cutter = Cutter::new(self.alloc);
         let now = Moment::of(self.alloc, &self.features);
-        tile_of_numbers(self.alloc, &mut cutter, &self.features, &now, &numbers, at)
+        tile_of_numbers(self.alloc, &mut cutter, &self.features, &now, numbers, at)
     }
 
     /// The map as of now, while it is edited by `place_after` and `remove_after`. It allocates nothing, and takes no time that grows with the map.
@@ -330,7 +333,9 @@ impl Store {
 
     /// The features by number.
     pub(crate) fn features(&self) -> &NumberMap<StoredFeature>
-        ensures { entries_data result.now.entries ≡ self.now.features }
+        ensures map { entries_data result.now.entries ≡ self.now.features }
+        ensures ascending { Ascends result.now.entries }
+        ensures own { All IsOwn result.now.entries }
     {
         &self.features
     }

@@ -3,11 +3,12 @@ use Rattle.std.proofs.Common.{◌≡◌, ℕ, ◌<◌, ◌+◌, min, max, List, 
 use Rattle.std.proofs.Common.{refl, sym, ap, subst, ◌∙◌, arith, if◌then◌else◌}
 use Rattle.std.specs.Str.{bytes_eq}
 use Rattle.std.specs.List.{cons_option}
-use Rattle.std.specs.Option.{unwrap_or, option_map, option_and_then}
+use Rattle.std.specs.Option.{UnwrapsOrElse, option_map, option_and_then}
 use Rattle.std.specs.Ordering.{nat_cmp}
 use Rattle.std.specs.Cmp.Lexicographic.{slice_cmp}
 use Rattle.std.specs.BTreeMap.{is_at}
 use Rattle.std.specs.Map.{lookup}
+use Rattle.std.specs.String.{string_bytes}
 use Rattle.std.proofs.lemmas.Slice.Eq.{bytes_eq-Decides}
 use Rattle.std.proofs.lemmas.List.{take_more, append-nil, map-append}
 use Rattle.std.proofs.lemmas.List.Concat.{flat_map-append}
@@ -15,13 +16,15 @@ use Rattle.std.proofs.lemmas.List.Elements.{filter_map-append}
 use Rattle.number_map.specs.Blocks.{joined as all_of}
 use Rattle.feature_model.specs.Data.{FeatureData, TagData}
 use Rattle.feature_store.specs.Inside.{Stored, entry_data, entries_data}
+use Rattle.feature_store.specs.Reading.{below}
 use Rattle.feature_store.specs.Store.{FeatureMap}
+use Rattle.feature_store.proofs.Reading.{none_below}
 use Rattle.map_metadata.specs.declared.field_kind.FieldKind.{FieldKind}
 use Rattle.map_metadata.specs.declared.field_kind.FieldKind.TheVariants.{Text, Number, Truth}
 use Rattle.map_metadata.specs.declared.summary.LayerSummary.{LayerSummary}
 use Rattle.map_metadata.specs.Fields.{kind_of, kinds_of, features_in, kinds_in}
 use Rattle.map_metadata.specs.Summaries.{joined, with_kind, with_kinds, with_feature, with_features}
-use Rattle.map_metadata.specs.Summaries.{Layers, layer_at, kind_at, zooms_of, zooms_in, kind_in, Adds, SumsUp}
+use Rattle.map_metadata.specs.Summaries.{Fields, Layers, layer_at, kind_at, zooms_of, zooms_in, kind_in, Adds, SumsUp}
 
 min_same : (n : ℕ) → min n n ≡ n
 min_same n = omega arith
@@ -64,35 +67,48 @@ tags_more left rest t name kind p q whole first kind_is after so_far =
     ∙ one_tag (bytes_eq t.key name) p (kind_of t.value) (kinds_of rest name)
     ∙ ap (λ ts. with_kinds p (kinds_of ts name)) (sym first) ∙ so_far
 
+-- the kind of a key that has one, once a value more is taken in
+pub kind_met : (old : Fields) (key name : List ℕ) (known kind : FieldKind) → Some known ≡ kind_at old key
+    → (if bytes_eq key name then Some (joined known kind) else kind_at old name) ≡ (if bytes_eq key name then Some (with_kind (kind_at old name) kind) else kind_at old name)
+kind_met old key name known kind found = by (bytes_eq key name) refl
+  where
+    by : (b : Bool) → bytes_eq key name ≡ b
+        → (if b then Some (joined known kind) else kind_at old name) ≡ (if b then Some (with_kind (kind_at old name) kind) else kind_at old name)
+    by true is = ap (λ o. Some (with_kind o kind)) (found ∙ ap (kind_at old) ((bytes_eq-Decides key name).0 is))
+    by false is = refl
+
 -- ---- one feature
 
-module _ (old : Layers) (layer name : List ℕ) (f : FeatureData) (before after fresh : LayerSummary)
-    (was : before ≡ unwrap_or (layer_at old layer) fresh) (same : bytes_eq layer name ≡ true) where
-  -- the layer of the name as it was
-  there : before ≡ unwrap_or (layer_at old name) fresh
-  there = was ∙ ap (λ n. unwrap_or (layer_at old n) fresh) ((bytes_eq-Decides layer name).0 same)
+-- a layer of which no feature is taken in, which begins with the zooms of this one
+abbrev pub IsFresh : FeatureData → LayerSummary → Type 0
+IsFresh f s = (s.minzoom ≡ f.minzoom) × (s.maxzoom ≡ f.maxzoom) × (s.fields.entries ≡ [])
 
-  pub zooms_after : fresh.minzoom ≡ f.minzoom → fresh.maxzoom ≡ f.maxzoom
-      → after.minzoom ≡ min before.minzoom f.minzoom → after.maxzoom ≡ max before.maxzoom f.maxzoom
+-- the layer before is the one that is known, or a fresh one
+module _ (old : Layers) (layer name : List ℕ) (f : FeatureData) (before after : LayerSummary)
+    (was : UnwrapsOrElse (layer_at old layer) (IsFresh f) before) (same : bytes_eq layer name ≡ true) where
+  -- the layer of the name as it was
+  there : UnwrapsOrElse (layer_at old name) (IsFresh f) before
+  there = subst (λ n. UnwrapsOrElse (layer_at old n) (IsFresh f) before) ((bytes_eq-Decides layer name).0 same) was
+
+  pub zooms_after : after.minzoom ≡ min before.minzoom f.minzoom → after.maxzoom ≡ max before.maxzoom f.maxzoom
       → zooms_of after ≡ with_feature (zooms_in old name) f
-  zooms_after first last least greatest = by (layer_at old name) there
+  zooms_after least greatest = by (layer_at old name) there
     where
-      by : (o : Option LayerSummary) → before ≡ unwrap_or o fresh → zooms_of after ≡ with_feature (option_map zooms_of o) f
-      by None is = λ i. (
-        (least ∙ ap (λ s. min s.minzoom f.minzoom) is ∙ ap (λ n. min n f.minzoom) first ∙ min_same f.minzoom) i,
-        (greatest ∙ ap (λ s. max s.maxzoom f.maxzoom) is ∙ ap (λ n. max n f.maxzoom) last ∙ max_same f.maxzoom) i,
+      by : (o : Option LayerSummary) → UnwrapsOrElse o (IsFresh f) before → zooms_of after ≡ with_feature (option_map zooms_of o) f
+      by None fresh = λ i. (
+        (least ∙ ap (λ n. min n f.minzoom) fresh.0 ∙ min_same f.minzoom) i,
+        (greatest ∙ ap (λ n. max n f.maxzoom) fresh.1 ∙ max_same f.maxzoom) i,
       )
       by (Some s) is = λ i. ((least ∙ ap (λ s. min s.minzoom f.minzoom) is) i, (greatest ∙ ap (λ s. max s.maxzoom f.maxzoom) is) i)
 
-  pub kind_after : (key : List ℕ) → fresh.fields.entries ≡ []
-      → kind_at after.fields key ≡ with_kinds (kind_at before.fields key) (kinds_of f.tags key)
+  pub kind_after : (key : List ℕ) → kind_at after.fields key ≡ with_kinds (kind_at before.fields key) (kinds_of f.tags key)
       → kind_at after.fields key ≡ with_kinds (kind_in old name key) (kinds_of f.tags key ++ [])
-  kind_after key none kinds =
+  kind_after key kinds =
       kinds ∙ ap (λ o. with_kinds o (kinds_of f.tags key)) (by (layer_at old name) there)
       ∙ ap (with_kinds (kind_in old name key)) (sym (append-nil (kinds_of f.tags key)))
     where
-      by : (o : Option LayerSummary) → before ≡ unwrap_or o fresh → kind_at before.fields key ≡ option_and_then (λ s. kind_at s.fields key) o
-      by None is = ap (λ s. kind_at s.fields key) is ∙ ap (λ es. lookup (is_at (λ k. slice_cmp nat_cmp key k.now)) es) none
+      by : (o : Option LayerSummary) → UnwrapsOrElse o (IsFresh f) before → kind_at before.fields key ≡ option_and_then (λ s. kind_at s.fields key) o
+      by None fresh = ap (λ es. lookup (is_at (λ k. slice_cmp nat_cmp key (string_bytes k))) es) fresh.2
       by (Some s) is = ap (λ s. kind_at s.fields key) is
 
 -- what is known of a name: of its own layer, or of another
@@ -161,3 +177,21 @@ pub blocks_more : (b c : Layers) (bs : List (List (ℕ × Stored))) (i : ℕ) (e
 blocks_more b c bs i es there lt is same first second =
     rw (take_more bs i es lt, ← is, flat_map-append, append-nil, map-append)
     (sums_more b c (entries_data (all_of (take i bs))) (entries_data es) first (subst (λ x. Adds b c (entries_data x)) same second))
+
+-- ---- a moment's features
+
+-- what a number had, whichever number it is
+pub had_more : (a b : Layers) (n : ℕ) (f : FeatureData) → Adds a b ((0, f) ∷ []) → Adds a b ((n, f) ∷ [])
+had_more a b n f adds = record { zooms = adds.zooms; kinds = adds.kinds }
+
+-- those of a number more
+pub read_more : (b c : Layers) (m : FeatureMap) (n k : ℕ) (had : FeatureMap) → below (k + 1) m ≡ below n m ++ had → SumsUp b (below n m) → Adds b c had
+    → SumsUp c (below (k + 1) m)
+read_more b c m n k had next first second = subst (SumsUp c) (sym next) (sums_more b c (below n m) had first second)
+
+pub nothing_read : (layers : Layers) (m : FeatureMap) → layers.entries ≡ [] → SumsUp layers (below 0 m)
+nothing_read layers m none =
+    subst (SumsUp layers) (sym (none_below m)) (record {
+      zooms = λ name. ap (λ es. option_map zooms_of (lookup (is_at (λ k. slice_cmp nat_cmp name (string_bytes k))) es)) none;
+      kinds = λ name key. ap (λ es. option_and_then (λ s. kind_at s.fields key) (lookup (is_at (λ k. slice_cmp nat_cmp name (string_bytes k))) es)) none;
+    })

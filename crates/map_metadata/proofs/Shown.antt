@@ -1,6 +1,6 @@
 -- What is summed up of a map are its layers.
 use Rattle.std.proofs.Common.{◌≡◌, ◌↔◌, ℕ, ◌<◌, ◌≤◌, Bool, true, false, cond, List, [], ◌∷◌, length, map, All, Option, Some, None, inl, inr}
-use Rattle.std.proofs.Common.{min, max, is_some, Bor, refl, sym, ap, subst, ◌∙◌, arith}
+use Rattle.std.proofs.Common.{min, max, is_some, refl, sym, ap, subst, ◌∙◌, arith}
 use mathlib.Core.Bool.{false≢true}
 use Rattle.std.specs.List.{Contains, AllByRecursion}
 use Rattle.std.specs.List.Sorted.{IsStrictlySortedBy}
@@ -10,8 +10,11 @@ use Rattle.std.specs.declared.cmp.Ordering.TheVariants.{Less}
 use Rattle.std.specs.Cmp.Lexicographic.{slice_cmp}
 use Rattle.std.specs.BTreeMap.{is_at, IsOrdered}
 use Rattle.std.specs.Map.{keys_of, lookup}
+use Rattle.std.specs.String.{string_bytes, string_cmp, string_cmp_total}
+use Rattle.std.specs.declared.alloc.Global.{Global}
+use Rattle.std.specs.declared.string.String.{String}
 use Rattle.std.proofs.lemmas.Bool.{cases_lt}
-use Rattle.std.proofs.lemmas.Cmp.{nat_list_cmp_total, on_total}
+use Rattle.std.proofs.lemmas.Cmp.{nat_list_cmp_total}
 use Rattle.std.proofs.lemmas.List.Elements.{All-nil, All-cons, All-head, All-tail, All-map, All-weaker}
 use Rattle.std.proofs.lemmas.Slice.Eq.{bytes_eq-Decides}
 use Rattle.std.proofs.lemmas.Map.Text.{is_eq-slice_cmp}
@@ -141,8 +144,8 @@ features_some (f ∷ fs) = (λ h. omega arith, λ h. some_features (f.minzoom, f
 -- ---- keys
 
 -- whether a key is the name
-abbrev is_name : List ℕ → Bor (List ℕ) → Bool
-is_name name = is_at (λ k. slice_cmp nat_cmp name k.now)
+abbrev is_name : List ℕ → String Global → Bool
+is_name name = is_at (λ k. slice_cmp nat_cmp name (string_bytes k))
 
 same_name : (name other : List ℕ) → is_eq (slice_cmp nat_cmp name other) ≡ true → name ≡ other
 same_name name other h = (bytes_eq-Decides name other).0 (sym (is_eq-slice_cmp name other) ∙ h)
@@ -152,18 +155,18 @@ one_name name other h = is_eq-slice_cmp name other ∙ (bytes_eq-Decides name ot
 
 module _ {X : Type 0} where
   -- the names that are keys
-  abbrev pub names : List (Bor (List ℕ) × X) → List (List ℕ)
-  names es = map (λ e. e.0.now) es
+  abbrev pub names : List (String Global × X) → List (List ℕ)
+  names es = map (λ e. (string_bytes e.0)) es
 
-  found_there : (es : List (Bor (List ℕ) × X)) (name : List ℕ) → is_some (lookup (is_name name) es) ≡ true → Contains (names es) name
+  found_there : (es : List (String Global × X)) (name : List ℕ) → is_some (lookup (is_name name) es) ≡ true → Contains (names es) name
   found_there [] name h = absurd (false≢true h)
   found_there (e ∷ es) name h = by (is_name name e.0) refl (found_there es name)
     where
       by : (b : Bool) → is_name name e.0 ≡ b → (is_some (lookup (is_name name) es) ≡ true → Contains (names es) name) → Contains (names (e ∷ es)) name
-      by true is rest = subst (Contains (names (e ∷ es))) (sym (same_name name e.0.now is)) (contains_here e.0.now (names es))
-      by false is rest = contains_on e.0.now (names es) name (rest (sym (ap (λ b. is_some (cond b (Some e.1) (lookup (is_name name) es))) is) ∙ h))
+      by true is rest = subst (Contains (names (e ∷ es))) (sym (same_name name (string_bytes e.0) is)) (contains_here (string_bytes e.0) (names es))
+      by false is rest = contains_on (string_bytes e.0) (names es) name (rest (sym (ap (λ b. is_some (cond b (Some e.1) (lookup (is_name name) es))) is) ∙ h))
 
-  there_found : (es : List (Bor (List ℕ) × X)) (name : List ℕ) → Contains (names es) name → is_some (lookup (is_name name) es) ≡ true
+  there_found : (es : List (String Global × X)) (name : List ℕ) → Contains (names es) name → is_some (lookup (is_name name) es) ≡ true
   there_found [] name h = none_there name h
   there_found (e ∷ es) name h = by (is_name name e.0) refl (there_found es name)
     where
@@ -172,28 +175,28 @@ module _ {X : Type 0} where
       by true is rest = ap (λ b. is_some (cond b (Some e.1) (lookup (is_name name) es))) is
       by false is rest =
           ap (λ b. is_some (cond b (Some e.1) (lookup (is_name name) es))) is
-          ∙ elim (contains_cases e.0.now (names es) name h) [
-            | inl here ↦ absurd (false≢true (sym is ∙ one_name name e.0.now (sym here)))
+          ∙ elim (contains_cases (string_bytes e.0) (names es) name h) [
+            | inl here ↦ absurd (false≢true (sym is ∙ one_name name (string_bytes e.0) (sym here)))
             | inr there ↦ rest there
           ]
 
-  ascend : (es : List (Bor (List ℕ) × X)) → IsStrictlySortedBy (λ a b. slice_cmp nat_cmp a.now b.now) (keys_of es) → Ascend (names es)
+  ascend : (es : List (String Global × X)) → IsStrictlySortedBy string_cmp (keys_of es) → Ascend (names es)
   unfolding IsStrictlySortedBy
   ascend [] s = tt
   ascend (e ∷ es) s = (along es s.0, ascend es s.1)
     where
-      along : (fs : List (Bor (List ℕ) × X)) → AllByRecursion (λ k. slice_cmp nat_cmp e.0.now k.now ≡ Less) (keys_of fs)
-          → AllByRecursion (λ n. slice_cmp nat_cmp e.0.now n ≡ Less) (names fs)
+      along : (fs : List (String Global × X)) → AllByRecursion (λ k. slice_cmp nat_cmp (string_bytes e.0) (string_bytes k) ≡ Less) (keys_of fs)
+          → AllByRecursion (λ n. slice_cmp nat_cmp (string_bytes e.0) n ≡ Less) (names fs)
       along [] a = tt
       along (f ∷ fs) a = (a.0, along fs a.1)
 
-keys_are : (es : List (Bor (List ℕ) × FieldKind)) → keys_of (fields_data es) ≡ names es
+keys_are : (es : List (String Global × FieldKind)) → keys_of (fields_data es) ≡ names es
 keys_are [] = refl
-keys_are (e ∷ es) = ap (λ ks. e.0.now ∷ ks) (keys_are es)
+keys_are (e ∷ es) = ap (λ ks. (string_bytes e.0) ∷ ks) (keys_are es)
 
-names_are : (es : List (Bor (List ℕ) × LayerSummary)) → names_of (map layer_data es) ≡ names es
+names_are : (es : List (String Global × LayerSummary)) → names_of (map layer_data es) ≡ names es
 names_are [] = refl
-names_are (e ∷ es) = ap (λ ks. e.0.now ∷ ks) (names_are es)
+names_are (e ∷ es) = ap (λ ks. (string_bytes e.0) ∷ ks) (names_are es)
 
 some_zooms : (o : Option LayerSummary) → is_some (option_map zooms_of o) ≡ is_some o
 some_zooms None = refl
@@ -203,33 +206,33 @@ some_zooms (Some s) = refl
 
 module _ (m : FeatureMap) (g : Layers) (sums : SumsUp g m) where
   -- what a name finds is what is there, and its keys ascend
-  abbrev IsFound : Bor (List ℕ) × LayerSummary → Type 0
-  IsFound e = layer_at g e.0.now ≡ Some e.1
+  abbrev IsFound : String Global × LayerSummary → Type 0
+  IsFound e = layer_at g (string_bytes e.0) ≡ Some e.1
 
-  kinds_at : (e : Bor (List ℕ) × LayerSummary) → IsFound e → (key : List ℕ) → kind_at e.1.fields key ≡ with_kinds None (kinds_in (features_in m e.0.now) key)
-  kinds_at e is key = sym (ap (option_and_then (λ s. kind_at s.fields key)) is) ∙ sums.kinds e.0.now key
+  kinds_at : (e : String Global × LayerSummary) → IsFound e → (key : List ℕ) → kind_at e.1.fields key ≡ with_kinds None (kinds_in (features_in m (string_bytes e.0)) key)
+  kinds_at e is key = sym (ap (option_and_then (λ s. kind_at s.fields key)) is) ∙ sums.kinds (string_bytes e.0) key
 
-  kinds_of_layer : (e : Bor (List ℕ) × LayerSummary) → IsFound e → HasOrder e.1.fields
-      → All (λ f. IsFieldKind (kinds_in (features_in m e.0.now) f.0) f.1) (fields_data e.1.fields.entries)
+  kinds_of_layer : (e : String Global × LayerSummary) → IsFound e → HasOrder e.1.fields
+      → All (λ f. IsFieldKind (kinds_in (features_in m (string_bytes e.0)) f.0) f.1) (fields_data e.1.fields.entries)
   kinds_of_layer e is order =
-      All-map (λ f. IsFieldKind (kinds_in (features_in m e.0.now) f.0) f.1) (λ f. (f.0.now, f.1)) e.1.fields.entries
-      (All-weaker (λ f. kind_at e.1.fields f.0.now ≡ Some f.1) (λ f. IsFieldKind (kinds_in (features_in m e.0.now) f.0.now) f.1)
-      (λ f here. kind_is (kinds_in (features_in m e.0.now) f.0.now) f.1 (sym (kinds_at e is f.0.now) ∙ here)) e.1.fields.entries
-      (All-found (on_total (λ (k : Bor (List ℕ)). k.now) nat_list_cmp_total) e.1.fields order))
+      All-map (λ f. IsFieldKind (kinds_in (features_in m (string_bytes e.0)) f.0) f.1) (λ f. ((string_bytes f.0), f.1)) e.1.fields.entries
+      (All-weaker (λ f. kind_at e.1.fields (string_bytes f.0) ≡ Some f.1) (λ f. IsFieldKind (kinds_in (features_in m (string_bytes e.0)) (string_bytes f.0)) f.1)
+      (λ f here. kind_is (kinds_in (features_in m (string_bytes e.0)) (string_bytes f.0)) f.1 (sym (kinds_at e is (string_bytes f.0)) ∙ here)) e.1.fields.entries
+      (All-found string_cmp_total e.1.fields order))
 
-  keys_of_layer : (e : Bor (List ℕ) × LayerSummary) → IsFound e → (key : List ℕ)
-      → Contains (keys_of (fields_data e.1.fields.entries)) key ↔ IsKey (features_in m e.0.now) key
+  keys_of_layer : (e : String Global × LayerSummary) → IsFound e → (key : List ℕ)
+      → Contains (keys_of (fields_data e.1.fields.entries)) key ↔ IsKey (features_in m (string_bytes e.0)) key
   keys_of_layer e is key =
       let some = ap is_some (kinds_at e is key) in
-      let fs = features_in m e.0.now in
+      let fs = features_in m (string_bytes e.0) in
       let known = kinds_some (kinds_in fs key) in (
         λ h. keyed fs key (known.0 (sym some ∙ there_found e.1.fields.entries key (subst (λ ks. Contains ks key) (keys_are e.1.fields.entries) h))),
         λ h. subst (λ ks. Contains ks key) (sym (keys_are e.1.fields.entries)) (found_there e.1.fields.entries key (some ∙ known.1 (some_keyed fs key h))),
       )
 
-  layer_is : (e : Bor (List ℕ) × LayerSummary) → IsFound e → HasOrder e.1.fields → IsLayer m (layer_data e)
+  layer_is : (e : String Global × LayerSummary) → IsFound e → HasOrder e.1.fields → IsLayer m (layer_data e)
   layer_is e is order =
-      let zooms = zooms_are (features_in m e.0.now) (zooms_of e.1) (sym (sums.zooms e.0.now) ∙ ap (option_map zooms_of) is) in
+      let zooms = zooms_are (features_in m (string_bytes e.0)) (zooms_of e.1) (sym (sums.zooms (string_bytes e.0)) ∙ ap (option_map zooms_of) is) in
       record {
         ascending = subst Ascend (sym (keys_are e.1.fields.entries)) (ascend e.1.fields.entries order);
         keys = keys_of_layer e is;
@@ -238,7 +241,7 @@ module _ (m : FeatureMap) (g : Layers) (sums : SumsUp g m) where
         maxzoom = zooms.1;
       }
 
-  all_layers : (es : List (Bor (List ℕ) × LayerSummary)) → All IsFound es → All (λ e. HasOrder e.1.fields) es → All (IsLayer m) (map layer_data es)
+  all_layers : (es : List (String Global × LayerSummary)) → All IsFound es → All (λ e. HasOrder e.1.fields) es → All (IsLayer m) (map layer_data es)
   all_layers [] found orders = All-nil (IsLayer m)
   all_layers (e ∷ es) found orders =
       All-cons (IsLayer m) (layer_data e) (map layer_data es)
@@ -253,9 +256,9 @@ module _ (m : FeatureMap) (g : Layers) (sums : SumsUp g m) where
         λ h. subst (λ ks. Contains ks name) (sym (names_are g.entries)) (found_there g.entries name (some ∙ known.1 (some_named m name h))),
       )
 
-  pub are_layers : All (λ e. HasOrder e.1.fields) g.entries → IsOrdered (λ a b. slice_cmp nat_cmp a.now b.now) g → AreLayers m (map layer_data g.entries)
+  pub are_layers : All (λ e. HasOrder e.1.fields) g.entries → IsOrdered string_cmp g → AreLayers m (map layer_data g.entries)
   are_layers orders ordered = record {
     ascending = subst Ascend (sym (names_are g.entries)) (ascend g.entries ordered);
     names = names_known;
-    layers = all_layers g.entries (All-found (on_total (λ (k : Bor (List ℕ)). k.now) nat_list_cmp_total) g ordered) orders;
+    layers = all_layers g.entries (All-found string_cmp_total g ordered) orders;
   }

@@ -1,12 +1,12 @@
 -- Layers as JSON: members that are put in the order of their keys are in that order, and no number is a float.
-use Rattle.std.proofs.Common.{◌≡◌, ◌≤◌, ℕ, false, Some, arith, List, [], ◌∷◌, ◌++◌, map, Less, Greater, nat_cmp, Bor}
+use Rattle.std.proofs.Common.{◌≡◌, ◌≤◌, ℕ, false, Some, arith, List, [], ◌∷◌, ◌++◌, map, Less, Greater, nat_cmp}
 use Rattle.std.proofs.Common.{Result, Ok, Err, IfOk, refl, sym, ap, subst, ◌∙◌}
 use Rattle.std.specs.Ordering.{ordering_reverse}
 use Rattle.std.specs.Cmp.Lexicographic.{slice_cmp}
 use Rattle.std.specs.List.{AllByRecursion}
 use Rattle.std.specs.List.Sorted.{IsStrictlySortedBy}
 use Rattle.std.specs.Map.{keys_of}
-use Rattle.std.specs.String.{string_bytes}
+use Rattle.std.specs.String.{string_bytes, string_cmp}
 use Rattle.std.specs.declared.alloc.Global.{Global}
 use Rattle.std.specs.declared.alloc.AllocError.{AllocError}
 use Rattle.std.specs.declared.string.String.{String}
@@ -27,35 +27,35 @@ use Rattle.map_metadata.specs.Summaries.{Fields, HasOrder, fields_data, layer_da
 
 -- a key with its kind
 abbrev pub Field : Type 0
-Field = Bor (List ℕ) × FieldKind
+Field = String Global × FieldKind
 
 before_there : (k : List ℕ) (ys : List Field) (x : Field) (rest : List Field)
-    → AllByRecursion (λ y. slice_cmp nat_cmp k y.now ≡ Less) (keys_of (ys ++ x ∷ rest)) → slice_cmp nat_cmp k x.0.now ≡ Less
+    → AllByRecursion (λ y. slice_cmp nat_cmp k (string_bytes y) ≡ Less) (keys_of (ys ++ x ∷ rest)) → slice_cmp nat_cmp k (string_bytes x.0) ≡ Less
 before_there k [] x rest h = h.0
 before_there k (y ∷ ys) x rest h = before_there k ys x rest h.1
 
 behind : (a b : List ℕ) → slice_cmp nat_cmp a b ≡ Less → slice_cmp nat_cmp b a ≡ Greater
 behind a b h = nat_list_cmp_total.antisymm b a ∙ ap ordering_reverse h
 
-put_behind : (ys : List Field) (x : Field) (rest : List Field) → IsStrictlySortedBy (λ a b. slice_cmp nat_cmp a.now b.now) (keys_of (ys ++ x ∷ rest))
-    → put x.0.now (string (kind_name x.1)) (fields_json (fields_data ys)) ≡ fields_json (fields_data (ys ++ x ∷ []))
+put_behind : (ys : List Field) (x : Field) (rest : List Field) → IsStrictlySortedBy string_cmp (keys_of (ys ++ x ∷ rest))
+    → put (string_bytes x.0) (string (kind_name x.1)) (fields_json (fields_data ys)) ≡ fields_json (fields_data (ys ++ x ∷ []))
 put_behind [] x rest s = refl
 put_behind (y ∷ ys) x rest s =
-    let first = behind y.0.now x.0.now (before_there y.0.now ys x rest (sorted_head (λ a b. slice_cmp nat_cmp a.now b.now) y.0 (keys_of (ys ++ x ∷ rest)) s)) in
-    rw first (ap (member y.0.now (string (kind_name y.1)))
-    (put_behind ys x rest (sorted_tail (λ a b. slice_cmp nat_cmp a.now b.now) y.0 (keys_of (ys ++ x ∷ rest)) s)))
+    let first = behind (string_bytes y.0) (string_bytes x.0) (before_there (string_bytes y.0) ys x rest (sorted_head string_cmp y.0 (keys_of (ys ++ x ∷ rest)) s)) in
+    rw first (ap (member (string_bytes y.0) (string (kind_name y.1)))
+    (put_behind ys x rest (sorted_tail string_cmp y.0 (keys_of (ys ++ x ∷ rest)) s)))
 
 -- a loop that puts one field after the other
 pub put_next : (fields : Fields) (ys rest now : List Field) (x : Field) (d : Data) (before after : Members) → HasOrder fields → now ≡ x ∷ rest
-    → ys ++ now ≡ fields.entries → d ≡ string (kind_name x.1) → before ≡ fields_json (fields_data ys) → after ≡ put x.0.now d before
+    → ys ++ now ≡ fields.entries → d ≡ string (kind_name x.1) → before ≡ fields_json (fields_data ys) → after ≡ put (string_bytes x.0) d before
     → after ≡ fields_json (fields_data (ys ++ x ∷ []))
 put_next fields ys rest now x d before after order step all value so_far more =
     let parts : ys ++ x ∷ rest ≡ fields.entries = ap (λ l. ys ++ l) (sym step) ∙ all in
-    more ∙ ap (λ e. put x.0.now e before) value ∙ ap (put x.0.now (string (kind_name x.1))) so_far
-    ∙ put_behind ys x rest (subst (λ es. IsStrictlySortedBy (λ a b. slice_cmp nat_cmp a.now b.now) (keys_of es)) (sym parts) order)
+    more ∙ ap (λ e. put (string_bytes x.0) e before) value ∙ ap (put (string_bytes x.0) (string (kind_name x.1))) so_far
+    ∙ put_behind ys x rest (subst (λ es. IsStrictlySortedBy string_cmp (keys_of es)) (sym parts) order)
 
 -- a loop that pushes one layer after the other
-pub layers_next : (vs next : List Value) (v : Value) (es : List (Bor (List ℕ) × LayerSummary)) (e : Bor (List ℕ) × LayerSummary)
+pub layers_next : (vs next : List Value) (v : Value) (es : List (String Global × LayerSummary)) (e : String Global × LayerSummary)
     → next ≡ vs ++ v ∷ [] → view v ≡ layer_json (layer_data e) → map view vs ≡ map layer_json (map layer_data es)
     → map view next ≡ map layer_json (map layer_data (es ++ e ∷ []))
 layers_next vs next v es e more one so_far =

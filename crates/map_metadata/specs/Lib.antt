@@ -1,3 +1,4 @@
+pub mod DraftInside
 pub mod Fields
 pub mod Metadata
 pub mod Summaries

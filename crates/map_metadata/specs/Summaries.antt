@@ -1,10 +1,10 @@
 -- What is summed up of features, one after the other.
 use Rattle.std.specs.Prelude.{◌≡◌, ℕ, min, max, List, [], ◌∷◌, map, Option, Some, None, option_map, option_and_then}
-use Rattle.std.specs.Borrow.{Bor}
 use Rattle.std.specs.Option.{option_map_or}
-use Rattle.std.specs.Ordering.{nat_cmp}
-use Rattle.std.specs.Cmp.Lexicographic.{slice_cmp}
-use Rattle.std.specs.BTreeMap.{BTreeMap, get_by, IsOrdered}
+use Rattle.std.specs.BTreeMap.{BTreeMap, get_by_text, IsOrdered}
+use Rattle.std.specs.String.{string_bytes, string_cmp}
+use Rattle.std.specs.declared.alloc.Global.{Global}
+use Rattle.std.specs.declared.string.String.{String}
 use Rattle.feature_model.specs.Data.{FeatureData}
 use Rattle.feature_store.specs.Store.{FeatureMap}
 use Rattle.map_metadata.specs.declared.field_kind.FieldKind.{FieldKind}
@@ -32,11 +32,11 @@ with_kinds o (k ∷ ks) = with_kinds (Some (with_kind o k)) ks
 
 -- the kinds by key
 abbrev pub Fields : Type 0
-Fields = BTreeMap (Bor (List ℕ)) FieldKind
+Fields = BTreeMap (String Global) FieldKind
 
 -- the kind of a key
 abbrev pub kind_at : Fields → List ℕ → Option FieldKind
-kind_at fields key = get_by (λ k. slice_cmp nat_cmp key k.now) fields
+kind_at fields key = get_by_text fields key
 
 -- ---- zooms
 
@@ -54,11 +54,11 @@ with_features o (f ∷ fs) = with_features (Some (with_feature o f)) fs
 
 -- the layers by name
 abbrev pub Layers : Type 0
-Layers = BTreeMap (Bor (List ℕ)) LayerSummary
+Layers = BTreeMap (String Global) LayerSummary
 
 -- what is known of a layer
 abbrev pub layer_at : Layers → List ℕ → Option LayerSummary
-layer_at layers name = get_by (λ k. slice_cmp nat_cmp name k.now) layers
+layer_at layers name = get_by_text layers name
 
 -- the zooms of a layer
 abbrev pub zooms_of : LayerSummary → ℕ × ℕ
@@ -84,18 +84,21 @@ pub record SumsUp (layers : Layers) (m : FeatureMap) : Type 0 where
 -- ---- what is known of layers, without where it lies in memory
 
 -- the keys with their kinds
-abbrev pub fields_data : List (Bor (List ℕ) × FieldKind) → List (List ℕ × FieldKind)
-fields_data es = map (λ e. (e.0.now, e.1)) es
+abbrev pub fields_data : List (String Global × FieldKind) → List (List ℕ × FieldKind)
+fields_data es = map (λ e. (string_bytes e.0, e.1)) es
 
--- a layer
-abbrev pub layer_data : Bor (List ℕ) × LayerSummary → LayerData
-layer_data e = record {
-  name = e.0.now;
-  fields = fields_data e.1.fields.entries;
-  minzoom = e.1.minzoom;
-  maxzoom = e.1.maxzoom;
+-- a layer of this name
+abbrev pub layer_named : List ℕ → LayerSummary → LayerData
+layer_named name s = record {
+  name = name;
+  fields = fields_data s.fields.entries;
+  minzoom = s.minzoom;
+  maxzoom = s.maxzoom;
 }
+
+abbrev pub layer_data : String Global × LayerSummary → LayerData
+layer_data e = layer_named (string_bytes e.0) e.1
 
 -- the keys of a layer ascend, as they do in each map
 abbrev pub HasOrder : Fields → Type 0
-HasOrder fields = IsOrdered (λ a b. slice_cmp nat_cmp a.now b.now) fields
+HasOrder fields = IsOrdered string_cmp fields

@@ -5,8 +5,10 @@
 //! `"Boolean"`; `id`, the layer's name; and `maxzoom` and `minzoom`, the greatest and the least zoom that show a feature of it.
 #![tactic(auto)]
 
+mod draft;
 mod field_kind;
 mod summary;
 mod writer;
 
+pub use draft::MetadataDraft;
 pub use writer::metadata_text;

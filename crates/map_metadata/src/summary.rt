@@ -15,42 +15,51 @@ use std::alloc::{AllocError, Global};
 use std::collections::BTreeMap;
 
 /// The kind of each key.
-pub(crate) type Fields<'a> = BTreeMap<&'a str, FieldKind>;
+pub(crate) type Fields = BTreeMap<String, FieldKind>;
 
 /// What metadata says of a layer, beside its name.
 #[derive(Drop)]
-pub(crate) struct LayerSummary<'a> {
+pub(crate) struct LayerSummary {
     pub minzoom: u8,
     pub maxzoom: u8,
-    pub fields: Fields<'a>,
+    pub fields: Fields,
 }
 
 /// The layers by name.
-pub(crate) type Layers<'a> = BTreeMap<&'a str, LayerSummary<'a>>;
+pub(crate) type Layers = BTreeMap<String, LayerSummary>;
 
-/// Takes in that a key has a value of this kind.
-fn add_kind<'a>(fields: &mut Fields<'a>, key: &'a str, kind: FieldKind) -> Result<(), AllocError>
+/// Takes in that a key has a value of this kind. A key is copied when it is new.
+fn add_kind(
+    alloc: Global,
+    fields: &mut Fields,
+    key: &str,
+    kind: FieldKind,
+) -> Result<(), AllocError>
     ensures { OnOk result ((name : List ℕ)
         → kind_at fields.new name ≡ (if bytes_eq key.now name then Some (with_kind (kind_at fields.old name) kind) else kind_at fields.old name)) }
 {
-    let known = fields.entry(key)?.or_insert(kind);
-    *known = known.joined(kind);
+    if let Some(known) = fields.get_mut(key) {
+        *known = known.joined(kind);
+        return Ok(());
+    }
+    let name = String::from_str(alloc, key)?;
+    fields.insert(name, kind)?;
     Ok(())
 }
 
 /// Takes in the values of tags.
-fn add_tags<'a>(fields: &mut Fields<'a>, tags: Tags<'a>) -> Result<(), AllocError>
+fn add_tags(alloc: Global, fields: &mut Fields, tags: Tags<'_>) -> Result<(), AllocError>
     ensures { OnOk result ((name : List ℕ) → kind_at fields.new name ≡ with_kinds (kind_at fields.old name) (kinds_of (tags_view tags.entry) name)) }
 {
     for tag in tags {
-        add_kind(fields, tag.key, FieldKind::of(tag.value))?;
+        add_kind(alloc, fields, tag.key, FieldKind::of(tag.value))?;
     }
     Ok(())
 }
 
-impl<'a> LayerSummary<'a> {
+impl LayerSummary {
     /// Takes in a feature.
-    fn add(&mut self, feature: FeatureText<'a>) -> Result<(), AllocError>
+    fn add(&mut self, alloc: Global, feature: FeatureText<'_>) -> Result<(), AllocError>
         ensures minzoom { OnOk result (self.new.minzoom ≡ min self.old.minzoom (feature_view feature.entry).minzoom) }
         ensures maxzoom { OnOk result (self.new.maxzoom ≡ max self.old.maxzoom (feature_view feature.entry).maxzoom) }
         ensures kinds { OnOk result ((key : List ℕ)
@@ -58,36 +67,41 @@ impl<'a> LayerSummary<'a> {
     {
         self.minzoom = self.minzoom.min(feature.minzoom);
         self.maxzoom = self.maxzoom.max(feature.maxzoom);
-        add_tags(&mut self.fields, feature.tags)
+        add_tags(alloc, &mut self.fields, feature.tags)
     }
 }
 
 /// Takes a feature in at its layer, whatever its number.
-fn add_feature<'a>(
+pub(crate) fn add_feature(
     alloc: Global,
-    layers: &mut Layers<'a>,
-    feature: FeatureText<'a>,
+    layers: &mut Layers,
+    feature: FeatureText<'_>,
 ) -> Result<(), AllocError>
     ensures zooms { OnOk result ((name : List ℕ) → zooms_in layers.new name
         ≡ with_features (zooms_in layers.old name) (features_in ((0, feature_view feature.entry) ∷ []) name)) }
     ensures kinds { OnOk result ((name key : List ℕ) → kind_in layers.new name key
         ≡ with_kinds (kind_in layers.old name key) (kinds_in (features_in ((0, feature_view feature.entry) ∷ []) name) key)) }
 {
-    let empty = LayerSummary {
+    if let Some(layer) = layers.get_mut(feature.layer) {
+        layer.add(alloc, feature)?;
+        return Ok(());
+    }
+    let mut layer = LayerSummary {
         minzoom: feature.minzoom,
         maxzoom: feature.maxzoom,
         fields: BTreeMap::new(alloc),
     };
-    let layer = layers.entry(feature.layer)?.or_insert(empty);
-    layer.add(feature)?;
+    layer.add(alloc, feature)?;
+    let name = String::from_str(alloc, feature.layer)?;
+    layers.insert(name, layer)?;
     Ok(())
 }
 
 /// Takes in features.
-fn add_entries<'a>(
+fn add_entries(
     alloc: Global,
-    layers: &mut Layers<'a>,
-    entries: &'a [Entry<StoredFeature>],
+    layers: &mut Layers,
+    entries: &[Entry<StoredFeature>],
 ) -> Result<(), AllocError>
     ensures { OnOk result (Adds layers.old layers.new (entries_data entries.now)) }
 {
@@ -98,10 +112,10 @@ fn add_entries<'a>(
 }
 
 /// The layers of the features in blocks.
-pub(crate) fn summed_up<'a>(
+pub(crate) fn summed_up(
     alloc: Global,
-    blocks: &'a [Block<StoredFeature>],
-) -> Result<Layers<'a>, AllocError>
+    blocks: &[Block<StoredFeature>],
+) -> Result<Layers, AllocError>
     ensures { IfOk result (λ layers. SumsUp layers (entries_data (joined blocks.now))) }
 {
     let mut layers = BTreeMap::new(alloc);

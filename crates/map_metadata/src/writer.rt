@@ -2,13 +2,13 @@
 
 ghost use Rattle.std.specs.Prelude.{◌≡◌, map, IfOk, OnOk, string_bytes, All};
 ghost use Rattle.std.specs.BTreeMap.{IsOrdered};
-ghost use Rattle.std.specs.Ordering.{nat_cmp};
-ghost use Rattle.std.specs.Cmp.Lexicographic.{slice_cmp};
+ghost use Rattle.std.specs.String.{string_cmp};
 ghost use Rattle.serde_json.specs.Data.{object, array, member, no_members};
 ghost use Rattle.serde_json.specs.View.{view, items_of, members_view};
+ghost use Rattle.feature_store.specs.Store.{FeatureMap};
 ghost use Rattle.map_metadata.specs.Fields.{name_bytes};
 ghost use Rattle.map_metadata.specs.Metadata.{fields_json, layer_json, IsMetadata, IsMetadataOf};
-ghost use Rattle.map_metadata.specs.Summaries.{fields_data, layer_data, HasOrder};
+ghost use Rattle.map_metadata.specs.Summaries.{SumsUp, fields_data, layer_data, layer_named, HasOrder};
 
 use crate::summary::{Fields, LayerSummary, Layers, summed_up};
 use feature_store::Store;
@@ -17,16 +17,16 @@ use serde_json::{Value, put};
 use std::alloc::{AllocError, Global};
 
 /// A member for each key.
-fn fields_value(alloc: Global, fields: Fields<'_>) -> Result<Value, AllocError>
-    ensures value { IfOk result (λ v. view v ≡ object (fields_json (fields_data fields.entry.entries))) }
-    ensures ordered { IfOk result (λ _. HasOrder fields.entry) }
+fn fields_value(alloc: Global, fields: Fields) -> Result<Value, AllocError>
+    ensures value { IfOk result (λ v. view v ≡ object (fields_json (fields_data fields.entries))) }
+    ensures ordered { IfOk result (λ _. HasOrder fields) }
 {
     let mut members = Map::new(alloc);
     for (key, kind) in fields {
         put(
             &mut members,
             alloc,
-            key,
+            key.as_str(),
             Value::try_from_str(alloc, kind.name())?,
         )?;
     }
@@ -39,11 +39,11 @@ fn put_members(
     members: &mut Map<String, Value>,
     alloc: Global,
     name: &str,
-    summary: LayerSummary<'_>,
+    summary: LayerSummary,
 ) -> Result<(), AllocError>
     requires { members_view members.old.entries ≡ no_members }
-    ensures value { OnOk result (object (members_view members.new.entries) ≡ layer_json (layer_data (name.entry, summary.entry))) }
-    ensures ordered { OnOk result (HasOrder summary.entry.fields) }
+    ensures value { OnOk result (object (members_view members.new.entries) ≡ layer_json (layer_named name.now summary)) }
+    ensures ordered { OnOk result (HasOrder summary.fields) }
 {
     let LayerSummary {
         minzoom,
@@ -59,9 +59,9 @@ fn put_members(
 }
 
 /// The object of a layer.
-fn layer_value(alloc: Global, name: &str, summary: LayerSummary<'_>) -> Result<Value, AllocError>
-    ensures value { IfOk result (λ v. view v ≡ layer_json (layer_data (name.entry, summary.entry))) }
-    ensures ordered { IfOk result (λ _. HasOrder summary.entry.fields) }
+fn layer_value(alloc: Global, name: &str, summary: LayerSummary) -> Result<Value, AllocError>
+    ensures value { IfOk result (λ v. view v ≡ layer_json (layer_named name.now summary)) }
+    ensures ordered { IfOk result (λ _. HasOrder summary.fields) }
 {
     let mut members = Map::new(alloc);
     put_members(&mut members, alloc, name, summary)?;
@@ -69,14 +69,14 @@ fn layer_value(alloc: Global, name: &str, summary: LayerSummary<'_>) -> Result<V
 }
 
 /// The list of layers.
-fn layers_value(alloc: Global, layers: Layers<'_>) -> Result<Value, AllocError>
-    ensures value { IfOk result (λ v. view v ≡ array (items_of (map layer_json (map layer_data layers.entry.entries)))) }
-    ensures fields { IfOk result (λ _. All (λ e. HasOrder e.1.fields) layers.entry.entries) }
-    ensures ordered { IfOk result (λ _. IsOrdered (λ a b. slice_cmp nat_cmp a.now b.now) layers.entry) }
+fn layers_value(alloc: Global, layers: Layers) -> Result<Value, AllocError>
+    ensures value { IfOk result (λ v. view v ≡ array (items_of (map layer_json (map layer_data layers.entries)))) }
+    ensures fields { IfOk result (λ _. All (λ e. HasOrder e.1.fields) layers.entries) }
+    ensures ordered { IfOk result (λ _. IsOrdered string_cmp layers) }
 {
     let mut list = Vec::with_capacity(alloc, layers.len())?;
     for (name, summary) in layers {
-        let layer = layer_value(alloc, name, summary)?;
+        let layer = layer_value(alloc, name.as_str(), summary)?;
         list.push_reserved(layer);
     }
     Ok(Value::Array(list))
@@ -92,19 +92,26 @@ fn document(alloc: Global, layers: Value) -> Result<Value, AllocError>
     Ok(Value::Object(members))
 }
 
-/// The metadata of a map as a value.
-fn metadata(alloc: Global, store: &Store) -> Result<Value, AllocError>
-    ensures { IfOk result (λ v. IsMetadata store.now.features (view v)) }
+/// The metadata of a map whose layers these are, as a value.
+fn metadata(alloc: Global, layers: Layers) -> Result<Value, AllocError>
+    ensures { (m : FeatureMap) → SumsUp layers m → IfOk result (λ v. IsMetadata m (view v)) }
 {
-    let layers = summed_up(alloc, store.blocks())?;
     let list = layers_value(alloc, layers)?;
     document(alloc, list)
+}
+
+/// The metadata of a map whose layers these are, as compact text, which reads as it. The only error is out of memory.
+pub(crate) fn layers_text(alloc: Global, layers: Layers) -> Result<String, AllocError>
+    ensures { (m : FeatureMap) → SumsUp layers m → IfOk result (λ text. IsMetadataOf m (string_bytes text)) }
+{
+    let value = metadata(alloc, layers)?;
+    value.to_string(alloc)
 }
 
 /// The metadata of a map as compact text, which reads as it. The only error is out of memory.
 pub fn metadata_text(alloc: Global, store: &Store) -> Result<String, AllocError>
     ensures { IfOk result (λ text. IsMetadataOf store.now.features (string_bytes text)) }
 {
-    let value = metadata(alloc, store)?;
-    value.to_string(alloc)
+    let layers = summed_up(alloc, store.blocks())?;
+    layers_text(alloc, layers)
 }

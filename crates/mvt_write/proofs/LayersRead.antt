@@ -22,7 +22,8 @@ use Rattle.mvt_write.proofs.Lists.{front_has, back_has}
 use Rattle.mvt_write.proofs.Pooled.{index_within, found_at, has-pool_of, All-pool_of, length-pool_of}
 use Rattle.mvt_write.proofs.Messages.{number_entry, bytes_entry, message_number, message_bytes, only_number, length_in_field, fields_written, entries}
 use Rattle.mvt_write.proofs.Messages.{message_each, values_same, values_other, each_says}
-use Rattle.mvt_write.proofs.ValuesRead.{value_apart, says_value}
+use Rattle.mvt_write.proofs.Distinct.{value_apart}
+use Rattle.mvt_write.proofs.ValuesRead.{says_value}
 use Rattle.mvt_write.proofs.FeaturesRead.{Found, says_feature}
 
 -- ---- the values of messages

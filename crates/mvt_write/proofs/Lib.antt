@@ -1,3 +1,4 @@
+mod Distinct
 mod FeaturesRead
 pub mod Integers
 pub mod Laws
@@ -10,6 +11,7 @@ mod Messages
 pub mod Names
 mod Pooled
 mod Slotted
+mod Spanned
 mod TagSteps
 mod ValuesRead
 mod WriterSteps

@@ -1,14 +1,9 @@
 -- Pools, entry by entry.
-use Rattle.std.proofs.Common.{Ordering, is_eq, ◌≡◌, ℕ, ◌+◌, ◌<◌, ◌≤◌, Bool, true, false, cond, get_or, not, ◌||◌, eqb, List, [], ◌∷◌, ◌++◌, length, map}
+use Rattle.std.proofs.Common.{◌≡◌, ℕ, ◌+◌, ◌<◌, ◌≤◌, Bool, true, false, cond, get_or, not, ◌||◌, eqb, List, [], ◌∷◌, ◌++◌, length}
 use Rattle.std.proofs.Common.{refl, sym, ap, subst, ◌∙◌, append-nil, arith}
-use Rattle.std.specs.declared.cmp.Ordering.TheVariants.{Equal}
-use Rattle.std.specs.Prelude.{filter, Option, Some, None, All, slice_get}
-use Rattle.std.specs.Option.{unwrap_or}
+use Rattle.std.specs.Prelude.{filter, Some, All, slice_get}
 use Rattle.std.specs.List.{list_any, position_or_len}
 use Rattle.std.specs.Str.{bytes_eq}
-use Rattle.std.proofs.lemmas.List.{map-append, length-map, length-append, get_or_append_left, get_or_push, get_or-map}
-use Rattle.std.proofs.Common.{inl, inr}
-use Rattle.std.proofs.lemmas.Bool.{cases_lt}
 use Rattle.std.proofs.lemmas.Bool.Decides.{nat_tests}
 use Rattle.std.proofs.lemmas.List.Elements.{filter-append, All-cons, All-filter, All-from_recursion, recursion_from_All}
 use Rattle.std.proofs.lemmas.List.Sums.{passes_at_first}
@@ -90,35 +85,6 @@ with_entry_by pool entry false is = rw (is, has_push pool entry entry, is) ((byt
 
 pub has-with_entry : (pool : List (List ℕ)) (entry : List ℕ) → has_entry (with_entry pool entry) entry ≡ true
 has-with_entry pool entry = with_entry_by pool entry (has_entry pool entry) refl
-
--- an entry whose number is the next one isn't held
-absent_by : (pool : List (List ℕ)) (entry : List ℕ) (found : Option ℕ) (index next : ℕ) (has : Bool) → has_entry pool entry ≡ has
-    → found ≡ cond has (Some (index_of pool entry)) None → index ≡ unwrap_or found next → index ≡ next → next ≡ length pool → has ≡ false
-absent_by pool entry found index next false is looked numbered last end = refl
-absent_by pool entry found index next true is looked numbered last end =
-    let at : index ≡ index_of pool entry = rw looked at numbered in
-    absurd (omega (arith, index_within pool entry is, at, last, end))
-
-pub absent_from : {K : Type 0} (spelled : K → List ℕ) (items : List K) (entry : K) (found : Option ℕ) (index next : ℕ)
-    → found ≡ index_in (map spelled items) (spelled entry) → index ≡ unwrap_or found next → index ≡ next → next ≡ length items
-    → has_entry (map spelled items) (spelled entry) ≡ false
-absent_from {K} spelled items entry found index next looked numbered last end =
-    let pool = map spelled items in
-    absent_by pool (spelled entry) found index next (has_entry pool (spelled entry)) refl looked numbered last (end ∙ sym (length-map items spelled))
-
--- an entry whose number isn't the next one is held, and this is its index
-held_by : (pool : List (List ℕ)) (entry : List ℕ) (found : Option ℕ) (index next : ℕ) (has : Bool) → has_entry pool entry ≡ has
-    → found ≡ index_in pool entry → index ≡ unwrap_or found next → (index ≡ next → ⊥) → (index_of pool entry ≡ index) × (has_entry pool entry ≡ true)
-held_by pool entry found index next true is looked numbered other =
-    let there : found ≡ Some (index_of pool entry) = looked ∙ rw is refl in
-    (sym (numbered ∙ ap (λ (o : Option ℕ). unwrap_or o next) there), is)
-held_by pool entry found index next false is looked numbered other =
-    let none : found ≡ None = looked ∙ rw is refl in
-    absurd (other (numbered ∙ ap (λ (o : Option ℕ). unwrap_or o next) none))
-
-pub held_number : (pool : List (List ℕ)) (entry : List ℕ) (found : Option ℕ) (index next : ℕ)
-    → found ≡ index_in pool entry → index ≡ unwrap_or found next → (index ≡ next → ⊥) → (index_of pool entry ≡ index) × (has_entry pool entry ≡ true)
-held_number pool entry found index next = held_by pool entry found index next (has_entry pool entry) refl
 
 -- an entry that is added is the last
 pub placed_last : (pool : List (List ℕ)) (entry : List ℕ) → has_entry pool entry ≡ false → index_of (pool ++ entry ∷ []) entry ≡ length pool

@@ -1,15 +1,26 @@
--- Pools by their slots, entry by entry.
-use Rattle.std.proofs.Common.{Ordering, is_eq, ◌≡◌, ℕ, zero, suc, ◌+◌, ◌-◌, ◌<◌, ◌≤◌, Bool, true, false, cond, get_or, set, replicate, List}
-use Rattle.std.proofs.Common.{[], ◌∷◌, ◌++◌, length, map, refl, sym, ap, subst, ◌∙◌, arith, inl, inr}
+-- Pools by their slots and codes, entry by entry.
+use Rattle.std.proofs.Common.{Ordering, is_eq, ◌≡◌, ℕ, zero, suc, ◌-◌, ◌<◌, Bool, true, false, cond, get_or, set, replicate, List, [], ◌∷◌, ◌++◌, length}
+use Rattle.std.proofs.Common.{refl, sym, ap, subst, ◌∙◌, arith, inl, inr, ◌⊎◌}
 use Rattle.std.specs.Prelude.{Option, Some, None, slice_index}
-use Rattle.std.specs.Option.{unwrap_or}
+use Rattle.std.specs.Option.{ForSome, unwrap_or}
+use Rattle.std.specs.BTreeMap.{BTreeMap, get, UpdatesBy, is_at}
+use Rattle.std.specs.Ordering.{nat_cmp, eq_by_cmp}
+use Rattle.std.specs.Map.{KeepsOthers, IsKeyTest, AreApart, lookup}
+use Rattle.std.specs.declared.cmp.Ordering.TheVariants.{Less, Equal, Greater}
+use Rattle.std.specs.declared.vec.Vec.{Vec}
+use Rattle.std.proofs.lemmas.Cmp.{nat_list_cmp_total}
+use Rattle.std.proofs.lemmas.Map.Text.{is_eq-slice_cmp}
+use Rattle.std.proofs.lemmas.Map.Lookups.{exact_unsigned}
+use Rattle.std.specs.Cmp.{eq_by_cmp_equiv, nat_cmp_total, tied_itself}
+use Rattle.std.specs.Cmp.Lexicographic.{slice_cmp}
 use Rattle.std.specs.Str.{bytes_eq}
 use Rattle.std.proofs.lemmas.Bool.{cases_eq}
-use Rattle.std.proofs.lemmas.List.{map-append, length-map, length-append, get_or_append_left, get_or_push, get_or-map, get_or-set_same, get_or-set_other}
+use Rattle.std.proofs.lemmas.List.{length-append, get_or_append_left, get_or_push, get_or-set_same, get_or-set_other}
 use Rattle.std.proofs.lemmas.Slice.Eq.{bytes_eq-Decides}
+use Rattle.mvt_write.specs.Codes.{text_code}
 use Rattle.mvt_write.specs.Pools.{index_of, has_entry, index_in}
-use Rattle.mvt_write.specs.Slots.{place_of, led}
-use Rattle.mvt_write.proofs.Pooled.{index_in_push, placed_last}
+use Rattle.mvt_write.specs.Slots.{place_of, named, slot_index, code_index, bytes_index, led, IsOther}
+use Rattle.mvt_write.proofs.Pooled.{index_in_push}
 
 -- ---- what a look-up says of the pool
 
@@ -28,209 +39,271 @@ pub held_if_some : (pool : List (List ℕ)) (entry : List ℕ) (index : ℕ) →
     → (index_of pool entry ≡ index) × (has_entry pool entry ≡ true)
 held_if_some pool entry index e = some_by (has_entry pool entry) (index_of pool entry) index e
 
-none_if_absent : (pool : List (List ℕ)) (entry : List ℕ) → has_entry pool entry ≡ false → index_in pool entry ≡ None
-none_if_absent pool entry absent = rw absent refl
+-- where an index leads to another entry, the others tell
+pub led_on : (pool : List (List ℕ)) (o : Option ℕ) (entry : List ℕ) (other : Option ℕ) → IsOther pool o entry → led pool o entry other ≡ other
+led_on pool None entry other is = absurd is
+led_on pool (Some index) entry other is = rw is refl
 
--- the entry that a slot names, if it is the one that is sought
-pub first_is : {K : Type 0} (spelled : K → List ℕ) (items : List K) (entry held : K) (number : ℕ) (other : Option ℕ) → 0 < number → number ≤ length items
-    → held ≡ get_or items (number - 1) held → bytes_eq (spelled held) (spelled entry) ≡ true
-    → led (map spelled items) number (spelled entry) other ≡ index_in (map spelled items) (spelled entry)
-    → (index_of (map spelled items) (spelled entry) ≡ number - 1) × (has_entry (map spelled items) (spelled entry) ≡ true)
-first_is {K} spelled items entry held zero other some within is alike looked = absurd (omega (arith, some))
-first_is {K} spelled items entry held (suc index) other some within is alike looked =
-    let same : suc index - 1 ≡ index = omega arith in
-    let here : held ≡ get_or items index held = rw same at is in
-    let named : get_or (map spelled items) index [] ≡ spelled held = get_or-map spelled items index held [] (omega (arith, within)) ∙ ap spelled (sym here) in
-    let found : Some index ≡ index_in (map spelled items) (spelled entry) = rw (named, alike) at looked in
-    rw same (held_if_some (map spelled items) (spelled entry) index found)
+pub led_here : (pool : List (List ℕ)) (o : Option ℕ) (entry : List ℕ) (other : Option ℕ) (index : ℕ) → o ≡ Some index
+    → bytes_eq (get_or pool index []) entry ≡ true → led pool o entry other ≡ Some index
+led_here pool o entry other index is alike = rw (is, alike) refl
 
--- and if it isn't, where the others are tells
-pub others_know : {K : Type 0} (spelled : K → List ℕ) (items : List K) (entry held : K) (number : ℕ) (other : Option ℕ) → 0 < number → number ≤ length items
-    → held ≡ get_or items (number - 1) held → bytes_eq (spelled held) (spelled entry) ≡ false
-    → led (map spelled items) number (spelled entry) other ≡ index_in (map spelled items) (spelled entry)
-    → other ≡ index_in (map spelled items) (spelled entry)
-others_know {K} spelled items entry held zero other some within is apart looked = absurd (omega (arith, some))
-others_know {K} spelled items entry held (suc index) other some within is apart looked =
-    let same : suc index - 1 ≡ index = omega arith in
-    let here : held ≡ get_or items index held = rw same at is in
-    let named : get_or (map spelled items) index [] ≡ spelled held = get_or-map spelled items index held [] (omega (arith, within)) ∙ ap spelled (sym here) in
-    rw (named, apart) at looked
+pub led_nowhere : (pool : List (List ℕ)) (o : Option ℕ) (entry : List ℕ) (other : Option ℕ) → o ≡ None → led pool o entry other ≡ None
+led_nowhere pool o entry other is = rw is refl
+
+pub is_other : (pool : List (List ℕ)) (o : Option ℕ) (entry : List ℕ) (index : ℕ) → o ≡ Some index → bytes_eq (get_or pool index []) entry ≡ false
+    → IsOther pool o entry
+is_other pool o entry index is apart = rw is apart
+
+-- an entry whose slot names another and whose code is new isn't held
+pub unseen_code : (pool : List (List ℕ)) (slot code other : Option ℕ) (entry : List ℕ) → IsOther pool slot entry → code ≡ None
+    → led pool slot entry (led pool code entry other) ≡ index_in pool entry → has_entry pool entry ≡ false
+unseen_code pool slot code other entry by_slot none looked =
+    absent_if_none pool entry (sym (led_on pool slot entry (led pool code entry other) by_slot ∙ led_nowhere pool code entry other none) ∙ looked)
+
+-- an entry that its slot names
+pub first_held : (pool : List (List ℕ)) (slot beside : Option ℕ) (entry : List ℕ) (index : ℕ) → slot ≡ Some index
+    → bytes_eq (get_or pool index []) entry ≡ true → led pool slot entry beside ≡ index_in pool entry
+    → (index_of pool entry ≡ index) × (has_entry pool entry ≡ true)
+first_held pool slot beside entry index is alike looked =
+    held_if_some pool entry index (sym (led_here pool slot entry beside index is alike) ∙ looked)
+
+-- an entry that its code names, and not its slot
+pub second_held : (pool : List (List ℕ)) (slot code other : Option ℕ) (entry : List ℕ) (index : ℕ) → IsOther pool slot entry → code ≡ Some index
+    → bytes_eq (get_or pool index []) entry ≡ true → led pool slot entry (led pool code entry other) ≡ index_in pool entry
+    → (index_of pool entry ≡ index) × (has_entry pool entry ≡ true)
+second_held pool slot code other entry index by_slot is alike looked =
+    held_if_some pool entry index
+    (sym (led_on pool slot entry (led pool code entry other) by_slot ∙ led_here pool code entry other index is alike) ∙ looked)
+
+-- the index that a number names
+pub named_at : (number : ℕ) → (number ≡ 0 → ⊥) → named number ≡ Some (number - 1)
+named_at zero some = absurd (some refl)
+named_at (suc index) some = ap Some (omega arith)
+
+-- where slot and code name other entries, the others tell
+pub others_tell : (pool : List (List ℕ)) (slot code other : Option ℕ) (entry : List ℕ) → IsOther pool slot entry → IsOther pool code entry
+    → led pool slot entry (led pool code entry other) ≡ index_in pool entry → other ≡ index_in pool entry
+others_tell pool slot code other entry by_slot by_code looked =
+    sym (led_on pool slot entry (led pool code entry other) by_slot ∙ led_on pool code entry other by_code) ∙ looked
 
 -- ---- one entry more
 
-led_push : (pool : List (List ℕ)) (entry query : List ℕ) (number : ℕ) (other : Option ℕ) → number ≤ length pool
-    → led (pool ++ entry ∷ []) number query other ≡ led pool number query other
-led_push pool entry query zero other within = refl
-led_push pool entry query (suc index) other within = rw (get_or_append_left pool (entry ∷ []) [] index (omega (arith, within))) refl
+led_push : (pool : List (List ℕ)) (entry query : List ℕ) (o : Option ℕ) (other : Option ℕ) → ForSome o (λ i. i < length pool)
+    → led (pool ++ entry ∷ []) o query other ≡ led pool o query other
+led_push pool entry query None other within = refl
+led_push pool entry query (Some index) other within = rw (get_or_append_left pool (entry ∷ []) [] index (within index refl)) refl
 
 led_last : (pool : List (List ℕ)) (entry query : List ℕ) (other : Option ℕ)
-    → led (pool ++ entry ∷ []) (suc (length pool)) query other ≡ cond (bytes_eq entry query) (Some (length pool)) other
+    → led (pool ++ entry ∷ []) (Some (length pool)) query other ≡ cond (bytes_eq entry query) (Some (length pool)) other
 led_last pool entry query other = rw (get_or_push pool entry [] (length pool) refl) refl
 
--- by the slot that names the new entry
-first_here : (pool : List (List ℕ)) (entry query : List ℕ) (other : Option ℕ) → has_entry pool entry ≡ false → other ≡ None → None ≡ index_in pool query
-    → led (pool ++ entry ∷ []) (suc (length pool)) query other ≡ index_in (pool ++ entry ∷ []) query
-first_here pool entry query other absent none before =
-    led_last pool entry query other ∙ ap (λ (o : Option ℕ). cond (bytes_eq entry query) (Some (length pool)) o) (none ∙ before)
-    ∙ sym (index_in_push pool entry query absent)
+other_push : (pool : List (List ℕ)) (entry query : List ℕ) (o : Option ℕ) → ForSome o (λ i. i < length pool) → IsOther pool o query
+    → IsOther (pool ++ entry ∷ []) o query
+other_push pool entry query None within is = absurd is
+other_push pool entry query (Some index) within is = rw (get_or_append_left pool (entry ∷ []) [] index (within index refl)) is
 
--- by another slot
-first_there : (pool : List (List ℕ)) (entry query : List ℕ) (number : ℕ) (other : Option ℕ) → has_entry pool entry ≡ false → number ≤ length pool
-    → bytes_eq entry query ≡ false → led pool number query other ≡ index_in pool query
-    → led (pool ++ entry ∷ []) number query other ≡ index_in (pool ++ entry ∷ []) query
-first_there pool entry query number other absent within apart before =
-    led_push pool entry query number other within ∙ before ∙ sym (index_in_push pool entry query absent ∙ rw apart refl)
+-- what finds each entry as before, and the new one at the end
+abbrev pub Extends : List (List ℕ) → List ℕ → (List ℕ → Option ℕ) → (List ℕ → Option ℕ) → Type 0
+Extends pool entry old new = (q : List ℕ) → new q ≡ cond (bytes_eq entry q) (Some (length pool)) (old q)
 
--- where the slot names another entry, and the others have the new one
-other_named : (pool : List (List ℕ)) (query : List ℕ) (index last : ℕ) (old : Option ℕ) (same : Bool) → bytes_eq (get_or pool index []) query ≡ same
-    → has_entry pool query ≡ false → led pool (suc index) query old ≡ index_in pool query → led pool (suc index) query (Some last) ≡ Some last
-other_named pool query index last old false is absent before = rw is refl
-other_named pool query index last old true is absent before =
-    let found : Some index ≡ index_in pool query = rw is at before in
-    let none : index_in pool query ≡ None = none_if_absent pool query absent in
-    let no : Some index ≡ None = found ∙ none in
-    absurd (cc)
+-- which entries an index is kept for: those of the new entry's kind, that had none, get the new one
+abbrev pub Names : List (List ℕ) → List ℕ → (List ℕ → Option ℕ) → (List ℕ → Option ℕ) → Type 0
+Names pool entry old new =
+    (q : List ℕ) → ((new q ≡ old q) × (bytes_eq entry q ≡ false)) ⊎ ((new q ≡ Some (length pool)) × (old q ≡ None))
 
-other_by : (pool : List (List ℕ)) (entry query : List ℕ) (number : ℕ) (old new : Option ℕ) (same : Bool) → bytes_eq entry query ≡ same
-    → has_entry pool entry ≡ false → number ≤ length pool → (same ≡ true → number ≡ 0 → ⊥) → new ≡ cond same (Some (length pool)) old
-    → led pool number query old ≡ index_in pool query → led (pool ++ entry ∷ []) number query new ≡ index_in (pool ++ entry ∷ []) query
-other_by pool entry query number old new false is absent within taken update before =
-    let same : led pool number query new ≡ led pool number query old = ap (λ (o : Option ℕ). led pool number query o) update in
-    first_there pool entry query number new absent within is (same ∙ before)
-other_by pool entry query zero old new true is absent within taken update before = absurd (taken refl refl)
-other_by pool entry query (suc index) old new true is absent within taken update before =
-    let e : entry ≡ query = (bytes_eq-Decides entry query).0 is in
-    let not_held : has_entry pool query ≡ false = subst (λ (q : List ℕ). has_entry pool q ≡ false) e absent in
-    led_push pool entry query (suc index) new within
-    ∙ ap (λ (o : Option ℕ). led pool (suc index) query o) update
-    ∙ other_named pool query index (length pool) old (bytes_eq (get_or pool index []) query) refl not_held before
-    ∙ sym (index_in_push pool entry query absent ∙ rw is refl)
+abbrev pub IsWithin : List (List ℕ) → (List ℕ → Option ℕ) → Type 0
+IsWithin pool number = (q : List ℕ) → ForSome (number q) (λ i. i < length pool)
 
--- ---- a pool of keys or values
+module _ (pool : List (List ℕ)) (entry : List ℕ) where
+  longer : (o : Option ℕ) → ForSome o (λ i. i < length pool) → ForSome o (λ i. i < length (pool ++ entry ∷ []))
+  longer o within index is = omega (arith, within index is, length-append pool (entry ∷ []))
 
--- of entries that are written alike the slot is one
-same_place : {K : Type 0} (spelled : K → List ℕ) (coded : K → ℕ) → ((a b : K) → spelled a ≡ spelled b → coded a ≡ coded b) → (a b : K)
-    → bytes_eq (spelled a) (spelled b) ≡ true → place_of (coded b) ≡ place_of (coded a)
-same_place {K} spelled coded codes a b alike = ap place_of (sym (codes a b ((bytes_eq-Decides (spelled a) (spelled b)).0 alike)))
+  pub still_within : (number : List ℕ → Option ℕ) → IsWithin pool number → IsWithin (pool ++ entry ∷ []) number
+  still_within number within q = longer (number q) (within q)
 
-apart_by : {K : Type 0} (spelled : K → List ℕ) (a b : K) (same : Bool) → bytes_eq (spelled a) (spelled b) ≡ same → (same ≡ true → ⊥)
-    → bytes_eq (spelled a) (spelled b) ≡ false
-apart_by {K} spelled a b false is never = is
-apart_by {K} spelled a b true is never = absurd (never refl)
+  named_by : (o n : Option ℕ) (apart : Type 0) → ForSome o (λ i. i < length pool) → ((n ≡ o) × apart) ⊎ ((n ≡ Some (length pool)) × (o ≡ None))
+      → ForSome n (λ i. i < length (pool ++ entry ∷ []))
+  named_by o n apart within (inl same) = subst (λ (x : Option ℕ). ForSome x (λ i. i < length (pool ++ entry ∷ []))) (sym same.0) (longer o within)
+  named_by o n apart within (inr last) =
+      λ index is. let same : Some (length pool) ≡ Some index = sym last.0 ∙ is in
+      let at : length pool ≡ index = cc in
+      omega (arith, at, length-append pool (entry ∷ []))
 
-other_place : {K : Type 0} (spelled : K → List ℕ) (coded : K → ℕ) → ((a b : K) → spelled a ≡ spelled b → coded a ≡ coded b) → (a b : K)
-    → (place_of (coded b) ≡ place_of (coded a) → ⊥) → bytes_eq (spelled a) (spelled b) ≡ false
-other_place {K} spelled coded codes a b apart =
-    apart_by spelled a b (bytes_eq (spelled a) (spelled b)) refl (λ alike. apart (same_place spelled coded codes a b alike))
+  pub named_within : (old new : List ℕ → Option ℕ) → IsWithin pool old → Names pool entry old new → IsWithin (pool ++ entry ∷ []) new
+  named_within old new within names q = named_by (old q) (new q) (bytes_eq entry q ≡ false) (within q) (names q)
 
-pushed : {K : Type 0} (spelled : K → List ℕ) (items : List K) (entry : K) → map spelled items ++ spelled entry ∷ [] ≡ map spelled (items ++ entry ∷ [])
-pushed {K} spelled items entry = sym (map-append spelled items (entry ∷ []))
+  -- what leads to the same entries as before
+  pub same_led : (number other after : List ℕ → Option ℕ) → IsWithin pool number → ((q : List ℕ) → after q ≡ other q) → (q : List ℕ)
+      → led (pool ++ entry ∷ []) (number q) q (after q) ≡ led pool (number q) q (other q)
+  same_led number other after within same q = led_push pool entry q (number q) (after q) (within q) ∙ ap (λ (o : Option ℕ). led pool (number q) q o) (same q)
 
--- no entries, and no slot that names one
+  first_by : (query : List ℕ) (old new other after : Option ℕ) → ForSome old (λ i. i < length pool) → (old ≡ None → other ≡ None) → after ≡ other
+      → ((new ≡ old) × (bytes_eq entry query ≡ false)) ⊎ ((new ≡ Some (length pool)) × (old ≡ None))
+      → led (pool ++ entry ∷ []) new query after ≡ cond (bytes_eq entry query) (Some (length pool)) (led pool old query other)
+  first_by query old new other after within free same (inl kept) =
+      ap (λ (o : Option ℕ). led (pool ++ entry ∷ []) o query after) kept.0
+      ∙ led_push pool entry query old after within ∙ ap (λ (o : Option ℕ). led pool old query o) same ∙ rw kept.1 refl
+  first_by query old new other after within free same (inr last) =
+      ap (λ (o : Option ℕ). led (pool ++ entry ∷ []) o query after) last.0
+      ∙ led_last pool entry query after
+      ∙ ap (λ (o : Option ℕ). cond (bytes_eq entry query) (Some (length pool)) o) (same ∙ free last.1 ∙ sym (led_nowhere pool old query other last.1))
+
+  -- the first entry of its kind is added
+  pub first_led : (old new other after : List ℕ → Option ℕ) → IsWithin pool old → ((q : List ℕ) → old q ≡ None → other q ≡ None)
+      → ((q : List ℕ) → after q ≡ other q) → Names pool entry old new
+      → Extends pool entry (λ q. led pool (old q) q (other q)) (λ q. led (pool ++ entry ∷ []) (new q) q (after q))
+  first_led old new other after within free same names q = first_by q (old q) (new q) (other q) (after q) (within q) (free q) (same q) (names q)
+
+  free_by : (old new other after : Option ℕ) (apart : Type 0) → (old ≡ None → other ≡ None) → after ≡ other
+      → ((new ≡ old) × apart) ⊎ ((new ≡ Some (length pool)) × (old ≡ None)) → new ≡ None → after ≡ None
+  free_by old new other after apart free same (inl kept) none = same ∙ free (sym kept.0 ∙ none)
+  free_by old new other after apart free same (inr last) none = let no : Some (length pool) ≡ None = sym last.0 ∙ none in absurd (cc)
+
+  pub first_free : (old new other after : List ℕ → Option ℕ) → ((q : List ℕ) → old q ≡ None → other q ≡ None) → ((q : List ℕ) → after q ≡ other q)
+      → Names pool entry old new → (q : List ℕ) → new q ≡ None → after q ≡ None
+  first_free old new other after free same names q =
+      free_by (old q) (new q) (other q) (after q) (bytes_eq entry q ≡ false) (free q) (same q) (names q)
+
+  next_by : (number other after : List ℕ → Option ℕ) (q : List ℕ) (alike : Bool) → bytes_eq entry q ≡ alike → ForSome (number q) (λ i. i < length pool)
+      → IsOther pool (number entry) entry → after q ≡ cond alike (Some (length pool)) (other q)
+      → led (pool ++ entry ∷ []) (number q) q (after q) ≡ cond alike (Some (length pool)) (led pool (number q) q (other q))
+  next_by number other after q false is within leads step =
+      led_push pool entry q (number q) (after q) within ∙ ap (λ (o : Option ℕ). led pool (number q) q o) step
+  next_by number other after q true is within leads step =
+      let e : entry ≡ q = (bytes_eq-Decides entry q).0 is in
+      let on : IsOther pool (number q) q = subst (λ (r : List ℕ). IsOther pool (number r) r) e leads in
+      led_on (pool ++ entry ∷ []) (number q) q (after q) (other_push pool entry q (number q) within on) ∙ step
+
+  -- another entry of its kind is added
+  pub next_led : (number other after : List ℕ → Option ℕ) → IsWithin pool number → IsOther pool (number entry) entry → Extends pool entry other after
+      → Extends pool entry (λ q. led pool (number q) q (other q)) (λ q. led (pool ++ entry ∷ []) (number q) q (after q))
+  next_led number other after within leads steps q = next_by number other after q (bytes_eq entry q) refl (within q) leads (steps q)
+
+  next_free_by : (number other after : List ℕ → Option ℕ) (q : List ℕ) (alike : Bool) → bytes_eq entry q ≡ alike
+      → (number q ≡ None → other q ≡ None) → IsOther pool (number entry) entry → after q ≡ cond alike (Some (length pool)) (other q)
+      → number q ≡ None → after q ≡ None
+  next_free_by number other after q false is free leads step none = step ∙ free none
+  next_free_by number other after q true is free leads step none =
+      let e : entry ≡ q = (bytes_eq-Decides entry q).0 is in
+      let own : number entry ≡ None = ap number e ∙ none in
+      absurd (subst (λ (o : Option ℕ). IsOther pool o entry) own leads)
+
+  pub next_free : (number other after : List ℕ → Option ℕ) → ((q : List ℕ) → number q ≡ None → other q ≡ None) → IsOther pool (number entry) entry
+      → Extends pool entry other after → (q : List ℕ) → number q ≡ None → after q ≡ None
+  next_free number other after free leads steps q = next_free_by number other after q (bytes_eq entry q) refl (free q) leads (steps q)
+
+  -- a pool in which everything is found, and one entry more
+  pub found_more : (old new : List ℕ → Option ℕ) → has_entry pool entry ≡ false → ((q : List ℕ) → old q ≡ index_in pool q) → Extends pool entry old new
+      → (q : List ℕ) → new q ≡ index_in (pool ++ entry ∷ []) q
+  found_more old new absent found steps q =
+      steps q ∙ ap (λ (o : Option ℕ). cond (bytes_eq entry q) (Some (length pool)) o) (found q) ∙ sym (index_in_push pool entry q absent)
+
+-- ---- no entries
+
 pub blank : (n place : ℕ) → slice_index (replicate n 0) place ≡ 0
 blank zero place = refl
 blank (suc n) zero = refl
 blank (suc n) (suc place) = blank n place
 
-pub blank_looked : (n place : ℕ) (query : List ℕ) (other : Option ℕ) → led [] (slice_index (replicate n 0) place) query other ≡ index_in [] query
+pub blank_index : (n : ℕ) (entry : List ℕ) → slot_index (replicate n 0) entry ≡ None
+blank_index n entry = ap named (blank n (place_of (text_code entry)))
+
+pub none_held : (entry : List ℕ) → None ≡ index_in [] entry
 unfolding has_entry
-blank_looked n place query other = rw (blank n place) refl
+none_held entry = refl
 
--- an entry whose slot is free isn't held
-pub first_absent : {K : Type 0} (spelled : K → List ℕ) (coded : K → ℕ) (other : Option ℕ) (items : List K) (entry : K) (slots : List ℕ) (place : ℕ)
-    → place ≡ place_of (coded entry) → slice_index slots place ≡ 0
-    → led (map spelled items) (slice_index slots (place_of (coded entry))) (spelled entry) other ≡ index_in (map spelled items) (spelled entry)
-    → has_entry (map spelled items) (spelled entry) ≡ false
-first_absent {K} spelled coded other items entry slots place here empty looked =
-    let own : slice_index slots (place_of (coded entry)) ≡ 0 = ap (λ (p : ℕ). slice_index slots p) (sym here) ∙ empty in
-    absent_if_none (map spelled items) (spelled entry) (rw own at looked)
+-- ---- the levels
 
--- and is the last once it is added
-pub last_index : {K : Type 0} (spelled : K → List ℕ) (items : List K) (entry : K) → has_entry (map spelled items) (spelled entry) ≡ false
-    → index_of (map spelled (items ++ entry ∷ [])) (spelled entry) ≡ length items
-last_index {K} spelled items entry absent =
-    subst (λ (whole : List (List ℕ)). index_of whole (spelled entry) ≡ length items) (pushed spelled items entry)
-    (placed_last (map spelled items) (spelled entry) absent ∙ length-map items spelled)
+same_code : (entry q : List ℕ) → bytes_eq entry q ≡ true → text_code q ≡ text_code entry
+same_code entry q alike = ap text_code (sym ((bytes_eq-Decides entry q).0 alike))
 
--- the first entry of a slot is added
-pub first_looked : {K : Type 0} (spelled : K → List ℕ) (coded : K → ℕ) → ((a b : K) → spelled a ≡ spelled b → coded a ≡ coded b)
-    → (other : K → Option ℕ) (items : List K) (entry : K) (slots : List ℕ) (place : ℕ) → place ≡ place_of (coded entry) → place < length slots
-    → slice_index slots place ≡ 0
-    → ((q : K) → led (map spelled items) (slice_index slots (place_of (coded q))) (spelled q) (other q) ≡ index_in (map spelled items) (spelled q))
-    → ((q : K) → slice_index slots (place_of (coded q)) ≡ 0 → other q ≡ None) → ((p : ℕ) → slice_index slots p ≤ length items) → (q : K)
-    → led (map spelled (items ++ entry ∷ [])) (slice_index (set slots place (suc (length items))) (place_of (coded q))) (spelled q) (other q)
-    ≡ index_in (map spelled (items ++ entry ∷ [])) (spelled q)
-first_looked {K} spelled coded codes other items entry slots place here inside empty looked free named q =
-    let pool = map spelled items in
-    let after = set slots place (suc (length items)) in
-    let absent : has_entry pool (spelled entry) ≡ false = first_absent spelled coded (other entry) items entry slots place here empty (looked entry) in
-    let answer : led (pool ++ spelled entry ∷ []) (slice_index after (place_of (coded q))) (spelled q) (other q)
-    ≡ index_in (pool ++ spelled entry ∷ []) (spelled q) =
-    elim (cases_eq (place_of (coded q)) place) [
-      | inl same ↦
-          let was : slice_index slots (place_of (coded q)) ≡ 0 = ap (λ (p : ℕ). slice_index slots p) same ∙ empty in
-          let now : slice_index after (place_of (coded q)) ≡ suc (length pool) = ap (λ (p : ℕ). slice_index after p) same
-          ∙ get_or-set_same slots place (suc (length items)) 0 inside ∙ ap suc (sym (length-map items spelled)) in
-          let before : None ≡ index_in pool (spelled q) = rw was at (looked q) in
-          rw now (first_here pool (spelled entry) (spelled q) (other q) absent (free q was) before)
-      | inr apart ↦
-          let now : slice_index after (place_of (coded q)) ≡ slice_index slots (place_of (coded q)) =
-          get_or-set_other slots place (place_of (coded q)) (suc (length items)) 0 apart in
-          let differs : bytes_eq (spelled entry) (spelled q) ≡ false = other_place spelled coded codes entry q (λ e. apart (e ∙ sym here)) in
-          let within : slice_index slots (place_of (coded q)) ≤ length pool = rw (length-map items spelled) (named (place_of (coded q))) in
-          rw now (first_there pool (spelled entry) (spelled q) (slice_index slots (place_of (coded q))) (other q) absent within differs (looked q))
-    ] in
-    subst (λ (whole : List (List ℕ)). led whole (slice_index after (place_of (coded q))) (spelled q) (other q) ≡ index_in whole (spelled q))
-    (pushed spelled items entry) answer
+apart_by : (entry q : List ℕ) (alike : Bool) → bytes_eq entry q ≡ alike → (alike ≡ true → ⊥) → bytes_eq entry q ≡ false
+apart_by entry q false is never = is
+apart_by entry q true is never = absurd (never refl)
 
-pub first_free : {K : Type 0} (coded : K → ℕ) (other : K → Option ℕ) (slots : List ℕ) (place number : ℕ) → place < length slots
-    → ((q : K) → slice_index slots (place_of (coded q)) ≡ 0 → other q ≡ None) → (q : K)
-    → slice_index (set slots place (suc number)) (place_of (coded q)) ≡ 0 → other q ≡ None
-first_free {K} coded other slots place number inside free q empty = elim (cases_eq (place_of (coded q)) place) [
+other_code : (entry q : List ℕ) → (text_code q ≡ text_code entry → ⊥) → bytes_eq entry q ≡ false
+other_code entry q apart = apart_by entry q (bytes_eq entry q) refl (λ alike. apart (same_code entry q alike))
+
+-- the slot of an entry, once it names the entry
+pub slot_names : (pool : List (List ℕ)) (entry : List ℕ) (slots : List ℕ) (place : ℕ) → place < length slots → place ≡ place_of (text_code entry)
+    → slice_index slots place ≡ 0 → Names pool entry (slot_index slots) (slot_index (set slots place (suc (length pool))))
+slot_names pool entry slots place inside here empty q = elim (cases_eq (place_of (text_code q)) place) [
   | inl same ↦
-      let now : slice_index (set slots place (suc number)) (place_of (coded q)) ≡ suc number =
-      ap (λ (p : ℕ). slice_index (set slots place (suc number)) p) same ∙ get_or-set_same slots place (suc number) 0 inside in
-      absurd (omega (arith, now, empty))
-  | inr apart ↦ free q (sym (get_or-set_other slots place (place_of (coded q)) (suc number) 0 apart) ∙ empty)
+      let now : slice_index (set slots place (suc (length pool))) (place_of (text_code q)) ≡ suc (length pool) =
+      ap (λ (p : ℕ). slice_index (set slots place (suc (length pool))) p) same ∙ get_or-set_same slots place (suc (length pool)) 0 inside in
+      let before : slice_index slots (place_of (text_code q)) ≡ 0 = ap (λ (p : ℕ). slice_index slots p) same ∙ empty in
+      inr (ap named now, ap named before)
+  | inr other ↦
+      let now : slice_index (set slots place (suc (length pool))) (place_of (text_code q)) ≡ slice_index slots (place_of (text_code q)) =
+      get_or-set_other slots place (place_of (text_code q)) (suc (length pool)) 0 other in
+      inl (ap named now, other_code entry q (λ e. other (ap place_of e ∙ sym here)))
 ]
 
-pub first_named : {K : Type 0} (items : List K) (entry : K) (slots : List ℕ) (place : ℕ) → place < length slots → ((p : ℕ) → slice_index slots p ≤ length items)
-    → (p : ℕ) → slice_index (set slots place (suc (length items))) p ≤ length (items ++ entry ∷ [])
-first_named {K} items entry slots place inside named p = elim (cases_eq p place) [
-  | inl same ↦
-      let now : slice_index (set slots place (suc (length items))) p ≡ suc (length items) =
-      ap (λ (k : ℕ). slice_index (set slots place (suc (length items))) k) same ∙ get_or-set_same slots place (suc (length items)) 0 inside in
-      omega (arith, now, length-append items (entry ∷ []))
-  | inr apart ↦
-      let now : slice_index (set slots place (suc (length items))) p ≡ slice_index slots p = get_or-set_other slots place p (suc (length items)) 0 apart in
-      omega (arith, now, named p, length-append items (entry ∷ []))
+tied : (k q : ℕ) → q ≡ k → is_eq (nat_cmp k q) ≡ true
+tied k q same = rw same (ap is_eq (tied_itself nat_cmp_total k))
+
+untied_by : (k q : ℕ) (o : Ordering) → nat_cmp k q ≡ o → (q ≡ k → ⊥) → is_eq o ≡ false
+untied_by k q Less is apart = refl
+untied_by k q Equal is apart = absurd (apart (sym (exact_unsigned k q is)))
+untied_by k q Greater is apart = refl
+
+untied : (k q : ℕ) → (q ≡ k → ⊥) → is_eq (nat_cmp k q) ≡ false
+untied k q apart = untied_by k q (nat_cmp k q) refl apart
+
+-- the code of an entry, once it names the entry
+pub code_names : (pool : List (List ℕ)) (entry : List ℕ) (old new : BTreeMap ℕ ℕ) → code_index old entry ≡ None
+    → ((k : ℕ) → get nat_cmp new k ≡ cond (is_eq (nat_cmp (text_code entry) k)) (Some (length pool)) (get nat_cmp old k))
+    → Names pool entry (code_index old) (code_index new)
+code_names pool entry old new none updates q = elim (cases_eq (text_code q) (text_code entry)) [
+  | inl same ↦ inr (updates (text_code q) ∙ rw (tied (text_code entry) (text_code q) same) refl, ap (get nat_cmp old) same ∙ none)
+  | inr other ↦ inl (updates (text_code q) ∙ rw (untied (text_code entry) (text_code q) other) refl, other_code entry q other)
 ]
 
--- another entry of a slot is added
-pub other_looked : {K : Type 0} (spelled : K → List ℕ) (coded : K → ℕ) (cmp : K → K → Ordering)
-    → ((a b : K) → is_eq (cmp a b) ≡ bytes_eq (spelled a) (spelled b))
-    → ((a b : K) → spelled a ≡ spelled b → coded a ≡ coded b) → (old new : K → Option ℕ) (items : List K) (entry : K) (slots : List ℕ) (index : ℕ)
-    → index ≡ length items → has_entry (map spelled items) (spelled entry) ≡ false → (slice_index slots (place_of (coded entry)) ≡ 0 → ⊥)
-    → ((q : K) → led (map spelled items) (slice_index slots (place_of (coded q))) (spelled q) (old q) ≡ index_in (map spelled items) (spelled q))
-    → ((p : ℕ) → slice_index slots p ≤ length items) → ((q : K) → new q ≡ cond (is_eq (cmp entry q)) (Some index) (old q)) → (q : K)
-    → led (map spelled (items ++ entry ∷ [])) (slice_index slots (place_of (coded q))) (spelled q) (new q)
-    ≡ index_in (map spelled (items ++ entry ∷ [])) (spelled q)
-other_looked {K} spelled coded cmp same codes old new items entry slots index last absent taken looked named updates q =
-    let pool = map spelled items in
-    let number = slice_index slots (place_of (coded q)) in
-    let end : index ≡ length pool = last ∙ sym (length-map items spelled) in
-    let update : new q ≡ cond (bytes_eq (spelled entry) (spelled q)) (Some (length pool)) (old q) = updates q ∙ rw (same entry q, end) refl in
-    let within : number ≤ length pool = rw (length-map items spelled) (named (place_of (coded q))) in
-    let answer = other_by pool (spelled entry) (spelled q) number (old q) (new q) (bytes_eq (spelled entry) (spelled q)) refl absent within
-    (λ alike empty. taken (ap (λ (p : ℕ). slice_index slots p) (sym (same_place spelled coded codes entry q alike)) ∙ empty)) update (looked q) in
-    subst (λ (whole : List (List ℕ)). led whole number (spelled q) (new q) ≡ index_in whole (spelled q)) (pushed spelled items entry) answer
+-- a number is the next one only if there was none
+pub next_is_new : (found : Option ℕ) (index next : ℕ) → ForSome found (λ i. i < next) → index ≡ unwrap_or found next → index ≡ next → found ≡ None
+next_is_new None index next below numbered last = refl
+next_is_new (Some i) index next below numbered last = absurd (omega (arith, below i refl, numbered, last))
 
-pub other_free : {K : Type 0} (spelled : K → List ℕ) (coded : K → ℕ) (cmp : K → K → Ordering)
-    → ((a b : K) → is_eq (cmp a b) ≡ bytes_eq (spelled a) (spelled b))
-    → ((a b : K) → spelled a ≡ spelled b → coded a ≡ coded b) → (old new : K → Option ℕ) (entry : K) (slots : List ℕ) (index : ℕ)
-    → (slice_index slots (place_of (coded entry)) ≡ 0 → ⊥) → ((q : K) → slice_index slots (place_of (coded q)) ≡ 0 → old q ≡ None)
-    → ((q : K) → new q ≡ cond (is_eq (cmp entry q)) (Some index) (old q)) → (q : K) → slice_index slots (place_of (coded q)) ≡ 0 → new q ≡ None
-other_free {K} spelled coded cmp same codes old new entry slots index taken free updates q empty =
-    let apart : bytes_eq (spelled entry) (spelled q) ≡ false = apart_by spelled entry q (bytes_eq (spelled entry) (spelled q)) refl
-    (λ alike. taken (ap (λ (p : ℕ). slice_index slots p) (sym (same_place spelled coded codes entry q alike)) ∙ empty)) in
-    updates q ∙ rw (same entry q, apart) (free q empty)
+pub other_is_old : (found : Option ℕ) (index next : ℕ) → index ≡ unwrap_or found next → (index ≡ next → ⊥) → found ≡ Some index
+other_is_old None index next numbered apart = absurd (apart numbered)
+other_is_old (Some i) index next numbered apart = ap Some (sym numbered)
+
+-- an index that a code has already is kept
+pub code_kept : (entry : List ℕ) (old new : BTreeMap ℕ ℕ) (index : ℕ) → code_index old entry ≡ Some index
+    → ((k : ℕ) → get nat_cmp new k ≡ cond (is_eq (nat_cmp (text_code entry) k)) (Some index) (get nat_cmp old k)) → (q : List ℕ)
+    → code_index new q ≡ code_index old q
+code_kept entry old new index is updates q = elim (cases_eq (text_code q) (text_code entry)) [
+  | inl same ↦ updates (text_code q) ∙ rw (tied (text_code entry) (text_code q) same) (sym (ap (get nat_cmp old) same ∙ is))
+  | inr other ↦ updates (text_code q) ∙ rw (untied (text_code entry) (text_code q) other) refl
+]
+
+-- ---- the others
+
+apart_in_order : (bs cs ks : List ℕ) → bytes_eq bs cs ≡ false → is_eq (slice_cmp nat_cmp bs ks) ≡ true → is_eq (slice_cmp nat_cmp cs ks) ≡ false
+apart_in_order bs cs ks apart is =
+    let here : bs ≡ ks = (bytes_eq-Decides bs ks).0 (sym (is_eq-slice_cmp bs ks) ∙ is) in
+    is_eq-slice_cmp cs ks ∙ apart_by cs ks (bytes_eq cs ks) refl
+    (λ alike. let same : bs ≡ cs = here ∙ sym ((bytes_eq-Decides cs ks).0 alike) in
+    let no : bytes_eq bs cs ≡ true = (bytes_eq-Decides bs cs).1 same in
+    absurd (cc))
+
+bytes_by : {A : Type 0} (old new : BTreeMap (Vec ℕ A) ℕ) (bs cs : List ℕ) (w : Option ℕ) (alike : Bool) → bytes_eq bs cs ≡ alike → bytes_index new bs ≡ w
+    → (alike ≡ false → bytes_index new cs ≡ bytes_index old cs) → bytes_index new cs ≡ cond alike w (bytes_index old cs)
+bytes_by {A} old new bs cs w true is here other = subst (λ (q : List ℕ). bytes_index new q ≡ w) ((bytes_eq-Decides bs cs).0 is) here
+bytes_by {A} old new bs cs w false is here other = other refl
+
+other_entries : {K : Type 0} (eq : K → K → Bool) (test other : K → Bool) (old new : List (K × ℕ)) → KeepsOthers eq test old new → IsKeyTest eq other
+    → AreApart test other → lookup other new ≡ lookup other old
+unfolding KeepsOthers
+other_entries {K} eq test other old new keeps is apart = keeps other is apart
+
+-- what the bytes lead to after a change at some bytes
+pub bytes_after : {A : Type 0} (bs : List ℕ) (old new : BTreeMap (Vec ℕ A) ℕ) (w : Option ℕ)
+    → UpdatesBy (λ x y. slice_cmp nat_cmp x.items y.items) (λ k. slice_cmp nat_cmp bs k.items) old new w
+    → (cs : List ℕ) → bytes_index new cs ≡ cond (bytes_eq bs cs) w (bytes_index old cs)
+bytes_after {A} bs old new w updates cs =
+    bytes_by old new bs cs w (bytes_eq bs cs) refl updates.1
+    (λ apart. other_entries (eq_by_cmp (λ x y. slice_cmp nat_cmp x.items y.items)) (is_at (λ k. slice_cmp nat_cmp bs k.items))
+    (is_at (λ k. slice_cmp nat_cmp cs k.items)) old.entries new.entries updates.3
+    (λ x y. (eq_by_cmp_equiv nat_list_cmp_total).congr cs x.items y.items) (λ k. apart_in_order bs cs k.items apart))

@@ -20,7 +20,7 @@ use Rattle.mvt_write.proofs.Pooled.{pool_of-push}
 use Rattle.mvt_write.proofs.TagSteps.{later, indices_more}
 
 -- no tags and no features
-pub starts : (w : LayerWriter) (name : List ℕ) → held_keys w.pools ≡ [] → held_values w.pools ≡ [] → w.tags.items ≡ [] → w.bytes.items ≡ bytes_field 1 name
+pub starts : (w : LayerWriter) (name : List ℕ) → held_keys w.pools.value ≡ [] → held_values w.pools.value ≡ [] → w.tags.items ≡ [] → w.bytes.items ≡ bytes_field 1 name
     → Writes w name [] []
 unfolding pool_of
 starts w name keys values tags bytes = record {
@@ -41,21 +41,21 @@ pooled_more part pool after before tags t is step =
     step ∙ ap (λ (p : List (List ℕ)). with_entry p (part t)) is ∙ sym (pool_of-push (map part (before ++ tags)) (part t)) ∙ ap pool_of (sym uses)
 
 pub tag_added : (old new : LayerWriter) (name : List ℕ) (fs : List FeatureView) (tags : List Tagged) (t : Tagged) → Writes old name fs tags
-    → held_keys new.pools ≡ with_entry (held_keys old.pools) t.0 → held_values new.pools ≡ with_entry (held_values old.pools) (value_written t.1)
-    → new.tags.items ≡ old.tags.items ++ (varint (index_of (held_keys new.pools) t.0) ++ varint (index_of (held_values new.pools) (value_written t.1)))
+    → held_keys new.pools.value ≡ with_entry (held_keys old.pools.value) t.0 → held_values new.pools.value ≡ with_entry (held_values old.pools.value) (value_written t.1)
+    → new.tags.items ≡ old.tags.items ++ (varint (index_of (held_keys new.pools.value) t.0) ++ varint (index_of (held_values new.pools.value) (value_written t.1)))
     → new.bytes.items ≡ old.bytes.items → Writes new name fs (tags ++ t ∷ [])
 tag_added old new name fs tags t before by_key by_value by_indices same =
-    let keys = held_keys old.pools in
-    let values = held_values old.pools in
+    let keys = held_keys old.pools.value in
+    let values = held_values old.pools.value in
     record {
-      keys = pooled_more (λ u. u.0) keys (held_keys new.pools) (tags_of fs) tags t before.keys by_key;
-      values = pooled_more (λ u. value_written u.1) values (held_values new.pools) (tags_of fs) tags t before.values by_value;
+      keys = pooled_more (λ u. u.0) keys (held_keys new.pools.value) (tags_of fs) tags t before.keys by_key;
+      values = pooled_more (λ u. value_written u.1) values (held_values new.pools.value) (tags_of fs) tags t before.values by_value;
       indices =
-          indices_more keys (held_keys new.pools) values (held_values new.pools) tags (tags ++ t ∷ []) t old.tags.items new.tags.items before.indices by_key
+          indices_more keys (held_keys new.pools.value) values (held_values new.pools.value) tags (tags ++ t ∷ []) t old.tags.items new.tags.items before.indices by_key
           by_value by_indices refl;
       bytes = λ ks vs.
-          let k = later keys (held_keys new.pools) t.0 ks by_key in
-          let v = later values (held_values new.pools) (value_written t.1) vs by_value in
+          let k = later keys (held_keys new.pools.value) t.0 ks by_key in
+          let v = later values (held_values new.pools.value) (value_written t.1) vs by_value in
           same ∙ before.bytes k.0 v.0 ∙ rw (← k.1, ← v.1) refl;
     }
 
@@ -116,18 +116,18 @@ pooled_ended part pool fs f is =
 
 pub feature_added : (old new : LayerWriter) (name : List ℕ) (fs : List FeatureView) (tags : List Tagged) (id : Option ℕ) (s : ShapeView) (kind : ShapeKind)
     (geometry : List ℕ) → Writes old name fs tags → geometry ≡ flat_map varint (shape_spelled s) → kind ≡ kind_of s
-    → held_keys new.pools ≡ held_keys old.pools → held_values new.pools ≡ held_values old.pools → new.tags.items ≡ []
+    → held_keys new.pools.value ≡ held_keys old.pools.value → held_values new.pools.value ≡ held_values old.pools.value → new.tags.items ≡ []
     → new.bytes.items ≡ old.bytes.items ++ bytes_field 2 (message_of id old.tags.items kind geometry)
     → Writes new name (fs ++ record { id = id; tags = tags; shape = s } ∷ []) []
 feature_added old new name fs tags id s kind geometry before by_shape by_kind same_keys same_values cleared by_bytes =
     let f : FeatureView = record { id = id; tags = tags; shape = s } in
     record {
-      keys = pooled_ended (λ u. u.0) (held_keys new.pools) fs f (same_keys ∙ before.keys);
-      values = pooled_ended (λ u. value_written u.1) (held_values new.pools) fs f (same_values ∙ before.values);
+      keys = pooled_ended (λ u. u.0) (held_keys new.pools.value) fs f (same_keys ∙ before.keys);
+      values = pooled_ended (λ u. value_written u.1) (held_values new.pools.value) fs f (same_values ∙ before.values);
       indices = λ ks vs. cleared;
       bytes = λ ks vs.
-          let keys = held_keys old.pools ++ ks in
-          let values = held_values old.pools ++ vs in
+          let keys = held_keys old.pools.value ++ ks in
+          let values = held_values old.pools.value ++ vs in
           let message = message_is keys values id tags s old.tags.items kind geometry (before.indices ks vs) by_shape by_kind in
           by_bytes ∙ ap₂ (λ (a b : List ℕ). a ++ bytes_field 2 b) (before.bytes ks vs) message
           ∙ flat_map_more (λ g. bytes_field 2 (feature_written keys values g)) (bytes_field 1 name) fs f ∙ rw (same_keys, same_values) refl;
@@ -154,11 +154,11 @@ layer_joined l keys values a b c d by_keys by_values at_a at_b at_c at_d =
     whole ∙ regrouped name features held_keys held_values end ∙ rw (by_keys, by_values) refl
 
 pub finished : (w : LayerWriter) (name : List ℕ) (fs : List FeatureView) (pooled ended : List ℕ) → Writes w name fs []
-    → pooled ≡ w.bytes.items ++ (flat_map (bytes_field 3) (held_keys w.pools) ++ flat_map (bytes_field 4) (held_values w.pools))
+    → pooled ≡ w.bytes.items ++ (flat_map (bytes_field 3) (held_keys w.pools.value) ++ flat_map (bytes_field 4) (held_values w.pools.value))
     → ended ≡ pooled ++ (number_field 5 DEFAULT_EXTENT ++ number_field 15 CURRENT_VERSION) → ended ≡ layer_written (layer_of name fs)
 finished w name fs pooled ended writes by_pools by_end =
-    let keys = held_keys w.pools in
-    let values = held_values w.pools in
+    let keys = held_keys w.pools.value in
+    let values = held_values w.pools.value in
     let all : tags_of fs ++ [] ≡ tags_of fs = append-nil (tags_of fs) in
     let by_keys : keys ≡ pool_of (keys_used (tags_of fs)) = writes.keys ∙ ap (λ (ts : List Tagged). pool_of (keys_used ts)) all in
     let by_values : values ≡ pool_of (values_used (tags_of fs)) = writes.values ∙ ap (λ (ts : List Tagged). pool_of (values_used ts)) all in

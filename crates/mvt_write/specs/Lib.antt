@@ -1,11 +1,11 @@
 pub mod CanWrite
 pub mod Codes
-pub mod Distinct
+pub mod Entries
 pub mod Fits
 pub mod Held
 pub mod Parts
 pub mod Pools
 pub mod Slots
-pub mod Values
+pub mod Spans
 pub mod Writes
 pub mod Written

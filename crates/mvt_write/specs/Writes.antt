@@ -20,10 +20,10 @@ layer_of name fs = record { name = name; version = CURRENT_VERSION; extent = DEF
 
 -- the writer has the layer of this name with these features, and these tags of the feature that comes next
 pub record Writes (w : LayerWriter) (name : List ℕ) (fs : List FeatureView) (tags : List Tagged) : Type 0 where
-  pub keys : held_keys w.pools ≡ pool_of (keys_used (tags_of fs ++ tags))
-  pub values : held_values w.pools ≡ pool_of (values_used (tags_of fs ++ tags))
+  pub keys : held_keys w.pools.value ≡ pool_of (keys_used (tags_of fs ++ tags))
+  pub values : held_values w.pools.value ≡ pool_of (values_used (tags_of fs ++ tags))
   -- entries that are added later change nothing
   pub indices : (later_keys later_values : List (List ℕ))
-      → w.tags.items ≡ flat_map varint (tag_indices (held_keys w.pools ++ later_keys) (held_values w.pools ++ later_values) tags)
+      → w.tags.items ≡ flat_map varint (tag_indices (held_keys w.pools.value ++ later_keys) (held_values w.pools.value ++ later_values) tags)
   pub bytes : (later_keys later_values : List (List ℕ))
-      → w.bytes.items ≡ bytes_field LAYER_NAME name ++ features_written (held_keys w.pools ++ later_keys) (held_values w.pools ++ later_values) fs
+      → w.bytes.items ≡ bytes_field LAYER_NAME name ++ features_written (held_keys w.pools.value ++ later_keys) (held_values w.pools.value ++ later_values) fs

@@ -15,10 +15,11 @@ use std::alloc::{AllocError, Global};
 /// The bytes that a head has room for at first: those of an id of 64 bits, and of the number and the length of a field.
 const FIRST_HEAD_BYTES: usize = 24;
 
-/// Memory for what a feature's message has before its tags and before its geometry, used again for each feature.
+/// Memory for what a feature's message has before its tags and before its geometry, used again for each feature. Between features
+/// `tags` is free for other uses.
 #[derive(Drop)]
 pub(crate) struct FeatureHeads {
-    tags: Vec<u8>,
+    pub tags: Vec<u8>,
     geometry: Vec<u8>,
 }
 

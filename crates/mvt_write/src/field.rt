@@ -9,13 +9,33 @@ ghost use Rattle.mvt_write.specs.Written.{number_field, bytes_field};
 use pb_wire::{WIRE_LEN, WIRE_VARINT, put_varint};
 use std::alloc::AllocError;
 
+/// Appends two numbers of one byte each.
+fn put_small(out: &mut Vec<u8>, a: u8, b: u8) -> Result<(), AllocError>
+    requires first { a < 128 }
+    requires second { b < 128 }
+    ensures { OnOk result (out.new.items ≡ out.old.items ++ (varint a ++ varint b)) }
+{
+    out.extend_from_slice(&[a, b])
+}
+
+/// Appends two numbers.
+pub(crate) fn put_pair(out: &mut Vec<u8>, a: u64, b: u64) -> Result<(), AllocError>
+    ensures { OnOk result (out.new.items ≡ out.old.items ++ (varint a ++ varint b)) }
+{
+    // Most numbers take one byte.
+    if a < 128 && b < 128 {
+        return put_small(out, a as u8, b as u8);
+    }
+    put_varint(out, a)?;
+    put_varint(out, b)
+}
+
 /// Appends a field that is a number.
 pub(crate) fn put_number(out: &mut Vec<u8>, number: u32, n: u64) -> Result<(), AllocError>
     requires { number < 2 ^ 29 }
     ensures { OnOk result (out.new.items ≡ out.old.items ++ number_field number n) }
 {
-    put_varint(out, 8 * u64::from(number) + WIRE_VARINT)?;
-    put_varint(out, n)
+    put_pair(out, 8 * u64::from(number) + WIRE_VARINT, n)
 }
 
 /// Appends what a field of this many bytes has before them.
@@ -23,8 +43,7 @@ pub(crate) fn put_head(out: &mut Vec<u8>, number: u32, len: usize) -> Result<(),
     requires { number < 2 ^ 29 }
     ensures { OnOk result (out.new.items ≡ out.old.items ++ field_head number len) }
 {
-    put_varint(out, 8 * u64::from(number) + WIRE_LEN)?;
-    put_varint(out, len as u64)
+    put_pair(out, 8 * u64::from(number) + WIRE_LEN, len as u64)
 }
 
 /// Appends a field that is bytes.

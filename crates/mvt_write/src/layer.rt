@@ -55,10 +55,7 @@ fn pack_geometry(alloc: Global, packed: &mut Vec<u8>, shape: &Shape) -> Result<(
 }
 
 /// Adds the tags of the feature that comes next.
-fn put_tags<'a>(
-    writer: &mut LayerWriter<'a>,
-    tags: &[(&'a str, TagValue<'a>)],
-) -> Result<(), AllocError>
+fn put_tags(writer: &mut LayerWriter, tags: &[(&str, TagValue<'_>)]) -> Result<(), AllocError>
     requires { All (λ t. CanWriteValue t.1) (tagged tags.now) }
     ensures writes { OnOk result ((name : List ℕ) (fs : List FeatureView)
         → Writes writer.old name fs [] → Writes writer.new name fs (tagged tags.now)) }
@@ -71,11 +68,11 @@ fn put_tags<'a>(
 }
 
 /// Adds a feature. `packed` is overwritten.
-fn put_feature<'a>(
+fn put_feature(
     alloc: Global,
     packed: &mut Vec<u8>,
-    writer: &mut LayerWriter<'a>,
-    feature: &TileFeature<'a>,
+    writer: &mut LayerWriter,
+    feature: &TileFeature<'_>,
 ) -> Result<(), AllocError>
     requires { CanWriteFeature (feature_view feature.now) }
     ensures writes { OnOk result ((name : List ℕ) (fs : List FeatureView)
@@ -88,10 +85,10 @@ fn put_feature<'a>(
 }
 
 /// Adds features.
-fn put_features<'a>(
+fn put_features(
     alloc: Global,
-    writer: &mut LayerWriter<'a>,
-    features: &[TileFeature<'a>],
+    writer: &mut LayerWriter,
+    features: &[TileFeature<'_>],
 ) -> Result<(), AllocError>
     requires { All CanWriteFeature (map feature_view features.now) }
     ensures writes { OnOk result ((name : List ℕ)

@@ -28,8 +28,9 @@ const FIRST_TAG_BYTES: usize = 32;
 /// A layer that is being written (Mapbox Vector Tile 2.1, 4.1): its features one after the other, and before each feature its
 /// tags. After an `Err` it is of no more use.
 #[derive(Drop)]
-pub struct LayerWriter<'a> {
-    pools: TagPools<'a>,
+pub struct LayerWriter {
+    /// Boxed, since a writer is moved into a map of layers and out of it.
+    pools: Box<TagPools>,
     /// The packed indices of the tags of the feature that comes next.
     tags: Vec<u8>,
     /// The fields of the layer's name and of its features.
@@ -46,12 +47,13 @@ fn put_end(out: &mut Vec<u8>) -> Result<(), AllocError>
     put_number(out, LAYER_VERSION, u64::from(CURRENT_VERSION))
 }
 
-impl<'a> LayerWriter<'a> {
+impl LayerWriter {
     /// A layer with no features.
     pub fn new(alloc: Global, name: &str) -> Result<Self, AllocError>
         ensures { IfOk result (λ w. Writes w name.now [] []) }
     {
-        let pools = TagPools::new(alloc)?;
+        let tag_pools = TagPools::new(alloc)?;
+        let pools = Box::new(alloc, tag_pools)?;
         let mut bytes = Vec::with_capacity(alloc, FIRST_BYTES)?;
         put_bytes(&mut bytes, LAYER_NAME, name.as_bytes())?;
         Ok(LayerWriter {
@@ -64,13 +66,19 @@ impl<'a> LayerWriter<'a> {
 
     /// Adds a tag to the feature that comes next. The value is no floating point number, and a `Negative` is below 0. For tiles
     /// that can be read, the keys of a feature ascend.
-    pub fn put_tag(&mut self, key: &'a str, value: TagValue<'a>) -> Result<(), AllocError>
+    pub fn put_tag(&mut self, key: &str, value: TagValue<'_>) -> Result<(), AllocError>
         requires { CanWriteValue (tag_view value) }
         ensures writes { OnOk result ((name : List ℕ) (fs : List FeatureView) (tags : List Tagged)
-            → Writes self.old name fs tags → Writes self.new name fs (tags ++ (key.entry.now, tag_view value.entry) ∷ [])) }
-        ensures fits { FitsTag (key.entry.now, tag_view value.entry) }
+            → Writes self.old name fs tags → Writes self.new name fs (tags ++ (key.now, tag_view value.entry) ∷ [])) }
+        ensures fits { FitsTag (key.now, tag_view value.entry) }
     {
-        put_indices(&mut self.tags, &mut self.pools, key, value)?;
+        put_indices(
+            &mut self.tags,
+            &mut self.pools,
+            &mut self.heads.tags,
+            key,
+            value,
+        )?;
         Ok(())
     }
 
@@ -101,11 +109,11 @@ impl<'a> LayerWriter<'a> {
 
     /// Appends the layer as a field of a tile, with version `CURRENT_VERSION` and extent `DEFAULT_EXTENT`.
     pub fn finish(mut self, out: &mut Vec<u8>) -> Result<(), AllocError>
-        ensures { OnOk result ((name : List ℕ) (fs : List FeatureView) → Writes self.entry name fs []
+        ensures { OnOk result ((name : List ℕ) (fs : List FeatureView) → Writes self name fs []
             → out.new.items ≡ out.old.items ++ bytes_field TILE_LAYERS (layer_written (layer_of name fs))) }
     {
         let writer = &mut self;
-        writer.pools.put(&mut writer.tags, &mut writer.bytes)?;
+        writer.pools.put(&mut writer.bytes)?;
         put_end(&mut writer.bytes)?;
         put_bytes(out, TILE_LAYERS, &writer.bytes)
     }

@@ -1,14 +1,14 @@
 //! Encodes vector tiles.
 #![tactic(auto)]
 
-mod coded_text;
 mod codes;
-mod entry;
+mod entries;
 mod feature;
 mod field;
 mod layer;
 mod layer_writer;
 mod pool;
+mod span;
 mod tag_pools;
 mod tags;
 mod tile;

@@ -1,19 +1,18 @@
 //! The two pools of a layer.
 
-use crate::coded_text::CodedText;
 use crate::pool::Pool;
-use crate::value::PoolValue;
 use mvt_layer::field_numbers::{LAYER_KEYS, LAYER_VALUES};
 use std::alloc::{AllocError, Global};
 
 /// The keys and the values of a layer's tags.
 #[derive(Drop)]
-pub(crate) struct TagPools<'a> {
-    pub keys: Pool<CodedText<'a>>,
-    pub values: Pool<PoolValue<'a>>,
+pub(crate) struct TagPools {
+    pub keys: Pool,
+    /// The messages of the values.
+    pub values: Pool,
 }
 
-impl<'a> TagPools<'a> {
+impl TagPools {
     ghost use Rattle.std.specs.Prelude.{◌≡◌, [], ◌++◌, IfOk, OnOk};
     ghost use Rattle.std.specs.List.{flat_map};
     ghost use Rattle.mvt_write.specs.Held.{held_keys, held_values};
@@ -30,13 +29,13 @@ impl<'a> TagPools<'a> {
         })
     }
 
-    /// Appends the fields of the keys, and then those of the values. `message` is overwritten.
-    pub fn put(&self, message: &mut Vec<u8>, out: &mut Vec<u8>) -> Result<(), AllocError>
+    /// Appends the fields of the keys, and then those of the values.
+    pub fn put(&self, out: &mut Vec<u8>) -> Result<(), AllocError>
         ensures { OnOk result
             (out.new.items ≡ out.old.items
             ++ (flat_map (bytes_field LAYER_KEYS) (held_keys self.now) ++ flat_map (bytes_field LAYER_VALUES) (held_values self.now))) }
     {
-        self.keys.put(message, out, LAYER_KEYS)?;
-        self.values.put(message, out, LAYER_VALUES)
+        self.keys.put(out, LAYER_KEYS)?;
+        self.values.put(out, LAYER_VALUES)
     }
 }

@@ -9,28 +9,30 @@ ghost use Rattle.mvt_write.specs.Held.{held_keys, held_values};
 ghost use Rattle.mvt_write.specs.Pools.{index_of, with_entry};
 ghost use Rattle.mvt_write.specs.Written.{value_written};
 
-use crate::coded_text::CodedText;
+use crate::field::put_pair;
 use crate::tag_pools::TagPools;
-use crate::value::PoolValue;
+use crate::value::write_value;
 use mvt_layer::TagValue;
-use pb_wire::put_varint;
 use std::alloc::AllocError;
 
-/// Appends the index of a tag's key and the index of its value.
-pub(crate) fn put_indices<'a>(
+/// Appends the index of a tag's key and the index of its value. `message` is overwritten.
+pub(crate) fn put_indices(
     out: &mut Vec<u8>,
-    pools: &mut TagPools<'a>,
-    key: &'a str,
-    value: TagValue<'a>,
+    pools: &mut TagPools,
+    message: &mut Vec<u8>,
+    key: &str,
+    value: TagValue<'_>,
 ) -> Result<(), AllocError>
     requires { CanWriteValue (tag_view value) }
-    ensures keys { OnOk result (held_keys pools.new ≡ with_entry (held_keys pools.old) key.entry.now) }
+    ensures keys { OnOk result (held_keys pools.new ≡ with_entry (held_keys pools.old) key.now) }
     ensures values { OnOk result (held_values pools.new ≡ with_entry (held_values pools.old) (value_written (tag_view value.entry))) }
     ensures written { OnOk result
         (out.new.items ≡ out.old.items
-        ++ (varint (index_of (held_keys pools.new) key.entry.now) ++ varint (index_of (held_values pools.new) (value_written (tag_view value.entry))))) }
-    ensures fits { FitsTag (key.entry.now, tag_view value.entry) }
+        ++ (varint (index_of (held_keys pools.new) key.now) ++ varint (index_of (held_values pools.new) (value_written (tag_view value.entry))))) }
+    ensures fits { FitsTag (key.now, tag_view value.entry) }
 {
-    put_varint(out, pools.keys.index_of(CodedText::new(key))? as u64)?;
-    put_varint(out, pools.values.index_of(PoolValue::new(value))? as u64)
+    let key_index = pools.keys.index_of(key.as_bytes())?;
+    write_value(message, value)?;
+    let value_index = pools.values.index_of(message)?;
+    put_pair(out, key_index as u64, value_index as u64)
 }

@@ -23,6 +23,7 @@ use Rattle.cached_map.specs.Cached.{CachedView, AreReadRight, shared_bytes}
 use Rattle.area_content.specs.Content.{ContentView, sectors_taken}
 use Rattle.area_content.specs.Drafts.{DraftView}
 use Rattle.area_content.specs.declared.draft.Stage.TheVariants as stages
+use Rattle.feature_model.specs.declared.limits.TheConstants.{NUMBER_END}
 use Rattle.feature_store.specs.Moments.{MomentView, IsMomentOf, moment_map}
 use Rattle.feature_store.specs.Store.{FeatureMap, greatest_id, snapshot}
 use Rattle.map_metadata.specs.Metadata.{IsMetadataOf}
@@ -36,7 +37,8 @@ use Rattle.published_tiles.specs.declared.place.ArchivePlace.{ArchivePlace}
 use Rattle.tile_service.specs.Drafted.{DraftedView, IsDrafted}
 use Rattle.tile_service.specs.declared.drafting.Draft.{Draft}
 use Rattle.tile_service.specs.declared.drafting.DraftStage.{DraftStage}
-use Rattle.tile_service.specs.declared.drafting.DraftStage.TheVariants.{Going, Found, Refused}
+use Rattle.tile_service.specs.declared.drafting.DraftStage.TheVariants.{Reading, Going, Found, Refused}
+use Rattle.tile_service.specs.declared.reading.MapReading.{MapReading}
 use Rattle.tile_service.specs.declared.fault.ServiceFault.{ServiceFault}
 use Rattle.tile_service.specs.declared.fault.ServiceFault.TheVariants.{NumbersSpent, Memory, JournalFull, Device}
 use Rattle.tile_service.specs.declared.publishing.TheConstants.{STEP_SECTORS}
@@ -114,6 +116,17 @@ pub record IsContentOf (area : ℕ) (m : FeatureMap) (content : ContentView) : T
   pub text : content.snapshot ≡ snapshot m
   pub fits : sectors_taken content ≤ area
 
+-- a map in the reading, for an area of this many sectors
+pub record IsReading (area : ℕ) (m : FeatureMap) (reading : MapReading) : Type 0 where
+  pub map_is : reading.map.features ≡ m
+  pub metadata_is : reading.metadata.features ≡ m
+  pub area_is : reading.area ≡ area
+  pub fits : area < 2 ^ 23
+
+-- how many numbers are left to look at, for the map and for its metadata
+abbrev pub numbers_left : MapReading → ℕ
+numbers_left reading = (NUMBER_END - reading.map.from) + (NUMBER_END - reading.metadata.from)
+
 -- the content of a map in the making, for an area of this many sectors
 pub record IsMaking (area : ℕ) (m : FeatureMap) (content : DraftView) : Type 0 where
   pub map_is : content.features ≡ m
@@ -121,14 +134,16 @@ pub record IsMaking (area : ℕ) (m : FeatureMap) (content : DraftView) : Type 0
   pub metadata : IsMetadataOf m content.metadata
   pub going : content.stage ≡ stages.Going
 
--- how far the content of a map is: it is in the making, or made, or the map has none
+-- how far the content of a map is: the map is in the reading, the content is in the making, or made, or the map has none
 abbrev pub IsStage : (area : ℕ) → FeatureMap → DraftStage → Type 0
+IsStage area m (Reading reading) = IsReading area m reading
 IsStage area m (Going content) = IsMaking area m content
 IsStage area m (Found content) = IsContentOf area m content
 IsStage area m (Refused fault) = HasNoContent m area fault
 
 -- the same of what is in the making, for whatever area
 abbrev pub IsOwn : FeatureMap → DraftStage → Type 0
+IsOwn m (Reading reading) = IsReading reading.area m reading
 IsOwn m (Going content) = IsMaking content.area m content
 IsOwn m stage = Unit {0}
 

@@ -1,28 +1,30 @@
-//! A publication in the making: its map is fixed, its tiles are made one by one, and edits go on meanwhile.
+//! A publication in the making: its map is fixed, its tiles are made part by part, and edits go on meanwhile.
 ghost use Rattle.std.specs.Prelude.{◌≡◌, ◌<◌, ◌-◌, ◌^◌, ℕ, true, false, None, Some, Err, IfOk, IfErr, IfSome, OnOk, OnErr, IsSome, option_map};
 ghost use Rattle.area_content.specs.declared.draft.Stage.TheVariants as stages;
 ghost use Rattle.feature_store.specs.Moments.{IsAsOf, IsMomentOf, moment_map};
-ghost use Rattle.feature_store.specs.Store.{IsMap};
+ghost use Rattle.feature_store.specs.Reading.{IsRead};
 ghost use Rattle.map_metadata.specs.Metadata.{IsMetadataOf};
 ghost use Rattle.tile_service.specs.Machine.{AnswersBegin};
 ghost use Rattle.tile_service.specs.Prepared.{CanPrepare};
-ghost use Rattle.tile_service.specs.Service.{Known, IsUp, IsMaking, IsStage, IsOwn, BeginsDrafted, drafted_now, map_then, state_of};
+ghost use Rattle.tile_service.specs.Service.{Known, IsUp, IsMaking, IsReading, IsStage, IsOwn, BeginsDrafted, drafted_now, map_then, state_of};
 ghost use Rattle.tile_service.specs.Stored.{Stored};
 ghost use Rattle.tile_service.specs.declared.fault.ServiceFault.TheVariants.{Broken, Busy, Idle, Memory};
 
 use crate::fault::ServiceFault;
 use crate::publishing::{Publication, to_service_fault};
+use crate::reading::MapReading;
 use crate::service::Service;
 use area_content::{AreaContent, ContentDraft};
 use edit_journal::JournalPosition;
 use feature_store::{Moment, Store};
-use map_metadata::metadata_text;
 use sector_disk::Sectors;
 use std::alloc::{AllocError, Global};
 
 /// How far the content of a draft is.
 #[derive(Drop)]
 pub(crate) enum DraftStage {
+    /// Features are left to read.
+    Reading(MapReading),
     /// Tiles are left to make.
     Going(ContentDraft),
     /// It is made.
@@ -53,22 +55,54 @@ pub struct Drafting {
     pub places: u64,
 }
 
-/// The content of a map for an area of `area` sectors, with no tile made.
-fn content_draft(alloc: Global, store: &Store, area: u64) -> Result<ContentDraft, ServiceFault>
-    requires { area < 2 ^ 23 }
-    ensures map { IsMap store.now.features }
-    ensures making { IfOk result (IsMaking area store.now.features) }
-    ensures fault { IfErr result (λ fault. fault ≡ Memory) }
+/// The content of a map whose features are all read, with no tile made.
+fn begun(reading: MapReading) -> DraftStage
+    requires same { reading.metadata.features ≡ reading.map.features }
+    requires area { reading.area < 2 ^ 23 }
+    requires map { IsRead reading.map }
+    requires metadata { IsRead reading.metadata }
+    ensures { IsStage reading.area reading.map.features result }
 {
-    // The contract of `len` states that the features are a map.
-    let _count = store.len();
-    let metadata = match metadata_text(alloc, store) {
-        Ok(text) => text,
-        Err(AllocError) => return Err(ServiceFault::Memory),
-    };
-    match ContentDraft::of(alloc, store, metadata.as_bytes(), area) {
-        Ok(content) => Ok(content),
-        Err(AllocError) => Err(ServiceFault::Memory),
+    match reading.content() {
+        Ok(content) => DraftStage::Going(content),
+        Err(AllocError) => DraftStage::Refused(ServiceFault::Memory),
+    }
+}
+
+/// The reading with some features more, of the map of a moment; `store` is the map as it is now. A map whose moment is lost has no content, for
+/// want of memory.
+fn with_next_features(reading: MapReading, store: &Store, moment: &Moment) -> DraftStage
+    requires reading { IsReading reading.area moment.now.features reading }
+    requires as_of { IsAsOf moment.now store.now.features }
+    ensures { IsStage reading.area moment.now.features result }
+{
+    if moment.is_lost() {
+        return DraftStage::Refused(ServiceFault::Memory);
+    }
+    let mut reading = reading;
+    match reading.step(store, moment) {
+        Ok(true) => DraftStage::Reading(reading),
+        Ok(false) => begun(reading),
+        Err(AllocError) => DraftStage::Refused(ServiceFault::Memory),
+    }
+}
+
+/// The reading with all features, and no tile.
+fn with_all_features(reading: MapReading, store: &Store, moment: &Moment) -> DraftStage
+    requires reading { IsReading reading.area moment.now.features reading }
+    requires as_of { IsAsOf moment.now store.now.features }
+    ensures { IsStage reading.area moment.now.features result }
+{
+    if moment.is_lost() {
+        return DraftStage::Refused(ServiceFault::Memory);
+    }
+    let mut reading = reading;
+    loop {
+        match reading.step(store, moment) {
+            Ok(true) => {}
+            Ok(false) => return begun(reading),
+            Err(AllocError) => return DraftStage::Refused(ServiceFault::Memory),
+        }
     }
 }
 
@@ -84,9 +118,9 @@ fn finished(content: ContentDraft) -> DraftStage
     }
 }
 
-/// The content with one tile more, of the map of a moment; `store` is the map as it is now. A map whose moment is lost has no content, for
-/// want of memory.
-fn with_next_tile(content: ContentDraft, store: &Store, moment: &Moment) -> DraftStage
+/// The content with a part of a tile more, of the map of a moment; `store` is the map as it is now. A map whose moment is lost has no content,
+/// for want of memory.
+fn with_next_part(content: ContentDraft, store: &Store, moment: &Moment) -> DraftStage
     requires making { IsMaking content.area moment.now.features content }
     requires as_of { IsAsOf moment.now store.now.features }
     ensures { IsStage content.area moment.now.features result }
@@ -121,15 +155,31 @@ fn with_all_tiles(content: ContentDraft, store: &Store, moment: &Moment) -> Draf
     }
 }
 
-/// How far a draft is with one tile more.
+/// The reading with all features and all tiles.
+fn with_all(reading: MapReading, store: &Store, moment: &Moment) -> DraftStage
+    requires reading { IsReading reading.area moment.now.features reading }
+    requires as_of { IsAsOf moment.now store.now.features }
+    ensures { IsStage reading.area moment.now.features result }
+{
+    match with_all_features(reading, store, moment) {
+        DraftStage::Going(content) => with_all_tiles(content, store, moment),
+        stage => stage,
+    }
+}
+
+/// How far a draft is with some features more, or a part of a tile.
 fn next_stage(stage: DraftStage, store: &Store, moment: &Option<Moment>) -> DraftStage
     requires making { IsOwn (map_then (moment_map moment.now)) stage }
     requires as_of { IsMomentOf moment.now store.now.features }
     ensures { (area : ℕ) → IsStage area (map_then (moment_map moment.now)) stage → IsStage area (map_then (moment_map moment.now)) result }
 {
     match stage {
+        DraftStage::Reading(reading) => match moment {
+            Some(moment) => with_next_features(reading, store, moment),
+            None => DraftStage::Refused(ServiceFault::Memory),
+        },
         DraftStage::Going(content) => match moment {
-            Some(moment) => with_next_tile(content, store, moment),
+            Some(moment) => with_next_part(content, store, moment),
             None => DraftStage::Refused(ServiceFault::Memory),
         },
         DraftStage::Found(content) => DraftStage::Found(content),
@@ -144,6 +194,10 @@ fn last_stage(stage: DraftStage, store: &Store, moment: &Option<Moment>) -> Draf
     ensures { (area : ℕ) → IsStage area (map_then (moment_map moment.now)) stage → IsStage area (map_then (moment_map moment.now)) result }
 {
     match stage {
+        DraftStage::Reading(reading) => match moment {
+            Some(moment) => with_all(reading, store, moment),
+            None => DraftStage::Refused(ServiceFault::Memory),
+        },
         DraftStage::Going(content) => match moment {
             Some(moment) => with_all_tiles(content, store, moment),
             None => DraftStage::Refused(ServiceFault::Memory),
@@ -153,10 +207,11 @@ fn last_stage(stage: DraftStage, store: &Store, moment: &Option<Moment>) -> Draf
     }
 }
 
-/// Whether tiles are left to make.
+/// Whether features are left to read, or tiles to make.
 fn is_going(draft: &Option<Draft>) -> bool {
     match draft {
         Some(draft) => match &draft.stage {
+            DraftStage::Reading(_) => true,
             DraftStage::Going(_) => true,
             DraftStage::Found(_) => false,
             DraftStage::Refused(_) => false,
@@ -165,10 +220,12 @@ fn is_going(draft: &Option<Draft>) -> bool {
     }
 }
 
-/// How many tiles are made after a step that left this stage: the last step makes none, and neither does one after it.
+/// How many tiles are made after a step that left this stage, if `before` were made before it: the last step makes none, and neither does one
+/// after it.
 fn tiles_made(before: u64, stage: &DraftStage) -> u64 {
     match stage {
-        DraftStage::Going(_) => before.saturating_add(1),
+        DraftStage::Reading(_) => before,
+        DraftStage::Going(content) => content.made(),
         DraftStage::Found(_) => before,
         DraftStage::Refused(_) => before,
     }
@@ -199,22 +256,22 @@ impl<D: Sectors + Drop> Service<D> {
         ensures up { (stored : Stored) → IsUp (D.sectors self.old.disk) (D.history self.old.disk) stored self.old
             → IsUp (D.sectors self.new.disk) (D.history self.new.disk) stored self.new }
     {
-        match content_draft(self.alloc, self.map.store(), self.layout.area) {
-            Ok(content) => {
+        match MapReading::of(self.alloc, self.map.store(), self.layout.area) {
+            Ok(reading) => {
                 self.moment = Some(self.map.store().moment());
                 self.draft = Some(Draft {
                     start: self.journal.next(),
                     places: self.journal.used,
                     made: 0,
-                    stage: DraftStage::Going(content),
+                    stage: DraftStage::Reading(reading),
                 });
                 Ok(())
             }
-            Err(fault) => Err(fault),
+            Err(AllocError) => Err(ServiceFault::Memory),
         }
     }
 
-    /// Makes the next tile of the draft.
+    /// Reads some features more of the draft, or makes a part of its next tile.
     fn advance_draft(&mut self)
         ensures { self.new ≡ self.old }
     {
@@ -242,9 +299,10 @@ impl<D: Sectors + Drop> Service<D> {
         self.moment = None;
     }
 
-    /// Prepares a publication by a step, between which edits go on: the first call fixes the map of this moment, each later one makes a tile
-    /// of it. It is true while tiles may be left. `publish_drafted` then begins the publication of that map. Each edit meanwhile keeps the feature
-    /// that it replaces; if memory for that is missing, the publication is refused for it, and not the edit. Nothing is written.
+    /// Prepares a publication by a step, between which edits go on: the first call fixes the map of this moment, and reads nothing of it. Each
+    /// later one reads some of its features or, once all are read, makes a part of a tile of it. It is true while features or tiles may be left.
+    /// `publish_drafted` then begins the publication of that map. Each edit meanwhile keeps the feature that it replaces; if memory for that is
+    /// missing, the publication is refused for it, and not the edit. Nothing is written.
     ///
     /// # Errors
     ///
@@ -324,7 +382,7 @@ impl<D: Sectors + Drop> Service<D> {
                 Ok(left)
             }
             DraftStage::Refused(fault) => Err(fault),
-            DraftStage::Going(_) => Err(ServiceFault::Memory),
+            DraftStage::Reading(_) | DraftStage::Going(_) => Err(ServiceFault::Memory),
         }
     }
 }

@@ -14,6 +14,7 @@ mod opening;
 mod published;
 mod publishing;
 mod publishing_whole;
+mod reading;
 mod replaying;
 mod running;
 mod service;

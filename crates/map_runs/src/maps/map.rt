@@ -12,7 +12,7 @@ use crate::lines::{Line, tile_at};
 use cached_map::CachedMap;
 use edit_text::{decode, encode_change};
 use feature_model::{Change, Edit, Feature, check};
-use feature_store::{Store, Tiles};
+use feature_store::{Making, Store, Tiles};
 use hilbert_id::TileAt;
 use map_metadata::metadata_text;
 use mvt_layer::{Layer, read_tile};
@@ -196,13 +196,14 @@ fn list_tiles(answer: &mut Answer, store: &Store, tiles: &mut Tiles)
     answer.push('[');
     for _ in 0..u64::MAX {
         match tiles.next(store, &now) {
-            Ok(Some((id, bytes))) => {
+            Ok(Making::Whole((id, bytes))) => {
                 answer.item();
                 write!(answer, "({id}, \"");
                 answer.hex(&bytes);
                 answer.say("\")");
             }
-            Ok(None) => break,
+            Ok(Making::Part) => {}
+            Ok(Making::Over) => break,
             Err(_) => return answer.refuse(),
         }
     }

@@ -25,13 +25,19 @@ use Rattle.tile_service.specs.Stored.{Stored, IsMapArchive, stored_records, reco
 use Rattle.tile_service.specs.declared.drafting.Draft.{Draft}
 use Rattle.tile_service.specs.declared.fault.ServiceFault.{ServiceFault}
 use Rattle.tile_service.specs.declared.drafting.DraftStage.{DraftStage}
-use Rattle.tile_service.specs.declared.drafting.DraftStage.TheVariants.{Going, Found, Refused}
+use Rattle.tile_service.specs.declared.drafting.DraftStage.TheVariants.{Reading, Going, Found, Refused}
 use Rattle.tile_service.proofs.Publications.DuringEdits.{begins}
 use Rattle.tile_service.proofs.Publications.Installed.{all_taken}
 use Rattle.tile_service.proofs.Publications.Steps.{archive_of_publishable, up_with}
 
 -- What is in the making is so for its own area.
 pub own_stage : (area : ℕ) (m : FeatureMap) (stage : DraftStage) → IsStage area m stage → IsOwn m stage
+own_stage area m (Reading reading) is = record {
+  map_is = is.map_is;
+  metadata_is = is.metadata_is;
+  area_is = λ i. reading.area;
+  fits = subst (λ (n : ℕ). n < 2 ^ 23) (sym is.area_is) is.fits;
+}
 own_stage area m (Going content) is =
     record { map_is = is.map_is; area_is = λ i. content.area; metadata = is.metadata; going = is.going }
 own_stage area m (Found content) is = tt

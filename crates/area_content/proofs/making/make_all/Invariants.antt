@@ -1,5 +1,4 @@
-use Rattle.std.proofs.Common.{◌≡◌, ◌-◌}
-use Rattle.hilbert_id.specs.declared.number.TheConstants.{TILE_IDS}
+use Rattle.std.proofs.Common.{◌≡◌}
 use Rattle.area_content.specs.declared.draft.Stage.TheVariants.{Going}
 use Rattle.area_content.proofs.making.make_all.Given as goal
 
@@ -12,4 +11,4 @@ invariant-loop-fault l = record {
 }
 
 abbrev pub decreases-loop-fault : goal.decreases-loop-fault
-decreases-loop-fault l = TILE_IDS - l.draft.from
+decreases-loop-fault l = l.draft.ahead

@@ -1,4 +1,6 @@
-use Rattle.std.proofs.Common.{◌≡◌, ◌<◌, ◌++◌, ◌∷◌, ℕ, List, [], Bor, All, length, map, sym, ap, subst, ◌∙◌, arith}
+use Rattle.std.proofs.Common.{◌≡◌, ◌<◌, ◌++◌, ◌∷◌, ℕ, List, [], Global, All, length, map, sym, ap, subst, ◌∙◌, arith}
+use Rattle.std.specs.Prelude.{String}
+use Rattle.std.specs.String.{string_bytes}
 use Rattle.std.proofs.lemmas.Bool.Decides.{nat_tests}
 use Rattle.std.proofs.lemmas.List.{append-nil, append_assoc, map-append}
 use Rattle.mvt_layer.specs.Tile.{FeatureView}
@@ -26,7 +28,7 @@ pub loop-name-preserved : goal.loop-name-preserved
 loop-name-preserved c =
     let inv = c.loop-name.invariant in
     let done = c.loop-name.yielded in
-    let e : Bor (List ℕ) × LayerWriter = (c.in-Some._name, c.in-Some.writer) in
+    let e : String Global × LayerWriter = (c.in-Some._name, c.in-Some.writer) in
     let rest = c.next.new.self in
     let items : done ++ e ∷ rest ≡ c.args.gathered.entries = ap (λ es. done ++ es) (sym c.in-Some.ensures.steps) ∙ inv.items in
     record {
@@ -34,7 +36,7 @@ loop-name-preserved c =
       bytes = λ fs has.
           layers_more c.loop-name.out.items c.finish.new.out.items (map (layer_of fs) done) (map (layer_of fs) (done ++ e ∷ [])) (layer_of fs e)
           (inv.bytes fs has)
-          (c.in_ok-finish.ensures e.0.now (fs e.0.now) (all_here (HasWritten fs) done e rest (subst (All (HasWritten fs)) (sym items) has)).1)
+          (c.in_ok-finish.ensures (string_bytes e.0) (fs (string_bytes e.0)) (all_here (HasWritten fs) done e rest (subst (All (HasWritten fs)) (sym items) has)).1)
           (map-append (layer_of fs) done (e ∷ []));
     }
 

@@ -1,6 +1,6 @@
 use Rattle.std.proofs.Common.{◌≡◌, ◌∷◌, ◌++◌, [], append_assoc, append-nil, sym, ap, ◌∙◌}
 use Rattle.std.proofs.lemmas.Result.{IfOk-from_err}
-use Rattle.serde_json.specs.Data.{object, string}
+use Rattle.serde_json.specs.Data.{object, put, string}
 use Rattle.serde_json.specs.View.{view, members_view}
 use Rattle.serde_json.proofs.Views.{view-Object}
 use Rattle.map_metadata.specs.Metadata.{fields_json}
@@ -17,7 +17,7 @@ loop-key-preserved c = record {
       put_next c.args.fields c.loop-key.yielded c.next.new.self c.loop-key.key-iterator (c.in-Some.key, c.in-Some.kind) (view c.in_ok-try_from_str.field-0)
       (members_view c.loop-key.members.entries) (members_view c.put.new.map.entries) c.into_iter-key-iterator.ensures.into_iter_gives.5
       c.in-Some.ensures.steps c.loop-key.invariant.items (c.in_ok-try_from_str.ensures ∙ ap string c.name.ensures) c.loop-key.invariant.members
-      c.in_ok-put.ensures.ok;
+      (c.in_ok-put.ensures.ok ∙ ap (λ n. put n (view c.in_ok-try_from_str.field-0) (members_view c.loop-key.members.entries)) c.as_str.ensures.value);
 }
 
 pub returns-in_err-try_from_str-clause-value : goal.returns-in_err-try_from_str-clause-value

@@ -1,4 +1,6 @@
-use Rattle.std.proofs.Common.{length, ◌≡◌, ◌∙◌, ℕ, List, Bor, [], ◌∷◌, ◌++◌, sym, ap, map, arith, append_assoc, append-nil}
+use Rattle.std.proofs.Common.{length, ◌≡◌, ◌∙◌, [], ◌∷◌, ◌++◌, sym, ap, map, arith, append_assoc, append-nil}
+use Rattle.std.specs.declared.alloc.Global.{Global}
+use Rattle.std.specs.declared.string.String.{String}
 use Rattle.serde_json.specs.Data.{array}
 use Rattle.serde_json.specs.View.{view, items_of}
 use Rattle.serde_json.proofs.Views.{view-Array}
@@ -6,7 +8,7 @@ use Rattle.std.proofs.lemmas.List.Elements.{All-push}
 use Rattle.std.proofs.lemmas.Result.{IfOk-from_err}
 use Rattle.map_metadata.specs.declared.summary.LayerSummary.{LayerSummary}
 use Rattle.map_metadata.specs.Metadata.{layer_json}
-use Rattle.map_metadata.specs.Summaries.{layer_data, HasOrder}
+use Rattle.map_metadata.specs.Summaries.{layer_data, layer_named, HasOrder}
 use Rattle.map_metadata.proofs.Written.{layers_next}
 use Rattle.map_metadata.proofs.writer.layers_value.Goals as goal
 
@@ -18,9 +20,10 @@ loop-name-preserved c = record {
       ∙ ap (λ es. c.loop-name.yielded ++ es) (sym c.in-Some.ensures.steps) ∙ c.loop-name.invariant.items;
   values =
       layers_next c.loop-name.list.items c.push_reserved.new.self.items c.in_ok-layer.layer c.loop-name.yielded (c.in-Some.name, c.in-Some.summary)
-      c.push_reserved.ensures.items c.in_ok-layer.ensures.value c.loop-name.invariant.values;
+      c.push_reserved.ensures.items
+      (c.in_ok-layer.ensures.value ∙ ap (λ n. layer_json (layer_named n c.in-Some.summary)) c.as_str.ensures.value) c.loop-name.invariant.values;
   fields =
-      All-push (λ (e : Bor (List ℕ) × LayerSummary). HasOrder e.1.fields) c.loop-name.yielded (c.in-Some.name, c.in-Some.summary)
+      All-push (λ (e : String Global × LayerSummary). HasOrder e.1.fields) c.loop-name.yielded (c.in-Some.name, c.in-Some.summary)
       c.loop-name.invariant.fields c.in_ok-layer.ensures.ordered;
 }
 

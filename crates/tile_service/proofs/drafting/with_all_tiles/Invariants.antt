@@ -1,5 +1,4 @@
-use Rattle.std.proofs.Common.{◌≡◌, ◌-◌}
-use Rattle.hilbert_id.specs.declared.number.TheConstants.{TILE_IDS}
+use Rattle.std.proofs.Common.{◌≡◌}
 use Rattle.area_content.specs.declared.draft.Stage.TheVariants.{Going}
 use Rattle.tile_service.proofs.drafting.with_all_tiles.Given as goal
 
@@ -12,4 +11,4 @@ invariant-loop-content l = record {
 }
 
 abbrev pub decreases-loop-content : goal.decreases-loop-content
-decreases-loop-content l = TILE_IDS - l.content.from
+decreases-loop-content l = l.content.ahead

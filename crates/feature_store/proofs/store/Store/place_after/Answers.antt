@@ -8,4 +8,4 @@ returns-clause-as_of c =
     let id = c.id-id.ensures.number in
     as_of_changed c.args.moment.now c.keep.new.self old new c.id-id.result c.keep.ensures.features c.keep.ensures.lost
     (λ there. c.keep.ensures.here old new there (rw id c.set-replaced.ensures.replaced)) c.keep.ensures.others
-    (λ n differs. c.set-replaced.ensures.others n (rw id at differs))
+    (c.keep.ensures.kept (rw id c.set-replaced.ensures.own)) (λ n differs. c.set-replaced.ensures.others n (rw id at differs))

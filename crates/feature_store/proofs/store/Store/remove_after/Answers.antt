@@ -6,4 +6,5 @@ returns-clause-as_of c =
     let old = c.args.self.now.features in
     let new = c.take-bounds.new.self.features in
     as_of_changed c.args.moment.now c.keep.new.self old new c.args.id c.keep.ensures.features c.keep.ensures.lost
-    (λ there. c.keep.ensures.here old new there c.take-bounds.ensures.removed) c.keep.ensures.others c.take-bounds.ensures.others
+    (λ there. c.keep.ensures.here old new there c.take-bounds.ensures.removed) c.keep.ensures.others (c.keep.ensures.kept c.take-bounds.ensures.own)
+    c.take-bounds.ensures.others

@@ -6,7 +6,7 @@ use Rattle.feature_store.specs.Indexed.{index_entry}
 use Rattle.feature_store.specs.Inside.{stored_data, entries_data}
 use Rattle.feature_store.specs.declared.limit.TheConstants.{TEXTS_END}
 use Rattle.feature_store.specs.Store.{StoreView, box_at, with_feature, snapshot}
-use Rattle.feature_store.proofs.Entries.{own_set, set_is, feature_found, box_found}
+use Rattle.feature_store.proofs.Entries.{own_found, own_set, set_is, feature_found, box_found}
 use Rattle.feature_store.proofs.Maps.{IsMap-with_feature, feature_at-with_same, feature_at-with_other}
 use Rattle.feature_store.proofs.store.Store.set.Goals as goal
 
@@ -42,6 +42,10 @@ pub returns-clause-replaced : goal.returns-clause-replaced
 returns-clause-replaced c =
     let es = c.self.inside.features.entries in
     rw (← c.self.view_is, ← c.id-id.ensures.number) (ap (option_map stored_data) c.insert-replaced.ensures.before ∙ sym (feature_found es c.id-id.result))
+
+pub returns-clause-own : goal.returns-clause-own
+returns-clause-own c =
+    rw (← c.id-id.ensures.number, c.insert-replaced.ensures.before) (own_found c.self.inside.features.entries c.id-id.result c.self.invariant.own)
 
 pub returns-clause-map : goal.returns-clause-map
 returns-clause-map c =

@@ -2,7 +2,7 @@ use Rattle.std.proofs.Common.{◌≡◌, sym, ap, ◌∙◌}
 use Rattle.std.specs.Option.{is_some, option_map}
 use Rattle.feature_store.specs.Inside.{stored_data, entries_data}
 use Rattle.feature_store.specs.Store.{feature_at, without_feature}
-use Rattle.feature_store.proofs.Entries.{own_removed, removed_is, feature_found, box_found, is_some_box}
+use Rattle.feature_store.proofs.Entries.{own_found, own_removed, removed_is, feature_found, box_found, is_some_box}
 use Rattle.feature_store.proofs.Maps.{feature_at-without_same, feature_at-without_other}
 use Rattle.feature_store.proofs.Snapshots.{map_without}
 use Rattle.feature_store.proofs.store.Store.take.Goals as goal
@@ -35,6 +35,9 @@ returns-clause-found c =
 pub returns-clause-removed : goal.returns-clause-removed
 returns-clause-removed c =
     rw (← c.self.view_is) (ap (option_map stored_data) c.remove-removed.ensures.removed ∙ sym (feature_found c.self.inside.features.entries c.args.id))
+
+pub returns-clause-own : goal.returns-clause-own
+returns-clause-own c = rw c.remove-removed.ensures.removed (own_found c.self.inside.features.entries c.args.id c.self.invariant.own)
 
 pub returns-clause-map : goal.returns-clause-map
 returns-clause-map c = rw (← c.self.view_is, c.remove-removed.ensures.entries) (removed_is c.self.inside.features.entries c.args.id)

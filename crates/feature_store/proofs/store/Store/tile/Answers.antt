@@ -25,8 +25,8 @@ returns-then-at-gt-MAX_ZOOM-clause-content c =
 pub tile_of_numbers-requires-clause-shown : goal.tile_of_numbers-requires-clause-shown
 tile_of_numbers-requires-clause-shown c =
     let at = c.args.at in
-    subst (λ (m : FeatureMap). ShowsAll m at.z at.x at.y c.deref.result.now) (ap (λ (s : StoreView). s.features) (sym c.self.view_is) ∙ sym c.of-now.ensures.features)
-    (rw c.deref.ensures.value c.in_ok-numbers.ensures)
+    subst (λ (m : FeatureMap). ShowsAll m at.z at.x at.y c.in_ok-numbers.numbers.items)
+    (ap (λ (s : StoreView). s.features) (sym c.self.view_is) ∙ sym c.of-now.ensures.features) c.in_ok-numbers.ensures
 
 pub returns-clause-content : goal.returns-clause-content
 returns-clause-content c =

@@ -1,51 +1,53 @@
-use Rattle.std.proofs.Common.{◌≡◌, true, false, map, refl, sym, ◌∙◌, arith}
-use Rattle.std.specs.Prelude.{slice_index, slice_index_or}
-use Rattle.std.specs.BTreeMap.{get}
-use Rattle.std.specs.Str.{bytes_eq}
-use Rattle.mvt_write.specs.Slots.{place_of}
+use Rattle.std.proofs.Common.{◌≡◌, ◌∙◌, ◌-◌, get_or, sym, ap, refl, arith}
+use Rattle.std.specs.Prelude.{Some, slice_index}
+use Rattle.mvt_write.specs.Codes.{text_code}
+use Rattle.mvt_write.specs.Entries.{entries_of}
+use Rattle.mvt_write.specs.Slots.{place_of, slot_index, code_index, bytes_index, led, named}
 use Rattle.mvt_write.proofs.Pooled.{with_held}
-use Rattle.mvt_write.proofs.Slotted.{first_is, others_know}
+use Rattle.mvt_write.proofs.Slotted.{first_held, is_other, named_at}
 use Rattle.mvt_write.proofs.pool.Pool.index_of.Goals as goal
 
-pub returns-then-eq-clause-index : goal.returns-then-eq-clause-index
-returns-then-eq-clause-index g c =
+pub is_at-requires : goal.is_at-requires
+is_at-requires c =
     let before = c.args.self.now in
-    let entry = c.args.entry in
-    let held = c.index.result.now in
-    let own = slice_index before.slots.value (place_of (g.T.FieldData.coded entry)) in
-    let number : slice_index_or c.deref.result.now c.place_of-place.result 0 ≡ own =
-    rw (c.deref.ensures, c.place_of-place.ensures.place, c.code.ensures) refl in
-    let alike : bytes_eq (g.T.FieldData.spelled held) (g.T.FieldData.spelled entry) ≡ true = sym (g.met.T.FieldData.same held entry)
-    ∙ sym (g.met.T.Ord.matches_eq held entry) ∙ sym c.eq.ensures ∙ c.if-eq.true in
-    rw number (first_is g.T.FieldData.spelled before.entries.items entry held own (get g.T.Ord.cmp before.others entry)
-    (omega (arith, number, c.if-number-eq0.false)) (before.named (place_of (g.T.FieldData.coded entry)))
-    (rw number at c.index.ensures) alike (before.looked entry)).0
+    let entry = c.args.entry.now in
+    let number = get_or c.deref.result.now c.place_of-place.result 0 in
+    let own : slice_index before.slots.value (place_of (text_code entry)) ≡ number =
+    rw (c.deref.ensures, c.place_of-place.ensures.place, c.text_code-code.ensures) refl in
+    let is : slot_index before.slots.value entry ≡ Some (number - 1) = ap named own ∙ named_at number (λ e. omega (arith, e, c.if-number-eq0.false)) in
+    before.first entry (number - 1) is
 
-pub returns-then-eq-clause-entries : goal.returns-then-eq-clause-entries
-returns-then-eq-clause-entries g c =
+pub returns-then-is_at-clause-index : goal.returns-then-is_at-clause-index
+returns-then-is_at-clause-index c =
     let before = c.args.self.now in
-    let entry = c.args.entry in
-    let held = c.index.result.now in
-    let own = slice_index before.slots.value (place_of (g.T.FieldData.coded entry)) in
-    let number : slice_index_or c.deref.result.now c.place_of-place.result 0 ≡ own =
-    rw (c.deref.ensures, c.place_of-place.ensures.place, c.code.ensures) refl in
-    let alike : bytes_eq (g.T.FieldData.spelled held) (g.T.FieldData.spelled entry) ≡ true = sym (g.met.T.FieldData.same held entry)
-    ∙ sym (g.met.T.Ord.matches_eq held entry) ∙ sym c.eq.ensures ∙ c.if-eq.true in
-    let found = first_is g.T.FieldData.spelled before.entries.items entry held own (get g.T.Ord.cmp before.others entry)
-    (omega (arith, number, c.if-number-eq0.false)) (before.named (place_of (g.T.FieldData.coded entry)))
-    (rw number at c.index.ensures) alike (before.looked entry) in
-    sym (with_held (map g.T.FieldData.spelled before.entries.items) (g.T.FieldData.spelled entry) found.1)
+    let entry = c.args.entry.now in
+    let pool = entries_of before.entries in
+    let number = get_or c.deref.result.now c.place_of-place.result 0 in
+    let own : slice_index before.slots.value (place_of (text_code entry)) ≡ number =
+    rw (c.deref.ensures, c.place_of-place.ensures.place, c.text_code-code.ensures) refl in
+    let is : slot_index before.slots.value entry ≡ Some (number - 1) = ap named own ∙ named_at number (λ e. omega (arith, e, c.if-number-eq0.false)) in
+    (first_held pool (slot_index before.slots.value entry) (led pool (code_index before.codes entry) entry (bytes_index before.others entry)) entry
+    (number - 1) is (sym c.is_at.ensures ∙ c.if-is_at.true) (before.looked entry)).0
 
-pub found-requires-clause-other : goal.found-requires-clause-other
-found-requires-clause-other g c =
+pub returns-then-is_at-clause-entries : goal.returns-then-is_at-clause-entries
+returns-then-is_at-clause-entries c =
     let before = c.args.self.now in
-    let entry = c.args.entry in
-    let held = c.index.result.now in
-    let own = slice_index before.slots.value (place_of (g.T.FieldData.coded entry)) in
-    let number : slice_index_or c.deref.result.now c.place_of-place.result 0 ≡ own =
-    rw (c.deref.ensures, c.place_of-place.ensures.place, c.code.ensures) refl in
-    let apart : bytes_eq (g.T.FieldData.spelled held) (g.T.FieldData.spelled entry) ≡ false = sym (g.met.T.FieldData.same held entry)
-    ∙ sym (g.met.T.Ord.matches_eq held entry) ∙ sym c.eq.ensures ∙ c.if-eq.false in
-    others_know g.T.FieldData.spelled before.entries.items entry held own (get g.T.Ord.cmp before.others entry)
-    (omega (arith, number, c.if-number-eq0.false)) (before.named (place_of (g.T.FieldData.coded entry)))
-    (rw number at c.index.ensures) apart (before.looked entry)
+    let entry = c.args.entry.now in
+    let pool = entries_of before.entries in
+    let number = get_or c.deref.result.now c.place_of-place.result 0 in
+    let own : slice_index before.slots.value (place_of (text_code entry)) ≡ number =
+    rw (c.deref.ensures, c.place_of-place.ensures.place, c.text_code-code.ensures) refl in
+    let is : slot_index before.slots.value entry ≡ Some (number - 1) = ap named own ∙ named_at number (λ e. omega (arith, e, c.if-number-eq0.false)) in
+    let held = first_held pool (slot_index before.slots.value entry) (led pool (code_index before.codes entry) entry (bytes_index before.others entry)) entry
+    (number - 1) is (sym c.is_at.ensures ∙ c.if-is_at.true) (before.looked entry) in
+    sym (with_held pool entry held.1)
+
+pub index_by_code-requires-clause-slot : goal.index_by_code-requires-clause-slot
+index_by_code-requires-clause-slot c =
+    let before = c.args.self.now in
+    let entry = c.args.entry.now in
+    let number = get_or c.deref.result.now c.place_of-place.result 0 in
+    let own : slice_index before.slots.value (place_of (text_code entry)) ≡ number =
+    rw (c.deref.ensures, c.place_of-place.ensures.place, c.text_code-code.ensures) refl in
+    let is : slot_index before.slots.value entry ≡ Some (number - 1) = ap named own ∙ named_at number (λ e. omega (arith, e, c.if-number-eq0.false)) in
+    is_other (entries_of before.entries) (slot_index before.slots.value entry) entry (number - 1) is (sym c.is_at.ensures ∙ c.if-is_at.false)

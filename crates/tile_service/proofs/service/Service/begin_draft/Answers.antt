@@ -14,5 +14,5 @@ returns-in-Ok-clause-can g c = rw (← c.self.view_is) (λ unbroken none. record
   none = none;
   generation = subst (λ s. s.generation < 2 ^ 64 - 1) (sym c.self.view_is) c.requires.generation;
   ring = c.self.invariant.ring;
-  is_map = subst (λ (m : FeatureMap). IsMap m) c.store.ensures.features c.content_draft.ensures.map;
+  is_map = subst (λ (m : FeatureMap). IsMap m) (c.moment.ensures.features ∙ c.store-in-Ok.ensures.features) c.moment.ensures.as_of.is_map;
 })

@@ -1,0 +1,38 @@
+-- A tile in the making.
+use Rattle.std.specs.Prelude.{ℕ, List, ◌<◌, ◌≤◌, ◌-◌, ◌^◌, length, take}
+use Rattle.feature_model.specs.declared.limits.TheConstants.{MAX_ZOOM}
+use Rattle.feature_store.specs.Chosen.{chosen}
+use Rattle.feature_store.specs.declared.tile_parts.TileParts.{TileParts}
+use Rattle.feature_store.specs.Gathered.{Gathers}
+use Rattle.feature_store.specs.Indexed.{ShowsAll}
+use Rattle.feature_store.specs.Layers.{cuts_of}
+use Rattle.feature_store.specs.Store.{FeatureMap}
+use Rattle.feature_store.specs.Tiles.{ShowsNothing}
+use Rattle.hilbert_id.specs.Curve.{IsTileId}
+
+-- the numbers whose features are added
+abbrev pub added : TileParts → List ℕ
+added p = take (length p.numbers.items - p.left) p.numbers.items
+
+-- A tile of the map in the making: its numbers are those that it needs, and what is gathered is what it shows of the features that are added.
+pub record IsInMaking (m : FeatureMap) (p : TileParts) : Type 0 where
+  pub zoom : p.at.z ≤ MAX_ZOOM
+  pub shown : ShowsAll m p.at.z p.at.x p.at.y p.numbers.items
+  pub left : p.left ≤ length p.numbers.items
+  pub gathers : Gathers p.gathered (λ name. cuts_of (chosen m (added p)) name p.at.z p.at.x p.at.y)
+
+-- more numbers than a tile may have
+abbrev pub NONE_IN_HAND : ℕ
+NONE_IN_HAND = 2 ^ 64
+
+-- a tile of the map in the making, and its id
+pub record IsInHand (m : FeatureMap) (hand : ℕ × TileParts) : Type 0 where
+  pub id : IsTileId hand.1.at.z hand.1.at.x hand.1.at.y hand.0
+  pub few : hand.1.left < NONE_IN_HAND
+  pub making : IsInMaking m hand.1
+
+-- it is the first tile from `from` on that may show something of the map
+pub record IsBegun (m : FeatureMap) (from : ℕ) (hand : ℕ × TileParts) : Type 0 where
+  pub here : from ≤ hand.0
+  pub between : ShowsNothing m from hand.0
+  pub tile : IsInHand m hand
