@@ -36,7 +36,7 @@ def made_disk(program, folder):
     disk = os.path.join(folder, "disk")
     if os.path.exists(disk):
         os.remove(disk)
-    subprocess.run([program, "format", disk, "--sectors", "131072"], check=True)
+    subprocess.run([program, "format", disk, "--sectors", "1048576"], check=True)
     chance = random.Random(1)
     requests = [put(1, point([2 * 2**18 + 2**17, 3 * 2**18 + 2**17]))]
     for number in range(2, FEATURES + 2):
