@@ -8,7 +8,7 @@ from crashes import Failed, Seen
 from disk import FIRST_VERSION, LAST_NUMBER, LONGEST, MAX_CHANGES, SECTOR, Change, Record, Root, after, in_order, parts_of, read_disk
 from disk import record_text, snapshot_text, text_of, whole_sectors
 from limits import MAX_ZOOM, MAX_TILES
-from map_archive import archive_of, id_of, metadata, parts_of_tiles, points_of, reach
+from map_archive import archive_of, id_of, metadata, points_of, reach, steps_of_tiles
 from tiles import tile
 
 NUMBER_END = 2**63
@@ -129,8 +129,8 @@ class Publication:
 
 
 class Draft:
-    """A publication in the making: its moment, and how many tiles of its map are made. First its features are read, so many at a step; after the
-    last part of the last tile comes a step that makes none."""
+    """A publication in the making: its moment, and how many tiles of its map are made. First its features are read, so many at a step; then its tiles
+    are made zoom by zoom, and after the last one comes a step that finds none."""
 
     def __init__(self, moment):
         self.moment, self.made, self.left = moment, 0, self.steps()
@@ -139,8 +139,7 @@ class Draft:
         """Each step, and how many tiles it makes."""
         for _ in range(len(self.moment.map) // READ_AT_ONCE + 1):
             yield 0
-        for parts, shown in parts_of_tiles(self.moment.map, FEATURES_OF_A_PART):
-            yield from [0] * (parts - 1) + [shown]
+        yield from steps_of_tiles(self.moment.map, FEATURES_OF_A_PART)
 
     def advance(self):
         """Makes the next step. Whether there was one."""

@@ -62,12 +62,17 @@ def reach(feature):
     return sum(len(columns) * len(rows) for columns, rows in covers)
 
 
+def near_tiles_of(found, zoom):
+    """Yields the tiles of a zoom that may show something of a map, in ascending id: the id, the place, and the features that may be shown."""
+    shown = [(number, feature, covered(feature, zoom)) for number, feature in found.items() if feature["minzoom"] <= zoom <= feature["maxzoom"]]
+    for number, place in sorted((id_of(zoom, *place), place) for place in set().union(*(places for _, _, places in shown))):
+        yield number, (zoom, *place), {feature: found[feature] for feature, _, places in shown if place in places}
+
+
 def near_tiles(found):
-    """Yields the tiles of a map that may show something, in ascending id: the id, the place, and the features that may be shown."""
+    """Yields the same of all zooms."""
     for zoom in range(MAX_ZOOM + 1):
-        shown = [(number, feature, covered(feature, zoom)) for number, feature in found.items() if feature["minzoom"] <= zoom <= feature["maxzoom"]]
-        for number, place in sorted((id_of(zoom, *place), place) for place in set().union(*(places for _, _, places in shown))):
-            yield number, (zoom, *place), {feature: found[feature] for feature, _, places in shown if place in places}
+        yield from near_tiles_of(found, zoom)
 
 
 def tiles_of(found):
@@ -78,10 +83,15 @@ def tiles_of(found):
             yield number, held
 
 
-def parts_of_tiles(found, features):
-    """Yields of each tile that may show something in how many parts it is made, of so many features each, and how many tiles that is: 1 or 0."""
-    for _, place, near in near_tiles(found):
-        yield -(-len(near) // features), 1 if tile(near, *place) else 0
+def steps_of_tiles(found, features):
+    """Yields how many tiles each step makes. One reads which tiles the features of a zoom cover. Then each tile that may show something is made in
+    parts, of so many features each: a tile that shows something is there with its last part. This is so of maps of some hundred features, of which
+    no more need be looked at to find the next tile than a step may."""
+    for zoom in range(MAX_ZOOM + 1):
+        yield 0
+        for _, place, near in near_tiles_of(found, zoom):
+            yield from [0] * (-(-len(near) // features) - 1)
+            yield 1 if tile(near, *place) else 0
 
 
 def runs_of(tiles):

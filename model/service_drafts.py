@@ -1,5 +1,6 @@
 """Blocks of `service_script.py` about publications that are prepared in parts: the first call fixes the map, the next ones read its features, each
-later one makes a part of a tile of it, and edits, failing calls and crashes come between them. The archive is that of the map as it was at the first call."""
+later one goes on to the next zoom or makes a part of a tile, and edits, failing calls and crashes come between them. The archive is that of the map as
+it was at the first call."""
 import copy
 
 from chance import Chance
@@ -30,16 +31,16 @@ def corner(number, letters=0):
 
 def parts():
     yield from heading(
-        "The documented archive in parts: a call fixes the map, one reads its features, three make its tiles, and one finds none left. Nothing is",
-        "written before a step.",
+        "The documented archive in parts: a call fixes the map, one reads its features, one goes on to each of 20 zooms, three make the tiles, and one",
+        "finds none left. Nothing is written before a step.",
     )
-    yield from [*opened(), "drafting", put(7), "prepare", "drafting", "prepare", "drafting", "prepare", "drafting", "prepare", "prepare", "drafting", "prepare"]
-    yield from ["prepare"]
+    yield from [*opened(), "drafting", put(7), "prepare", "drafting", "prepare", "drafting", "prepare", "drafting", "prepare", "prepare", "drafting"]
+    yield from ["prepare 20", "drafting", "prepare", "prepare"]
     yield from ["drafting", "archive", "drafted", "drafting", "drafted", "step", "archive", "verify", "stop", "resume", "sector 2"]
     yield from heading("The same without a feature read before it is begun, without a tile made, with one, and with all in one call.")
     for prepared in (["prepare"], ["prepare 2"], ["prepare 3"], ["prepare 5"], [ALL], ["prepare 0", "prepare 1", "prepare 0"]):
         yield from [*opened(), put(7), *prepared, "drafted", "step", "archive", "stop"]
-    yield from heading("An empty map and one without tiles have no archive: the third call finds no tile.")
+    yield from heading("An empty map and one without tiles have no archive: no tile is found.")
     yield from [*opened(), "prepare", "prepare", "prepare", put(7), "drafted", "step", "archive", "stop", "resume", "sector 2"]
     yield from [*opened(), f"put 7 {HIDDEN}", "prepare", put(8), "prepare 2", "drafted", "step", "archive", looks(7, 8), *PUBLISHED]
 

@@ -1,5 +1,5 @@
 -- The boxes that the features of a map have at a zoom: one feature after the other, and what a tile shows by them.
-use Rattle.std.proofs.Common.{◌≡◌, ◌≢◌, ℕ, zero, suc, ◌+◌, ◌^◌, ◌<◌, Bool, true, false, cond, List, [], ◌∷◌, ◌++◌, length, get_or, take, map}
+use Rattle.std.proofs.Common.{◌≡◌, ◌≢◌, ℕ, zero, suc, ◌+◌, ◌^◌, ◌<◌, Bool, true, false, cond, List, [], ◌∷◌, ◌++◌, length, get_or, take, drop, map}
 use Rattle.std.proofs.Common.{IsSome, is_some, inl, inr, ◌⊎◌, refl, sym, ap, subst, ◌∙◌, append_assoc, arith, Option, None}
 use mathlib.Core.Bool.{false≢true}
 use Rattle.std.specs.List.{filter, AllByRecursion, Contains}
@@ -7,7 +7,8 @@ use Rattle.std.specs.List.Sorted.{IsStrictlySortedBy}
 use Rattle.std.specs.Ordering.{nat_cmp}
 use Rattle.std.specs.declared.cmp.Ordering.TheVariants.{Less}
 use Rattle.std.proofs.lemmas.Bool.{cases_eq, cases_Bool}
-use Rattle.std.proofs.lemmas.List.{map-append, append-nil, take_more}
+use Rattle.std.proofs.Math.Seq.{take-add}
+use Rattle.std.proofs.lemmas.List.{map-append, append-nil, take-map, take_all, take_more}
 use Rattle.std.proofs.lemmas.List.Elements.{All-weaker, All-contains_itself, Contains-append_right, filter-append}
 use Rattle.number_map.specs.Blocks.{Ascends, AreAbove}
 use Rattle.number_map.proofs.Numbers.{less}
@@ -24,7 +25,8 @@ use Rattle.tile_cutter.proofs.WorldBox.{box_covered}
 use Rattle.tile_walk.specs.declared.numbered.Numbered.{Numbered}
 use Rattle.tile_walk.specs.Boxes.{numbers_at}
 use Rattle.tile_walk.proofs.Laws.{numbers_ascend, number_stands}
-use Rattle.feature_store.specs.Boxes.{box_of, boxes_at, is_at_zoom, tiles_of_box, boxes_in}
+use Rattle.feature_store.specs.Boxes.{AreFirst, box_of, boxes_at, is_at_zoom, tiles_of_box, boxes_in}
+use Rattle.feature_store.specs.declared.feature_boxes.Covers.{Covers}
 use Rattle.feature_store.specs.Indexed.{index_entry, ShowsAll}
 use Rattle.feature_store.specs.Store.{FeatureMap, IsMap}
 use Rattle.feature_store.proofs.Listed.{contains_here, contains_on}
@@ -44,9 +46,9 @@ boxes_more a b both front out next is before after =
 
 -- ---- the tiles that they meet at a zoom
 
-pub no_tiles : (zoom : ℕ) → [] ≡ boxes_in zoom []
+pub no_tiles : (zoom : ℕ) (front : List Numbered) → front ≡ front ++ boxes_in zoom []
 unfolding boxes_in
-no_tiles zoom = refl
+no_tiles zoom front = sym (append-nil front)
 
 tiles_both : (zoom : ℕ) (a b : List IndexEntry) → boxes_in zoom (a ++ b) ≡ boxes_in zoom a ++ boxes_in zoom b
 unfolding boxes_in
@@ -55,11 +57,13 @@ tiles_both zoom a b =
     ∙ map-append (tiles_of_box zoom) (filter (is_at_zoom zoom) a) (filter (is_at_zoom zoom) b)
 
 -- those of the first boxes, and of one more
-pub tiles_more : (zoom : ℕ) (es : List IndexEntry) (k : ℕ) (d : IndexEntry) (out next : List Numbered) → k < length es
-    → out ≡ boxes_in zoom (take k es) → next ≡ out ++ boxes_in zoom (get_or es k d ∷ []) → next ≡ boxes_in zoom (take (k + 1) es)
-tiles_more zoom es k d out next lt before after =
+pub tiles_more : (zoom : ℕ) (es : List IndexEntry) (k : ℕ) (d : IndexEntry) (front out next : List Numbered) → k < length es
+    → out ≡ front ++ boxes_in zoom (take k es) → next ≡ out ++ boxes_in zoom (get_or es k d ∷ []) → next ≡ front ++ boxes_in zoom (take (k + 1) es)
+tiles_more zoom es k d front out next lt before after =
+    let one = get_or es k d ∷ [] in
     rw (take_more es k d lt)
-    (after ∙ ap (λ r. r ++ boxes_in zoom (get_or es k d ∷ [])) before ∙ sym (tiles_both zoom (take k es) (get_or es k d ∷ [])))
+    (after ∙ ap (λ r. r ++ boxes_in zoom one) before ∙ append_assoc front (boxes_in zoom (take k es)) (boxes_in zoom one)
+    ∙ ap (λ r. front ++ r) (sym (tiles_both zoom (take k es) one)))
 
 -- the tiles that the boxes of features meet are those that the features cover
 pub same_boxes : (zoom : ℕ) (m : FeatureMap) → boxes_in zoom (map index_entry m) ≡ boxes_at zoom m
@@ -72,6 +76,34 @@ same_boxes zoom (e ∷ m) = by (has_zoom e.1 zoom) (same_boxes zoom m)
         ≡ map (box_of zoom) (cond b (e ∷ filter (λ d. has_zoom d.1 zoom) m) (filter (λ d. has_zoom d.1 zoom) m))
     by true rest = λ i. record { range = box_covered e.1.geometry zoom i; number = e.0 } ∷ rest i
     by false rest = rest
+
+-- the first of them
+first_boxes : (zoom n : ℕ) (m : FeatureMap) (es : List IndexEntry) → es ≡ map index_entry m → boxes_in zoom (take n es) ≡ boxes_at zoom (take n m)
+first_boxes zoom n m es is =
+    ap (λ (l : List IndexEntry). boxes_in zoom (take n l)) is ∙ ap (boxes_in zoom) (take-map index_entry n m) ∙ same_boxes zoom (take n m)
+
+-- the next ones
+pub next_boxes : (zoom start count : ℕ) (m : FeatureMap) (es part : List IndexEntry) (old new : List Numbered) → es ≡ map index_entry m
+    → part ≡ take count (drop start es) → old ≡ boxes_at zoom (take start m) → new ≡ old ++ boxes_in zoom part → new ≡ boxes_at zoom (take (start + count) m)
+next_boxes zoom start count m es part old new is next before after =
+    after ∙ ap (λ (r : List Numbered). r ++ boxes_in zoom part) (before ∙ sym (first_boxes zoom start m es is))
+    ∙ ap (λ (r : List IndexEntry). boxes_in zoom (take start es) ++ boxes_in zoom r) next
+    ∙ sym (tiles_both zoom (take start es) (take count (drop start es)))
+    ∙ ap (boxes_in zoom) (sym (take-add start count es))
+    ∙ first_boxes zoom (start + count) m es is
+
+-- none is read yet
+pub none_read : (zoom : ℕ) (m : FeatureMap) (c : Covers) → c.read ≡ 0 → c.tiles.items ≡ [] → AreFirst zoom m c
+unfolding boxes_at
+none_read zoom m c start none = record {
+  few = omega (arith, start);
+  within = omega (arith, start);
+  tiles = none ∙ ap (λ (n : ℕ). map (box_of zoom) (filter (λ e. has_zoom e.1 zoom) (take n m))) (sym start);
+}
+
+-- all are read
+pub all_read : (zoom : ℕ) (m : FeatureMap) (c : Covers) → AreFirst zoom m c → c.read ≡ length m → c.tiles.items ≡ boxes_at zoom m
+all_read zoom m c first all = first.tiles ∙ ap (boxes_at zoom) (take_all c.read m (omega (arith, all)))
 
 -- the numbers of the first boxes that show, and of one more
 pub shown_more : (bounds : WorldBox) (zoom : ℕ) (es : List IndexEntry) (k : ℕ) (d : IndexEntry) (out next : List ℕ) → k < length es

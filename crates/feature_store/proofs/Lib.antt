@@ -12,6 +12,7 @@ mod Names
 mod Near
 mod Shown
 mod Sizes
+mod Steps
 mod Writable
 pub mod Reading
 mod TilesRead

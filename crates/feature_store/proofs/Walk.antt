@@ -1,7 +1,7 @@
 -- The tiles of a map, one after the other.
-use Rattle.std.proofs.Common.{◌≡◌, ℕ, ◌+◌, ◌<◌, ◌≤◌, List, [], ◌∷◌, length, refl, sym, ap, subst, ◌∙◌}
-use Rattle.std.proofs.Common.{arith, inl, inr, Bool, true, false, Option, Some, None, IfSome, Result, Ok, Err}
-use Rattle.std.specs.Prelude.{◌⊎◌, ◌↔◌, ◌-◌, IsTrue, OnErr}
+use Rattle.std.proofs.Common.{◌≡◌, ℕ, ◌+◌, ◌*◌, ◌<◌, ◌≤◌, List, [], ◌∷◌, length, refl, sym, ap, subst, ◌∙◌}
+use Rattle.std.proofs.Common.{arith, inl, inr, Bool, true, false, Option, Some, None, IfSome}
+use Rattle.std.specs.Prelude.{◌⊎◌, ◌↔◌, ◌-◌, IsTrue}
 use Rattle.std.proofs.lemmas.Bool.{cases_lt, false≢true}
 use Rattle.std.proofs.lemmas.Bool.Decides.{nat_tests}
 use Rattle.feature_model.specs.declared.limits.TheConstants.{MAX_ZOOM}
@@ -14,8 +14,10 @@ use Rattle.mvt_write.specs.Written.{written}
 use Rattle.feature_store.specs.Layers.{is_tile, layers}
 use Rattle.feature_store.specs.Store.{FeatureMap}
 use Rattle.feature_store.specs.declared.tile_parts.TileParts.{TileParts}
-use Rattle.feature_store.specs.declared.tile_parts.TheConstants.{AHEAD}
-use Rattle.feature_store.specs.Parts.{IsBegun, IsInHand, NONE_IN_HAND}
+use Rattle.feature_store.specs.declared.tile_parts.TheConstants.{PART_NUMBERS}
+use Rattle.feature_store.specs.Parts.{IfHand, IsBegun, IsInHand, IsNoneInHand, NONE_IN_HAND}
+use Rattle.feature_store.specs.declared.all_tiles.Begun.{Begun}
+use Rattle.feature_store.specs.declared.all_tiles.Begun.TheVariants.{Hand}
 use Rattle.feature_store.specs.Tiles.{ShowsNothing, IsNextTile, IsTile, HasPlace, tile_bytes}
 use Rattle.feature_store.specs.Walk.{ahead_of, least_id, left_in}
 use Rattle.feature_store.proofs.Below.{the_place}
@@ -64,23 +66,51 @@ module _ (m : FeatureMap) where
 pub from_before : (hand : Option (ℕ × TileParts)) (from : ℕ) → hand ≡ None → least_id hand from ≡ from
 from_before hand from none = ap (λ (h : Option (ℕ × TileParts)). least_id h from) none
 
-pub ahead_before : (hand : Option (ℕ × TileParts)) (from id left : ℕ) → hand ≡ None → from ≤ id → left < NONE_IN_HAND
-    → ahead_of id left ≤ ahead_of (least_id hand from) (left_in hand)
+-- no tile is in hand
+pub none_left : (stage : ℕ) (hand : Option (ℕ × TileParts)) → hand ≡ None → ahead_of stage (left_in hand) ≡ stage * NONE_IN_HAND
 unfolding ahead_of
-ahead_before hand from id left none le few = rw none (omega (arith, le, few))
+none_left stage hand none = rw none (omega arith)
+
+module _ (stage : ℕ) (hand after : Option (ℕ × TileParts)) (h : ℕ × TileParts) (is : hand ≡ Some h) (none : after ≡ None) where
+  -- the tile in hand is taken
+  pub hand_left : ahead_of stage (left_in after) + h.1.left ≤ ahead_of stage (left_in hand)
+  unfolding ahead_of
+  hand_left = rw (is, none) (omega arith)
+
+  pub hand_ahead : 0 < h.1.left → ahead_of stage (left_in after) < ahead_of stage (left_in hand)
+  unfolding ahead_of
+  hand_ahead some = rw (is, none) (omega (arith, some))
+
+-- a step to the next tile is taken
+module _ (old new : ℕ) (hand after : Option (ℕ × TileParts)) (is : hand ≡ None) (none : after ≡ None) (further : new < old) where
+  pub step_ahead : ahead_of new (left_in after) < ahead_of old (left_in hand)
+  unfolding ahead_of
+  step_ahead = rw (is, none) (omega (arith, further))
+
+  pub step_left : (left : ℕ) → left < NONE_IN_HAND → ahead_of new (left_in after) + left ≤ ahead_of old (left_in hand)
+  unfolding ahead_of
+  step_left left few = rw (is, none) (omega (arith, further, few))
 
 -- a part more of the tile in hand
-pub ahead_part : (id left new start : ℕ) → new < left → ahead_of id left ≤ start → ahead_of id new < start
+pub ahead_part : (stage left new start : ℕ) (hand : Option (ℕ × TileParts)) → ahead_of stage (left_in hand) + left ≤ start → new < left
+    → ahead_of stage new < start
 unfolding ahead_of
-ahead_part id left new start fewer le = omega (arith, fewer, le)
+ahead_part stage left new start hand le fewer = omega (arith, fewer, le)
 
--- the tile in hand is made
-pub ahead_whole : (id left start : ℕ) → id < TILE_IDS → ahead_of id left ≤ start → ahead_of (id + 1) NONE_IN_HAND < start
-unfolding ahead_of
-ahead_whole id left start within le = omega (arith, within, le)
+-- what is told of a tile
+pub of_hand : (P : ℕ × TileParts → Type 0) (b : Begun) (h : ℕ × TileParts) → b ≡ Hand h → IfHand P b → P h
+of_hand P b h is told = subst (λ (c : Begun). IfHand P c) is told
+
+-- a tile that isn't whole has features left
+pub some_left : (left : ℕ) (whole : Bool) → IsTrue whole ↔ (left ≡ 0) → whole ≡ false → 0 < left
+some_left left whole is not = by (cases_lt 0 left)
+  where
+    by : (0 < left) ⊎ (left ≤ 0) → 0 < left
+    by (inl some) = some
+    by (inr none) = absurd (false≢true (sym not ∙ is.1 (omega (arith, none))))
 
 -- a part of a tile that isn't whole after it leaves fewer features
-pub fewer_left : (old new : ℕ) (whole : Bool) → new ≡ old - AHEAD → IsTrue whole ↔ (new ≡ 0) → whole ≡ false → new < old
+pub fewer_left : (old new : ℕ) (whole : Bool) → new ≡ old - PART_NUMBERS → IsTrue whole ↔ (new ≡ 0) → whole ≡ false → new < old
 fewer_left old new whole less is not = by (cases_lt 0 new)
   where
     by : (0 < new) ⊎ (new ≤ 0) → new < old
@@ -88,15 +118,12 @@ fewer_left old new whole less is not = by (cases_lt 0 new)
     by (inr none) = absurd (false≢true (sym not ∙ is.1 (omega (arith, none))))
 
 -- where no tile is in hand, the least id of the next tile is that of those that aren't begun
-pub none_in_hand : (m : FeatureMap) (hand : Option (ℕ × TileParts)) (from id : ℕ) → IfSome hand (λ h. (from ≡ h.0 + 1) × IsInHand m h)
-    → least_id hand from ≡ id → ahead_of (least_id hand from) (left_in hand) ≡ ahead_of id NONE_IN_HAND → from ≡ id
+pub none_in_hand : (m : FeatureMap) (hand : Option (ℕ × TileParts)) (from id stage : ℕ)
+    → IfSome hand (λ h. (from ≡ h.0 + 1) × (0 < h.1.left) × IsInHand m h) → least_id hand from ≡ id → IsNoneInHand (ahead_of stage (left_in hand))
+    → from ≡ id
 unfolding ahead_of
-none_in_hand m None from id is least ahead = least
-none_in_hand m (Some h) from id is least ahead = let few = is.1.few in absurd (omega (arith, few, least, ahead))
-
--- the tile that is begun has the zoom of a tile
-pub begun_place : (m : FeatureMap) (hand : ℕ × TileParts) → IsInHand m hand → HasPlace hand.0
-begun_place m hand tile = let at = hand.1.at in (at.z, at.x, at.y, tile.making.zoom, tile.id)
+none_in_hand m None from id stage is least none = least
+none_in_hand m (Some h) from id stage is least none = let few = is.2.few in absurd (omega (arith, is.1, few, none.1))
 
 -- ---- the place of an id
 
@@ -112,11 +139,6 @@ zoom_within z x y id place is =
     let one = one_tile_of z x y place.0 place.1 place.2 id is place.4 in
     let zoom = place.3 in
     omega (arith, zoom, one.0)
-
--- what holds anyway holds after an error
-pub on_err : {X E P : Type 0} (r : Result X E) → P → OnErr r P
-on_err (Ok x) p = tt
-on_err (Err e) p = p
 
 -- ---- the tile of an id
 

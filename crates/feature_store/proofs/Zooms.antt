@@ -1,7 +1,6 @@
 -- The tiles of a map that are left to make.
 use Rattle.std.proofs.Common.{◌≡◌, ℕ, zero, suc, ◌+◌, ◌-◌, ◌<◌, ◌≤◌, Bool, true, false, List, [], ◌∷◌, length, get_or}
-use Rattle.std.proofs.Common.{IsSome, refl, sym, ap, subst, ◌∙◌, arith, inl, inr, Option, Some, None, IfSome, Vec, Global}
-use Rattle.std.specs.Prelude.{IfNone}
+use Rattle.std.proofs.Common.{IsSome, refl, sym, ap, subst, ◌∙◌, arith, inl, inr, Option, Some, IfSome}
 use Rattle.std.specs.List.{Contains}
 use Rattle.std.specs.List.Sorted.{IsStrictlySortedBy}
 use Rattle.std.specs.Map.{keys_of}
@@ -182,33 +181,9 @@ module _ (m : FeatureMap) (start end : ℕ) (old ts : List (ℕ × List ℕ)) (s
   pub stay_same : (new : List (ℕ × List ℕ)) → ts ≡ new → AllStay m start old end new
   stay_same new same from left = subst (AreLeft m end from) same (stay from left)
 
-  -- where none is left, with those of the next zoom
-  pub stay_next : (new : List (ℕ × List ℕ)) → ts ≡ [] → AreTilesOf end (boxes_at end m) new → AllStay m start old (end + 1) new
-  stay_next new none are from left = next_zoom m end from (subst (AreLeft m end from) none (stay from left)) new are
-
-  -- after one was taken, or found that there is none
-  pub stay_taken : (new : List (ℕ × List ℕ)) (o : Option (ℕ × Vec ℕ Global)) → IfSome o (λ t. ts ≡ (t.0, t.1.items) ∷ new)
-      → IfSome o (λ t. AllStay m start old end ((t.0, t.1.items) ∷ new))
-  stay_taken new None told = tt
-  stay_taken new (Some t) told = stay_same ((t.0, t.1.items) ∷ new) told
-
-  pub stay_ended : (new : List (ℕ × List ℕ)) (o : Option (ℕ × Vec ℕ Global)) → IfNone o ((ts ≡ []) × (new ≡ [])) → IfNone o (AllStay m start old end new)
-  stay_ended new None told = stay_same new (told.0 ∙ sym told.1)
-  stay_ended new (Some t) told = tt
-
--- what is told where there is something, or nothing
+-- what is told where there is something
 pub of_some : {X : Type 0} (P : X → Type 0) (o : Option X) (x : X) → o ≡ Some x → IfSome o P → P x
 of_some P o x is told = subst (λ p. IfSome p P) is told
-
-pub of_none : {X : Type 0} (P : Type 0) (o : Option X) → o ≡ None → IfNone o P → P
-of_none P o is told = subst (λ p. IfNone p P) is told
-
--- what is left where one was taken, with that one
-pub left_taken : (m : FeatureMap) (start end from : ℕ) (old ts : List (ℕ × List ℕ)) (o : Option (ℕ × Vec ℕ Global)) (id : ℕ) (numbers : Vec ℕ Global)
-    → o ≡ Some (id, numbers) → IfSome o (λ t. AllStay m start old end ((t.0, t.1.items) ∷ ts)) → AreLeft m start from old
-    → AreLeft m end from ((id, numbers.items) ∷ ts)
-left_taken m start end from old ts o id numbers is told =
-    of_some (λ (t : ℕ × Vec ℕ Global). AllStay m start old end ((t.0, t.1.items) ∷ ts)) o (id, numbers) is told from
 
 -- where none is left of all zooms
 pub none_from : (m : FeatureMap) (is_map : IsMap m) (end from : ℕ) (ts : List (ℕ × List ℕ)) → (end ≡ MAX_ZOOM + 1) × (ts ≡ []) → AreLeft m end from ts

@@ -3,6 +3,8 @@ pub mod BoxesInside
 pub mod Chosen
 pub mod Content
 pub mod Gathered
+pub mod Hand
+pub mod HandInside
 pub mod Indexed
 pub mod Inside
 pub mod Layers

@@ -1,7 +1,9 @@
 -- A tile in the making.
-use Rattle.std.specs.Prelude.{ℕ, List, ◌<◌, ◌≤◌, ◌-◌, ◌^◌, length, take}
+use Rattle.std.specs.Prelude.{◌≡◌, ℕ, List, ◌<◌, ◌≤◌, ◌-◌, ◌*◌, ◌^◌, length, take, ⊤}
 use Rattle.feature_model.specs.declared.limits.TheConstants.{MAX_ZOOM}
 use Rattle.feature_store.specs.Chosen.{chosen}
+use Rattle.feature_store.specs.declared.all_tiles.Begun.{Begun}
+use Rattle.feature_store.specs.declared.all_tiles.Begun.TheVariants.{Hand, Part, Over}
 use Rattle.feature_store.specs.declared.tile_parts.TileParts.{TileParts}
 use Rattle.feature_store.specs.Gathered.{Gathers}
 use Rattle.feature_store.specs.Indexed.{ShowsAll}
@@ -36,3 +38,21 @@ pub record IsBegun (m : FeatureMap) (from : ℕ) (hand : ℕ × TileParts) : Typ
   pub here : from ≤ hand.0
   pub between : ShowsNothing m from hand.0
   pub tile : IsInHand m hand
+
+-- ---- what there is to make next
+
+-- if it is a tile, this is true of it
+abbrev pub IfHand : (ℕ × TileParts → Type 0) → Begun → Type 0
+IfHand P (Hand hand) = P hand
+IfHand P Part = ⊤
+IfHand P Over = ⊤
+
+-- nothing is left to make, or the number that counts what is ahead has fallen
+abbrev pub IsNearer : (old new : ℕ) → Begun → Type 0
+IsNearer old new (Hand hand) = new < old
+IsNearer old new Part = new < old
+IsNearer old new Over = ⊤
+
+-- it is such a number while no tile is in hand
+abbrev pub IsNoneInHand : ℕ → Type 0
+IsNoneInHand ahead = (stage : ℕ) × (ahead ≡ stage * NONE_IN_HAND)

@@ -1,5 +1,5 @@
 -- The features of a map as of a moment, read by ascending number.
-use Rattle.std.specs.Prelude.{◌≤◌, ℕ, nat_lt, if◌then◌else◌, [], ◌∷◌, List, Option, Some, None}
+use Rattle.std.specs.Prelude.{◌≤◌, ℕ, nat_lt, if◌then◌else◌, [], ◌∷◌, Option, Some, None}
 use Rattle.std.specs.List.{filter}
 use Rattle.std.specs.Option.{option_map_or}
 use Rattle.feature_model.specs.Data.{FeatureData}

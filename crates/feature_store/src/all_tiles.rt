@@ -1,5 +1,5 @@
 //! All tiles of a map, one after the other.
-ghost use Rattle.std.specs.Prelude.{◌≡◌, ◌≤◌, ◌+◌, ℕ, List, Ok, false, IfOk, IfSome, IfNone};
+ghost use Rattle.std.specs.Prelude.{◌≡◌, ◌≤◌, ◌+◌, ℕ, List, Ok, false, IfOk};
 ghost use Rattle.feature_store.specs.Inside.{entries_data};
 ghost use Rattle.feature_store.specs.Moments.{IsAsOf};
 ghost use Rattle.feature_store.specs.Store.{IsMap};
@@ -16,6 +16,7 @@ use hilbert_id::tile_of;
 use number_map::NumberMap;
 use std::alloc::{AllocError, Global};
 use std::marker::Model;
+use tile_walk::Step;
 
 /// The id of a tile, and its bytes.
 pub type Tile = (u64, Vec<u8>);
@@ -23,7 +24,7 @@ pub type Tile = (u64, Vec<u8>);
 /// What a call of `Tiles::next` made.
 #[derive(Drop)]
 pub enum Making {
-    /// A part of a tile, or a tile that shows nothing.
+    /// A part of a tile, a tile that shows nothing, or a part of the search for the next one.
     Part,
     /// The last part of a tile that shows something: this tile.
     Whole(Tile),
@@ -33,6 +34,17 @@ pub enum Making {
 
 /// The id of a tile in the making, and what is made of it.
 type InHand = (u64, TileParts);
+
+/// What there is to make next.
+#[derive(Drop)]
+pub(crate) enum Begun {
+    /// A tile.
+    Hand(InHand),
+    /// A tile that isn't found yet.
+    Part,
+    /// Nothing, since no tile is left.
+    Over,
+}
 
 /// The tiles that show something of a map, in ascending order of their ids, each made by parts when it is asked for.
 ///
@@ -63,8 +75,8 @@ impl Model for Tiles {
 }
 
 impl Tiles {
-    ghost use Rattle.feature_store.specs.Parts.{IsBegun, NONE_IN_HAND};
-    ghost use Rattle.feature_store.specs.Walk.{ahead_of};
+    ghost use Rattle.feature_store.specs.Parts.{IsBegun, IfHand, IsNearer, IsNoneInHand};
+    ghost use Rattle.feature_store.specs.declared.all_tiles.Begun.TheVariants as begun;
     ghost use Rattle.feature_store.specs.declared.all_tiles.Making.TheVariants.{Part, Over};
 
     /// The tiles of a map. The only error is out of memory.
@@ -77,44 +89,48 @@ impl Tiles {
         ensures start { IfOk result (λ tiles. tiles.from ≡ 0) }
     {
         let map = FeatureBoxes::of(alloc, features)?;
-        Tiles::of_boxes(alloc, map)
+        Ok(Tiles::of_boxes(alloc, map))
     }
 
-    /// The tiles of a map whose boxes are these. The only error is out of memory.
-    pub(crate) fn of_boxes(alloc: Global, map: FeatureBoxes) -> Result<Tiles, AllocError>
+    /// The tiles of a map whose boxes are these. It looks at no box.
+    pub(crate) fn of_boxes(alloc: Global, map: FeatureBoxes) -> Tiles
         requires { IsMap map }
-        ensures map { IfOk result (λ tiles. tiles.features ≡ map) }
-        ensures start { IfOk result (λ tiles. tiles.from ≡ 0) }
+        ensures map { result.features ≡ map }
+        ensures start { result.from ≡ 0 }
     {
-        let left = TilesLeft::of(alloc, &map)?;
-        Ok(Tiles {
+        Tiles {
             map,
-            left,
+            left: TilesLeft::new(),
             from: 0,
             hand: None,
             cutter: Cutter::new(alloc),
             alloc,
-        })
+        }
     }
 
-    /// Takes the tile in hand, or else begins the next one that may show something, if there is one. The only error is out of memory.
-    fn take_in_hand(&mut self) -> Result<Option<InHand>, AllocError>
+    /// Takes the tile in hand, or else looks for the next one that may show something. The only error is out of memory.
+    fn take_in_hand(&mut self) -> Result<Begun, AllocError>
         ensures map { self.new.features ≡ self.old.features }
-        ensures tile { IfOk result (λ o. IfSome o (IsBegun self.old.features self.old.from)) }
-        ensures from { IfOk result (λ o. IfSome o (λ hand. self.new.from ≡ hand.0 + 1)) }
-        ensures ahead { IfOk result (λ o. IfSome o (λ hand. ahead_of hand.0 hand.1.left ≤ self.old.ahead)) }
-        ensures after { IfOk result (λ o. IfSome o (λ hand. self.new.ahead ≡ ahead_of (hand.0 + 1) NONE_IN_HAND)) }
-        ensures none { IfOk result (λ o. IfNone o (ShowsNothingFrom self.old.features self.old.from)) }
+        ensures tile { IfOk result (IfHand (IsBegun self.old.features self.old.from)) }
+        ensures from { IfOk result (IfHand (λ hand. self.new.from ≡ hand.0 + 1)) }
+        ensures left { IfOk result (IfHand (λ hand. self.new.ahead + hand.1.left ≤ self.old.ahead)) }
+        ensures after { IfOk result (IfHand (λ hand. IsNoneInHand self.new.ahead)) }
+        ensures ahead { IfOk result (IsNearer self.old.ahead self.new.ahead) }
+        ensures part { result ≡ Ok begun.Part → self.new.from ≡ self.old.from }
+        ensures over { result ≡ Ok begun.Over → ShowsNothingFrom self.old.features self.old.from }
     {
         if let Some(hand) = self.hand.take() {
-            return Ok(Some(hand));
+            return Ok(Begun::Hand(hand));
         }
-        let Some((id, numbers)) = self.left.take_next(self.alloc, &self.map)? else {
-            return Ok(None);
-        };
-        self.from = id + 1;
-        let at = tile_of(id).unwrap();
-        Ok(Some((id, TileParts::of(self.alloc, at, numbers))))
+        match self.left.step(self.alloc, &self.map)? {
+            Step::Part => Ok(Begun::Part),
+            Step::Over => Ok(Begun::Over),
+            Step::Tile((id, numbers)) => {
+                self.from = id + 1;
+                let at = tile_of(id).unwrap();
+                Ok(Begun::Hand((id, TileParts::of(self.alloc, at, numbers))))
+            }
+        }
     }
 
     /// Makes a part of the next tile that shows something of the moment. `store` is the map as it is now. The only error is out of memory; the
@@ -130,8 +146,10 @@ impl Tiles {
         // So calls until `Over` end.
         ensures ahead { IfOk result (GoesOn self.old self.new) }
     {
-        let Some((id, mut parts)) = self.take_in_hand()? else {
-            return Ok(Making::Over);
+        let (id, mut parts) = match self.take_in_hand()? {
+            Begun::Hand(hand) => hand,
+            Begun::Part => return Ok(Making::Part),
+            Begun::Over => return Ok(Making::Over),
         };
         parts.add_part(&mut self.cutter, store.features(), moment)?;
         if !parts.is_whole() {

@@ -1,14 +1,14 @@
 //! The boxes of the features of a map, read from their points once for all zooms.
-ghost use Rattle.std.specs.Prelude.{◌≡◌, ◌≤◌, ◌++◌, ◌∷◌, [], map, IfOk, OnOk};
+ghost use Rattle.std.specs.Prelude.{◌≡◌, ◌≤◌, ◌+◌, ◌↔◌, ◌++◌, ◌∷◌, [], ℕ, length, map, min, IsTrue, IfOk, IfSome, OnOk};
 ghost use Rattle.box_index.specs.Shown.{ids_shown};
 ghost use Rattle.box_index.specs.declared.entry.IndexEntry.{IndexEntry};
 ghost use Rattle.feature_model.specs.declared.limits.TheConstants.{MAX_ZOOM};
 ghost use Rattle.number_map.specs.Blocks.{joined};
-ghost use Rattle.tile_walk.specs.Boxes.{AreTilesOf};
-ghost use Rattle.feature_store.specs.Boxes.{boxes_at, boxes_in};
+ghost use Rattle.tile_walk.specs.declared.step.TheConstants.{STEP_BOXES};
+ghost use Rattle.feature_store.specs.Boxes.{AreFirst, boxes_in, read_of};
 ghost use Rattle.feature_store.specs.Indexed.{ShowsAll, index_entry};
 ghost use Rattle.feature_store.specs.Inside.{entries_data};
-ghost use Rattle.feature_store.specs.Store.{IsMap};
+ghost use Rattle.feature_store.specs.Store.{FeatureMap, IsMap};
 
 use crate::indexed::index_entry;
 use box_index::IndexEntry;
@@ -20,7 +20,7 @@ use std::alloc::{AllocError, Global};
 use std::marker::Model;
 use std::snapshot::Snapshot;
 use tile_cutter::{tile_box, tiles_met};
-use tile_walk::{Numbered, Walk};
+use tile_walk::{Numbered, STEP_BOXES};
 
 /// The bounding box and the zooms of each feature of a map, by ascending number. They stay those of the map as it was.
 #[derive(Drop)]
@@ -40,6 +40,28 @@ impl Model for FeatureBoxes {
     ghost view = { boxes_view };
 
     ghost invariant = { AreBoxes };
+}
+
+/// The tiles of a zoom that the first features of a map cover, those of each with its number.
+#[derive(Drop)]
+pub(crate) struct Covers {
+    /// How many features they are.
+    pub(crate) read: usize,
+    pub(crate) tiles: Vec<Numbered>,
+}
+
+/// What was read of a zoom, or nothing yet.
+pub(crate) fn begun_or_new(alloc: Global, first: Option<Covers>) -> Covers
+    ensures first { (zoom : ℕ) (m : FeatureMap) → IfSome first (AreFirst zoom m) → AreFirst zoom m result }
+    ensures read { result.read ≡ read_of first }
+{
+    match first {
+        Some(first) => first,
+        None => Covers {
+            read: 0,
+            tiles: Vec::new(alloc),
+        },
+    }
 }
 
 /// Appends the boxes of entries.
@@ -82,20 +104,15 @@ fn append_tiles(tiles: &mut Vec<Numbered>, zoom: u8, entry: &IndexEntry) -> Resu
     Ok(())
 }
 
-/// The tiles of a zoom that boxes meet, box by box.
-fn tiles_of_boxes(
-    alloc: Global,
-    zoom: u8,
-    boxes: &[IndexEntry],
-) -> Result<Vec<Numbered>, AllocError>
+/// Appends the tiles of a zoom that boxes meet, box by box.
+fn append_boxes(tiles: &mut Vec<Numbered>, zoom: u8, boxes: &[IndexEntry]) -> Result<(), AllocError>
     requires { zoom ≤ MAX_ZOOM }
-    ensures { IfOk result (λ v. v.items ≡ boxes_in zoom boxes.now) }
+    ensures { OnOk result (tiles.new.items ≡ tiles.old.items ++ boxes_in zoom boxes.now) }
 {
-    let mut tiles = Vec::new(alloc);
     for entry in boxes {
-        append_tiles(&mut tiles, zoom, entry)?;
+        append_tiles(tiles, zoom, entry)?;
     }
-    Ok(tiles)
+    Ok(())
 }
 
 /// Appends the number of a box that shows in another one at a zoom.
@@ -153,13 +170,26 @@ impl FeatureBoxes {
         FeatureBoxes { features, boxes }
     }
 
-    /// The walk over the tiles of a zoom that the features cover. The only error is out of memory.
-    pub(crate) fn walk(&self, alloc: Global, zoom: u8) -> Result<Walk, AllocError>
-        requires { zoom ≤ MAX_ZOOM }
-        ensures { IfOk result (λ walk. AreTilesOf zoom (boxes_at zoom self.now) walk.left) }
+    /// The tiles of a zoom that the first features cover, with those of the next `STEP_BOXES` features, or of those that are left if they are
+    /// fewer. The only error is out of memory.
+    pub(crate) fn read_on(&self, zoom: u8, mut first: Covers) -> Result<Covers, AllocError>
+        requires zoom { zoom ≤ MAX_ZOOM }
+        requires first { AreFirst zoom self.now first }
+        ensures first { IfOk result (AreFirst zoom self.now) }
+        ensures read { IfOk result (λ more. more.read ≡ min (first.read + STEP_BOXES) (length self.now)) }
     {
-        let tiles = tiles_of_boxes(alloc, zoom, &self.boxes)?;
-        Walk::new(alloc, zoom, tiles)
+        let start = first.read;
+        let count = STEP_BOXES.min(self.boxes.len() - start);
+        append_boxes(&mut first.tiles, zoom, &self.boxes[start..start + count])?;
+        first.read = start + count;
+        Ok(first)
+    }
+
+    /// Whether these are the tiles of all features.
+    pub(crate) fn are_all(&self, first: &Covers) -> bool
+        ensures { IsTrue result ↔ (first.now.read ≡ length self.now) }
+    {
+        first.read == self.boxes.len()
     }
 
     /// The numbers of the features whose bounding box meets the box of a tile, and that have its zoom: it shows nothing of others. It looks

@@ -19,6 +19,7 @@ mod prepared;
 mod records;
 mod snapshot_texts;
 mod store;
+mod tile_in_hand;
 mod tile_parts;
 mod tiles_left;
 
@@ -31,3 +32,5 @@ pub use placed::PlacedBoxes;
 pub use prepared::Prepared;
 pub use records::{read_record, record_of};
 pub use store::Store;
+pub use tile_in_hand::TileInHand;
+pub use tile_parts::PART_NUMBERS;

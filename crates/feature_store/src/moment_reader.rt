@@ -162,7 +162,7 @@ impl MomentReader {
             from: _,
             alloc,
         } = self;
-        let tiles = Tiles::of_boxes(alloc, FeatureBoxes::with(features, boxes))?;
+        let tiles = Tiles::of_boxes(alloc, FeatureBoxes::with(features, boxes));
         Ok((text, tiles))
     }
 }

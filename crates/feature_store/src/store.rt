@@ -29,6 +29,7 @@ use crate::moment::Moment;
 use crate::placed::PlacedBoxes;
 use crate::prepared::{Prepared, count_puts, prepare_each};
 use crate::snapshot_texts::{append_block_texts, read_map};
+use crate::tile_in_hand::TileInHand;
 use crate::tile_parts::tile_of_numbers;
 use box_index::BoxIndex;
 use edit_text::{FeatureText, StoredFeature};
@@ -320,6 +321,16 @@ impl Store {
         let mut cutter = Cutter::new(self.alloc);
         let now = Moment::of(self.alloc, &self.features);
         tile_of_numbers(self.alloc, &mut cutter, &self.features, &now, numbers, at)
+    }
+
+    /// A tile of the map as it is now, of which no feature is added. The only error is out of memory.
+    pub fn begin_tile(&self, at: TileAt) -> Result<TileInHand, AllocError>
+        requires { at.z ≤ MAX_ZOOM }
+        ensures map { IfOk result (λ hand. hand.features ≡ self.now.features) }
+        ensures at { IfOk result (λ hand. hand.at ≡ at) }
+    {
+        let numbers = self.numbers_near(at)?;
+        Ok(TileInHand::of(self.alloc, &self.features, at, numbers))
     }
 
     /// The map as of now, while it is edited by `place_after` and `remove_after`. It allocates nothing, and takes no time that grows with the map.

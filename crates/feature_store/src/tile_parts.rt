@@ -23,12 +23,12 @@ use std::collections::BTreeMap;
 
 /// How many features a part of a tile has at most. They are looked up before the first of them is cut: most of their searches and first reads
 /// miss the caches, and these misses overlap.
-const AHEAD: usize = 32;
+pub const PART_NUMBERS: usize = 32;
 
 /// A tile of a moment in the making.
 #[derive(Drop)]
 pub(crate) struct TileParts {
-    at: TileAt,
+    pub(crate) at: TileAt,
     /// The numbers of the features of which it shows something, and maybe of others.
     numbers: Vec<u64>,
     /// How many of them are left to add: the last ones.
@@ -39,7 +39,7 @@ pub(crate) struct TileParts {
 }
 
 impl TileParts {
-    ghost use Rattle.feature_store.specs.declared.tile_parts.TheConstants.{AHEAD};
+    ghost use Rattle.feature_store.specs.declared.tile_parts.TheConstants.{PART_NUMBERS};
 
     /// A tile of which no feature is added.
     pub(crate) fn of(alloc: Global, at: TileAt, numbers: Vec<u64>) -> TileParts
@@ -65,7 +65,7 @@ impl TileParts {
         self.left == 0
     }
 
-    /// Adds the next `AHEAD` features of the moment, or those that are left if they are fewer. `features` are those of the map now. The only
+    /// Adds the next `PART_NUMBERS` features of the moment, or those that are left if they are fewer. `features` are those of the map now. The only
     /// error is out of memory; the tile is of no use then.
     pub(crate) fn add_part(
         &mut self,
@@ -78,10 +78,10 @@ impl TileParts {
         requires as_of { IsAsOf moment.now (entries_data features.now.entries) }
         ensures making { OnOk result (IsInMaking moment.now.features self.new) }
         ensures at { self.new.at ≡ self.old.at }
-        ensures left { OnOk result (self.new.left ≡ self.old.left - AHEAD) }
+        ensures left { OnOk result (self.new.left ≡ self.old.left - PART_NUMBERS) }
     {
         let start = self.numbers.len() - self.left;
-        let count = AHEAD.min(self.left);
+        let count = PART_NUMBERS.min(self.left);
         let part = &self.numbers[start..start + count];
         add_numbers(
             self.alloc,

@@ -3,7 +3,7 @@ use Rattle.std.proofs.Common.{◌≡◌, ℕ, zero, suc, ◌+◌, ◌-◌, ◌*�
 use Rattle.std.proofs.Common.{Some, None, refl, sym, ap, subst, ◌∙◌, append_assoc, arith}
 use Rattle.std.specs.List.{AllByRecursion, slice_get}
 use Rattle.std.proofs.lemmas.Bool.Decides.{nat_tests}
-use Rattle.std.proofs.lemmas.List.{append-nil, map-id, nil_from_length}
+use Rattle.std.proofs.lemmas.List.{append-nil, nil_from_length}
 use Rattle.std.proofs.lemmas.List.Elements.{recursion_from_All}
 use Rattle.std.proofs.lemmas.Option.{slice_get-get_or}
 use Rattle.hilbert_id.specs.Curve.{turned, below, across, flipped, curve}
@@ -58,12 +58,6 @@ module _ (P : ℕ → ℕ → Type 0) where
       let p = get_or (curve k) n d in
       let inside = in_square k p.0 p.1 n (slice_get-get_or (curve k) n d lt) in
       all p.0 p.1 inside.0 inside.1)
-
--- boxes with the same numbers in a square have the same tiles there
-pub along_same : (bs cs : List Numbered) (id k : ℕ) → ((column row : ℕ) → column < 2 ^ k → row < 2 ^ k → numbers_at cs column row ≡ numbers_at bs column row)
-    → tiles_along cs id (curve k) ≡ tiles_along bs id (curve k)
-along_same bs cs id k same =
-    along_map (λ p. p) bs cs id (curve k) (along_square (λ x y. numbers_at cs x y ≡ numbers_at bs x y) k same) ∙ ap (tiles_along bs id) (map-id (curve k))
 
 -- ---- a square and its quarters
 
@@ -133,7 +127,7 @@ pub weights_last : (ss : List Square) (s : Square) → weights (ss ++ s ∷ []) 
 unfolding weights
 weights_last ss s = omega (arith, weights-append ss (s ∷ []))
 
-weight_some : (k : ℕ) → 0 < weight k
+pub weight_some : (k : ℕ) → 0 < weight k
 unfolding weight
 weight_some zero = omega arith
 weight_some (suc k) = omega arith

@@ -1,25 +1,23 @@
 -- The tiles along the curve of a zoom are all that boxes have there.
-use Rattle.std.proofs.Common.{◌≡◌, ℕ, zero, suc, ◌+◌, ◌*◌, ◌%◌, ◌<◌, ◌≤◌, ◌^◌, Bool, true, false, cond, List, [], ◌∷◌, ◌++◌, length, map, Some, Contains}
-use Rattle.std.proofs.Common.{refl, sym, ap, subst, ◌∙◌, arith}
-use Rattle.std.specs.List.{slice_get, filter, AllByRecursion}
+use Rattle.std.proofs.Common.{◌≡◌, ℕ, zero, suc, ◌+◌, ◌*◌, ◌<◌, ◌≤◌, ◌^◌, List, [], ◌∷◌, ◌++◌, length, Some, None, Contains}
+use Rattle.std.proofs.Common.{refl, sym, ap, subst, ◌∙◌, arith, lit<}
+use Rattle.std.specs.List.{slice_get, AllByRecursion}
 use Rattle.std.specs.List.Sorted.{IsStrictlySortedBy}
 use Rattle.std.specs.Map.{keys_of}
 use Rattle.std.specs.Ordering.{nat_cmp}
 use Rattle.std.specs.declared.cmp.Ordering.TheVariants.{Less}
 use Rattle.std.proofs.lemmas.Bool.{lt-ltb}
-use Rattle.std.proofs.lemmas.Bool.Decides.{nat_tests}
 use Rattle.std.proofs.lemmas.List.Elements.{All-from_recursion}
+use Rattle.std.proofs.Math.Nat.{pow-le-pow_right, pow-succ'}
 use Rattle.hilbert_id.specs.Curve.{curve, first_id, StandsAt, IsTileId}
 use Rattle.hilbert_id.proofs.Stands.{stands_turned, stands_first}
 use Rattle.hilbert_id.proofs.Positions.{one_position}
-use Rattle.hilbert_id.proofs.Powers.{two_below}
-use Rattle.tile_walk.specs.Boxes.{has, numbers_at, IsTileOf, AreTilesOf}
-use Rattle.tile_walk.specs.Quarters.{has_tiles}
-use Rattle.tile_walk.specs.Squares.{with_tile, tiles_along, tiles_of, left_of}
+use Rattle.tile_walk.specs.Boxes.{numbers_at, IsTileOf, AreTilesOf}
+use Rattle.tile_walk.specs.Inside.{ahead_of}
+use Rattle.tile_walk.specs.Squares.{with_tile, tiles_along, tiles_of, left_of, weight, weights}
 use Rattle.tile_walk.specs.declared.numbered.Numbered.{Numbered}
 use Rattle.tile_walk.specs.declared.square.Square.{Square}
 use Rattle.tile_walk.proofs.Laws.{in_front, behind}
-use Rattle.tile_walk.proofs.Tiles.{along_same}
 
 less : (a b : ℕ) → a < b → nat_cmp a b ≡ Less
 less a b lt = rw (lt-ltb a b lt) refl
@@ -114,51 +112,28 @@ origin_is_first k id is =
     let at = is.2 in
     omega arith
 
--- ---- boxes with no tile in the zoom
-
-out_of_side : (side : ℕ) (b : Numbered) (column row : ℕ) → column < side → row < side → has_tiles side b.range ≡ false → has b.range column row ≡ false
-out_of_side side b column row across down none = grind (arith, nat_tests)
-
--- the boxes that have tiles in it
-abbrev pub kept : ℕ → List Numbered → List Numbered
-kept side bs = filter (λ b. has_tiles side b.range) bs
-
--- those of boxes that have a tile
-abbrev those_at : ℕ → ℕ → List Numbered → List Numbered
-those_at column row bs = filter (λ b. has b.range column row) bs
-
-abbrev numbers : List Numbered → List ℕ
-numbers bs = map (λ b. b.number) bs
-
-pub kept_same : (side : ℕ) (bs : List Numbered) (column row : ℕ) → column < side → row < side → numbers_at (kept side bs) column row ≡ numbers_at bs column row
-kept_same side [] column row across down = refl
-kept_same side (b ∷ bs) column row across down = by (has_tiles side b.range) refl (kept_same side bs column row across down)
-  where
-    with_box : (t : Bool) → numbers_at (kept side bs) column row ≡ numbers_at bs column row
-        → numbers (cond t (b ∷ those_at column row (kept side bs)) (those_at column row (kept side bs)))
-        ≡ numbers (cond t (b ∷ those_at column row bs) (those_at column row bs))
-    with_box true same = ap (λ ns. b.number ∷ ns) same
-    with_box false same = same
-
-    by : (t : Bool) → has_tiles side b.range ≡ t → numbers_at (kept side bs) column row ≡ numbers_at bs column row
-        → numbers_at (cond t (b ∷ kept side bs) (kept side bs)) column row ≡ numbers_at (b ∷ bs) column row
-    by true is rest = with_box (has b.range column row) rest
-    by false is rest = rw (out_of_side side b column row across down is) rest
-
 -- ---- a walk's first square
 
-pub whole_left : (zoom side : ℕ) (bs : List Numbered) (s : Square) (none ss : List Square) → ss ≡ none ++ s ∷ [] → none ≡ [] → s.zoom ≡ zoom
-    → IsTileId zoom 0 0 s.first → side ≡ 2 ^ zoom → s.boxes.items ≡ kept side bs → AreTilesOf zoom bs (left_of ss)
+pub whole_left : (zoom : ℕ) (bs : List Numbered) (s : Square) (none ss : List Square) → ss ≡ none ++ s ∷ [] → none ≡ [] → s.zoom ≡ zoom
+    → IsTileId zoom 0 0 s.first → s.boxes.items ≡ bs → AreTilesOf zoom bs (left_of ss)
 unfolding left_of tiles_of
-whole_left zoom side bs s none ss is start height first size boxes =
+whole_left zoom bs s none ss is start height first boxes =
     let one : ss ≡ s ∷ [] = is ∙ ap (λ l. l ++ s ∷ []) start in
     let tiles : left_of ss ≡ tiles_along bs (first_id zoom) (curve zoom) =
     ap left_of one
     ∙ ap (λ z. tiles_along s.boxes.items s.first (curve z)) height
     ∙ ap (λ i. tiles_along s.boxes.items i (curve zoom)) (origin_is_first zoom s.first first)
-    ∙ ap (λ l. tiles_along l (first_id zoom) (curve zoom)) (boxes ∙ ap (λ n. kept n bs) size)
-    ∙ along_same bs (kept (2 ^ zoom) bs) (first_id zoom) zoom (kept_same (2 ^ zoom) bs) in
+    ∙ ap (λ l. tiles_along l (first_id zoom) (curve zoom)) boxes in
     subst (AreTilesOf zoom bs) (sym tiles) (all_tiles zoom bs)
 
-pub side_of : (zoom : ℕ) → zoom ≤ 31 → 1 * 2 ^ zoom % 4294967296 ≡ 2 ^ zoom
-side_of zoom le = omega (arith, two_below zoom 31 le)
+whole_weight : (k : ℕ) → 3 * weight k + 1 ≡ 4 ^ suc k
+unfolding weight
+whole_weight zero = refl
+whole_weight (suc k) = omega (arith, whole_weight k, pow-succ' 4 (suc k))
+
+pub whole_ahead : (zoom : ℕ) (s : Square) (none ss : List Square) → ss ≡ none ++ s ∷ [] → none ≡ [] → s.zoom ≡ zoom → zoom ≤ 31 → ahead_of ss None < 2 ^ 128
+unfolding weights
+whole_ahead zoom s none ss is start height le =
+    let most : 4 ^ suc zoom ≤ 4 ^ 32 = pow-le-pow_right {n = 4} (lit< tt) {i = suc zoom} {j = 32} (omega arith) in
+    let one : weights ss ≡ weight zoom + 0 = ap weights (is ∙ ap (λ l. l ++ s ∷ []) start) ∙ ap (λ z. weight z + 0) height in
+    omega (arith, one, whole_weight zoom, most)

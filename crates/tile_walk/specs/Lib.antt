@@ -1,4 +1,5 @@
 pub mod Boxes
+pub mod Cut
 pub mod Inside
 pub mod Quarters
 pub mod Squares

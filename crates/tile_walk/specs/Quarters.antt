@@ -1,15 +1,11 @@
 -- The quarters of a square of the curve, each in columns and rows of its own.
-use Rattle.std.specs.Prelude.{◌≡◌, ℕ, ◌<◌, Bool, false, ◌&&◌, nat_le, nat_lt, List}
+use Rattle.std.specs.Prelude.{◌≡◌, ℕ, ◌<◌, false, List}
 use Rattle.hilbert_id.specs.Curve.{turned, below, across, flipped}
 use Rattle.tile_cutter.specs.declared.reach.TileRange.{TileRange}
 use Rattle.tile_walk.specs.Boxes.{has, numbers_at}
 use Rattle.tile_walk.specs.declared.numbered.Numbered.{Numbered}
 use Rattle.tile_walk.specs.declared.quarter.Quarter.{Quarter}
 use Rattle.tile_walk.specs.declared.quarter.Quarter.TheVariants.{First, Second, Third, Fourth}
-
--- whether a range has tiles of a square of this side
-abbrev pub has_tiles : ℕ → TileRange → Bool
-has_tiles side r = nat_le r.x0 r.x1 && nat_le r.y0 r.y1 && nat_lt r.x0 side && nat_lt r.y0 side
 
 -- how many quarters the curve goes through before this one
 abbrev pub order_of : Quarter → ℕ

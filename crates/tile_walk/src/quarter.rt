@@ -1,11 +1,9 @@
 //! The four quarters of a square, in the order of the curve.
 
-ghost use Rattle.std.specs.Prelude.{◌≡◌, ℕ, ◌<◌, ◌≤◌, ◌^◌, false, IfOk, MatchOption};
+ghost use Rattle.std.specs.Prelude.{◌≡◌, ℕ, ◌<◌, ◌≤◌, ◌^◌, false, MatchOption};
 ghost use Rattle.tile_walk.specs.Boxes.{has};
-ghost use Rattle.tile_walk.specs.Quarters.{order_of, placed, ArePlaced, IsPlaced, IsApart};
+ghost use Rattle.tile_walk.specs.Quarters.{order_of, placed, IsPlaced, IsApart};
 
-use crate::numbered::Numbered;
-use std::alloc::{AllocError, Global};
 use tile_cutter::TileRange;
 
 /// A quarter of a square, by its place along the curve.
@@ -35,7 +33,7 @@ pub(crate) fn order_of(quarter: Quarter) -> u64
 }
 
 /// A range of a square in the columns and rows of a quarter, whose side is `half`. `None` if it has no tile there.
-fn range_in(quarter: Quarter, half: u32, range: TileRange) -> Option<TileRange>
+pub(crate) fn range_in(quarter: Quarter, half: u32, range: TileRange) -> Option<TileRange>
     requires half { (0 < half) × (half ≤ 2 ^ 30) }
     ensures placed { MatchOption result (IsApart quarter half range) (λ r. IsPlaced quarter half range r) }
 {
@@ -68,26 +66,4 @@ fn range_in(quarter: Quarter, half: u32, range: TileRange) -> Option<TileRange>
         ),
         _ => None,
     }
-}
-
-/// The boxes of a square that have tiles in a quarter, in its columns and rows. The only error is out of memory.
-pub(crate) fn boxes_in(
-    alloc: Global,
-    quarter: Quarter,
-    half: u32,
-    boxes: &[Numbered],
-) -> Result<Vec<Numbered>, AllocError>
-    requires half { (0 < half) × (half ≤ 2 ^ 30) }
-    ensures { IfOk result (λ v. ArePlaced quarter half boxes.now v.items) }
-{
-    let mut placed = Vec::new(alloc);
-    for numbered in boxes {
-        if let Some(range) = range_in(quarter, half, numbered.range) {
-            placed.push(Numbered {
-                range,
-                number: numbered.number,
-            })?;
-        }
-    }
-    Ok(placed)
 }

@@ -1,5 +1,4 @@
-use Rattle.std.proofs.Common.{◌≡◌, ◌≤◌, map, sym, ap, subst, ◌∙◌}
-use Rattle.feature_model.specs.declared.limits.TheConstants.{NUMBER_END}
+use Rattle.std.proofs.Common.{map, sym, ap, subst, ◌∙◌}
 use Rattle.feature_store.specs.Indexed.{index_entry}
 use Rattle.feature_store.specs.Inside.{entries_data}
 use Rattle.feature_store.specs.Reading.{ReaderView, IsRead}
