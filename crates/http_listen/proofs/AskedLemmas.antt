@@ -1,5 +1,5 @@
 -- What is answered of an input is one request, or bytes that begin with none.
-use Rattle.std.proofs.Common.{◌≡◌, ℕ, List, [], ◌++◌, length, take, refl, ap, sym, subst, inl, inr, append-nil, arith}
+use Rattle.std.proofs.Common.{◌≡◌, ℕ, List, [], length, take, ap, sym, subst, inl, inr, append-nil, arith}
 use Rattle.std.proofs.lemmas.List.{take_all}
 use Rattle.std.specs.declared.option.Option.{Option}
 use Rattle.httparse.specs.Grammar.{RequestHead}
@@ -8,7 +8,7 @@ use Rattle.http_requests.specs.declared.frames.Next.{Next}
 use Rattle.http_requests.specs.declared.frames.Next.TheVariants.{Whole, Refused, More}
 use Rattle.http_requests.specs.declared.refusals.Refusal.{Refusal}
 use Rattle.http_requests.specs.Frame.{IsNext}
-use Rattle.http_requests.specs.Requests.{Request, IsRequest, IsRefused}
+use Rattle.http_requests.specs.Requests.{IsRequest, IsRefused}
 use Rattle.http_requests.proofs.HeadLemmas.{empty_missing, missing_now, refused_none}
 use Rattle.http_requests.proofs.ReadingLemmas.{request_alone}
 use Rattle.http_serve.specs.Connections.{IsFound, found_end}

@@ -17,7 +17,8 @@ module _ {S : Type 0} (told : S → Option Told) where
   ended_held first acts whole old new h s ended =
       let before : Moves first [] (asked acts ++ h.talk.rest) (replied acts ++ h.talk.refusal) (told old.stream) (old.connection.output ++ h.cut) =
       subst (λ (l : List ℕ). Moves first [] (asked acts ++ h.talk.rest) (replied acts ++ h.talk.refusal) (told old.stream) l) h.waits h.talk.moved in
-      let both = moves_cut first (told old.stream) (told new.stream) [] old.connection.output h.cut (new.connection.output ++ s.cut) (asked acts ++ h.talk.rest) s.given
+      let both = moves_cut first (told old.stream) (told new.stream) [] old.connection.output h.cut (new.connection.output ++ s.cut)
+      (asked acts ++ h.talk.rest) s.given
       (replied acts ++ h.talk.refusal) before s.moved in
       record {
         talk = record {
@@ -74,7 +75,8 @@ module _ {S : Type 0} (told : S → Option Told) where
   ends_failed old new grows output = record {
     cut = [];
     refusal = [];
-    moved = subst (λ (l : List ℕ). Moves (told old.stream) old.connection.output [] [] (told new.stream) l) (sym output ∙ sym (append-nil new.connection.output))
+    moved = subst (λ (l : List ℕ). Moves (told old.stream) old.connection.output [] [] (told new.stream) l)
+        (sym output ∙ sym (append-nil new.connection.output))
         (moves_read (told old.stream) (told new.stream) old.connection.output [] grows);
     refused = inl refl;
   }
@@ -101,8 +103,10 @@ module _ {S : Type 0} (told : S → Option Told) where
   ends_cleared old mid new e stream output = record {
     cut = mid.connection.output ++ e.cut;
     refusal = e.refusal;
-    moved = subst (λ (s : S). Moves (told old.stream) old.connection.output [] e.refusal (told s) (new.connection.output ++ (mid.connection.output ++ e.cut))) (sym stream)
-        (subst (λ (l : List ℕ). Moves (told old.stream) old.connection.output [] e.refusal (told mid.stream) (l ++ (mid.connection.output ++ e.cut))) (sym output) e.moved);
+    moved = subst (λ (s : S). Moves (told old.stream) old.connection.output [] e.refusal (told s)
+        (new.connection.output ++ (mid.connection.output ++ e.cut))) (sym stream)
+        (subst (λ (l : List ℕ). Moves (told old.stream) old.connection.output [] e.refusal (told mid.stream) (l ++ (mid.connection.output ++ e.cut)))
+        (sym output) e.moved);
     refused = e.refused;
   }
 
@@ -117,7 +121,8 @@ module _ {S : Type 0} (told : S → Option Told) where
       subst (λ (l : List ℕ). Moves first [] (asked acts ++ h.talk.rest) (replied acts ++ h.talk.refusal) (told old.stream) l) h.waits h.talk.moved in
       let then : Moves (told old.stream) old.connection.output [] [] (told new.stream) (new.connection.output ++ e.cut) =
       subst (λ (l : List ℕ). Moves (told old.stream) old.connection.output [] l (told new.stream) (new.connection.output ++ e.cut)) none e.moved in
-      let both = moves_cut first (told old.stream) (told new.stream) [] old.connection.output h.cut (new.connection.output ++ e.cut) (asked acts ++ h.talk.rest) []
+      let both = moves_cut first (told old.stream) (told new.stream) [] old.connection.output h.cut (new.connection.output ++ e.cut)
+      (asked acts ++ h.talk.rest) []
       (replied acts ++ h.talk.refusal) before then in (
         h.talk.refusal,
         e.cut ++ h.cut,
@@ -136,7 +141,8 @@ module _ {S : Type 0} (told : S → Option Told) where
       subst (λ (l : List ℕ). Moves first [] (asked acts ++ h.talk.rest) l (told old.stream) old.connection.output) replies
       (subst (λ (l : List ℕ). Moves first [] (asked acts ++ h.talk.rest) (replied acts ++ h.talk.refusal) (told old.stream) l) waits h.talk.moved) in
       let given = asked acts ++ h.talk.rest in
-      let both = moves_both first (told old.stream) (told new.stream) [] old.connection.output (new.connection.output ++ e.cut) given [] (replied acts) e.refusal
+      let both = moves_both first (told old.stream) (told new.stream) [] old.connection.output (new.connection.output ++ e.cut) given [] (replied acts)
+      e.refusal
       before e.moved in (
         e.refusal,
         e.cut,

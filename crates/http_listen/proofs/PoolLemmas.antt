@@ -1,6 +1,7 @@
 -- The connections by their keys, as turns are given to them.
 use Rattle.std.proofs.Common.{◌≡◌, ◌≢◌, ℕ, List, [], ◌∷◌, ◌++◌, Bool, true, false, None, Some, refl, sym, ap, subst, ◌∙◌, append_assoc, append-nil}
 use Rattle.std.proofs.lemmas.Bool.{eqb-true, eqb-false}
+use Rattle.std.specs.Global.{Box}
 use Rattle.std.specs.Prelude.{nat_eq, is_some, ⊤}
 use Rattle.std.specs.declared.option.Option.{Option}
 use Rattle.http_listen.specs.declared.peers.Peer.{Peer}
@@ -113,8 +114,10 @@ module _ {S : Type 0} (told : S → Option Told) where
     goes = λ begun deeds marks l. ledger_close told begun deeds marks places peer whole c.last c.talk l;
   }
 
-  pub closes_same : {before after : Option (List (Mark S))} {peer back : Peer S} → back ≡ peer → Closes told before back after → Closes told before peer after
-  closes_same {before} {after} {peer} {back} e c = subst (λ (k : Peer S). Closes told before k after) e c
+  -- One that comes back in its box is the one that was put into it.
+  pub closes_same : {before after : Option (List (Mark S))} {peer back : Box (Peer S)} → back ≡ peer → Closes told before back.value after
+      → Closes told before peer.value after
+  closes_same {before} {after} {peer} {back} e c = subst (λ (k : Box (Peer S)). Closes told before k.value after) e c
 
   -- It has its turn, and is kept or ended then.
   pub passes_rest : {before : Option (List (Mark S))} {places : ℕ → Option (Peer S)} {E : Type 0} (peer now : Peer S) (ending : Option E)

@@ -1,5 +1,5 @@
 -- Steps of the preparation of a reply, one after the other.
-use Rattle.std.proofs.Common.{◌≡◌, ℕ, zero, suc, List, [], ◌∷◌, Result, refl, sym, subst}
+use Rattle.std.proofs.Common.{ℕ, zero, suc, List, ◌∷◌, Result, refl, subst}
 use Rattle.http_requests.specs.Requests.{RequestView}
 use Rattle.http_serve.specs.Reply.{ReplyView}
 use Rattle.http_serve.specs.declared.handlers.RestFault.{RestFault}

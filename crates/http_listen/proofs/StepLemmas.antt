@@ -71,14 +71,16 @@ module _ {S : Type 0} (told : S → Option Told) where
       let moved : Moves (told old.stream) old.connection.output s.given (replied more) (told new.stream) new.connection.output =
       subst (λ (l : List ℕ). Moves (told old.stream) old.connection.output s.given (replied more) (told new.stream) l)
       (ap (λ l. new.connection.output ++ l) cut ∙ append-nil new.connection.output) s.moved in
-      let both = moves_both first (told old.stream) (told new.stream) [] old.connection.output new.connection.output (asked acts ++ old.connection.input) s.given (replied acts) (replied more)
+      let both = moves_both first (told old.stream) (told new.stream) [] old.connection.output new.connection.output (asked acts ++ old.connection.input)
+      s.given (replied acts) (replied more)
       t.moved moved in
       let given : (asked acts ++ old.connection.input) ++ s.given ≡ asked (acts ++ more) ++ new.connection.input =
       append_assoc (asked acts) old.connection.input s.given ∙ ap (λ l. asked acts ++ l) input
       ∙ sym (append_assoc (asked acts) (asked more) new.connection.input) ∙ ap (λ l. l ++ new.connection.input) (sym (asked_both acts more)) in
       record {
         moved = subst (λ (l : List ℕ). Moves first [] l (replied (acts ++ more)) (told new.stream) new.connection.output) given
-            (subst (λ (l : List ℕ). Moves first [] ((asked acts ++ old.connection.input) ++ s.given) l (told new.stream) new.connection.output) (sym (replied_both acts more)) both);
+            (subst (λ (l : List ℕ). Moves first [] ((asked acts ++ old.connection.input) ++ s.given) l (told new.stream) new.connection.output)
+            (sym (replied_both acts more)) both);
         follows = subst (λ (u : Option Unsent). Follows None (acts ++ more) u) (sym (s.lossless w).2)
             (follows_both None old.state.unsent s.left acts more t.follows s.follows);
       }
@@ -87,11 +89,13 @@ module _ {S : Type 0} (told : S → Option Told) where
   pub talking_held : (first : Option Told) (acts more : List Act) (whole : Type 0) (old new : Peer S) → IsTalking told first acts old
       → Steps told old more whole new → IsHeld told first (acts ++ more) new
   talking_held first acts more whole old new t s =
-      let both = moves_both first (told old.stream) (told new.stream) [] old.connection.output (new.connection.output ++ s.cut) (asked acts ++ old.connection.input) s.given (replied acts)
+      let both = moves_both first (told old.stream) (told new.stream) [] old.connection.output (new.connection.output ++ s.cut)
+      (asked acts ++ old.connection.input) s.given (replied acts)
       (replied more) t.moved s.moved in
       let given : (asked acts ++ old.connection.input) ++ s.given ≡ asked (acts ++ more) ++ (new.connection.input ++ s.lost) =
       append_assoc (asked acts) old.connection.input s.given ∙ ap (λ l. asked acts ++ l) s.input
-      ∙ sym (append_assoc (asked acts) (asked more) (new.connection.input ++ s.lost)) ∙ ap (λ l. l ++ (new.connection.input ++ s.lost)) (sym (asked_both acts more)) in
+      ∙ sym (append_assoc (asked acts) (asked more) (new.connection.input ++ s.lost)) ∙ ap (λ l. l ++ (new.connection.input ++ s.lost))
+      (sym (asked_both acts more)) in
       let replies : replied acts ++ replied more ≡ replied (acts ++ more) ++ [] =
       sym (replied_both acts more) ∙ sym (append-nil (replied (acts ++ more))) in
       record {
@@ -100,7 +104,8 @@ module _ {S : Type 0} (told : S → Option Told) where
           refusal = [];
           waits = new.connection.output ++ s.cut;
           moved = subst (λ (l : List ℕ). Moves first [] l (replied (acts ++ more) ++ []) (told new.stream) (new.connection.output ++ s.cut)) given
-              (subst (λ (l : List ℕ). Moves first [] ((asked acts ++ old.connection.input) ++ s.given) l (told new.stream) (new.connection.output ++ s.cut)) replies both);
+              (subst (λ (l : List ℕ). Moves first [] ((asked acts ++ old.connection.input) ++ s.given) l (told new.stream)
+              (new.connection.output ++ s.cut)) replies both);
           refused = inl refl;
           left = s.left;
           follows = follows_both None old.state.unsent s.left acts more t.follows s.follows;
@@ -111,7 +116,8 @@ module _ {S : Type 0} (told : S → Option Told) where
       }
 
   -- A connection of which nothing was read, and to which nothing is sent.
-  pub talking_new : (peer : Peer S) → peer.connection.input ≡ [] → peer.connection.output ≡ [] → peer.state.unsent ≡ None → IsTalking told (told peer.stream) [] peer
+  pub talking_new : (peer : Peer S) → peer.connection.input ≡ [] → peer.connection.output ≡ [] → peer.state.unsent ≡ None
+      → IsTalking told (told peer.stream) [] peer
   talking_new peer input output unsent = record {
     moved = subst (λ (l : List ℕ). Moves (told peer.stream) [] l [] (told peer.stream) peer.connection.output) (sym input)
         (subst (λ (l : List ℕ). Moves (told peer.stream) [] [] [] (told peer.stream) l) (sym output) (moves_none (told peer.stream) []));
@@ -119,7 +125,8 @@ module _ {S : Type 0} (told : S → Option Told) where
   }
 
   -- What was sent is the front of what waited.
-  pub steps_sent : (old new : Peer S) (whole : Type 0) → Moves (told old.stream) old.connection.output [] [] (told new.stream) new.connection.output → Beside old new
+  pub steps_sent : (old new : Peer S) (whole : Type 0) → Moves (told old.stream) old.connection.output [] [] (told new.stream) new.connection.output
+      → Beside old new
       → new.state.unsent ≡ old.state.unsent → Steps told old [] whole new
   steps_sent old new whole moves beside unsent = record {
     number = beside.number;
@@ -137,13 +144,15 @@ module _ {S : Type 0} (told : S → Option Told) where
 
   -- Nothing was sent or read.
   pub steps_none : (peer : Peer S) (whole : Type 0) → Steps told peer [] whole peer
-  steps_none peer whole = steps_sent peer peer whole (moves_none (told peer.stream) peer.connection.output) (record { input = refl; number = refl; drops = refl }) refl
+  steps_none peer whole = steps_sent peer peer whole (moves_none (told peer.stream) peer.connection.output)
+      (record { input = refl; number = refl; drops = refl }) refl
 
   -- Nothing was sent or read, and something else changed.
   pub steps_stand : (old new : Peer S) (whole : Type 0) → Stands old new → Steps told old [] whole new
   steps_stand old new whole s = steps_sent old new whole
       (subst (λ (x : S). Moves (told old.stream) old.connection.output [] [] (told x) new.connection.output) (sym s.stream)
-      (subst (λ (l : List ℕ). Moves (told old.stream) old.connection.output [] [] (told old.stream) l) (sym s.output) (moves_none (told old.stream) old.connection.output)))
+      (subst (λ (l : List ℕ). Moves (told old.stream) old.connection.output [] [] (told old.stream) l) (sym s.output)
+      (moves_none (told old.stream) old.connection.output)))
       (record { input = s.input; number = s.number; drops = s.drops }) s.unsent
 
   -- First a step of the preparation of a reply was made.
@@ -179,7 +188,8 @@ module _ {S : Type 0} (told : S → Option Told) where
     lost = r.lost;
     cut = [];
     input = sym r.input;
-    moved = subst (λ (l : List ℕ). Moves (told old.stream) old.connection.output r.given [] (told new.stream) l) (sym r.output ∙ sym (append-nil new.connection.output))
+    moved = subst (λ (l : List ℕ). Moves (told old.stream) old.connection.output r.given [] (told new.stream) l)
+        (sym r.output ∙ sym (append-nil new.connection.output))
         (moves_read (told old.stream) (told new.stream) old.connection.output r.given r.grows);
     left = old.state.unsent;
     follows = refl;
@@ -218,7 +228,8 @@ module _ {S : Type 0} (told : S → Option Told) where
       stands_read peer peer result (record { stream = refl; input = refl; output = refl; number = refl; drops = refl; unsent = refl })
 
   -- Bytes were read and dropped.
-  pub steps_dropped : (old new : Peer S) (given : List ℕ) → Grows (told old.stream) given [] (told new.stream) → new.connection.input ≡ old.connection.input → new.connection.output ≡ old.connection.output
+  pub steps_dropped : (old new : Peer S) (given : List ℕ) → Grows (told old.stream) given [] (told new.stream) → new.connection.input ≡ old.connection.input
+      → new.connection.output ≡ old.connection.output
       → new.state.number ≡ old.state.number → is_some new.state.drops ≡ is_some old.state.drops → Steps told old [] ⊥ new
   steps_dropped old new given grows input output number drops = record {
     number = number;
@@ -227,7 +238,8 @@ module _ {S : Type 0} (told : S → Option Told) where
     lost = given;
     cut = [];
     input = ap (λ l. l ++ given) (sym input);
-    moved = subst (λ (l : List ℕ). Moves (told old.stream) old.connection.output given [] (told new.stream) l) (sym output ∙ sym (append-nil new.connection.output))
+    moved = subst (λ (l : List ℕ). Moves (told old.stream) old.connection.output given [] (told new.stream) l)
+        (sym output ∙ sym (append-nil new.connection.output))
         (moves_read (told old.stream) (told new.stream) old.connection.output given grows);
     left = old.state.unsent;
     follows = refl;
@@ -267,7 +279,8 @@ module _ {S : Type 0} (told : S → Option Told) where
 
   -- Bytes of a content were read, and added to the output, of which nothing waited.
   pub steps_fetched : (old new : Peer S) (unsent : Unsent) (count : ℕ) (bytes : List ℕ) (whole : Type 0)
-      → old.state.unsent ≡ Some unsent → old.connection.output ≡ [] → Moves (told old.stream) bytes [] [] (told new.stream) new.connection.output → Beside old new
+      → old.state.unsent ≡ Some unsent → old.connection.output ≡ [] → Moves (told old.stream) bytes [] [] (told new.stream) new.connection.output
+      → Beside old new
       → count ≤ unsent.end - unsent.at → IsLeft unsent (Ok bytes) new.state.unsent
       → Steps told old (fetched unsent.ticket unsent.at count (Ok bytes) ∷ []) whole new
   steps_fetched old new unsent count bytes whole rest none moves beside few left = record {
@@ -279,7 +292,8 @@ module _ {S : Type 0} (told : S → Option Told) where
     input = append-nil old.connection.input ∙ sym beside.input ∙ sym (append-nil new.connection.input);
     moved = subst (λ (l : List ℕ). Moves (told old.stream) l [] (bytes ++ []) (told new.stream) (new.connection.output ++ [])) (sym none)
         (subst (λ (l : List ℕ). Moves (told old.stream) [] [] (bytes ++ []) (told new.stream) l) (sym (append-nil new.connection.output))
-        (moves_both (told old.stream) (told old.stream) (told new.stream) [] bytes new.connection.output [] [] bytes [] (moves_added (told old.stream) [] bytes) moves));
+        (moves_both (told old.stream) (told old.stream) (told new.stream) [] bytes new.connection.output [] [] bytes []
+        (moves_added (told old.stream) [] bytes) moves));
     left = new.state.unsent;
     follows = (new.state.unsent, (unsent, rest, refl, refl, few, left), refl);
     lossless = λ _. (refl, refl, refl);
@@ -307,7 +321,8 @@ module _ {S : Type 0} (told : S → Option Told) where
         cut = bytes ++ [];
         input = append-nil old.connection.input ∙ sym beside.input ∙ sym (append-nil new.connection.input);
         moved = subst (λ (l : List ℕ). Moves (told old.stream) l [] (bytes ++ []) (told new.stream) (new.connection.output ++ (bytes ++ []))) (sym none)
-            (moves_both (told old.stream) (told new.stream) (told new.stream) [] new.connection.output (new.connection.output ++ (bytes ++ [])) [] [] [] (bytes ++ []) moves
+            (moves_both (told old.stream) (told new.stream) (told new.stream) [] new.connection.output (new.connection.output ++ (bytes ++ [])) [] [] []
+            (bytes ++ []) moves
             (moves_added (told new.stream) new.connection.output (bytes ++ [])));
         left = left.0;
         follows = (left.0, (unsent, rest, refl, refl, few, left.1), refl);

@@ -9,7 +9,8 @@ use Rattle.http_listen.specs.declared.pool.Found.TheVariants.{New, Asks, Reads, 
 -- whose header fields are at these spans, or all there are. What is to be read of a content is what is left.
 abbrev pub IsReady : {S : Type 0} → (fields : List HeaderSpan) → Found S → Type 0
 IsReady fields (New stream) = ⊤
-IsReady fields (Asks peer asked) = (peer.connection.output ≡ []) × (peer.state.unsent ≡ None) × IsAsked peer.connection.input peer.state.ended fields asked
-IsReady fields (Reads peer unsent) = (peer.connection.output ≡ []) × (peer.state.unsent ≡ Some unsent)
+IsReady fields (Asks peer asked) =
+    (peer.value.connection.output ≡ []) × (peer.value.state.unsent ≡ None) × IsAsked peer.value.connection.input peer.value.state.ended fields asked
+IsReady fields (Reads peer unsent) = (peer.value.connection.output ≡ []) × (peer.value.state.unsent ≡ Some unsent)
 IsReady fields Nothing = ⊤
 IsReady fields Over = ⊤

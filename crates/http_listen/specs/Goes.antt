@@ -10,8 +10,8 @@ use Rattle.http_listen.specs.Talks.{Told}
 -- the connection that is taken out, by what is to be done next
 abbrev pub hand_of : {S : Type 0} → Found S → Option (Peer S)
 hand_of (New stream) = None
-hand_of (Asks peer end) = Some peer
-hand_of (Reads peer unsent) = Some peer
+hand_of (Asks peer end) = Some peer.value
+hand_of (Reads peer unsent) = Some peer.value
 hand_of Nothing = None
 hand_of Over = None
 

@@ -1,5 +1,6 @@
 -- The open connections by their keys, and what is known of their streams.
 use Rattle.std.specs.Prelude.{◌≡◌, ◌≢◌, ◌||◌, ℕ, Option}
+use Rattle.std.specs.Global.{Box}
 use Rattle.std.specs.Option.{option_map}
 use Rattle.slab.specs.Slab.{Slab, get}
 use Rattle.http_listen.specs.declared.peers.Peer.{Peer}
@@ -16,11 +17,15 @@ after_change change ready =
 module _ {S : Type 0} where
   -- the connection at a key of a list of places, if there is one
   abbrev pub peer_in : Slab (Place S) → ℕ → Option (Peer S)
-  peer_in places key = option_map (λ place. place.peer) (get places key)
+  peer_in places key = option_map (λ place. place.peer.value) (get places key)
 
   -- the same of all open connections
   abbrev pub peer_at : Places S → ℕ → Option (Peer S)
   peer_at places key = peer_in places.places key
+
+  -- a connection that was taken out, if there was one
+  abbrev pub taken_out : Option (Box (Peer S)) → Option (Peer S)
+  taken_out = option_map (λ peer. peer.value)
 
   -- the key that the next connection gets
   abbrev pub next_key : Places S → ℕ

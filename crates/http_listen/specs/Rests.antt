@@ -1,5 +1,5 @@
 -- The rest of a content that a stretch left, and what ends a connection.
-use Rattle.std.specs.Prelude.{◌≡◌, ◌+◌, ◌^◌, ◌-◌, min, cond, Option, None, Some, Result, Ok, Err, List, ℕ, ⊤}
+use Rattle.std.specs.Prelude.{◌≡◌, ◌+◌, ◌^◌, ◌-◌, min, cond, Option, None, Some, Result, Ok, Err, List, ℕ}
 use Rattle.http_serve.specs.declared.connection.End.TheVariants.{Closed, Asked}
 use Rattle.http_serve.specs.declared.connection.ServeFault.{ServeFault}
 use Rattle.http_serve.specs.declared.connection.ServeFault.TheVariants.{Memory, Read, Write, Content, Rest}

@@ -86,11 +86,10 @@ where
     pool.opened(peer, once_sent(outcome), log);
 }
 
-/// A connection after an act, at this time, and what it came to, if it ends.
-#[derive(Drop)]
-struct Acted<S> {
+/// When an act of a connection was over, and what it came to, if it ends.
+#[derive(Clone, Copy)]
+struct Acted {
     now: Duration,
-    peer: Peer<S>,
     ending: Ending,
 }
 
@@ -100,45 +99,41 @@ fn answer_front<S, H, C>(
     clock: &C,
     start: Duration,
     pool: &mut Pool<S>,
-    mut peer: Peer<S>,
+    peer: &mut Peer<S>,
     asked: Asked,
     handler: &mut H,
-) -> Acted<S>
+) -> Acted
 where
     S: Talks + OpenStream + Drop,
     H: Prepares,
     C: Clock,
-    requires sent { peer.connection.output ≡ [] }
-    requires whole { peer.state.unsent ≡ None }
-    requires asked { IsAsked peer.connection.input peer.state.ended pool.old.fields asked }
+    requires sent { peer.old.connection.output ≡ [] }
+    requires whole { peer.old.state.unsent ≡ None }
+    requires asked { IsAsked peer.old.connection.input peer.old.state.ended pool.old.fields asked }
     ensures comes { NextStretch H.replies H.fails handler.old handler.new }
     ensures places { pool.new.places ≡ pool.old.places }
     ensures acts { (act : Act) × Does H.replies H.fails H.reads H.ticket_of H.prepares handler.old act handler.new
-        × Steps S.told peer (act ∷ []) (result.ending ≡ None) result.peer }
+        × Steps S.told peer.old (act ∷ []) (result.ending ≡ None) peer.new }
 {
-    let outcome = serve_front(&mut peer, &pool.fields, asked, handler);
+    let outcome = serve_front(peer, &pool.fields, asked, handler);
     let now = pool.spend(clock, start);
     peer.answered(now, outcome);
     let ending = peer.send_replies(now);
-    Acted { now, peer, ending }
+    Acted { now, ending }
 }
 
 /// A connection has another turn before it is answered. The time since `start` is that of steps of its reply's preparation.
-fn put_off<S, C>(clock: &C, start: Duration, pool: &mut Pool<S>, mut peer: Peer<S>) -> Acted<S>
+fn put_off<S, C>(clock: &C, start: Duration, pool: &mut Pool<S>, peer: &mut Peer<S>) -> Acted
 where
     S: Talks + OpenStream + Drop,
     C: Clock,
-    ensures stands { Stands peer result.peer }
+    ensures stands { Stands peer.old peer.new }
     ensures goes_on { result.ending ≡ None }
     ensures places { pool.new.places ≡ pool.old.places }
 {
     let now = pool.spend(clock, start);
     peer.put_off(now);
-    Acted {
-        now,
-        peer,
-        ending: None,
-    }
+    Acted { now, ending: None }
 }
 
 /// Makes steps of the preparation of the reply to these bytes of a connection, one at least, until they have taken this long since `start` or
@@ -171,21 +166,21 @@ fn prepare_for<H: Prepares, C: Clock>(
 fn prepare_front<S, H, C>(
     clock: &C,
     pool: &mut Pool<S>,
-    peer: Peer<S>,
+    peer: &mut Peer<S>,
     asked: Asked,
     handler: &mut H,
-) -> Acted<S>
+) -> Acted
 where
     S: Talks + OpenStream + Drop,
     H: Prepares,
     C: Clock,
-    requires sent { peer.connection.output ≡ [] }
-    requires whole { peer.state.unsent ≡ None }
-    requires asked { IsAsked peer.connection.input peer.state.ended pool.old.fields asked }
+    requires sent { peer.old.connection.output ≡ [] }
+    requires whole { peer.old.state.unsent ≡ None }
+    requires asked { IsAsked peer.old.connection.input peer.old.state.ended pool.old.fields asked }
     ensures comes { NextAnswer H.replies H.fails H.prepares handler.old handler.new }
     ensures places { pool.new.places ≡ pool.old.places }
-    ensures acts { (acts : List Act) × Runs H.replies H.fails H.reads H.ticket_of H.prepares handler.old (deeds_of peer.state.number acts) handler.new
-        × Steps S.told peer acts (result.ending ≡ None) result.peer }
+    ensures acts { (acts : List Act) × Runs H.replies H.fails H.reads H.ticket_of H.prepares handler.old (deeds_of peer.old.state.number acts) handler.new
+        × Steps S.told peer.old acts (result.ending ≡ None) peer.new }
 {
     let start = time_of(clock);
     if prepare_for(
@@ -205,7 +200,7 @@ where
 fn answer<S, H, W, C>(
     clock: &C,
     pool: &mut Pool<S>,
-    peer: Peer<S>,
+    mut peer: Box<Peer<S>>,
     asked: Asked,
     handler: &mut H,
     log: &mut W,
@@ -215,14 +210,14 @@ where
     H: Prepares,
     W: Logs<S>,
     C: Clock,
-    requires sent { peer.connection.output ≡ [] }
-    requires whole { peer.state.unsent ≡ None }
-    requires asked { IsAsked peer.connection.input peer.state.ended pool.old.fields asked }
+    requires sent { peer.value.connection.output ≡ [] }
+    requires whole { peer.value.state.unsent ≡ None }
+    requires asked { IsAsked peer.value.connection.input peer.value.state.ended pool.old.fields asked }
     ensures comes { NextAnswer H.replies H.fails H.prepares handler.old handler.new }
-    ensures acted { (acts : List Act) × Runs H.replies H.fails H.reads H.ticket_of H.prepares handler.old (deeds_of peer.state.number acts) handler.new
-        × Acts S.told (W.marks log.old) (peer_at pool.old.places) peer acts (W.marks log.new) (peer_at pool.new.places) }
+    ensures acted { (acts : List Act) × Runs H.replies H.fails H.reads H.ticket_of H.prepares handler.old (deeds_of peer.value.state.number acts) handler.new
+        × Acts S.told (W.marks log.old) (peer_at pool.old.places) peer.value acts (W.marks log.new) (peer_at pool.new.places) }
 {
-    let Acted { now, peer, ending } = prepare_front(clock, pool, peer, asked, handler);
+    let Acted { now, ending } = prepare_front(clock, pool, &mut peer, asked, handler);
     pool.keep_or_end(now, peer, ending, log);
 }
 
@@ -230,34 +225,34 @@ where
 fn read_part<S, H, C>(
     clock: &C,
     pool: &mut Pool<S>,
-    mut peer: Peer<S>,
+    peer: &mut Peer<S>,
     unsent: Unsent,
     handler: &mut H,
-) -> Acted<S>
+) -> Acted
 where
     S: Talks + OpenStream + Drop,
     H: Prepares,
     C: Clock,
-    requires sent { peer.connection.output ≡ [] }
-    requires rest { peer.state.unsent ≡ Some unsent }
+    requires sent { peer.old.connection.output ≡ [] }
+    requires rest { peer.old.state.unsent ≡ Some unsent }
     ensures reads { NextPart H.reads handler.old handler.new }
     ensures places { pool.new.places ≡ pool.old.places }
     // If the part can't be read, the connection ends with the word for why.
     ensures acts { (act : Act) × Does H.replies H.fails H.reads H.ticket_of H.prepares handler.old act handler.new
-        × Steps S.told peer (act ∷ []) (result.ending ≡ None) result.peer × IsEndedBy act result.ending }
+        × Steps S.told peer.old (act ∷ []) (result.ending ≡ None) peer.new × IsEndedBy act result.ending }
 {
     let start = time_of(clock);
     let outcome = add_part(handler, unsent, &mut peer.connection);
     let now = pool.spend(clock, start);
     let ending = peer.send_part(now, outcome);
-    Acted { now, peer, ending }
+    Acted { now, ending }
 }
 
 /// Reads the next part of the content that a connection sends, and keeps or ends it.
 fn send_part<S, H, W, C>(
     clock: &C,
     pool: &mut Pool<S>,
-    peer: Peer<S>,
+    mut peer: Box<Peer<S>>,
     unsent: Unsent,
     handler: &mut H,
     log: &mut W,
@@ -267,13 +262,13 @@ where
     H: Prepares,
     W: Logs<S>,
     C: Clock,
-    requires sent { peer.connection.output ≡ [] }
-    requires rest { peer.state.unsent ≡ Some unsent }
+    requires sent { peer.value.connection.output ≡ [] }
+    requires rest { peer.value.state.unsent ≡ Some unsent }
     ensures reads { NextPart H.reads handler.old handler.new }
     ensures acted { (act : Act) × Does H.replies H.fails H.reads H.ticket_of H.prepares handler.old act handler.new
-        × Acts S.told (W.marks log.old) (peer_at pool.old.places) peer (act ∷ []) (W.marks log.new) (peer_at pool.new.places) }
+        × Acts S.told (W.marks log.old) (peer_at pool.old.places) peer.value (act ∷ []) (W.marks log.new) (peer_at pool.new.places) }
 {
-    let Acted { now, peer, ending } = read_part(clock, pool, peer, unsent, handler);
+    let Acted { now, ending } = read_part(clock, pool, &mut peer, unsent, handler);
     pool.keep_or_end(now, peer, ending, log);
 }
 

@@ -2,7 +2,7 @@
 ghost use Rattle.std.specs.Prelude.{◌≡◌, ◌≢◌, ◌≤◌, ℕ, None, IsSome, IfOk, IfErr, OnErr};
 ghost use Rattle.http_listen.specs.Conversations.{Puts};
 ghost use Rattle.http_listen.specs.Stays.{AllStand};
-ghost use Rattle.http_listen.specs.Places.{peer_at, next_key, KeepsAll, Reports};
+ghost use Rattle.http_listen.specs.Places.{peer_at, taken_out, next_key, KeepsAll, Reports};
 
 use crate::peers::Peer;
 use crate::waits::{Change, Waits};
@@ -41,7 +41,8 @@ const EMPTY: Ends = Ends {
 /// A connection, and its neighbours in its list.
 #[derive(Drop)]
 struct Place<S> {
-    peer: Peer<S>,
+    /// Boxed, since it is taken out for each of its turns.
+    peer: Box<Peer<S>>,
     list: List,
     before: Option<usize>,
     after: Option<usize>,
@@ -93,7 +94,7 @@ impl<S> Places<S> {
     /// The connection at a key.
     pub(crate) fn get(&self, key: usize) -> Option<&Peer<S>> {
         match self.places.get(key) {
-            Some(place) => Some(&place.peer),
+            Some(place) => Some(&*place.peer),
             None => None,
         }
     }
@@ -261,10 +262,10 @@ impl<S> Places<S> {
 
     /// Adds a connection, at the end of the list that it is to be in. Returns its key, which is the one that the last connection had
     /// that was taken out, or the connection if memory runs out.
-    pub(crate) fn put(&mut self, peer: Peer<S>) -> Result<usize, Peer<S>>
+    pub(crate) fn put(&mut self, peer: Box<Peer<S>>) -> Result<usize, Box<Peer<S>>>
         ensures free { IfOk result (λ key. peer_at self.old key ≡ None) }
         ensures next { IfOk result (λ key. key ≡ next_key self.old) }
-        ensures put { IfOk result (λ key. Puts (peer_at self.old) key peer (peer_at self.new)) }
+        ensures put { IfOk result (λ key. Puts (peer_at self.old) key peer.value (peer_at self.new)) }
         ensures back { IfErr result (λ back. back ≡ peer) }
         ensures same { OnErr result (KeepsAll self.old self.new) }
     {
@@ -289,8 +290,8 @@ impl<S> Places<S> {
     }
 
     /// Takes a connection out.
-    pub(crate) fn take(&mut self, key: usize) -> Option<Peer<S>>
-        ensures taken { result ≡ peer_at self.old key }
+    pub(crate) fn take(&mut self, key: usize) -> Option<Box<Peer<S>>>
+        ensures taken { taken_out result ≡ peer_at self.old key }
         ensures none { peer_at self.new key ≡ None }
         ensures next { IsSome result → next_key self.new ≡ key }
         ensures others { (other : ℕ) → other ≢ key → peer_at self.new other ≡ peer_at self.old other }

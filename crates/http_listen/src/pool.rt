@@ -44,9 +44,9 @@ pub(crate) enum Found<S> {
     /// A connection was accepted.
     New(S),
     /// The first bytes of a connection's input are to be answered. The header fields of a request are at `Pool::fields`.
-    Asks(Peer<S>, Asked),
+    Asks(Box<Peer<S>>, Asked),
     /// The next part of a content is to be read.
-    Reads(Peer<S>, Unsent),
+    Reads(Box<Peer<S>>, Unsent),
     /// Nothing in this step.
     Nothing,
     /// Nothing any more.
@@ -56,6 +56,7 @@ pub(crate) enum Found<S> {
 /// The open connections, and those that have ended, whose peers may still send.
 #[derive(Drop)]
 pub(crate) struct Pool<S> {
+    alloc: Global,
     pub(crate) places: Places<S>,
     /// How many bytes they may hold.
     max_held: usize,
@@ -101,6 +102,7 @@ impl<S> Pool<S> {
         ensures { (key : ℕ) → peer_at result.places key ≡ None }
     {
         Pool {
+            alloc,
             places: Places::new(alloc),
             max_held,
             max_reads,
@@ -156,15 +158,15 @@ impl<S: Talks + OpenStream + Drop> Pool<S> {
     }
 
     /// Keeps a connection up to its next turn. If memory runs out, it is closed. Returns its key.
-    fn keep<W: Logs<S>>(&mut self, peer: Peer<S>, log: &mut W) -> Option<usize>
-        ensures { Passes S.told (W.marks log.old) (peer_at self.old.places) (Some peer) (peer.state.drops ≡ None)
+    fn keep<W: Logs<S>>(&mut self, peer: Box<Peer<S>>, log: &mut W) -> Option<usize>
+        ensures { Passes S.told (W.marks log.old) (peer_at self.old.places) (Some peer.value) (peer.value.state.drops ≡ None)
             (W.marks log.new) (peer_at self.new.places) None ⊤ }
     {
         self.note(&peer);
         match self.places.put(peer) {
             Ok(key) => Some(key),
             Err(peer) => {
-                peer.close_full(log);
+                Box::into_inner(peer).close_full(log);
                 None
             }
         }
@@ -174,11 +176,11 @@ impl<S: Talks + OpenStream + Drop> Pool<S> {
     pub(crate) fn keep_or_end<W: Logs<S>>(
         &mut self,
         now: Duration,
-        mut peer: Peer<S>,
+        mut peer: Box<Peer<S>>,
         ending: Ending,
         log: &mut W,
     )
-        ensures { Passes S.told (W.marks log.old) (peer_at self.old.places) (Some peer) ((ending ≡ None) × (peer.state.drops ≡ None))
+        ensures { Passes S.told (W.marks log.old) (peer_at self.old.places) (Some peer.value) ((ending ≡ None) × (peer.value.state.drops ≡ None))
             (W.marks log.new) (peer_at self.new.places) None ⊤ }
     {
         let Some(outcome) = ending else {
@@ -188,11 +190,11 @@ impl<S: Talks + OpenStream + Drop> Pool<S> {
         if peer.end(now, outcome, log) {
             self.keep(peer, log);
         } else {
-            peer.close(log);
+            Box::into_inner(peer).close(log);
         }
     }
 
-    /// Keeps a new connection, which has its first turn next, unless it couldn't be served.
+    /// Keeps a new connection, which has its first turn next, unless it couldn't be served. If memory runs out, it is closed.
     pub(crate) fn opened<W: Logs<S>>(
         &mut self,
         peer: Peer<S>,
@@ -202,6 +204,13 @@ impl<S: Talks + OpenStream + Drop> Pool<S> {
         ensures { Passes S.told (W.marks log.old) (peer_at self.old.places) (Some peer) ⊤
             (W.marks log.new) (peer_at self.new.places) None ⊤ }
     {
+        let peer = match Box::new(self.alloc, peer) {
+            Ok(peer) => peer,
+            Err(refused) => {
+                refused.value.close_full(log);
+                return;
+            }
+        };
         if outcome.is_err() {
             return self.keep_or_end(peer.state.since, peer, Some(outcome), log);
         }
@@ -235,7 +244,7 @@ impl<S: Talks + OpenStream + Drop> Pool<S> {
         ensures others { (other : ℕ) → other ≢ key → peer_at self.new.places other ≡ peer_at self.old.places other }
     {
         if let Some(peer) = self.places.take(key) {
-            peer.close(log);
+            Box::into_inner(peer).close(log);
         }
     }
 
@@ -268,7 +277,7 @@ impl<S: Talks + OpenStream + Drop> Pool<S> {
             Next::Asks(asked) => return Some(Found::Asks(peer, asked)),
             Next::Reads(unsent) => return Some(Found::Reads(peer, unsent)),
             Next::Rests(ending) => self.keep_or_end(now, peer, ending, log),
-            Next::Closes => peer.close(log),
+            Next::Closes => Box::into_inner(peer).close(log),
         }
         Some(Found::Nothing)
     }

@@ -1,7 +1,6 @@
 mod ConditionForms
 pub mod FieldLemmas
 pub mod HeadLemmas
-pub mod InputLemmas
 pub mod Laws
 mod LimitNumbers
 pub mod LineLemmas

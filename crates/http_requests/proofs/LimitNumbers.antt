@@ -2,7 +2,6 @@
 use Rattle.std.proofs.Common.{◌≡◌, refl}
 use Rattle.http_requests.specs.declared.fields.TheConstants.{MAX_BODY}
 use Rattle.http_requests.specs.declared.frames.TheConstants.{MAX_HEAD, MAX_FIELDS, MAX_REQUEST}
-use Rattle.http_requests.specs.declared.inputs.TheConstants.{READ_SPACE}
 
 max_head_is : MAX_HEAD ≡ 8192
 max_head_is = refl
@@ -15,6 +14,3 @@ max_body_is = refl
 
 max_request_is : MAX_REQUEST ≡ 73728
 max_request_is = refl
-
-read_space_is : READ_SPACE ≡ 147456
-read_space_is = refl

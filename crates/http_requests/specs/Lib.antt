@@ -1,7 +1,6 @@
 pub mod Conditions
 pub mod Fields
 pub mod Frame
-pub mod Input
 pub mod Lines
 pub mod Requests
 pub mod Search

@@ -1,13 +1,14 @@
 -- What is to be sent of a reply.
-use Rattle.std.proofs.Common.{◌≡◌, ◌<◌, ◌≤◌, ℕ, List, [], ◌++◌, Bool, true, false, Option, Some, None, refl, sym, ap, ◌∙◌, subst, take, drop, length, arith, Global}
-use Rattle.std.proofs.Common.{append_assoc, length-drop}
+use Rattle.std.proofs.Common.{◌≡◌, ◌<◌, ◌≤◌, ℕ, List, [], ◌++◌, Bool, true, false, Option, Some, None, refl, sym, ap, ◌∙◌, subst, take, drop, length}
+use Rattle.std.proofs.Common.{arith, Global}
+use Rattle.std.proofs.Common.{append_assoc}
 use Rattle.std.specs.Prelude.{IfSome, cond, not, ◌||◌, Vec}
 use Rattle.std.proofs.lemmas.Bool.{false≢true}
 use Rattle.std.proofs.lemmas.List.{append-nil, take-append-drop, drop_all}
 use Rattle.http_values.specs.Codes.{code_of}
 use Rattle.http_serve.specs.Connections.{Leaves, IsToSend}
-use Rattle.http_serve.specs.Parts.{IsLater, IsLeft, IsStopped, front_bytes, front_content, rest_bytes, rest_content}
-use Rattle.http_serve.specs.Reply.{ReplyView, HeadView, FitsParts, IsReply, InParts, content_size, head_of, head_view, reply_head, reply_bytes, has_no_content}
+use Rattle.http_serve.specs.Parts.{IsLater, IsLeft, IsStopped, front_bytes, front_content, rest_bytes}
+use Rattle.http_serve.specs.Reply.{ReplyView, HeadView, FitsParts, IsReply, InParts, head_of, head_view, reply_head, reply_bytes, has_no_content}
 use Rattle.http_serve.specs.declared.replies.Content.{Content}
 use Rattle.http_serve.specs.declared.replies.Content.TheVariants.{Parts}
 use Rattle.http_serve.specs.declared.replies.Reply.{Reply}

@@ -1,5 +1,6 @@
 -- What was found in bytes that are lent is answered.
-use Rattle.std.proofs.Common.{◌≡◌, ◌≢◌, ℕ, ◌<◌, List, [], Bool, Option, Some, None, true, false, take, drop, length, length-append, length-drop, refl, sym, ap, ◌∙◌, subst, arith}
+use Rattle.std.proofs.Common.{◌≡◌, ◌≢◌, ℕ, ◌<◌, List, [], Bool, Option, Some, None, true, false, take, drop, length, length-append, length-drop}
+use Rattle.std.proofs.Common.{refl, sym, ap, ◌∙◌, subst, arith}
 use Rattle.std.specs.Prelude.{Result, Ok, Err, IfOk, IfErr, cond}
 use Rattle.std.proofs.lemmas.List.{append-nil, take_at}
 use Rattle.std.specs.Io.KnownBytes.{Appends, Consumes}
@@ -213,7 +214,8 @@ module _ {S : Type 0} (replies fails sends : S → RequestView → ReplyView →
         sent = rw from (rw to told.shown)
 
         closing : (close : Bool) → frame.close ≡ close
-            → ServesFound replies fails sends old (take frame.body.end input) held (Ok (record { requests = 1; end = cond close ends.Asked ends.Closed })) new holds
+            → ServesFound replies fails sends old (take frame.body.end input) held (Ok (record { requests = 1; end = cond close ends.Asked ends.Closed }))
+            new holds
         closing true closes = serves_asked told.reply told.given sent closes
         closing false closes = serves_on told.reply told.given sent closes
     serves_replied (Some rest) size output from to told =

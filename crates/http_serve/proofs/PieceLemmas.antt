@@ -1,5 +1,6 @@
 -- What waits to be sent is sent piece by piece.
-use Rattle.std.proofs.Common.{◌≡◌, ◌<◌, ◌≤◌, ℕ, List, [], ◌++◌, refl, sym, ap, ◌∙◌, subst, take, drop, length, length-append, length-drop, append_assoc, arith, Option}
+use Rattle.std.proofs.Common.{◌≡◌, ◌<◌, ◌≤◌, ℕ, List, [], ◌++◌, refl, sym, ap, ◌∙◌, subst, take, drop, length, length-append, length-drop}
+use Rattle.std.proofs.Common.{append_assoc, arith, Option}
 use Rattle.std.proofs.lemmas.List.{append-nil, take-append-drop, take-append-le, take_at}
 use Rattle.std.specs.Io.KnownBytes.{Appends}
 

@@ -16,7 +16,7 @@ use Rattle.http_serve.specs.declared.connection.ServeFault.TheVariants.{Memory, 
 use Rattle.http_serve.specs.declared.contents.SendFault.{SendFault}
 use Rattle.http_serve.specs.declared.contents.SendFault.TheVariants as cuts
 use Rattle.http_requests.specs.declared.frames.Frame.{Frame}
-use Rattle.http_requests.specs.Input.{buffer_size}
+use Rattle.http_serve.specs.Buffers.{buffer_size}
 use Rattle.http_serve.specs.Reads.{Gives, GivesTimes}
 use Rattle.httparse.specs.declared.spans.HeaderSpan.{HeaderSpan}
 use Rattle.http_requests.specs.Frame.{IsFrameOf}

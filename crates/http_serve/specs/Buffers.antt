@@ -1,5 +1,10 @@
 -- What contracts see of a connection's buffers.
-use Rattle.std.specs.Prelude.{ℕ, Bool, List}
+use Rattle.std.specs.Prelude.{ℕ, ◌*◌, Bool, List}
+use Rattle.http_requests.specs.declared.frames.TheConstants.{MAX_REQUEST}
+
+-- the size of the buffer for input in bytes, and so the most bytes that a read returns
+abbrev pub buffer_size : ℕ
+buffer_size = 2 * MAX_REQUEST
 
 -- whether they are allocated
 pub record BuffersView : Type 0 where

@@ -1,5 +1,5 @@
 -- A reply in two pieces: its front, which the reply holds, and its rest, which is read in parts.
-use Rattle.std.specs.Prelude.{ℕ, ◌≡◌, ◌<◌, ◌≤◌, List, [], ◌++◌, ◌||◌, Bool, false, cond, take, drop, length, Result, Ok, Err, Option, Some, None, Vec, ⊤}
+use Rattle.std.specs.Prelude.{ℕ, ◌≡◌, ◌<◌, List, [], ◌++◌, ◌||◌, Bool, false, cond, take, drop, length, Result, Ok, Err, Option, Some, None, Vec, ⊤}
 use Rattle.std.proofs.Common.{Global}
 use Rattle.std.specs.Io.KnownBytes.{Appends}
 use Rattle.std.specs.Rc.{rc_slice_items}
@@ -12,7 +12,7 @@ use Rattle.http_serve.specs.declared.handlers.RestFault.{RestFault}
 use Rattle.http_serve.specs.declared.replies.Content.{Content}
 use Rattle.http_serve.specs.declared.replies.Content.TheVariants.{Empty, Fixed, Whole, Shared, Parts}
 use Rattle.http_serve.specs.declared.replies.Reply.{Reply}
-use Rattle.http_serve.specs.Reply.{ReplyView, InParts, head_view, content_size, has_no_content, reply_head}
+use Rattle.http_serve.specs.Reply.{ReplyView, head_view, has_no_content, reply_head}
 
 -- the content bytes that a reply holds: all of them, or the first ones
 abbrev pub front_content : Content → List ℕ

@@ -2,7 +2,7 @@
 use Rattle.std.specs.Prelude.{◌≡◌, ◌<◌, ◌≤◌, ℕ, List, length, Option}
 use Rattle.std.proofs.Common.{suc}
 use Rattle.std.specs.Io.KnownBytes.{Consumes}
-use Rattle.http_requests.specs.Input.{buffer_size}
+use Rattle.http_serve.specs.Buffers.{buffer_size}
 
 -- for readers, given what remains to be read from them, if this is known
 module _ {R : Type 0} (remaining : R → Option (List ℕ)) where

@@ -6,7 +6,7 @@ use Rattle.http_serve.specs.declared.connection.End.TheVariants.{Closed, Asked, 
 use Rattle.http_serve.specs.declared.connection.ServeFault.{ServeFault}
 use Rattle.http_serve.specs.declared.connection.ServeFault.TheVariants.{Memory, Read, Write, Content, Rest}
 use Rattle.http_serve.specs.declared.connection.Served.{Served}
-use Rattle.http_requests.specs.Input.{buffer_size}
+use Rattle.http_serve.specs.Buffers.{buffer_size}
 use Rattle.http_serve.specs.Reads.{GivesTimes}
 use Rattle.http_requests.specs.Requests.{Request, IsRequest, Requests, Ending, going, closed, asked, refused}
 use Rattle.http_requests.specs.Requests.{RequestView}
@@ -67,14 +67,6 @@ IsNotRest (Read requests) = ⊤
 IsNotRest (Write requests) = ⊤
 IsNotRest (Content requests) = ⊤
 IsNotRest (Rest requests close from size) = ⊥
-
--- the fault isn't Content
-abbrev pub IsNotContent : ServeFault → Type 0
-IsNotContent Memory = ⊤
-IsNotContent (Read requests) = ⊤
-IsNotContent (Write requests) = ⊤
-IsNotContent (Content requests) = ⊥
-IsNotContent (Rest requests close from size) = ⊤
 
 -- a fact about the rest of a content that was left, if that is the fault
 abbrev pub OnRest : ServeFault → (ℕ → Bool → ℕ → ℕ → Type 0) → Type 0

@@ -1,8 +1,9 @@
 //! A connection as steps over bytes: it makes no call of the system.
-ghost use Rattle.std.specs.Prelude.{◌≡◌, ◌≤◌, ◌<◌, ◌+◌, ◌++◌, [], ℕ, Option, true, false, None, Some, Ok, Err, length, take, drop, IfOk, IfErr, IfSome, IsOk, IsTrue, OnOk, OnErr};
+ghost use Rattle.std.specs.Prelude.{◌≡◌, ◌≤◌, ◌<◌, ◌+◌, ◌++◌, [], ℕ, Option, true, false, None, Some, Ok, Err, length, take, drop, IfOk, IfErr};
+ghost use Rattle.std.specs.Prelude.{IfSome, IsOk, IsTrue, OnOk, OnErr};
 ghost use Rattle.httparse.specs.Grammar.{RequestHead};
 ghost use Rattle.http_requests.specs.Frame.{IsNext};
-ghost use Rattle.http_requests.specs.Input.{buffer_size};
+ghost use Rattle.http_serve.specs.Buffers.{buffer_size};
 ghost use Rattle.http_requests.specs.Requests.{has_head_method};
 ghost use Rattle.http_requests.specs.declared.frames.Next.TheVariants.{Whole};
 ghost use Rattle.http_serve.specs.Connections.{IsAsked, IsFound, IsNextPiece, IsOfAnswer, NeedsMore, Replied, answered, found_end};
@@ -13,11 +14,11 @@ ghost use Rattle.http_serve.specs.Told.{IsNotMemory};
 ghost use Rattle.http_serve.specs.declared.connection.ServeFault.TheVariants.{Memory};
 
 use crate::answers::{Rest, refuse_in, reply_in};
-use crate::inputs::{Asked, Input};
+use crate::inputs::{Asked, Input, READ_SPACE};
 use crate::outputs::Output;
 use crate::replies::REPLY_SPACE;
 use crate::{Downloads, Handler, RestFault, Ticket};
-use http_requests::{FieldSpans, Frame, Next, READ_SPACE, Rejection};
+use http_requests::{FieldSpans, Frame, Next, Rejection};
 use std::alloc::{AllocError, Global};
 use std::fmt;
 use std::marker::Model;
@@ -51,7 +52,7 @@ pub struct Served {
 /// Why serving a connection failed. `requests` counts the replies written in full.
 #[derive(Clone, Copy, Debug, PartialEq, Eq, Error)]
 pub enum ServeFault {
-    /// Memory for the buffers ran out, before the first read.
+    /// Memory ran out: for the buffers, before the first read, or for the head of a reply, before its request was answered.
     Memory,
     /// A read failed.
     Read {
@@ -112,7 +113,8 @@ fn answered(close: bool, rest: Option<Rest>) -> Result<Served, ServeFault>
 }
 
 /// A connection: the bytes that were read and not answered, and those that wait to be sent. It is given what was read, finds and answers the
-/// requests in it one by one, and shows what is to be sent. Where no bytes wait it holds no memory, unless its buffers are reserved.
+/// requests in it one by one, and shows what is to be sent. Its input holds no memory without bytes, and its output none after `clear_output`,
+/// unless its buffers are reserved.
 #[derive(Drop)]
 pub struct Connection {
     input: Input,
@@ -123,7 +125,7 @@ pub struct Connection {
 
 impl Model for Connection {
     ghost use Rattle.std.specs.Prelude.{◌≡◌, ◌≤◌, true};
-    ghost use Rattle.http_requests.specs.Input.{buffer_size};
+    ghost use Rattle.http_serve.specs.Buffers.{buffer_size};
     ghost use Rattle.http_serve.specs.Connections.{ConnectionView};
     ghost use Rattle.http_serve.specs.declared.replies.TheConstants.{REPLY_SPACE};
 
@@ -189,7 +191,8 @@ impl Connection {
     ///
     /// # Errors
     ///
-    /// Memory for them ran out, and none were added: not if the buffers are reserved, and the input has at most `READ_SPACE` bytes then.
+    /// Memory for them ran out. The connection is as before then. If the buffers are reserved and the input has at most `READ_SPACE` bytes with
+    /// these, there is memory.
     pub fn receive(&mut self, more: &[u8]) -> Result<(), AllocError>
         ensures ok { IfOk result (λ _. self.new ≡ record self.old { input = self.old.input ++ more.now }) }
         ensures err { OnErr result (self.new ≡ self.old) }
@@ -221,7 +224,8 @@ impl Connection {
     ///
     /// # Errors
     ///
-    /// `Memory` if there is none for the head of a reply, and not if the buffers are reserved: nothing was asked of the handler then. `Rest`.
+    /// `Memory` if there is none for the head of a reply, and not if the buffers are reserved. Nothing was asked of the handler then, and nothing
+    /// waits to be sent, but the bytes are dropped all the same. `Rest` if the reply has a rest: its front waits to be sent.
     pub fn answer<H: Handler>(
         &mut self,
         handler: &mut H,

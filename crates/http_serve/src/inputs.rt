@@ -3,9 +3,13 @@ ghost use Rattle.std.specs.Prelude.{◌≡◌, ◌≤◌, ◌+◌, ◌++◌, [],
 ghost use Rattle.http_requests.specs.Frame.{IsNext};
 ghost use Rattle.http_serve.specs.Connections.{IsAsked, NeedsMore};
 
-use http_requests::{FieldSpans, NO_BYTES, Next, START, Search, find_next};
+use http_requests::{FieldSpans, MAX_REQUEST, NO_BYTES, Next, START, Search, find_next};
 use std::alloc::{AllocError, Global};
 use std::marker::Model;
+
+/// The size of the buffer of a connection that is served alone, in bytes. If it is used up and less than one request waits, more bytes were
+/// answered than wait, so moving the waiting bytes to its front costs less than reading the others did.
+pub const READ_SPACE: usize = 2 * MAX_REQUEST;
 
 /// What is to be answered of an input: what it begins with, and where that ends. If it is no request, that is where the input does.
 #[derive(Clone, Copy)]

@@ -18,9 +18,9 @@ pub use connection::{Connection, End, MAX_READS, ServeFault, Served};
 pub use handlers::{
     ContentFault, Downloads, Handler, PART_SIZE, Preparation, Prepares, Request, RestFault, Ticket,
 };
-pub use http_requests::{Fields, READ_SPACE};
+pub use http_requests::Fields;
 pub use http_values::Status;
-pub use inputs::{Asked, NOTHING_ASKED};
+pub use inputs::{Asked, NOTHING_ASKED, READ_SPACE};
 pub use replies::{Content, ContentRange, EntityTag, MAX_WORD, Reply, Tag, WeakTag};
 pub use serving::serve_with;
 pub use sessions::Buffers;

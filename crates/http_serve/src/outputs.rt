@@ -10,6 +10,9 @@ use crate::{Content, Downloads, Reply, RestFault, Ticket};
 use std::alloc::{AllocError, Global};
 use std::marker::Model;
 
+/// The room that a reply begins with, in bytes: for the head of every reply, and for a small content behind most heads.
+const FIRST_SPACE: usize = 2_048;
+
 /// Bytes that wait to be sent.
 #[derive(Drop)]
 pub(crate) struct Output {
@@ -106,7 +109,7 @@ impl Output {
         self.taken < self.front.len() + self.lent.front().len()
     }
 
-    /// Makes room for the head of a reply, where nothing waits.
+    /// Makes room for the head of a reply and a small content, where nothing waits.
     pub(crate) fn begin(&mut self) -> Result<(), AllocError>
         requires { self.old.waiting ≡ [] }
         ensures same { self.new.waiting ≡ [] }
@@ -117,7 +120,7 @@ impl Output {
         self.front.clear();
         self.lent = Content::Empty;
         self.taken = 0;
-        self.front.reserve(MAX_REPLY_HEAD)
+        self.front.reserve(FIRST_SPACE)
     }
 
     /// The front of a reply waits, in place of what did: its head, and the content that it holds, unless only the head is sent.

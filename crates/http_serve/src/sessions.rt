@@ -1,11 +1,11 @@
 //! The memory of a connection.
 ghost use Rattle.std.specs.Prelude.{◌≡◌, ◌≤◌, ◌<◌, ◌+◌, ◌++◌, ℕ, List, [], IsTrue, IsOk, OnOk, OnErr, IfOk, false, length, vec_len};
 ghost use Rattle.std.specs.Io.KnownBytes.{Consumes, IsAtEnd};
-ghost use Rattle.http_requests.specs.Input.{buffer_size};
+ghost use Rattle.http_serve.specs.Buffers.{buffer_size};
 ghost use Rattle.http_requests.specs.declared.frames.TheConstants.{MAX_REQUEST};
 
 use crate::Connection;
-use http_requests::READ_SPACE;
+use crate::inputs::READ_SPACE;
 use std::alloc::{AllocError, Global};
 use std::io::Read;
 use std::marker::Model;

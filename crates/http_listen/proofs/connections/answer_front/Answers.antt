@@ -10,7 +10,7 @@ use Rattle.http_listen.proofs.connections.answer_front.Goals as goal
 pub returns-clause-acts : goal.returns-clause-acts
 returns-clause-acts g c =
     let told = g.S.Talks.told in
-    let old = c.args.peer in
+    let old = c.args.peer.now in
     let front = c.serve_front-outcome.new.peer in
     let new = c.send_replies-ending.new.self in
     let outcome = c.serve_front-outcome.result in

@@ -1,4 +1,4 @@
-use Rattle.std.proofs.Common.{◌+◌, suc}
+use Rattle.std.proofs.Common.{suc}
 use Rattle.http_listen.proofs.Preparations.{step_more}
 use Rattle.http_listen.proofs.connections.prepare_for.Goals as goal
 

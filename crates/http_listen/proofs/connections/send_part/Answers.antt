@@ -5,12 +5,12 @@ use Rattle.http_listen.proofs.connections.send_part.Goals as goal
 pub returns-clause-acted : goal.returns-clause-acted
 returns-clause-acted g c =
     let told = g.S.Talks.told in
-    let did = c.read_part-peer.ensures.acts in
-    let now = c.read_part-peer.result.peer in (
+    let did = rw c.deref_mut.ensures.value at c.read_part-ending.ensures.acts in
+    let now = c.read_part-ending.new.peer in (
       did.0,
       did.1,
-      rw (← c.read_part-peer.ensures.places) (
-          acts_then told c.args.peer now (did.0 ∷ []) (c.read_part-peer.result.ending ≡ None) did.2
+      rw (← c.read_part-ending.ensures.places) (
+          acts_then told c.args.peer.value now (did.0 ∷ []) (c.read_part-ending.result.ending ≡ None) did.2
           (passes_both told (passes_less told now _ _ (λ e. e.0)) c.keep_or_end.ensures)
           ),
     )

@@ -45,7 +45,7 @@ turns-preserved g c =
         serves_answer replies fails reads prepares begun c.args.handler.now c.turns.handler _ c.turns.invariant.0 w.answer.ensures.comes,
         c.turns.invariant.1,
         (
-            let peer = w.in-Asks.peer in
+            let peer = w.in-Asks.peer.value in
             let acts = w.answer.ensures.acted in (
               done.0 ++ deeds_of peer.state.number acts.0,
               runs_both replies fails reads tickets prepares c.args.handler.now c.turns.handler w.answer.new.handler done.0
@@ -58,7 +58,7 @@ turns-preserved g c =
         serves_part replies fails reads prepares begun c.args.handler.now c.turns.handler _ c.turns.invariant.0 w.send_part.ensures.reads,
         c.turns.invariant.1,
         (
-            let peer = w.in-Reads.peer in
+            let peer = w.in-Reads.peer.value in
             let act = w.send_part.ensures.acted in (
               done.0 ++ deeds_of peer.state.number (act.0 ∷ []),
               runs_both replies fails reads tickets prepares c.args.handler.now c.turns.handler w.send_part.new.handler done.0

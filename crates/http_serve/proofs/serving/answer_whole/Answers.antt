@@ -19,8 +19,10 @@ returns-in-More-clause-ok g c =
     let input = c.next.new.self.input in
     let missing = c.in-More.missing in
     let found = subst (λ (v : ConnectionView). IsNext v.input c.next.new.fields (More missing)) (sym c.next.ensures.same) c.in-More.ensures.next in
-    let carries = subst (λ (v : ConnectionView). Carries g.H.Handler.replies c.args.handler.now c.args.connection.now.input (g.W.Write.contents c.args.writer.now)
-    c.args.requests c.requests.handler v.input (g.W.Write.contents c.requests.writer) c.requests.requests) (sym c.next.ensures.same) c.requests.invariant.carries in
+    let carries = subst (λ (v : ConnectionView). Carries g.H.Handler.replies c.args.handler.now c.args.connection.now.input
+    (g.W.Write.contents c.args.writer.now)
+    c.args.requests c.requests.handler v.input (g.W.Write.contents c.requests.writer) c.requests.requests) (sym c.next.ensures.same)
+    c.requests.invariant.carries in
     let told = missing_now input missing.rejection missing.until found in
     (carries, told.0, told.1, told.2, told.3)
 
@@ -30,8 +32,10 @@ returns-in-Ok-clause-ok g c =
     let rejection = c.in-Refused.rejection in
     let refusal = rejection.refusal in
     let found = subst (λ (v : ConnectionView). IsNext v.input c.next.new.fields (Refused rejection)) (sym c.next.ensures.same) c.in-Refused.ensures.next in
-    let carries = subst (λ (v : ConnectionView). Carries g.H.Handler.replies c.args.handler.now c.args.connection.now.input (g.W.Write.contents c.args.writer.now)
-    c.args.requests c.requests.handler v.input (g.W.Write.contents c.requests.writer) c.requests.requests) (sym c.next.ensures.same) c.requests.invariant.carries in (
+    let carries = subst (λ (v : ConnectionView). Carries g.H.Handler.replies c.args.handler.now c.args.connection.now.input
+    (g.W.Write.contents c.args.writer.now)
+    c.args.requests c.requests.handler v.input (g.W.Write.contents c.requests.writer) c.requests.requests) (sym c.next.ensures.same)
+    c.requests.invariant.carries in (
       refused found.head refusal,
       Ends_push g.H.Handler.replies _ _ _ c.args.requests _ input _ c.requests.requests Anything
           (refused found.head refusal) (refusal_bytes found.head refusal) _ _
@@ -48,8 +52,10 @@ returns-in-Err-clause-err g c =
     let rejection = c.in-Refused.rejection in
     let refusal = rejection.refusal in
     let found = subst (λ (v : ConnectionView). IsNext v.input c.next.new.fields (Refused rejection)) (sym c.next.ensures.same) c.in-Refused.ensures.next in
-    let carries = subst (λ (v : ConnectionView). Carries g.H.Handler.replies c.args.handler.now c.args.connection.now.input (g.W.Write.contents c.args.writer.now)
-    c.args.requests c.requests.handler v.input (g.W.Write.contents c.requests.writer) c.requests.requests) (sym c.next.ensures.same) c.requests.invariant.carries in
+    let carries = subst (λ (v : ConnectionView). Carries g.H.Handler.replies c.args.handler.now c.args.connection.now.input
+    (g.W.Write.contents c.args.writer.now)
+    c.args.requests c.requests.handler v.input (g.W.Write.contents c.requests.writer) c.requests.requests) (sym c.next.ensures.same)
+    c.requests.invariant.carries in
     let sent = c.in-Err.ensures.sent found.head found.bare in
     Breaks_refused g.H.Handler.replies _ _ _ c.args.requests _ input _ c.requests.requests Anything found.head refusal sent.0 _
     carries found.some
@@ -60,8 +66,10 @@ returns-in-Err-answer_one-clause-err g c =
     let frame = c.in-Whole.frame in
     let input = c.next.new.self.input in
     let found = subst (λ (v : ConnectionView). IsNext v.input c.next.new.fields (Whole frame)) (sym c.next.ensures.same) c.in-Whole.ensures.next in
-    let carries = subst (λ (v : ConnectionView). Carries g.H.Handler.replies c.args.handler.now c.args.connection.now.input (g.W.Write.contents c.args.writer.now)
-    c.args.requests c.requests.handler v.input (g.W.Write.contents c.requests.writer) c.requests.requests) (sym c.next.ensures.same) c.requests.invariant.carries in
+    let carries = subst (λ (v : ConnectionView). Carries g.H.Handler.replies c.args.handler.now c.args.connection.now.input
+    (g.W.Write.contents c.args.writer.now)
+    c.args.requests c.requests.handler v.input (g.W.Write.contents c.requests.writer) c.requests.requests) (sym c.next.ensures.same)
+    c.requests.invariant.carries in
     let told = c.in-Err-answer_one.ensures.reply in
     subst (λ (fault : ServeFault). IsBroken g.H.Handler.replies g.H.Handler.fails c.args.handler.now c.args.connection.now.input
     (g.W.Write.contents c.args.writer.now) c.args.requests fault c.answer_one.new.handler (g.W.Write.contents c.answer_one.new.writer)) (sym c.after.ensures)
@@ -88,8 +96,10 @@ returns-then-frame-clause-ok g c =
     let frame = c.in-Whole.frame in
     let input = c.next.new.self.input in
     let found = subst (λ (v : ConnectionView). IsNext v.input c.next.new.fields (Whole frame)) (sym c.next.ensures.same) c.in-Whole.ensures.next in
-    let carries = subst (λ (v : ConnectionView). Carries g.H.Handler.replies c.args.handler.now c.args.connection.now.input (g.W.Write.contents c.args.writer.now)
-    c.args.requests c.requests.handler v.input (g.W.Write.contents c.requests.writer) c.requests.requests) (sym c.next.ensures.same) c.requests.invariant.carries in
+    let carries = subst (λ (v : ConnectionView). Carries g.H.Handler.replies c.args.handler.now c.args.connection.now.input
+    (g.W.Write.contents c.args.writer.now)
+    c.args.requests c.requests.handler v.input (g.W.Write.contents c.requests.writer) c.requests.requests) (sym c.next.ensures.same)
+    c.requests.invariant.carries in
     let told = c.in-Ok-answer_one.ensures.reply in (
       asked found.0,
       Frame_ends g.H.Handler.replies _ _ _ c.args.requests _ input _ c.requests.requests c.next.new.fields frame found.0 input _ told.0 _ _
@@ -104,8 +114,10 @@ requests-preserved g c =
     let frame = c.in-Whole.frame in
     let input = c.next.new.self.input in
     let found = subst (λ (v : ConnectionView). IsNext v.input c.next.new.fields (Whole frame)) (sym c.next.ensures.same) c.in-Whole.ensures.next in
-    let carries = subst (λ (v : ConnectionView). Carries g.H.Handler.replies c.args.handler.now c.args.connection.now.input (g.W.Write.contents c.args.writer.now)
-    c.args.requests c.requests.handler v.input (g.W.Write.contents c.requests.writer) c.requests.requests) (sym c.next.ensures.same) c.requests.invariant.carries in
+    let carries = subst (λ (v : ConnectionView). Carries g.H.Handler.replies c.args.handler.now c.args.connection.now.input
+    (g.W.Write.contents c.args.writer.now)
+    c.args.requests c.requests.handler v.input (g.W.Write.contents c.requests.writer) c.requests.requests) (sym c.next.ensures.same)
+    c.requests.invariant.carries in
     let told = c.in-Ok-answer_one.ensures.reply in
     record {
       sent = ap (λ (v : ConnectionView). v.output) c.drop_input.ensures ∙ c.in-Ok-answer_one.ensures.all;

@@ -1,6 +1,6 @@
 use Rattle.std.proofs.Common.{◌≡◌, ◌∙◌, refl, arith, ap, length, sym, subst, [], ℕ, ◌+◌, ◌-◌, ◌*◌}
 use Rattle.std.specs.Prelude.{Result}
-use Rattle.http_requests.specs.Input.{buffer_size}
+use Rattle.http_serve.specs.Buffers.{buffer_size}
 use Rattle.http_serve.specs.Told.{LosesAtMost, KeepsTurns}
 use Rattle.http_serve.specs.declared.connection.Served.{Served}
 use Rattle.http_serve.specs.declared.connection.ServeFault.{ServeFault}

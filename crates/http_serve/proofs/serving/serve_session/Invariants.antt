@@ -1,6 +1,6 @@
 use Rattle.std.proofs.Common.{◌≡◌, [], ◌≤◌, ◌<◌, ◌*◌, length}
 use Rattle.http_requests.specs.declared.frames.TheConstants.{MAX_REQUEST}
-use Rattle.http_requests.specs.Input.{buffer_size}
+use Rattle.http_serve.specs.Buffers.{buffer_size}
 use Rattle.http_serve.specs.Told.{LosesAtMost}
 use Rattle.http_serve.proofs.ServeLemmas.{Adds, IsSoFar}
 use Rattle.http_serve.proofs.serving.serve_session.Given as goal

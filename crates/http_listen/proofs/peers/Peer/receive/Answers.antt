@@ -68,7 +68,8 @@ returns-clause-read g c =
     let mid = c.if-count-eq0.self in
     let given = take c.in-Ok.count c.receive.new.buf in
     let stands = c.search.ensures.stands in
-    let facts : (mid.stream ≡ c.receive.new.self) × (mid.connection.input ≡ old.connection.input ++ given) × (mid.connection.output ≡ old.connection.output) × (mid.state.number ≡ old.state.number)
+    let facts : (mid.stream ≡ c.receive.new.self) × (mid.connection.input ≡ old.connection.input ++ given)
+    × (mid.connection.output ≡ old.connection.output) × (mid.state.number ≡ old.state.number)
     × (mid.state.drops ≡ old.state.drops) × (mid.state.unsent ≡ old.state.unsent) =
     elim c.if-count-eq0.branch [
       | then-count-eq0 w ↦ rw w.self-is (
