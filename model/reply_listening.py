@@ -1,6 +1,7 @@
 """Blocks of `reply_script.py` about peers that a listener serves by turns. Each is a function of a script."""
 import connections
 from listening import END, FLOOD, Fixed, Peer, listen as listen_to, logged, pace, time_for
+from reply_admin import batch_of
 from reply_stand import BEGIN, CANCEL, GET_ARCHIVE, PUBLISH, STEP, Often, put, put_parts, request, text_of, with_point
 
 # Linux's errors: no descriptor is left, a signal, a connection is gone, a fault of the protocol, an argument at fault. Then one that is none.
@@ -427,5 +428,43 @@ def whole_preparations(script):
             script.ask(DONE + GET_ARCHIVE)
 
 
+# ---- tiles that are made by parts
+
+MANY = 1100
+NEAR, FAR = request("GET", "/map/1/0/0.hex"), request("GET", "/map/1/1/1.hex")
+
+
+def with_many(script):
+    """A disk with so many points in one place that their tile is made by parts."""
+    script.disk(1024)
+    for first in range(1, MANY, 64):
+        script.ask(batch_of(range(first, min(first + 64, MANY))))
+
+
+def long_tiles(script):
+    script.say("A tile of many features is made by parts, and others are answered in between: it has their edits.")
+    with_many(script)
+    one = Peer((0, A), (30, END), answered=[A])
+    gone = request("DELETE", "/features/9")
+    other = Peer((0, gone + DONE), (29, END), answered=[gone, DONE])
+    listen(script, one, other, order=[1, 1, 0], log=logged((2, 2, "closed"), (1, 1, "closed")), time=30)
+    script.note("It is cached. Two ask for the next one at once, and it is made for both.")
+    listen(script, Peer((0, A + B + A), (30, END), answered=[A, B, A]), log=logged((1, 3, "closed")), time=30)
+    both = Peer((0, A), (30, END), answered=[A], more=1)
+    listen(script, both, log=logged((1, 1, "closed"), (2, 1, "closed")), time=30)
+    script.note("Another one of many features waits for it, and one of few doesn't.")
+    script.ask(gone, put(9))
+    first, second = Peer((0, A), (28, END), answered=[A]), Peer((0, NEAR), (29, END), answered=[NEAR])
+    third = Peer((0, FAR + SHOWN), (30, END), answered=[FAR, SHOWN])
+    log = logged((1, 1, "closed"), (2, 1, "closed"), (3, 2, "closed"))
+    listen(script, first, second, third, order=[2, 2, 0, 1], log=log, time=30)
+    script.note("Each edit has it begun anew, but only three times: then it is made at once.")
+    script.ask(put(2000))
+    edits = [put(number) for number in range(2001, 2009)]
+    first, second = Peer((0, A), (29, END), answered=[A]), Peer((0, b"".join(edits)), (30, END), answered=edits)
+    log = logged((1, 1, "closed"), (2, 8, "closed"))
+    listen(script, first, second, order=[1, 1, 1, 1, 0, 1, 1, 1, 1], log=log, time=30)
+
+
 BLOCKS = [no_descriptor, accepts_that_fail, so_many_are_open, turns, slow_readers, all_hold_too_much, so_many_reads]
-BLOCKS += [cut_anywhere, byte_by_byte, stages, paces, downloads, preparations, whole_preparations]
+BLOCKS += [cut_anywhere, byte_by_byte, stages, paces, downloads, preparations, whole_preparations, long_tiles]

@@ -1,17 +1,18 @@
 -- A map with a cache of its tiles, and which of them are still its tiles.
-use Rattle.std.specs.Prelude.{◌≡◌, ◌⊎◌, ℕ, ◌≤◌, List, [], ◌∷◌, All, Option, Some, None, option_map}
+use Rattle.std.specs.Prelude.{◌≡◌, ◌⊎◌, ℕ, ◌≤◌, List, [], ◌∷◌, All, Option, Some, None, IfSome, option_map}
 use Rattle.std.specs.Rc.{rc_slice_items}
 use Rattle.std.specs.declared.alloc.Global.{Global}
 use Rattle.std.specs.declared.rc.RcSlice.{RcSlice}
 use Rattle.feature_model.specs.declared.feature.WorldBox.{WorldBox}
 use Rattle.feature_model.specs.Data.{FeatureData, ChangeData, put, delete}
 use Rattle.feature_store.specs.Content.{IsTileContent}
+use Rattle.feature_store.specs.Hand.{HandView}
 use Rattle.feature_store.specs.Layers.{layers}
 use Rattle.feature_store.specs.Store.{FeatureMap, feature_at, changed}
 use Rattle.tile_cache.specs.Kept.{TileView, CacheView, kept_at, with_first, IsSmall, KeepsFewer, KeepsLatest}
 use Rattle.tile_cache.specs.Touched.{Mark, Reaches, Remembers}
 use Rattle.tile_cache.specs.declared.cached_tiles.Origin.{Origin}
-use Rattle.tile_cache.specs.declared.cached_tiles.Origin.TheVariants.{Read}
+use Rattle.tile_cache.specs.declared.cached_tiles.Origin.TheVariants.{Cut, Read}
 use Rattle.tile_cutter.specs.WorldBox.{bounding_box}
 
 -- what contracts see: the map, how many features can be added without allocating, the number of the last edit, the newest edit of each
@@ -79,6 +80,11 @@ pub record AreKept (origin : Origin) (m : FeatureMap) (cells : List ℕ) (last :
   pub remembers : Remembers cells marks
   pub numbers : All (λ m. m.1 ≤ last) marks
   pub tiles : (z x y : ℕ) (t : TileView) → kept_at kept z x y ≡ Some t → t.origin ≡ origin → IsKept m marks last z x y t
+
+-- What is kept with a map: tiles that were cut are right whatever a disk returns, and the tile in the making is of the map as it is.
+pub record IsCached (m : FeatureMap) (cells : List ℕ) (last : ℕ) (kept : CacheView) (making : Option HandView) : Type 0 where
+  pub cut : AreKept Cut m cells last kept
+  pub hand : IfSome making (λ hand. hand.features ≡ m)
 
 -- cached tiles that were read are right: what they were read from returned what was written
 abbrev pub AreReadRight : FeatureMap → (cells : List ℕ) → (last : ℕ) → CacheView → Type 0

@@ -1,12 +1,14 @@
 //! A map with a cache of its tiles.
 
 ghost use Rattle.std.specs.Prelude.{◌≡◌, ◌↔◌, ◌≢◌, ◌<◌, ◌≤◌, ◌+◌, ℕ, List, [], ◌∷◌, length, map, All, true, Some, None};
-ghost use Rattle.std.specs.Prelude.{IsSome, IsTrue, IfOk, IfSome, IfNone, OnOk, OnErr};
+ghost use Rattle.std.specs.Prelude.{IsSome, IsTrue, IfOk, IfSome, IfNone, OnOk, OnErr, option_map};
+ghost use Rattle.std.specs.Option.{is_some};
 ghost use Rattle.std.specs.Rc.{rc_slice_items};
 ghost use Rattle.feature_model.specs.Data.{put, delete, change_data};
 ghost use Rattle.feature_model.specs.Limits.{IsAllowedChange};
 ghost use Rattle.feature_model.specs.Spelled.{spelled_changes};
 ghost use Rattle.feature_model.specs.Types.{IsChange};
+ghost use Rattle.feature_model.specs.declared.limits.TheConstants.{MAX_ZOOM};
 ghost use Rattle.feature_store.specs.Content.{IsTileContent};
 ghost use Rattle.feature_store.specs.Layers.{layers};
 ghost use Rattle.feature_store.specs.Moments.{IsMomentOf, moment_map};
@@ -19,8 +21,8 @@ ghost use Rattle.tile_cache.specs.Touched.{Mark, Remembers, StaysElsewhere, IsCl
 ghost use Rattle.tile_cache.specs.declared.cached_tiles.Origin.TheVariants.{Cut, Read};
 ghost use Rattle.cached_map.specs.Cached.{with_box, marks_of, marks_after, WasMap, AreReadRight, KeepsOrNot, shared_bytes};
 
-use feature_model::{Change, WorldBox};
-use feature_store::{Moment, Prepared, Store};
+use feature_model::{Change, MAX_ZOOM, WorldBox};
+use feature_store::{Moment, PART_NUMBERS, Prepared, Store, TileInHand};
 use hilbert_id::TileAt;
 use std::alloc::{AllocError, Global};
 use std::marker::Model;
@@ -34,19 +36,20 @@ pub struct CachedMap {
     touched: TouchGrid,
     kept: TileCache,
     last: u64,
+    /// The tile in the making, of the map as it is.
+    hand: Option<TileInHand>,
+    /// How many times a tile was to be cached.
+    keeps: u64,
 }
 
 impl Model for CachedMap {
-    ghost use Rattle.cached_map.specs.Cached.{CachedView, AreKept};
+    ghost use Rattle.cached_map.specs.Cached.{CachedView, IsCached};
 
     ghost Value = { CachedView };
 
-    ghost use Rattle.tile_cache.specs.declared.cached_tiles.Origin.TheVariants.{Cut};
-
     ghost view = { λ m. record { features = m.store.features; spare = m.store.spare; last = m.last; touched = m.touched; kept = m.kept } };
 
-    // Tiles that were cut are right whatever a disk returns.
-    ghost invariant = { λ m. AreKept Cut m.store.features m.touched m.last m.kept };
+    ghost invariant = { λ m. IsCached m.store.features m.touched m.last m.kept m.hand };
 }
 
 /// Notes that an edit of this number touches a box, if there is one.
@@ -129,6 +132,32 @@ fn keep_shared(kept: &mut TileCache, at: TileAt, origin: Origin, number: u64, by
     }
 }
 
+/// The bytes of a tile in the making, with all parts that are left.
+fn finish_tile(store: &Store, hand: TileInHand) -> Result<Option<Vec<u8>>, AllocError>
+    requires { hand.features ≡ store.now.features }
+    ensures { IfOk result (λ o. IsTileContent (layers store.now.features hand.at.z hand.at.x hand.at.y) (option_map (λ v. v.items) o)) }
+{
+    let mut hand = hand;
+    while !hand.is_whole() {
+        hand = store.add_part(hand)?;
+    }
+    store.finish_tile(hand)
+}
+
+/// Whether features of a tile in the making are left after this many parts.
+fn is_left_after(store: &Store, hand: TileInHand, parts: usize) -> Result<bool, AllocError>
+    requires { hand.features ≡ store.now.features }
+{
+    let mut hand = hand;
+    for _part in 0..parts {
+        if hand.is_whole() {
+            break;
+        }
+        hand = store.add_part(hand)?;
+    }
+    Ok(!hand.is_whole())
+}
+
 impl CachedMap {
     /// A map whose last edit has this number, without cached tiles.
     pub fn new(alloc: Global, store: Store, last: u64) -> Result<CachedMap, AllocError>
@@ -146,6 +175,8 @@ impl CachedMap {
             touched: TouchGrid::new(),
             kept,
             last,
+            hand: None,
+            keeps: 0,
         })
     }
 
@@ -162,6 +193,11 @@ impl CachedMap {
         ensures { result ≡ self.now.last }
     {
         self.last
+    }
+
+    /// A number that is another one after each edit, and after each call that may cache a tile and drop others.
+    pub fn stamp(&self) -> u64 {
+        self.last.wrapping_add(self.keeps)
     }
 
     /// The number of the newest edit that can have touched a tile, or of a later one; 0 if there was none since the map was made. So a
@@ -245,6 +281,7 @@ impl CachedMap {
         ensures as_of { IsMomentOf moment.old self.old.features → IsMomentOf moment.new self.new.features }
     {
         let _count = self.store.len();
+        self.hand = None;
         make_each(&mut self.store, &mut self.touched, moment, changes, number);
         self.last = number;
     }
@@ -274,6 +311,7 @@ impl CachedMap {
         ensures as_of { IsMomentOf moment.old self.old.features → IsMomentOf moment.new self.new.features }
     {
         let _count = self.store.len();
+        self.hand = None;
         let bounds = self.store.remove_keeping(id, moment);
         mark_some(&mut self.touched, bounds, number);
         self.last = number;
@@ -289,6 +327,7 @@ impl CachedMap {
         ensures reads { AreReadRight self.old.features self.old.touched self.old.last self.old.kept
             → AreReadRight self.new.features self.new.touched self.new.last self.new.kept }
     {
+        self.keeps = self.keeps.wrapping_add(1);
         keep_shared(&mut self.kept, at, Origin::Cut, self.last, bytes);
     }
 
@@ -302,18 +341,92 @@ impl CachedMap {
             → AreReadRight self.old.features self.old.touched self.old.last self.old.kept
             → AreReadRight self.new.features self.new.touched self.new.last self.new.kept }
     {
+        self.keeps = self.keeps.wrapping_add(1);
         keep_shared(&mut self.kept, at, Origin::Read, number, bytes);
     }
 
-    /// The bytes of a tile, cut anew.
-    fn cut_tile(&self, at: TileAt) -> Result<Option<RcSlice<u8>>, AllocError>
-        ensures tile { IfOk result (λ content. IsTileContent (layers self.now.features at.z at.x at.y) (shared_bytes content)) }
+    /// Takes the tile in the making, if it is this one.
+    fn take_hand(&mut self, at: TileAt) -> Option<TileInHand>
+        ensures same { self.new ≡ self.old }
+        ensures map { IfSome result (λ hand. hand.features ≡ self.old.features) }
+        ensures at { IfSome result (λ hand. hand.at ≡ at) }
     {
-        let Some(mut bytes) = self.store.tile(at)? else {
+        match self.hand.take() {
+            Some(hand) if hand.at() == at => Some(hand),
+            other => {
+                self.hand = other;
+                None
+            }
+        }
+    }
+
+    /// The next part of a tile: the first one, unless it is in the making.
+    fn next_part(&mut self, at: TileAt) -> Result<TileInHand, AllocError>
+        requires { at.z ≤ MAX_ZOOM }
+        ensures same { self.new ≡ self.old }
+        ensures map { IfOk result (λ hand. hand.features ≡ self.old.features) }
+    {
+        let hand = match self.take_hand(at) {
+            Some(hand) => hand,
+            None => self.store.begin_tile(at)?,
+        };
+        self.store.add_part(hand)
+    }
+
+    /// Makes a part of a tile, the next one if some are made, for the `make` of this tile that follows. It is true while parts are left. Another
+    /// tile in the making is dropped, and so is this one by an edit. The only error is out of memory; nothing is in the making then.
+    pub fn make_part(&mut self, at: TileAt) -> Result<bool, AllocError>
+        ensures { self.new ≡ self.old }
+    {
+        if at.z > MAX_ZOOM {
+            return Ok(false);
+        }
+        let hand = self.next_part(at)?;
+        let is_whole = hand.is_whole();
+        self.hand = Some(hand);
+        Ok(!is_whole)
+    }
+
+    /// Which tile is in the making.
+    pub fn in_making(&self) -> Option<TileAt> {
+        match &self.hand {
+            Some(hand) => Some(hand.at()),
+            None => None,
+        }
+    }
+
+    /// Whether more than this many features have boxes near the tile, or as many but for less than a part. It makes that many and forgets them. The
+    /// only error is out of memory.
+    pub fn has_more(&self, at: TileAt, count: usize) -> Result<bool, AllocError> {
+        if at.z > MAX_ZOOM {
+            return Ok(false);
+        }
+        let hand = self.store.begin_tile(at)?;
+        is_left_after(&self.store, hand, count / PART_NUMBERS)
+    }
+
+    /// The bytes of a tile: those of the parts that are made of it with what is left, or cut anew.
+    fn cut_tile(&mut self, at: TileAt) -> Result<Option<RcSlice<u8>>, AllocError>
+        ensures same { self.new ≡ self.old }
+        ensures tile { IfOk result (λ content. IsTileContent (layers self.old.features at.z at.x at.y) (shared_bytes content)) }
+    {
+        let made = match self.take_hand(at) {
+            Some(hand) => finish_tile(&self.store, hand)?,
+            None => self.store.tile(at)?,
+        };
+        let Some(mut bytes) = made else {
             return Ok(None);
         };
         bytes.shrink_to_fit();
         Ok(Some(RcSlice::from_vec(bytes)?))
+    }
+
+    /// Whether the cached bytes of a tile are those of the map, if `newest` is the number of the newest edit that can have touched the tile; bytes
+    /// that were read count only if `reads` is true.
+    pub fn has(&self, at: TileAt, newest: u64, reads: bool) -> bool
+        ensures { result ≡ is_some (fresh newest reads (kept_at self.now.kept at.z at.x at.y)) }
+    {
+        self.kept.peek(at, newest, reads).is_some()
     }
 
     /// The cached bytes of a tile (Mapbox Vector Tile 2.1), if there are any and no edit can have touched the tile since; bytes that were

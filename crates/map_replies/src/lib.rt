@@ -11,6 +11,7 @@ mod editing;
 mod fault;
 mod feed;
 mod lists;
+mod long_tiles;
 mod numbered;
 mod pages;
 mod parts;
@@ -22,6 +23,7 @@ mod showing;
 mod standing_by;
 mod tags;
 mod telling;
+mod turns;
 
 pub use checking::replaces_what_was_seen;
 pub use downloads::download_is_of_one_archive;

@@ -1,5 +1,5 @@
 //! The replies of a map between which a publication is prepared: its map is fixed as it is asked for, its tiles are made one by one while other
-//! requests are answered, and then it begins, or is made to its end at once.
+//! requests are answered, and then it begins, or is made to its end at once. A tile of many features is made by parts too, before its reply.
 ghost use Rattle.std.specs.Prelude.{◌≡◌, ◌≤◌, true, [], length, vec_capacity, IsTrue, IfSome, None, Ok};
 ghost use Rattle.http_serve.specs.Reply.{ReplyView, IsReply, InParts, IsWhole, HasShortWords, head_view, reply_view};
 ghost use Rattle.tile_routes.specs.Methods.{method_on};
@@ -15,8 +15,11 @@ ghost use Rattle.map_replies.specs.State.{access_of};
 ghost use Rattle.map_replies.specs.Words.{left_reply, published_reply};
 
 use crate::calls::Calls;
+use crate::long_tiles::{LongTiles, ReadyTargets, asked_tile, is_for_tile, target_hash};
 use crate::replies;
 use crate::service::MapReplies;
+use crate::turns::Turns;
+use hilbert_id::TileAt;
 use http_serve::{
     ContentFault, Downloads, Handler, Preparation, Prepares, Reply, Request, RestFault, Ticket,
 };
@@ -30,14 +33,16 @@ const BEGINNING: &[u8] = b"POST /publish/begin ";
 /// The first bytes of a request for a whole publication.
 const WHOLE: &[u8] = b"POST /publish ";
 
-/// The request handler of a listener: the replies of a map, where a publication is prepared between other replies.
+/// The request handler of a listener: the replies of a map, where a publication is prepared between other replies, and so is a tile of many
+/// features.
 #[derive(Drop)]
 pub struct PreparingReplies<D: Sectors + Drop> {
     pub(crate) replies: MapReplies<D>,
-    /// The number of the connection whose publication is in the making.
-    owner: u64,
-    /// Whether that connection had a turn since another one asked for a publication.
-    goes_on: bool,
+    /// The tile in the making.
+    tiles: LongTiles,
+    ready: ReadyTargets,
+    /// Which connection's publication is in the making.
+    turns: Turns,
     /// Whether the request that comes next is the one for which it is in the making.
     is_next: bool,
 }
@@ -151,8 +156,9 @@ impl<D: Sectors + Drop> PreparingReplies<D> {
     {
         PreparingReplies {
             replies,
-            owner: 0,
-            goes_on: false,
+            tiles: LongTiles::new(),
+            ready: ReadyTargets::new(),
+            turns: Turns::new(),
             is_next: false,
         }
     }
@@ -181,15 +187,111 @@ impl<D: Sectors + Drop> PreparingReplies<D> {
     fn waits_for_another(&mut self, connection: u64) -> bool
         ensures { PreparingStep D.sectors D.honest D.history D.faults self.old self.new }
     {
-        if self.owner == connection || self.replies.calls.service.drafting().is_none() {
+        if self.turns.is_owner(connection) || self.replies.calls.service.drafting().is_none() {
             return false;
         }
-        if self.goes_on {
-            self.goes_on = false;
+        if self.turns.has_to_wait(connection) {
             return true;
         }
         self.replies.calls.service.publish_drop();
         false
+    }
+
+    /// Makes a step of the publication for which a connection asks, unless that of another one is in the making.
+    fn prepare_publication(&mut self, connection: u64) -> Preparation
+        ensures { PreparingStep D.sectors D.honest D.history D.faults self.old self.new }
+    {
+        if self.waits_for_another(connection) {
+            return Preparation::Waits;
+        }
+        self.turns.give(connection);
+        self.is_next = true;
+        match self.replies.calls.service.publish_prepare() {
+            Ok(goes_on) => after_step(goes_on),
+            Err(_) => Preparation::Ready,
+        }
+    }
+
+    /// Whether a tile has many features. It is looked for in the index once, and then known.
+    fn is_long(&mut self, at: TileAt) -> bool
+        ensures { self.new.replies ≡ self.old.replies }
+    {
+        if self.tiles.is_known(at) {
+            return true;
+        }
+        let is_long = self.replies.calls.service.is_long(at);
+        if is_long {
+            self.tiles.note(at);
+        }
+        is_long
+    }
+
+    /// Makes the next part of a tile for the request of a connection, which has its turn.
+    fn prepare_part(&mut self, connection: u64, at: TileAt) -> Preparation
+        ensures { self.new.replies ≡ self.old.replies }
+    {
+        self.tiles.give(connection, at);
+        let is_begun = self.replies.calls.service.tile_in_making() == Some(at);
+        if (is_begun || self.tiles.begins()) && self.replies.calls.service.prepare_tile(at) {
+            return Preparation::GoesOn;
+        }
+        self.tiles.end(connection, at);
+        Preparation::Ready
+    }
+
+    /// Makes the next part of a tile for the request of a connection. If another tile is in the making, for another connection, it waits for that
+    /// one, but not if it has few features.
+    fn prepare_tile(&mut self, connection: u64, at: TileAt) -> Preparation
+        ensures { self.new.replies ≡ self.old.replies }
+    {
+        if self.tiles.is_other(connection, at) {
+            if !self.is_long(at) {
+                self.tiles.end(connection, at);
+                return Preparation::Ready;
+            }
+            if self.tiles.has_to_wait(connection) {
+                return Preparation::Waits;
+            }
+        }
+        self.prepare_part(connection, at)
+    }
+
+    /// The same for a request that begins as that for a tile, unless nothing has to be made for it.
+    fn prepare_asked(&mut self, connection: u64, asked: &[u8]) -> Preparation
+        ensures { self.new.replies ≡ self.old.replies }
+    {
+        let hash = target_hash(asked);
+        let stamp = self.replies.calls.service.tile_stamp();
+        if self.ready.has(hash, stamp) {
+            self.tiles.leave(connection);
+            return Preparation::Ready;
+        }
+        let Some(at) = asked_tile(asked) else {
+            return Preparation::Ready;
+        };
+        if self.replies.calls.service.tile_in_making() == Some(at) {
+            return self.prepare_tile(connection, at);
+        }
+        if self.replies.calls.service.is_made(at) {
+            return self.prepare_tile(connection, at);
+        }
+        self.ready.note(hash, stamp);
+        self.tiles.end(connection, at);
+        Preparation::Ready
+    }
+
+    /// Makes the next part of what a request needs that asks for no publication.
+    fn prepare_other(&mut self, connection: u64, asked: &[u8]) -> Preparation
+        ensures { self.new.replies ≡ self.old.replies }
+    {
+        self.is_next = false;
+        if !self.replies.calls.service.is_large() {
+            return Preparation::Ready;
+        }
+        if !is_for_tile(asked) {
+            return Preparation::Ready;
+        }
+        self.prepare_asked(connection, asked)
     }
 
     /// Memory for the late answer to a beginning, if that is what is asked for, by a request whose conditions don't refuse it, and the publication in
@@ -337,19 +439,9 @@ impl<D: Sectors + Drop> Prepares for PreparingReplies<D> {
     ghost prepares = { PreparingStep D.sectors D.honest D.history D.faults };
 
     fn prepare(&mut self, connection: u64, asked: &[u8]) -> Preparation {
-        if !is_prepared(asked) {
-            self.is_next = false;
-            return Preparation::Ready;
+        if is_prepared(asked) {
+            return self.prepare_publication(connection);
         }
-        if self.waits_for_another(connection) {
-            return Preparation::Waits;
-        }
-        self.owner = connection;
-        self.goes_on = true;
-        self.is_next = true;
-        match self.replies.calls.service.publish_prepare() {
-            Ok(goes_on) => after_step(goes_on),
-            Err(_) => Preparation::Ready,
-        }
+        self.prepare_other(connection, asked)
     }
 }

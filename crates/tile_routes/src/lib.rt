@@ -12,5 +12,6 @@ mod target;
 pub use access::Access;
 pub use fault::RouteFault;
 pub use method::Method;
+pub use parts::requested_tile;
 pub use routes::Routes;
 pub use target::{Action, Target, TileFormat, View};

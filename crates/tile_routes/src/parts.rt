@@ -54,7 +54,7 @@ fn part_of(path: &[u8], start: usize, end: usize) -> &[u8]
 }
 
 /// The tile that a path on the tiles' route asks for.
-pub(crate) fn requested_tile(path: &[u8]) -> Target
+pub fn requested_tile(path: &[u8]) -> Target
     ensures asked { asked_of result ≡ asked_on Tile (tile_parts path.now) }
     ensures range { IsInRange result }
 {

@@ -7,6 +7,7 @@ pub mod KeptEdits
 pub mod Limits
 pub mod Listing
 pub mod Machine
+pub mod Making
 pub mod Opening
 pub mod Prepared
 pub mod Publishing

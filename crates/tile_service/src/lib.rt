@@ -10,6 +10,7 @@ mod event;
 mod fault;
 mod formatting;
 mod listing;
+mod making;
 mod opening;
 mod published;
 mod publishing;

@@ -4,9 +4,11 @@ use Rattle.cached_map.proofs.cached_map.CachedMap.keep.Goals as goal
 
 pub invariant_of-self : goal.invariant_of-self
 invariant_of-self c =
-    let at = c.args.at in let inside = c.self.inside in
-    cut_kept inside.store.features inside.touched inside.last inside.kept c.keep_shared.new.kept at.z at.x at.y (rc_slice_items c.args.bytes.now)
-    (rw (← c.self.view_is) at c.requires.content) c.keep_shared.ensures c.self.invariant
+    let at = c.args.at in let inside = c.self.inside in record {
+      cut = cut_kept inside.store.features inside.touched inside.last inside.kept c.keep_shared.new.kept at.z at.x at.y
+          (rc_slice_items c.args.bytes.now) (rw (← c.self.view_is) at c.requires.content) c.keep_shared.ensures c.self.invariant.cut;
+      hand = c.self.invariant.hand;
+    }
 
 pub returns-clause-reads : goal.returns-clause-reads
 returns-clause-reads c =

@@ -14,7 +14,7 @@ returns-in-Some-clause-tile c =
     (λ read. subst (λ b. IsTileContent (layers inside.store.features at.z at.x at.y) (Some b)) (sym c.in_ok-clone.ensures.cases)
     (found_is inside.store.features inside.touched inside.last kept at.z at.x at.y c.newest-newest.result c.args.reads
     (rc_slice_items c.in-Some.bytes.now)
-    (same_kept Cut inside.store.features inside.touched inside.last inside.kept kept c.promote.ensures.same c.self.invariant)
+    (same_kept Cut inside.store.features inside.touched inside.last inside.kept kept c.promote.ensures.same c.self.invariant.cut)
     (λ counted. same_kept Read inside.store.features inside.touched inside.last inside.kept kept c.promote.ensures.same (read counted))
     (rw (← c.self.view_is) at c.newest-newest.ensures.marked) c.in-Some.ensures))
 
@@ -35,18 +35,24 @@ returns-clause-given c =
 
 pub invariant_of-self : goal.invariant_of-self
 invariant_of-self c =
-    let inside = c.self.inside in
-    same_kept Cut inside.store.features inside.touched inside.last inside.kept c.promote.new.self c.promote.ensures.same c.self.invariant
+    let inside = c.self.inside in record {
+      cut = same_kept Cut inside.store.features inside.touched inside.last inside.kept c.promote.new.self c.promote.ensures.same c.self.invariant.cut;
+      hand = c.self.invariant.hand;
+    }
 
 pub invariant_of-self-in-Some : goal.invariant_of-self-in-Some
 invariant_of-self-in-Some c =
-    let inside = c.self.inside in
-    same_kept Cut inside.store.features inside.touched inside.last inside.kept c.promote.new.self c.promote.ensures.same c.self.invariant
+    let inside = c.self.inside in record {
+      cut = same_kept Cut inside.store.features inside.touched inside.last inside.kept c.promote.new.self c.promote.ensures.same c.self.invariant.cut;
+      hand = c.self.invariant.hand;
+    }
 
 pub invariant_of-self-2 : goal.invariant_of-self-2
 invariant_of-self-2 c =
-    let inside = c.self.inside in
-    same_kept Cut inside.store.features inside.touched inside.last inside.kept c.promote.new.self c.promote.ensures.same c.self.invariant
+    let inside = c.self.inside in record {
+      cut = same_kept Cut inside.store.features inside.touched inside.last inside.kept c.promote.new.self c.promote.ensures.same c.self.invariant.cut;
+      hand = c.self.invariant.hand;
+    }
 
 pub returns-in_err-clone-clause-reads : goal.returns-in_err-clone-clause-reads
 returns-in_err-clone-clause-reads c =

@@ -5,7 +5,10 @@ use Rattle.cached_map.proofs.Kept.{nothing_kept}
 use Rattle.cached_map.proofs.cached_map.CachedMap.new.Goals as goal
 
 pub invariant_of-result : goal.invariant_of-result
-invariant_of-result c = nothing_kept Cut c.args.store.features c.new-2.result c.args.last c.in_ok-kept.kept c.new-2.ensures c.in_ok-kept.ensures
+invariant_of-result c = record {
+  cut = nothing_kept Cut c.args.store.features c.new-2.result c.args.last c.in_ok-kept.kept c.new-2.ensures c.in_ok-kept.ensures;
+  hand = tt;
+}
 
 pub returns-clause-now : goal.returns-clause-now
 returns-clause-now c = record {

@@ -6,7 +6,7 @@ pub returns-clause-most : goal.returns-clause-most
 returns-clause-most c =
     let at = c.args.at in let inside = c.self.inside in
     rw (← c.self.view_is)
-    (newest_most at.z at.x at.y c.newest.result Cut inside.store.features inside.touched inside.last inside.kept c.self.invariant c.newest.ensures.marked)
+    (newest_most at.z at.x at.y c.newest.result Cut inside.store.features inside.touched inside.last inside.kept c.self.invariant.cut c.newest.ensures.marked)
 
 pub returns-clause-marked : goal.returns-clause-marked
 returns-clause-marked c = rw (← c.self.view_is) c.newest.ensures.marked
@@ -22,4 +22,4 @@ returns-clause-of_cells c = rw (← c.self.view_is) c.newest.ensures.of_cells
 pub returns-clause-now : goal.returns-clause-now
 returns-clause-now c =
     let inside = c.self.inside in
-    rw (← c.self.view_is) (known_now Cut inside.store.features inside.touched inside.last inside.kept c.self.invariant)
+    rw (← c.self.view_is) (known_now Cut inside.store.features inside.touched inside.last inside.kept c.self.invariant.cut)

@@ -31,7 +31,8 @@ edited c = removed (before c) (after c) c.args.id c.len-count.ensures.map (rw (â
 pub invariant_of-self : goal.invariant_of-self
 invariant_of-self c =
     let at = (goal.at.invariant_of-self c).After-mark_some in
-    still_kept (before at) (after at) (removal (before at) (after at) c.args.id) (edited at) Cut c.self.inside.kept c.self.invariant
+    let kept = still_kept (before at) (after at) (removal (before at) (after at) c.args.id) (edited at) Cut c.self.inside.kept c.self.invariant.cut in
+    record { cut = kept; hand = tt }
 
 pub returns-clause-since : goal.returns-clause-since
 returns-clause-since c =
