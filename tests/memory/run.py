@@ -161,7 +161,8 @@ def main():
         shim = os.path.join(folder, "refuse.so")
         subprocess.run(["gcc", "-shared", "-fPIC", "-o", shim, os.path.join(HERE, "refuse.c"), "-ldl"], check=True)
         bad = sum(series(name, command, shim) for name, command in commands(folder))
-        for kind, made, rows in [("streams", streams.Stream, streams.SERIES), ("connections", streams.Connection, streams.SERVED)]:
+        kinds = [("streams", streams.Stream, streams.SERIES), ("connections", streams.Connection, streams.SERVED)]
+        for kind, made, rows in [*kinds, ("kept connections", streams.Kept, streams.KEPT)]:
             tried = [streams.tried(row[0], made(PROGRAM, shim, folder, *row[1:])) for row in rows]
             requests = sum(len(row[3]) for row in rows)
             print(f"{kind}: {len(rows)}, {requests} requests, {sum(allocations for allocations, _ in tried)} allocations")

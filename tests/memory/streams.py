@@ -2,9 +2,12 @@
 
 A refused allocation must have one of three effects. The process ends with `vtserve: Memory` before it reads, and the disk is as before. One request
 is answered `503 Memory`, and all other replies and the bytes of the disk are those of a run without this request: so each request is sent twice. Or
-the tile is served all the same: it wasn't cached, or it was cut because the archive couldn't be read. A connection of `serve` that lacks memory
-before its request is answered gets `503 Memory` as its last reply, and the log says so; one that can't even be kept is closed, and the reset that
-follows may overtake that reply. `serve` itself may lack memory for what it asks of the system to listen, which is `Listen`. Any reply of `serve` may be as with memory: what can't be collected is sent at once.
+the tile is served all the same: it wasn't cached, or it was cut because the archive couldn't be read.
+
+A connection of `serve` may end for want of memory in three places, and the log says so: for what was read of a request, which gets `503 Memory` as
+the connection's last reply; for a part of a download, which is cut; and if it can't even be kept, it is closed, and the reset that follows may
+overtake that reply. What came before has its replies, and nothing behind it is done. For a reply alone no connection ends. `serve` itself may lack
+memory for what it asks of the system to listen, which is `Listen`. Any reply of `serve` may be as with memory.
 """
 import collections
 import json
@@ -27,6 +30,9 @@ NO_BUFFERS = (0, LAST, b"connection 1: 0 requests, memory\n")
 # The same without memory to keep it in, and what `serve` is without memory for what watches its sockets.
 NOT_KEPT = (0, b"", b"connection 1: 0 requests, memory\n")
 NO_LISTENER = (1, b"", b"vtserve: Listen\n")
+# The line of one that lacks memory behind its first replies, and how many bytes of a download are sent with its head, less a sector at the most.
+ENDED = re.compile(rb"connection 1: (\d+) requests, memory\n")
+FIRST_BYTES, SECTOR = 16_384, 512
 REFUSED = b"Memory\n"
 # What may answer as with memory: a tile, which is cut where the archive can't be read or the cache can't keep it; and a publication, since a list that
 # is collected asks for more room than it needs, and for less where that is refused. And the metadata, whose text is kept with room to spare where a
@@ -81,6 +87,8 @@ LARGE = [(f"k{number:02}", chr(97 + number) * 1000) for number in range(20)]
 EDITS = [put(7), put(8, KINDS, LINES), put(9, (), POLYGONS), request("DELETE", "/features/7")]
 PUBLISHED = [put(7), put(8, KINDS, LINES), put(9, (), POLYGONS), post("/publish"), put(10, KINDS), request("DELETE", "/features/9")]
 STEPPED = [put(number, LARGE) for number in (1, 2)]
+# An archive that is sent in parts.
+LONG = [*(put(number, [(key, f"{number}{value[1:]}") for key, value in LARGE]) for number in range(1, 6)), post("/publish")]
 BAD = ["", "{", "[]", '{"layer":1}', feature().replace("2", "20"), feature((("k", "v"),)).replace('"v"', "1.5"), feature().replace("}", "]", 1)]
 TILES = [get(path) for path in ("/map/0/0/0.mvt", "/map/0/0/0.hex", "/map/2/3/3.mvt", "/map/2/1/2.mvt", "/map/16/9/9.hex")]
 READS = [*map(get, ("/features/8", "/features/9", "/features/77", "/map/metadata", "/map.pmtiles", "/other", "/features/x")), request("POST", "/map.pmtiles")]
@@ -151,10 +159,16 @@ SERIES = [
     ("batches, journal of both versions", first_disk(2, *RECORDS), [], twice([CHANGES[0], batch(deletes(3), deletes(2)), TILES[0]])),
 ]
 
-# The same by a connection of `serve`.
+# The same by a connection of `serve`, which has them in one read.
 SERVED = [
     ("serve, edits and a tile", 256, [], twice([put(7), CHANGES[0], TILES[0], get("/features/8")])),
     ("serve, archive and publication", 256, PUBLISHED, twice([READS[4], RANGES[2], post("/publish"), TILES[1], put(7)])),
+    ("serve, downloads in parts", 2048, LONG, twice([READS[4], put(7), get("/map.pmtiles", "range: bytes=9000-99999\r\n"), TILES[0]])),
+]
+# The same of one that has each once the one before was answered.
+KEPT = [
+    ("serve, one by one, edits", 256, [], twice([put(7), CHANGES[0], TILES[0], get("/features/8"), BAD_CHANGES[0], request("DELETE", "/features/7")])),
+    ("serve, one by one, reads", 256, PUBLISHED, twice([*READS[:5], RANGES[2], HEADS[0], METADATA, post("/publish"), TILES[1]])),
 ]
 
 
@@ -184,17 +198,18 @@ class Stream:
             subprocess.run([program, "format", self.first, "--sectors", str(sectors)], check=True, capture_output=True)
         done = subprocess.run([program, "pipe", self.first, "--admin"], input=b"".join(before), check=True, capture_output=True)
         assert len(re.findall(rb"HTTP/1.1 200", done.stdout)) == len(before), done
-        self.expected, self.bounds = {}, []
+        self.expected, self.left, self.bounds = {}, {}, []
 
     def served(self, requests, more):
         """The status, the bytes that the peer reads, and standard error of a process that serves requests."""
-        done = subprocess.run([self.program, "pipe", self.disk, "--admin", *self.more], input=requests, capture_output=True, timeout=60, env=more)
+        words = [self.program, "pipe", self.disk, "--admin", *self.more]
+        done = subprocess.run(words, input=b"".join(requests), capture_output=True, timeout=60, env=more)
         return done.returncode, done.stdout, done.stderr
 
     def run(self, requests, refused=0):
         """What a process does with requests: the number of its allocations, how it ended, its replies and the disk that it left."""
         shutil.copyfile(self.first, self.disk)
-        ended = self.served(b"".join(requests), {"LD_PRELOAD": self.shim, "FAIL_AT": str(refused), "FAIL_COUNT": self.count})
+        ended = self.served(requests, {"LD_PRELOAD": self.shim, "FAIL_AT": str(refused), "FAIL_COUNT": self.count})
         with open(self.disk, "rb") as file:
             held = file.read()
         with open(self.count) as file:
@@ -236,6 +251,10 @@ class Stream:
         left = [reply for at, reply in enumerate(replies) if at != refused[0]]
         return f"503 {self.line(refused[0])}" if (left, held) == self.without(refused[0]) else None
 
+    def may_end(self):
+        """How many refused allocations may end a connection behind its first replies."""
+        return 0
+
     def is_head(self, at):
         return self.requests[at].startswith(b"HEAD")
 
@@ -255,10 +274,13 @@ class Connection(Stream):
         read = b""
         if child.stdout.readline():
             with socket.create_connection(("127.0.0.1", port), timeout=60) as peer:
-                read = asked(peer, requests)
+                read = self.replies_to(peer, requests)
         _, told = child.communicate(timeout=60)
         return child.returncode, read, told
 
+    def replies_to(self, peer, requests):
+        """What the peer of a connection reads."""
+        return asked(peer, b"".join(requests))
 
     def effect(self, number, outcome):
         """What a refused allocation did, or None if that is none of the effects that it may have."""
@@ -267,8 +289,61 @@ class Connection(Stream):
             with open(self.first, "rb") as file:
                 return "start" if file.read() == held else None
         if ended[0] == 0 and (replies, held) == self.without(-1):
-            return super().effect(number, outcome) or "passed over by a reply that was sent at once"
-        return super().effect(number, outcome)
+            return super().effect(number, outcome) or "passed over by a reply"
+        return self.end_of(ended, held) or super().effect(number, outcome)
+
+    def end_of(self, ended, held):
+        """How a connection ended for want of memory behind its first replies, if it may end so. Nothing behind them is done."""
+        end = ENDED.fullmatch(ended[2])
+        if ended[0] != 0 or not end or int(end.group(1)) >= len(self.requests):
+            return None
+        count = int(end.group(1))
+        before = b"".join(self.without(-1)[0][:count])
+        behind = ended[1].removeprefix(before)
+        if before + behind != ended[1] or self.left_by(count) != held:
+            return None
+        return f"ended: {self.line(count)}" if self.ends_by(count, behind) else None
+
+    def left_by(self, count):
+        """The disk that the first requests leave."""
+        if count not in self.left:
+            self.left[count] = self.run(self.requests[:count])[3]
+        return self.left[count]
+
+    def ends_by(self, at, behind):
+        """Whether a connection may end by these bytes of the reply to a request: by its front, if the rest of its content is read in parts."""
+        reply = self.without(-1)[0][at]
+        return FIRST_BYTES - SECTOR < len(behind) < len(reply) and reply.startswith(behind)
+
+    def may_end(self):
+        """How many refused allocations may end a connection behind its first replies: one for each download, whose first part takes memory."""
+        return sum(self.line(at) == "GET /map.pmtiles" and len(reply) > FIRST_BYTES for at, reply in enumerate(self.without(-1)[0]))
+
+
+class Kept(Connection):
+    """The same by one that has each request once the one before was answered."""
+
+    def replies_to(self, peer, requests):
+        """What the peer of a connection reads."""
+        read = b""
+        try:
+            for number, each in enumerate(requests, 1):
+                peer.sendall(each)
+                while replies_of(requests[:number], read) is None:
+                    more = peer.recv(65536)
+                    read += more
+                    if not more:
+                        return read
+            return read + asked(peer, b"")
+        except OSError:
+            return read
+
+    def ends_by(self, at, behind):
+        return behind == LAST
+
+    def may_end(self):
+        """Two for the connection and its place, and one for what was read of each request: these are kept."""
+        return 2 + len(self.requests)
 
 
 def asked(peer, requests):
@@ -292,9 +367,12 @@ def tried(name, stream):
         if effect is None:
             bad += 1
             print(f"{name}: BAD: allocation {number}, request {stream.under_way(number)}: {outcome[1][0]} {outcome[1][2]!r} {outcome[1][1][:300]!r}")
-    kinds = {kind: sum(times for effect, times in effects.items() if effect and effect.startswith(kind)) for kind in ("start", "503", "passed over")}
+    kinds = {kind: sum(times for effect, times in effects.items() if effect and effect.startswith(kind)) for kind in ("start", "503", "passed over", "ended")}
+    if kinds["ended"] > stream.may_end():
+        bad += kinds["ended"] - stream.may_end()
+        print(f"{name}: BAD: {kinds['ended']} refused allocations end the connection, and {stream.may_end()} may")
     print(f"{name}: {len(stream.requests)} requests, {last} allocations: {kinds}, {bad} bad")
     for effect, times in effects.items():
-        if effect and effect.startswith("passed over"):
+        if effect and effect.startswith(("passed over", "ended")):
             print(f"    {times} times: {effect}")
     return last, bad
