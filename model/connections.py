@@ -472,8 +472,10 @@ def status_reply(service):
 def on_publication(service, name):
     """A call of a publication. One that has waited for its tiles, as others were answered, is of the map that was fixed for it."""
     if name == "publish":
-        generation, edits, archive = service.finish_drafted() if service.draft else service.publish()
+        is_late = service.draft or service.whole
+        generation, edits, archive = service.finish_whole() if is_late else service.publish()
         return json_reply({"archive": archive, "edits": edits, "generation": generation})
+    service.give_up()
     if name == "cancel":
         service.cancel()
         return Reply(204)

@@ -4,7 +4,7 @@ What a block of `reply_listening.py` knows of its peers, such as which requests 
 lines of the log, it says itself. It shares no code with the product.
 """
 import connections
-from reply_stand import told_of
+from reply_stand import PUBLISH, told_of
 
 TENTH = 100
 END, FLOOD = object(), object()
@@ -39,6 +39,14 @@ def pace(size, quick, rate):
 
 class Fixed:
     """The place of a peer in an order, where the map of its next request is fixed, which is answered later."""
+
+    def __init__(self, place):
+        self.place = place
+
+
+class Turn:
+    """The place of a peer in an order, which has a turn: a step is made for its next request, if that is for a whole publication. Where none is left,
+    it is answered."""
 
     def __init__(self, place):
         self.place = place
@@ -80,13 +88,17 @@ def answer(service, request, is_admin):
 
 def replies_in(stand, peers, order):
     """What is replied to each peer, whose requests are answered in an order: the places of peers, each for its next request. The map of a whole
-    publication may be fixed before others are answered."""
+    publication may be fixed before others are answered, and its steps be made between them."""
     left, replies = [list(peer.answered) for peer in peers], [b""] * len(peers)
     for place in order:
         if isinstance(place, Fixed):
             stand.service.prepare()
-        else:
-            replies[place] += answer(stand.service, left[place].pop(0), stand.is_admin)
+            continue
+        if isinstance(place, Turn):
+            place = place.place
+            if left[place][:1] != [PUBLISH] or stand.service.prepare_whole():
+                continue
+        replies[place] += answer(stand.service, left[place].pop(0), stand.is_admin)
     if any(left):
         raise ValueError("a request that is answered has no place in the order")
     return replies

@@ -14,6 +14,7 @@ from tiles import tile
 NUMBER_END = 2**63
 MAX_ELEMENTS = 65535
 STEP_SECTORS = 64
+BEGUN = object()
 # How many features a step of a draft reads, and how many are in a part of a tile.
 READ_AT_ONCE, FEATURES_OF_A_PART = 256, 32
 
@@ -158,6 +159,8 @@ class Service:
         found = read_disk(Seen(disk))
         self.disk, self.version, self.layout, self.root, self.used = disk, found.version, found.layout, found.root, found.used
         self.publication, self.draft, self.broken, self.attempted = None, None, False, []
+        # What became of the whole publication that is prepared, once that is known: BEGUN, or the fault for which it was refused.
+        self.whole = None
         self.snapshot, self.map, self.last, self.cells, self.boxes = found.snapshot, dict(found.snapshot), found.root.edits, {}, []
         self.kept, self.directories = {}, None
         # The edits since the last publication, as the journal has them.
@@ -325,9 +328,48 @@ class Service:
         self.going()
         self.publication = None
 
-    def finish_drafted(self):
-        """Begins the publication of the map that was fixed, and continues it to its end."""
-        left = self.drafted()
+    def prepare_whole(self):
+        """Makes a step of a whole publication: one of its draft, its beginning with the last one, or one that writes, but not the last. Whether
+        there was one."""
+        if self.whole is None:
+            return self.prepare_to_begin()
+        going = self.publication
+        if self.whole is not BEGUN or not going or going.sectors - going.written <= STEP_SECTORS:
+            return False
+        try:
+            self.step()
+        except Refused:
+            self.whole = None
+        return self.whole is BEGUN
+
+    def prepare_to_begin(self):
+        """Makes a step of its draft, and begins once none is left; its map may be refused."""
+        try:
+            if self.prepare():
+                return True
+        except Refused:
+            return False
+        try:
+            self.drafted()
+            self.whole = BEGUN
+        except Refused as refused:
+            self.whole = refused
+        return True
+
+    def give_up(self):
+        """The whole publication that is prepared is cancelled if it has begun."""
+        if self.whole is BEGUN and self.publication:
+            self.cancel()
+        self.whole = None
+
+    def finish_whole(self):
+        """Continues the whole publication whose map was fixed to its end."""
+        whole, self.whole = self.whole, None
+        if whole is None:
+            self.drafted()
+        elif whole is not BEGUN:
+            raise whole
+        left = True
         while left:
             left = self.step(pauses=False)
         return self.root.generation, self.root.edits, self.root.archive_len

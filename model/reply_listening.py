@@ -1,8 +1,8 @@
 """Blocks of `reply_script.py` about peers that a listener serves by turns. Each is a function of a script."""
 import connections
-from listening import END, FLOOD, Fixed, Peer, listen as listen_to, logged, pace, time_for
+from listening import END, FLOOD, Fixed, Peer, Turn, listen as listen_to, logged, pace, time_for
 from reply_admin import batch_of
-from reply_stand import BEGIN, CANCEL, GET_ARCHIVE, PUBLISH, STEP, Often, put, put_parts, request, text_of, with_point
+from reply_stand import BEGIN, CANCEL, GET_ARCHIVE, PUBLISH, STEP, Often, large_put, put, put_parts, request, text_of, with_point
 
 # Linux's errors: no descriptor is left, a signal, a connection is gone, a fault of the protocol, an argument at fault. Then one that is none.
 EMFILE, EINTR, ECONNABORTED, EPROTO, EINVAL, NO_NUMBER = 24, 4, 103, 71, 22, -1
@@ -379,7 +379,7 @@ STATUS = request("GET", "/admin/status")
 
 
 def whole_preparations(script):
-    script.say("A whole publication is prepared so too, and then made at once: its archive is of the map as it was when it was asked for.")
+    script.say("A whole publication is prepared so too, and its last step made with its reply: its archive is of the map as it was when it was asked for.")
     with_point(script)
     script.admin()
     one = Peer((0, PUBLISH), (10, STATUS), (20, GET_ARCHIVE), (30, END), answered=[PUBLISH, STATUS, GET_ARCHIVE], last=20)
@@ -466,5 +466,66 @@ def long_tiles(script):
     listen(script, first, second, order=[1, 1, 1, 1, 0, 1, 1, 1, 1], log=log, time=30)
 
 
+# How many turns the publication of a large map takes at most, and after how many of them it has begun: the map is fixed, its features are read,
+# which tiles they cover is read of each of 20 zooms, its only tile is made, and no other one is found.
+TURNS, BEGINS = 70, 24
+SHOWN_AT_ONCE = request("GET", "/map.pmtiles", b"", "range: bytes=0-126")
+
+
+def with_large_map(script):
+    """A disk with a map of several steps of 64 sectors, of which nothing is published."""
+    script.disk(1024)
+    script.admin()
+    for number in range(1, 4):
+        script.ask(*large_put(number))
+
+
+def listen_to_steps(script, others, answered=(PUBLISH, STATUS), turns=TURNS, last=(10,)):
+    """A whole publication of the first peer, and requests of a second one, one at each turn. Then what the first one asks."""
+    times = [0, *last]
+    first = Peer(*zip(times, answered), (30, END), answered=answered, last=times[-1])
+    second = Peer((0, b"".join(others)), (29, END), answered=others)
+    before, after = others[:turns], others[turns:]
+    order = [place for _ in before for place in (Turn(0), 1)] + [Turn(0)] * (TURNS - len(before)) + [1] * len(after) + [0] * (len(answered) - 1)
+    log = logged((2, len(others), "closed"), (1, len(answered), "closed"))
+    listen(script, first, second, order=order, log=log, time=30)
+
+
+def whole_steps(script):
+    script.say("The steps of a whole publication are made between other replies too: what is left is told meanwhile.")
+    with_large_map(script)
+    listen_to_steps(script, [STATUS] * TURNS)
+    script.ask(request("HEAD", "/map.pmtiles"), SHOWN_AT_ONCE)
+    script.note("What is edited meanwhile isn't in its archive, but in that of the next one.")
+    edits = [put(8), request("DELETE", "/features/2"), request("GET", "/features/2"), put(9), STATUS] * (TURNS // 5)
+    with_large_map(script)
+    listen_to_steps(script, edits)
+    script.ask(SHOWN_AT_ONCE, request("GET", "/map/0/0/0.hex"), PUBLISH, SHOWN_AT_ONCE)
+    script.note("Any other call of a publication waits for it once it has begun.")
+    for asked in (STEP, CANCEL, BEGIN):
+        with_large_map(script)
+        listen_to_steps(script, [*[DONE] * (BEGINS + 1), asked, STATUS], turns=BEGINS + 1)
+        script.ask(STEP, CANCEL, SHOWN_AT_ONCE)
+    script.note("One behind an empty line doesn't wait: it cancels it, and it is made anew.")
+    with_large_map(script)
+    listen_to_steps(script, [*[DONE] * (BEGINS + 1), b"\r\n" + STEP, put(8), STATUS])
+    script.ask(STEP, CANCEL, SHOWN_AT_ONCE)
+    script.note("So does a second one, which then is prepared and written in the same way.")
+    with_large_map(script)
+    first = Peer((0, PUBLISH), (10, STATUS), (30, END), answered=[PUBLISH, STATUS], last=10)
+    second = Peer((0, EDIT + PUBLISH), (10, STATUS), (21, END), answered=[EDIT, PUBLISH, STATUS], last=10)
+    order = [Turn(0), 1, *[Turn(0)] * TURNS, *[Turn(1)] * TURNS, 0, 1]
+    listen(script, first, second, order=order, log=logged((2, 3, "closed"), (1, 2, "closed")), time=30)
+    script.note("The disk fails at one of its calls: at a step between replies, at the last one, or at an edit between them.")
+    for kind in ("from", "lost", "made"):
+        for number in (3, 4, 66, 67, 68, 69, 70, 132, 133, 134, 350, 380):
+            with_large_map(script)
+            script.again(kind, number)
+            others = [DONE, put(9), *[DONE] * (BEGINS - 2), DONE, DONE, put(8), DONE, DONE, request("DELETE", "/features/9"), DONE]
+            listen_to_steps(script, others, answered=[PUBLISH, SHOWN_AT_ONCE])
+            script.again()
+            script.ask(DONE, request("GET", "/features/8"), SHOWN_AT_ONCE)
+
+
 BLOCKS = [no_descriptor, accepts_that_fail, so_many_are_open, turns, slow_readers, all_hold_too_much, so_many_reads]
-BLOCKS += [cut_anywhere, byte_by_byte, stages, paces, downloads, preparations, whole_preparations, long_tiles]
+BLOCKS += [cut_anywhere, byte_by_byte, stages, paces, downloads, preparations, whole_preparations, whole_steps, long_tiles]

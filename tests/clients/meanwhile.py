@@ -5,12 +5,14 @@ import os
 import random
 import select
 import socket
+import time
 
 from stand import JSON, Server, curl, feature, refusal, same, wanted
 
 POINTS, BATCH = 4096, 32
 BEGIN = b"POST /publish/begin HTTP/1.1\r\nhost: x\r\n\r\n"
 WHOLE = b"POST /publish HTTP/1.1\r\nhost: x\r\n\r\n"
+STEP = b"POST /publish/step HTTP/1.1\r\nhost: x\r\n\r\n"
 
 
 def fill(server):
@@ -77,7 +79,7 @@ def status_of(server):
 
 
 def whole(cases, folder):
-    """A whole publication, which is prepared so too, and then made at once."""
+    """A whole publication, which is prepared so too, and then written by steps between other replies."""
     with Server(folder, "whole", 65536) as server:
         fill(server)
         named(server, POINTS, "before")
@@ -122,10 +124,68 @@ def whole(cases, folder):
     os.remove(server.disk)
 
 
+def fill_large(server):
+    """Puts features of 30 KB, so that a publication writes 12,000 sectors."""
+    for number in range(100):
+        tags = {f"k{at}": f"{number} {at} " + "x" * 1000 for at in range(30)}
+        curl(f"{server.url}/features/{number}", "-X", "PUT", body=feature(last=0, tags=tags))
+
+
+def looked_at(server, is_over):
+    """What of the publication is left whenever the status is asked for, on one connection, until something is over, and the longest wait for it."""
+    found, longest = [], 0.0
+    other = http.client.HTTPConnection("127.0.0.1", server.port)
+    while not is_over(found):
+        start = time.monotonic()
+        other.request("GET", "/admin/status")
+        found.append(json.loads(other.getresponse().read())["left"])
+        longest = max(longest, time.monotonic() - start)
+    other.close()
+    return found, longest
+
+
+def has_begun(found):
+    return found[-1:] != [] and found[-1] is not None
+
+
+def written(cases, folder):
+    """A whole publication whose steps are made between other replies, beside other calls of a publication, and one whose asker goes away."""
+    with Server(folder, "written", 65536) as server:
+        fill_large(server)
+        with socket.create_connection(("127.0.0.1", server.port)) as asker, socket.create_connection(("127.0.0.1", server.port)) as second:
+            asker.sendall(WHOLE)
+            found, longest = looked_at(server, lambda _: select.select([asker], [], [], 0)[0])
+            lefts = sorted({left for left in found if left is not None}, reverse=True)
+            cases.show("a whole publication of some MB is made", answer(asker)[0], 200)
+            cases.show("others are answered while its sectors are written", len(lefts) > 9, True)
+            cases.show("each step is 64 sectors less", {(one - other) % 64 for one, other in zip(lefts, lefts[1:])}, {0})
+            cases.show("nobody waits for a second", longest < 1, True)
+            asker.sendall(WHOLE)
+            looked_at(server, has_begun)
+            second.sendall(STEP)
+            cases.show("a step beside it waits until it is over, and is refused", answer(second), (409, b"Idle\n"))
+            cases.show("and it is made", (answer(asker)[0], status_of(server)["generation"]), (200, 2))
+            asker.sendall(WHOLE)
+            looked_at(server, has_begun)
+        with socket.create_connection(("127.0.0.1", server.port)) as asker:
+            asker.sendall(WHOLE)
+            status, told = answer(asker)
+            archive = curl(server.url + "/map.pmtiles")[2]
+            cases.show("another one is made after who asked is gone", (status, json.loads(told)), (200, told_as(archive, status_of(server))))
+            asker.sendall(WHOLE)
+            looked_at(server, has_begun)
+        with socket.create_connection(("127.0.0.1", server.port)) as asker:
+            asker.sendall(BEGIN)
+            cases.show("and a beginning is answered", answer(asker)[0], 200)
+            same(cases, "which is anybody's to cancel", curl(server.url + "/publish/cancel", "-X", "POST"), wanted(204))
+    os.remove(server.disk)
+
+
 def meanwhile(cases, folder):
     """Publications that are prepared by a tile at a time, between which edits and looks are answered."""
     begun(cases, folder)
     whole(cases, folder)
+    written(cases, folder)
 
 
 def begun(cases, folder):

@@ -27,7 +27,7 @@ use Rattle.map_replies.specs.Bodies.{CheckedEdit}
 use Rattle.map_replies.specs.Meanings.{MeansBody, MeansIf, MeansEdit, MeansChecked, MeansNumbered, MeansPart, MeansJudged, MeansArchive, MeansTile}
 use Rattle.map_replies.specs.Meanings.{MeansPage, MeansList, MeansOnFeature, MeansView, MeansAction, MeansAllowed, MeansMethod, UnlessRefused, looks}
 use Rattle.map_replies.specs.Pages.{Entry, looks_from}
-use Rattle.map_replies.specs.Preparing.{asks_to_publish}
+use Rattle.map_replies.specs.Preparing.{asks_to_publish, AreMeanwhile, IsMeanwhile}
 use Rattle.map_replies.specs.declared.conditions.Needed.{Needed}
 use Rattle.map_replies.specs.declared.conditions.Needed.TheVariants.{Free}
 use Rattle.map_replies.specs.declared.conditions.Judged.{Judged}
@@ -54,6 +54,17 @@ AreApart (happening ∷ happenings) = IsApart happening × AreApart happenings
 pub apart_on : (before after : List Happening) → AreApart before → AreApart after → AreApart (before ++ after)
 apart_on [] after a b = b
 apart_on (happening ∷ before) after a b = (a.0, apart_on before after a.1 b)
+
+-- what is no call of a publication comes while one goes on
+meanwhile_one : (happening : Happening) → IsApart happening → IsMeanwhile happening
+meanwhile_one (begin outcome) apart = apart
+meanwhile_one (step outcome) apart = absurd apart
+meanwhile_one (cancel outcome) apart = apart
+meanwhile_one happening apart = tt
+
+pub apart_meanwhile : (happenings : List Happening) → AreApart happenings → AreMeanwhile happenings
+apart_meanwhile [] apart = tt
+apart_meanwhile (happening ∷ happenings) apart = (meanwhile_one happening apart.0, apart_meanwhile happenings apart.1)
 
 none : (happenings : List Happening) → happenings ≡ [] → AreApart happenings
 none happenings is = subst AreApart (sym is) tt

@@ -26,3 +26,4 @@ mod TileLemmas
 mod PageLemmas
 mod TagLemmas
 mod LimitNumbers
+mod WholeSteps

@@ -1,6 +1,6 @@
 -- What happens to the service of a listener, reply by reply, and what a publication in the making is of.
 use Rattle.std.proofs.Common.{◌≡◌, inl, inr, ◌⊎◌, ℕ, List, [], ◌∷◌, ◌++◌, length, Bool, true, false, Option, Some, None, Result, Ok, Err, refl, sym}
-use Rattle.std.proofs.Common.{ap, subst, ◌∙◌, append_assoc, arith}
+use Rattle.std.proofs.Common.{◌<◌, ap, subst, ◌∙◌, append_assoc, arith}
 use Rattle.std.specs.Prelude.{map, IfErr, IfOk}
 use Rattle.std.proofs.lemmas.Bool.{false≢true}
 use Rattle.std.proofs.lemmas.List.{append-nil}
@@ -17,7 +17,7 @@ use Rattle.feature_store.specs.Store.{FeatureMap}
 use Rattle.tile_routes.specs.Methods.{method_on}
 use Rattle.tile_routes.specs.Paths.{Asked}
 use Rattle.tile_service.specs.Drafted.{DraftedView}
-use Rattle.tile_service.specs.Machine.{Happening, begin, step}
+use Rattle.tile_service.specs.Machine.{Happening, begin, step, cancel}
 use Rattle.tile_service.specs.Prepared.{CanPrepare, prepared}
 use Rattle.tile_service.specs.Publishing.{HasNoContent}
 use Rattle.tile_service.specs.Runs.{IsUnfinished, RestEndsAs, TakesAll}
@@ -34,39 +34,31 @@ use Rattle.map_replies.specs.declared.preparing.PreparingReplies.{PreparingRepli
 use Rattle.map_replies.specs.Conditions.{ask_of}
 use Rattle.map_replies.specs.Meanings.{DiskFailed, asked_for, last_outcome}
 use Rattle.map_replies.specs.Preparing.{IsMadeReady, BeginsLate, PreparingReplied, PreparingFails, PreparingReads, PreparingStep, Meanwhile}
-use Rattle.map_replies.specs.Preparing.{IsToPublishWhole, GoesToItsEnd, EndsLate, meanwhile, without_draft}
+use Rattle.map_replies.specs.Preparing.{IsToPublishWhole, GoesToItsEnd, EndsLate, BeginsWhole, StepsWhole, CancelsWhole, GoesOnWhole, Prepares}
 use Rattle.map_replies.specs.Preparing.{IsToBegin, TellsMeanwhile, TellsMeanwhileCut, TellsMeanwhileRead, TellsPrepared, is_to_publish, inner_service}
+use Rattle.map_replies.specs.Preparing.{AreMeanwhile, beginning_of, has_begun, is_begun, meanwhile, without_draft}
 use Rattle.map_replies.specs.Tickets.{KeepsOldest, KeepsTickets, oldest_after}
 use Rattle.map_replies.specs.Words.{left_reply, published_reply}
 use Rattle.map_replies.specs.State.{access_of, tags_of, asked_service, settings_of, KeepsArchivesOn, ServiceReplies}
 use Rattle.map_replies.proofs.Answering.{device_failed}
-use Rattle.map_replies.proofs.Apart.{AreApart, apart_on, method_apart}
+use Rattle.map_replies.proofs.Apart.{AreApart, apart_meanwhile, apart_on, method_apart}
 use Rattle.map_replies.proofs.Goes.{Goes, Rests, rests_none, rests_undrafted, goes_all, goes_on, goes_rest, draft_after, all_beside}
 use Rattle.map_replies.proofs.LateBeginnings.{late_begun, late_refused}
-use Rattle.map_replies.proofs.OldestLemmas.{breaks_in_rest, published_by_reply}
+use Rattle.map_replies.proofs.OldestLemmas.{breaks_in_rest, published_by_reply, unbroken_before_rest}
 use Rattle.map_replies.proofs.TicketLemmas.{held_unasked}
 
 -- what there is, or else this
-abbrev got_or : DraftedView → Option DraftedView → DraftedView
+abbrev got_or : {A : Type 0} → A → Option A → A
 got_or other None = other
-got_or other (Some d) = d
+got_or other (Some a) = a
 
 -- there is none
-is_none : (o : Option DraftedView) (d : DraftedView) → o ≡ Some d → o ≡ None → ⊥
-is_none o d is none = false≢true (ap is_some (sym none ∙ is))
+is_none : {A : Type 0} (o : Option A) (a : A) → o ≡ Some a → o ≡ None → ⊥
+is_none o a is none = false≢true (ap is_some (sym none ∙ is))
 
--- what is known of the place where its map was fixed, while there is one
-abbrev fixed_now : Option DraftedView → Option ℕ → Option ℕ
-fixed_now None fixed = None
-fixed_now (Some d) fixed = fixed
-
-fixed_stays : (o : Option DraftedView) (fixed : Option ℕ) → (fixed_now o fixed ≡ fixed) ⊎ (fixed_now o fixed ≡ None)
-fixed_stays None fixed = inr refl
-fixed_stays (Some d) fixed = inl refl
-
-fixed_there : (o : Option DraftedView) (d : DraftedView) (fixed : Option ℕ) → o ≡ Some d → fixed_now o fixed ≡ fixed
-fixed_there None d fixed is = absurd (false≢true (ap is_some is))
-fixed_there (Some e) d fixed is = refl
+-- it is the one that is there
+is_it : {A : Type 0} (o : Option A) (a b : A) → o ≡ Some a → o ≡ Some b → a ≡ b
+is_it o a b is there = ap (got_or a) (sym is ∙ there)
 
 -- a draft that is gone stays gone
 still_none : (old new : Option DraftedView) → KeepsDraft old new → old ≡ None → new ≡ None
@@ -92,6 +84,58 @@ rest_last (Err fault) new last ends = ends
 -- a map has no content for other reasons than the disk
 content_needs_no_disk : (m : FeatureMap) (area : ℕ) (fault : ServiceFault) → HasNoContent m area fault → fault ≡ Device → ⊥
 content_needs_no_disk m area fault has device = subst (λ (f : ServiceFault). HasNoContent m area f) device has
+
+-- a beginning leaves something, or is refused, but not for the disk
+abbrev IsBeginning : Result ℕ ServiceFault → Type 0
+IsBeginning (Ok left) = 0 < left
+IsBeginning (Err fault) = fault ≡ Device → ⊥
+
+is_beginning : (size : ℕ) (d : DraftedView) (outcome : Result ℕ ServiceFault) (publication : Option PublicationView)
+    → BeginsDrafted size d outcome publication → IsBeginning outcome
+is_beginning size d (Ok left) publication begins = omega (arith, begins.3)
+is_beginning size d (Err fault) publication begins = content_needs_no_disk _ _ fault begins.1
+
+meanwhile_on : (before after : List Happening) → AreMeanwhile before → AreMeanwhile after → AreMeanwhile (before ++ after)
+meanwhile_on [] after a b = b
+meanwhile_on (happening ∷ before) after a b = (a.0, meanwhile_on before after a.1 b)
+
+-- ---- a whole publication that has begun
+
+-- The beginning of the whole publication that is prepared stands where its map was fixed, so many happenings from the start. Since then only steps
+-- of it were made, and calls that have nothing to do with publications.
+pub record Begun (run : List Happening) (beginning : Result ℕ ServiceFault) (fixed : ℕ) : Type 0 where
+  pub before : List Happening
+  pub after : List Happening
+  pub is : run ≡ before ++ begin beginning ∷ after
+  pub count : fixed ≡ length before
+  pub fits : IsBeginning beginning
+  pub along : AreMeanwhile after
+
+begun_on : (run more : List Happening) (beginning : Result ℕ ServiceFault) (n : ℕ) → Begun run beginning n → AreMeanwhile more
+    → Begun (run ++ more) beginning n
+begun_on run more beginning n so along = record {
+  before = so.before;
+  after = so.after ++ more;
+  is = ap (λ (l : List Happening). l ++ more) so.is ∙ append_assoc so.before (begin beginning ∷ so.after) more;
+  count = so.count;
+  fits = so.fits;
+  along = meanwhile_on so.after more so.along along;
+}
+
+-- what was left as it began
+begun_left : (beginning : Option (Result ℕ ServiceFault)) → is_begun beginning ≡ true → (left : ℕ) × (beginning ≡ Some (Ok left))
+begun_left None is = absurd (false≢true is)
+begun_left (Some (Ok left)) is = (left, refl)
+begun_left (Some (Err fault)) is = absurd (false≢true is)
+
+-- if it has begun, or its map was refused; nothing is in the making then
+abbrev pub IfBegun : {D : Type 0} → PreparingReplies D → List Happening → Option ℕ → Type 0
+IfBegun now run fixed = (beginning : Result ℕ ServiceFault) → beginning_of now ≡ Some beginning
+    → ((inner_service now).drafting ≡ None) × (n : ℕ) × (fixed ≡ Some n) × Begun run beginning n
+
+-- none is prepared
+none_begun : {D : Type 0} (now : PreparingReplies D) (run : List Happening) (fixed : Option ℕ) → beginning_of now ≡ None → IfBegun now run fixed
+none_begun now run fixed none beginning is = absurd (is_none (beginning_of now) beginning is none)
 
 module _ {D : Type 0} (sectors : D → ℕ) (honest : D → Type 0) (history : D → History) (faults : D → ℕ) where
   -- ---- a publication in the making
@@ -168,6 +212,7 @@ module _ {D : Type 0} (sectors : D → ℕ) (honest : D → Type 0) (history : D
     pub here : so ≡ meanwhile now so.run so.fixed
     pub goes : Goes sectors honest history (inner_service first) so.run (inner_service now)
     pub drafts : IfDrafts (inner_service first) (inner_service now) so.run so.fixed
+    pub begun : IfBegun now so.run so.fixed
 
   -- in the beginning nothing is in the making
   pub goes_from : (first : PreparingReplies D) → GoesMeanwhile first (without_draft first) (meanwhile (without_draft first) [] None)
@@ -175,70 +220,183 @@ module _ {D : Type 0} (sectors : D → ℕ) (honest : D → Type 0) (history : D
     here = refl;
     goes = rests_undrafted sectors honest history (inner_service first);
     drafts = λ d is. absurd (is_none None d is refl);
+    begun = none_begun (without_draft first) [] None refl;
   }
+
+  -- nothing is in the making
+  no_drafts : (first now : ServiceView D) (run : List Happening) (fixed : Option ℕ) → now.drafting ≡ None → IfDrafts first now run fixed
+  no_drafts first now run fixed none d is = absurd (is_none now.drafting d is none)
+
+  -- ---- a beginning that comes late
+
+  module _ (first old new : PreparingReplies D) (run : List Happening) (fixed : Option ℕ)
+      (outcome : Result ℕ ServiceFault) (late : BeginsLate old.replies.calls outcome new.replies.calls)
+      (so : (n : ℕ) × (fixed ≡ Some n) × Drafts (inner_service first) (inner_service old) run n) where
+    abbrev at_ready : ServiceView D
+    at_ready = inner_service old
+
+    abbrev at_begun : ServiceView D
+    at_begun = inner_service new
+
+    abbrev dr : Drafts (inner_service first) at_ready run so.0
+    dr = so.2
+
+    abbrev with_publication : ServiceView D
+    with_publication = record at_ready { publication = at_begun.publication }
+
+    -- the draft is that of the map that was fixed
+    is_drafted : BeginsDrafted at_ready.size (drafted_now dr.then) outcome at_begun.publication
+    is_drafted = subst (λ (d : DraftedView). BeginsDrafted at_ready.size d outcome at_begun.publication)
+        (ap (got_or late.ready.draft) (sym late.ready.is ∙ dr.draft)) late.begins
+
+    begun_late : (o : Result ℕ ServiceFault) → BeginsDrafted at_ready.size (drafted_now dr.then) o at_begun.publication
+        → Goes sectors honest history (prepared dr.then) (begin o ∷ dr.after) with_publication
+    begun_late (Ok left) is = late_begun sectors honest history dr.then at_ready dr.after dr.can dr.since left at_begun.publication
+        (all_beside sectors honest history (prepared dr.then) at_ready dr.after dr.apart dr.since late.ready.unbroken).1 is
+    begun_late (Err fault) is =
+        subst (λ (o : Option PublicationView). Goes sectors honest history (prepared dr.then) (begin (Err fault) ∷ dr.after)
+        (record at_ready { publication = o })) (late.ready.none ∙ sym is.0)
+        (late_refused sectors honest history dr.then at_ready dr.after dr.can dr.since fault at_begun.publication is)
+
+    dropped : Rests sectors honest history with_publication at_begun
+    dropped = subst (λ (s : ServiceView D). Rests sectors honest history with_publication s) (sym (ap (λ (c : Calls D). c.service) late.same))
+        (rests_undrafted sectors honest history with_publication)
+
+    abbrev late_run : List Happening
+    late_run = dr.before ++ begin outcome ∷ dr.after
+
+    late_runs : Goes sectors honest history (inner_service first) late_run at_begun
+    late_runs = goes_on sectors honest history (inner_service first) (prepared dr.then) at_begun dr.before (begin outcome ∷ dr.after) dr.goes
+        (goes_rest sectors honest history (prepared dr.then) with_publication at_begun (begin outcome ∷ dr.after) (begun_late outcome is_drafted) dropped)
+
+    late_drafts : (at : Option ℕ) → IfDrafts (inner_service first) at_begun late_run at
+    late_drafts at = no_drafts (inner_service first) at_begun late_run at (ap (λ (c : Calls D). c.service.drafting) late.same)
+
+    late_is_begun : Begun late_run outcome so.0
+    late_is_begun = record {
+      before = dr.before;
+      after = dr.after;
+      is = refl;
+      count = dr.count;
+      fits = is_beginning at_ready.size (drafted_now dr.then) outcome at_begun.publication is_drafted;
+      along = apart_meanwhile dr.after dr.apart;
+    }
 
   -- ---- a reply
 
   module _ (first old new : PreparingReplies D) (run : List Happening) (fixed : Option ℕ) (request : RequestView) (reply : ReplyView)
       (goes : Goes sectors honest history (inner_service first) run (inner_service old))
-      (drafts : IfDrafts (inner_service first) (inner_service old) run fixed) where
+      (drafts : IfDrafts (inner_service first) (inner_service old) run fixed) (begun : IfBegun old run fixed) where
     abbrev before : ServiceView D
     before = inner_service old
 
     abbrev now : ServiceView D
     now = inner_service new
 
-    -- what is told now
-    module _ (ready : MapReplies D) (made : IsMadeReady old.replies request ready)
+    -- to a request for no call of a publication
+    module _ (ready : MapReplies D) (same : ready ≡ old.replies) (whole : beginning_of new ≡ beginning_of old)
+        (unasked : is_to_publish old.replies request ≡ false)
         (is : ServiceReplies sectors honest history faults ready request reply new.replies) where
       abbrev happenings : List Happening
       happenings = is.0.0
 
-      abbrev next : Meanwhile D
-      next = meanwhile new (run ++ happenings) (fixed_now now.drafting fixed)
-
-      ready_rests : IsMadeReady old.replies request ready → Rests sectors honest history before (asked_service ready)
-      ready_rests (inl same) =
-          subst (λ (r : MapReplies D). Rests sectors honest history before (asked_service r)) (sym same.0) (rests_none sectors honest history before)
-      ready_rests (inr same) =
-          subst (λ (r : MapReplies D). Rests sectors honest history before (asked_service r)) (sym same) (rests_undrafted sectors honest history before)
+      rests : Rests sectors honest history before (asked_service ready)
+      rests = subst (λ (r : MapReplies D). Rests sectors honest history before (asked_service r)) (sym same) (rests_none sectors honest history before)
 
       more : Goes sectors honest history before happenings now
-      more = goes_all sectors honest history before (asked_service ready) now happenings (ready_rests made) is.0.2
+      more = goes_all sectors honest history before (asked_service ready) now happenings rests is.0.2
 
-      kept : KeepsDraft (asked_service ready).drafting now.drafting
-      kept = draft_after sectors honest history (asked_service ready) now happenings is.0.2
-
-      -- nothing that has to do with a publication was asked for
-      other : ready ≡ old.replies → is_to_publish old.replies request ≡ false → AreApart happenings
-      other same unasked = method_apart (DiskFailed faults (asked_service ready) now) (status_of (asked_service ready)) (status_of now)
+      apart : AreApart happenings
+      apart = method_apart (DiskFailed faults (asked_service ready) now) (status_of (asked_service ready)) (status_of now)
           (asked_for (access_of ready) request) (method_on request.method (asked_for (access_of ready) request)) (ask_of (tags_of ready) request) request.body
           (ap (λ (r : MapReplies D). is_to_publish r request) same ∙ unasked) reply happenings is.0.1
 
-      next_drafts : IsMadeReady old.replies request ready → KeepsDraft (asked_service ready).drafting now.drafting
-          → IfDrafts (inner_service first) now (run ++ happenings) (fixed_now now.drafting fixed)
-      next_drafts (inl same) (inl stays) d there =
-          let as_before : now.drafting ≡ before.drafting = stays ∙ ap (λ (r : MapReplies D). (asked_service r).drafting) same.0 in
-          let so_far = drafts d (sym as_before ∙ there) in (
-            so_far.0,
-            fixed_there now.drafting d fixed there ∙ so_far.1,
-            drafts_on (inner_service first) before now run happenings so_far.0 so_far.2 (other same.0 same.1) more as_before,
-          )
-      next_drafts (inr same) (inl stays) d there =
-          absurd (is_none now.drafting d there (stays ∙ ap (λ (r : MapReplies D). (asked_service r).drafting) same))
-      next_drafts made (inr gone) d there = absurd (is_none now.drafting d there gone)
+      kept : KeepsDraft before.drafting now.drafting
+      kept = subst (λ (r : MapReplies D). KeepsDraft (asked_service r).drafting now.drafting) same
+          (draft_after sectors honest history (asked_service ready) now happenings is.0.2)
 
-      goes_next : GoesMeanwhile first new next
-      goes_next = record {
+      drafts_next : KeepsDraft before.drafting now.drafting → IfDrafts (inner_service first) now (run ++ happenings) fixed
+      drafts_next (inl stays) d there =
+          let so_far = drafts d (sym stays ∙ there) in
+          (so_far.0, so_far.1, drafts_on (inner_service first) before now run happenings so_far.0 so_far.2 apart more stays)
+      drafts_next (inr gone) d there = absurd (is_none now.drafting d there gone)
+
+      begun_next : IfBegun new (run ++ happenings) fixed
+      begun_next beginning there =
+          let so_far = begun beginning (sym whole ∙ there) in (
+            still_none before.drafting now.drafting kept so_far.0,
+            so_far.1,
+            so_far.2,
+            begun_on run happenings beginning so_far.1 so_far.3 (apart_meanwhile happenings apart),
+          )
+
+      beside_goes : GoesMeanwhile first new (meanwhile new (run ++ happenings) fixed)
+      beside_goes = record {
         here = refl;
         goes = goes_on sectors honest history (inner_service first) before now run happenings goes more;
-        drafts = next_drafts made kept;
+        drafts = drafts_next kept;
+        begun = begun_next;
       }
 
-      told_now : (then : Meanwhile D) × TellsMeanwhile sectors honest history faults (meanwhile old run fixed) request reply then
-          × GoesMeanwhile first new then
-      told_now =
-          (next, inl (ready, made, (happenings, is.0.1, is.0.2, refl, is.1, is.2, is.3), fixed_stays now.drafting fixed), goes_next)
+    -- to a call of a publication, before which what was prepared is dropped or given up
+    module _ (done : List Happening) (ready : MapReplies D) (goes_ready : Goes sectors honest history before done (asked_service ready))
+        (bare : (asked_service ready).drafting ≡ None) (whole : beginning_of new ≡ None)
+        (is : ServiceReplies sectors honest history faults ready request reply new.replies) where
+      abbrev answered : List Happening
+      answered = is.0.0
+
+      asked_goes : GoesMeanwhile first new (meanwhile new ((run ++ done) ++ answered) None)
+      asked_goes = record {
+        here = refl;
+        goes = goes_on sectors honest history (inner_service first) (asked_service ready) now (run ++ done) answered
+            (goes_on sectors honest history (inner_service first) before (asked_service ready) run done goes goes_ready)
+            (goes_all sectors honest history (asked_service ready) (asked_service ready) now answered
+            (rests_none sectors honest history (asked_service ready)) is.0.2);
+        drafts = no_drafts (inner_service first) now ((run ++ done) ++ answered) None
+            (still_none (asked_service ready).drafting now.drafting
+            (draft_after sectors honest history (asked_service ready) now answered is.0.2) bare);
+        begun = none_begun new ((run ++ done) ++ answered) None whole;
+      }
+
+    abbrev Told : Type 0
+    Told = (then : Meanwhile D) × TellsMeanwhile sectors honest history faults (meanwhile old run fixed) request reply then
+        × GoesMeanwhile first new then
+
+    -- what is told now
+    told_now : (done : List Happening) (ready : MapReplies D)
+        → IsMadeReady sectors honest history faults old request done ready (beginning_of new)
+        → ServiceReplies sectors honest history faults ready request reply new.replies → Told
+    told_now done ready (inl made) is =
+        let run_is : run ++ is.0.0 ≡ (run ++ done) ++ is.0.0 =
+        sym (ap (λ (l : List Happening). (run ++ l) ++ is.0.0) made.0 ∙ ap (λ (l : List Happening). l ++ is.0.0) (append-nil run)) in (
+          meanwhile new (run ++ is.0.0) fixed,
+          inl (done, ready, inl made, (is.0.0, is.0.1, is.0.2, run_is, is.1, is.2, is.3), inl (refl, made.3)),
+          beside_goes ready made.1 made.2 made.3 is,
+        )
+    told_now done ready (inr (inl made)) is = (
+      meanwhile new ((run ++ done) ++ is.0.0) None,
+      inl (done, ready, inr (inl made), (is.0.0, is.0.1, is.0.2, refl, is.1, is.2, is.3), inr refl),
+      asked_goes done ready
+          (subst (λ (l : List Happening). Goes sectors honest history before l (asked_service ready)) (sym made.0)
+          (subst (λ (r : MapReplies D). Rests sectors honest history before (asked_service r)) (sym made.1)
+          (rests_undrafted sectors honest history before)))
+          (ap (λ (r : MapReplies D). (asked_service r).drafting) made.1) made.2 is,
+    )
+    told_now done ready (inr (inr made)) is =
+        let cancelled : ServiceView D = made.1.service in
+        let one : Goes sectors honest history before (cancel made.0 ∷ []) (asked_service ready) = (
+          before,
+          cancelled,
+          rests_none sectors honest history before,
+          made.6.takes,
+          subst (λ (r : MapReplies D). Rests sectors honest history cancelled (asked_service r)) (sym made.3)
+              (rests_undrafted sectors honest history cancelled),
+        ) in (
+          meanwhile new ((run ++ done) ++ is.0.0) None,
+          inl (done, ready, inr (inr made), (is.0.0, is.0.1, is.0.2, refl, is.1, is.2, is.3), inr refl),
+          asked_goes done ready (subst (λ (l : List Happening). Goes sectors honest history before l (asked_service ready)) (sym made.2) one)
+              (ap (λ (r : MapReplies D). (asked_service r).drafting) made.3) made.4 is,
+        )
 
     -- what is told of a reply that was cut short because the disk failed
     told_cut : PreparingFails sectors honest history faults old request reply new
@@ -246,48 +404,10 @@ module _ {D : Type 0} (sectors : D → ℕ) (honest : D → Type 0) (history : D
         × GoesMeanwhile first new then
     told_cut is =
         let so = is.1.0 in (
-          next old.replies (inl (refl, is.0)) so,
-          (((so.0.0, so.0.1, so.0.2, refl, so.1, so.2, so.3), is.1.1), fixed_stays now.drafting fixed),
-          goes_next old.replies (inl (refl, is.0)) so,
+          meanwhile new (run ++ so.0.0) fixed,
+          (((so.0.0, so.0.1, so.0.2, refl, so.1, so.2, so.3), is.1.1), inl refl),
+          beside_goes old.replies refl is.2 is.0 so,
         )
-
-    -- the late answer to a beginning
-    module _ (outcome : Result ℕ ServiceFault) (late : BeginsLate old.replies.calls outcome new.replies.calls)
-        (so : (n : ℕ) × (fixed ≡ Some n) × Drafts (inner_service first) before run n) where
-      abbrev dr : Drafts (inner_service first) before run so.0
-      dr = so.2
-
-      abbrev with_publication : ServiceView D
-      with_publication = record before { publication = now.publication }
-
-      -- the draft is that of the map that was fixed
-      is_drafted : BeginsDrafted before.size (drafted_now dr.then) outcome now.publication
-      is_drafted = subst (λ (d : DraftedView). BeginsDrafted before.size d outcome now.publication)
-          (ap (got_or late.ready.draft) (sym late.ready.is ∙ dr.draft)) late.begins
-
-      begun : (o : Result ℕ ServiceFault) → BeginsDrafted before.size (drafted_now dr.then) o now.publication
-          → Goes sectors honest history (prepared dr.then) (begin o ∷ dr.after) with_publication
-      begun (Ok left) is = late_begun sectors honest history dr.then before dr.after dr.can dr.since left now.publication
-          (all_beside sectors honest history (prepared dr.then) before dr.after dr.apart dr.since late.ready.unbroken).1 is
-      begun (Err fault) is =
-          subst (λ (o : Option PublicationView). Goes sectors honest history (prepared dr.then) (begin (Err fault) ∷ dr.after)
-          (record before { publication = o })) (late.ready.none ∙ sym is.0)
-          (late_refused sectors honest history dr.then before dr.after dr.can dr.since fault now.publication is)
-
-      dropped : Rests sectors honest history with_publication now
-      dropped = subst (λ (s : ServiceView D). Rests sectors honest history with_publication s) (sym (ap (λ (c : Calls D). c.service) late.same))
-          (rests_undrafted sectors honest history with_publication)
-
-      abbrev late_run : List Happening
-      late_run = dr.before ++ begin outcome ∷ dr.after
-
-      late_goes : GoesMeanwhile first new (meanwhile new late_run None)
-      late_goes = record {
-        here = refl;
-        goes = goes_on sectors honest history (inner_service first) (prepared dr.then) now dr.before (begin outcome ∷ dr.after) dr.goes
-            (goes_rest sectors honest history (prepared dr.then) with_publication now (begin outcome ∷ dr.after) (begun outcome is_drafted) dropped);
-        drafts = λ d is. absurd (is_none now.drafting d is (ap (λ (c : Calls D). c.service.drafting) late.same));
-      }
 
     -- tickets are held after it: nothing of the disk changes, and no archive
     late_held : (outcome : Result ℕ ServiceFault) → BeginsLate old.replies.calls outcome new.replies.calls
@@ -300,12 +420,11 @@ module _ {D : Type 0} (sectors : D → ℕ) (honest : D → Type 0) (history : D
         (ap (λ (s : ServiceView D). s.generation) service))
 
     told_late : (outcome : Result ℕ ServiceFault) → IsToBegin old.replies request → reply ≡ left_reply outcome
-        → new.replies ≡ record old.replies { calls = new.replies.calls } → BeginsLate old.replies.calls outcome new.replies.calls
-        → (then : Meanwhile D) × TellsMeanwhile sectors honest history faults (meanwhile old run fixed) request reply then
-        × GoesMeanwhile first new then
-    told_late outcome asked is same late =
+        → new.replies ≡ record old.replies { calls = new.replies.calls } → beginning_of new ≡ None
+        → BeginsLate old.replies.calls outcome new.replies.calls → Told
+    told_late outcome asked is same none late =
         let so = drafts late.ready.draft late.ready.is in (
-          meanwhile new (late_run outcome late so) None,
+          meanwhile new (late_run first old new run fixed outcome late so) None,
           inr (inl (
             asked,
             outcome,
@@ -320,147 +439,124 @@ module _ {D : Type 0} (sectors : D → ℕ) (honest : D → Type 0) (history : D
             late_held outcome late,
             inl (ap (λ (c : Calls D). c.oldest) late.same),
           )),
-          late_goes outcome late so,
-        )
-
-  -- ---- the late answer to a whole publication
-
-  module _ (first old new : PreparingReplies D) (run : List Happening) (fixed : Option ℕ) (request : RequestView) (reply : ReplyView)
-      (goes : Goes sectors honest history (inner_service first) run (inner_service old))
-      (drafts : IfDrafts (inner_service first) (inner_service old) run fixed) (outcome : Result Published ServiceFault)
-      (asked : IsToPublishWhole old.replies request) (is : reply ≡ published_reply outcome)
-      (same : new.replies ≡ record old.replies { calls = new.replies.calls }) where
-    abbrev earlier : Calls D
-    earlier = old.replies.calls
-
-    abbrev later : Calls D
-    later = new.replies.calls
-
-    -- the replies when it has begun
-    abbrev with_calls : Calls D → PreparingReplies D
-    with_calls begun = record old { replies = record old.replies { calls = begun } }
-
-    abbrev ToldWhole : Type 0
-    ToldWhole = (then : Meanwhile D) × TellsMeanwhile sectors honest history faults (meanwhile old run fixed) request reply then
-        × GoesMeanwhile first new then
-
-    whole_archives : (begun : Calls D) (left : ℕ) → BeginsLate earlier (Ok left) begun
-        → GoesToItsEnd sectors honest history faults begun outcome later → KeepsArchivesOn old.replies request reply new.replies
-    whole_archives begun left late ends =
-        subst (λ (a : Asked). KeepsOldest a reply.status earlier later) (sym asked.0)
-        (published_by_reply outcome reply earlier later is
-        (ap (λ (c : Calls D). c.oldest) ends.same
-        ∙ ap (λ (c : Calls D). oldest_after outcome c.oldest c.service.generation) late.same)
-        (λ device. (late.ready.unbroken, breaks_in_rest sectors honest history begun.service later.service outcome device ends.takes)))
-
-    whole_failed : (begun : Calls D) (left : ℕ) → BeginsLate earlier (Ok left) begun
-        → GoesToItsEnd sectors honest history faults begun outcome later
-        → IfErr outcome (λ fault. fault ≡ Device → DiskFailed faults earlier.service later.service)
-    whole_failed begun left late ends = device_failed outcome (faults earlier.service.disk) (faults later.service.disk)
-        (subst (λ (n : ℕ). TellsDevice outcome n (faults later.service.disk)) (ap (λ (c : Calls D). faults c.service.disk) late.same) ends.failed)
-
-    -- its steps follow
-    told_made : (left : ℕ) (begun : Calls D) → BeginsLate earlier (Ok left) begun → GoesToItsEnd sectors honest history faults begun outcome later → ToldWhole
-    told_made left begun late ends =
-        let so = drafts late.ready.draft late.ready.is in
-        let steps : List (Result ℕ ServiceFault) = ends.takes.before ++ ends.takes.last ∷ [] in
-        let until : List Happening = so.2.before ++ begin (Ok left) ∷ so.2.after in
-        let along = late_goes first old (with_calls begun) run fixed request reply goes drafts (Ok left) late so in
-        let none : later.service.drafting ≡ None =
-        still_none begun.service.drafting later.service.drafting
-        (draft_after sectors honest history begun.service later.service (map step steps) ends.takes.takes)
-        (ap (λ (c : Calls D). c.service.drafting) late.same) in (
-          meanwhile new (until ++ map step steps) None,
-          inr (inr (
-            asked,
-            Ok left,
-            steps,
-            (
-              outcome,
-              is,
-              whole_failed begun left late ends,
-              rest_told outcome later.service ends.takes.last ends.takes.ends,
-              Ok left ∷ ends.takes.before,
-              All-cons IsUnfinished (Ok left) ends.takes.before (omega (arith, late.begins.3)) ends.takes.unfinished,
-              ap (λ (l : Result ℕ ServiceFault). Ok left ∷ (ends.takes.before ++ l ∷ []))
-                  (rest_last outcome later.service ends.takes.last ends.takes.ends),
-            ),
-            so.2.before,
-            so.2.after,
-            so.2.is,
-            so.1 ∙ ap (λ (n : ℕ). Some n) so.2.count,
-            refl,
-            refl,
-            ap (λ (r : MapReplies D). settings_of r) same,
-            (λ place ticketed held. ends.held place ticketed
-                (late_held first old (with_calls begun) run fixed request reply goes drafts (Ok left) late place ticketed held)),
-            whole_archives begun left late ends,
-          )),
           record {
             here = refl;
-            goes = goes_on sectors honest history (inner_service first) begun.service later.service until (map step steps) along.goes
-                (goes_all sectors honest history begun.service begun.service later.service (map step steps)
-                (rests_none sectors honest history begun.service) ends.takes.takes);
-            drafts = λ d some. absurd (is_none later.service.drafting d some none);
+            goes = late_runs first old new run fixed outcome late so;
+            drafts = late_drafts first old new run fixed outcome late so None;
+            begun = none_begun new (late_run first old new run fixed outcome late so) None none;
           },
         )
 
-    -- or its map is refused
-    told_unmade : (fault : ServiceFault) → BeginsLate earlier (Err fault) later → outcome ≡ Err fault → ToldWhole
-    told_unmade fault late refused =
-        let so = drafts late.ready.draft late.ready.is in
-        let until : List Happening = so.2.before ++ begin (Err fault) ∷ so.2.after in
-        let along = late_goes first old new run fixed request reply goes drafts (Err fault) late so in (
-          meanwhile new (until ++ map step []) None,
-          inr (inr (
-            asked,
-            Err fault,
-            [],
-            (
-              outcome,
-              is,
-              subst (λ (o : Result Published ServiceFault). IfErr o (λ f. f ≡ Device → DiskFailed faults earlier.service later.service)) (sym refused)
-                  (λ device. absurd (content_needs_no_disk _ _ fault late.begins.1 device)),
-              subst (λ (o : Result Published ServiceFault). IfOk o (IsTold (status_of later.service))) (sym refused) tt,
+    -- ---- the answer to a whole publication
+
+    module _ (outcome : Result Published ServiceFault) (asked : IsToPublishWhole old.replies request) (is : reply ≡ published_reply outcome)
+        (same : new.replies ≡ record old.replies { calls = new.replies.calls }) (none : beginning_of new ≡ None) where
+      abbrev earlier : Calls D
+      earlier = old.replies.calls
+
+      abbrev later : Calls D
+      later = new.replies.calls
+
+      whole_archives : GoesToItsEnd sectors honest history faults earlier outcome later → KeepsArchivesOn old.replies request reply new.replies
+      whole_archives ends =
+          subst (λ (a : Asked). KeepsOldest a reply.status earlier later) (sym asked.0)
+          (published_by_reply outcome reply earlier later is (ap (λ (c : Calls D). c.oldest) ends.same)
+          (λ device. (
+            unbroken_before_rest sectors honest history before now outcome device ends.takes,
+            breaks_in_rest sectors honest history before now outcome device ends.takes,
+          )))
+
+      -- its steps follow
+      told_made : (left : ℕ) → beginning_of old ≡ Some (Ok left) → GoesToItsEnd sectors honest history faults earlier outcome later → Told
+      told_made left has ends =
+          let so = begun (Ok left) has in
+          let steps : List (Result ℕ ServiceFault) = ends.takes.before ++ ends.takes.last ∷ [] in (
+            meanwhile new (run ++ map step steps) None,
+            inr (inr (
+              asked,
+              Ok left,
+              steps,
+              (
+                outcome,
+                is,
+                device_failed outcome (faults before.disk) (faults now.disk) ends.failed,
+                rest_told outcome now ends.takes.last ends.takes.ends,
+                Ok left ∷ ends.takes.before,
+                All-cons IsUnfinished (Ok left) ends.takes.before so.3.fits ends.takes.unfinished,
+                ap (λ (l : Result ℕ ServiceFault). Ok left ∷ (ends.takes.before ++ l ∷ []))
+                    (rest_last outcome now ends.takes.last ends.takes.ends),
+              ),
+              so.3.before,
+              so.3.after,
+              so.3.is,
+              so.3.along,
+              so.2 ∙ ap (λ (n : ℕ). Some n) so.3.count,
+              refl,
+              refl,
+              ap (λ (r : MapReplies D). settings_of r) same,
+              ends.held,
+              whole_archives ends,
+            )),
+            record {
+              here = refl;
+              goes = goes_on sectors honest history (inner_service first) before now run (map step steps) goes
+                  (goes_all sectors honest history before before now (map step steps) (rests_none sectors honest history before) ends.takes.takes);
+              drafts = no_drafts (inner_service first) now (run ++ map step steps) None
+                  (still_none before.drafting now.drafting (draft_after sectors honest history before now (map step steps) ends.takes.takes) so.0);
+              begun = none_begun new (run ++ map step steps) None none;
+            },
+          )
+
+      -- or its map was refused
+      told_unmade : (fault : ServiceFault) → beginning_of old ≡ Some (Err fault) → outcome ≡ Err fault → later ≡ earlier → Told
+      told_unmade fault has refused stays =
+          let so = begun (Err fault) has in (
+            meanwhile new (run ++ map step []) None,
+            inr (inr (
+              asked,
+              Err fault,
               [],
-              All-nil IsUnfinished,
-              ap (λ (o : Result Published ServiceFault). last_outcome o ∷ []) (sym refused),
-            ),
-            so.2.before,
-            so.2.after,
-            so.2.is,
-            so.1 ∙ ap (λ (n : ℕ). Some n) so.2.count,
-            refl,
-            refl,
-            ap (λ (r : MapReplies D). settings_of r) same,
-            late_held first old new run fixed request reply goes drafts (Err fault) late,
-            inl (ap (λ (c : Calls D). c.oldest) late.same),
-          )),
-          record {
-            here = refl;
-            goes = goes_on sectors honest history (inner_service first) later.service later.service until [] along.goes
-                (rests_none sectors honest history later.service);
-            drafts = λ d some. absurd (is_none later.service.drafting d some (ap (λ (c : Calls D). c.service.drafting) late.same));
-          },
-        )
+              (
+                outcome,
+                is,
+                subst (λ (o : Result Published ServiceFault). IfErr o (λ f. f ≡ Device → DiskFailed faults before now)) (sym refused)
+                    (λ device. absurd (so.3.fits device)),
+                subst (λ (o : Result Published ServiceFault). IfOk o (IsTold (status_of now))) (sym refused) tt,
+                [],
+                All-nil IsUnfinished,
+                ap (λ (o : Result Published ServiceFault). last_outcome o ∷ []) (sym refused),
+              ),
+              so.3.before,
+              so.3.after,
+              so.3.is,
+              so.3.along,
+              so.2 ∙ ap (λ (n : ℕ). Some n) so.3.count,
+              refl,
+              refl,
+              ap (λ (r : MapReplies D). settings_of r) same,
+              (λ place ticketed held. subst (λ (c : Calls D). IsHeld honest history place ticketed c.oldest c.service) (sym stays) held),
+              inl (ap (λ (c : Calls D). c.oldest) stays),
+            )),
+            record {
+              here = refl;
+              goes = goes_on sectors honest history (inner_service first) before now run [] goes
+                  (subst (λ (c : Calls D). Rests sectors honest history before c.service) (sym stays) (rests_none sectors honest history before));
+              drafts = no_drafts (inner_service first) now (run ++ map step []) None (ap (λ (c : Calls D). c.service.drafting) stays ∙ so.0);
+              begun = none_begun new (run ++ map step []) None none;
+            },
+          )
 
-    told_whole : (beginning : Result ℕ ServiceFault) (begun : Calls D) → BeginsLate earlier beginning begun
-        → EndsLate sectors honest history faults beginning begun outcome later → ToldWhole
-    told_whole (Ok left) begun late ends = told_made left begun late ends
-    told_whole (Err fault) begun late ends =
-        told_unmade fault (subst (λ (c : Calls D). BeginsLate earlier (Err fault) c) (sym ends.1) late) ends.0
+      told_whole : (beginning : Result ℕ ServiceFault) → beginning_of old ≡ Some beginning
+          → EndsLate sectors honest history faults beginning earlier outcome later → Told
+      told_whole (Ok left) has ends = told_made left has ends
+      told_whole (Err fault) has ends = told_unmade fault has ends.0 ends.1
 
-  -- ---- a reply of whatever kind
+    -- ---- a reply of whatever kind
 
-  module _ (first old new : PreparingReplies D) (run : List Happening) (fixed : Option ℕ) (request : RequestView) (reply : ReplyView)
-      (goes : Goes sectors honest history (inner_service first) run (inner_service old))
-      (drafts : IfDrafts (inner_service first) (inner_service old) run fixed) where
-    told : PreparingReplied sectors honest history faults old request reply new
-        → (then : Meanwhile D) × TellsMeanwhile sectors honest history faults (meanwhile old run fixed) request reply then
-        × GoesMeanwhile first new then
-    told (inl is) = told_now first old new run fixed request reply goes drafts is.0 is.1 is.2
-    told (inr (inl is)) = told_late first old new run fixed request reply goes drafts is.0 is.1 is.2 is.3 is.4
-    told (inr (inr is)) = told_whole first old new run fixed request reply goes drafts is.0 is.1 is.2 is.3 is.4.0 is.4.1 is.4.2 is.4.3
+    told : PreparingReplied sectors honest history faults old request reply new → Told
+    told (inl is) = told_now is.0 is.1 is.2 is.3
+    told (inr (inl is)) = told_late is.0 is.1 is.2 is.3 is.4 is.5
+    told (inr (inr is)) = told_whole is.1 is.2 is.3 is.4 is.6 is.0 is.5 is.7
 
   -- ---- by whatever was told so far
 
@@ -475,7 +571,7 @@ module _ {D : Type 0} (sectors : D → ℕ) (honest : D → Type 0) (history : D
   replied first old so request reply new along is =
       of_here first old so
       (λ (m : Meanwhile D). (then : Meanwhile D) × TellsMeanwhile sectors honest history faults m request reply then × GoesMeanwhile first new then)
-      along (told first old new so.run so.fixed request reply along.goes along.drafts is)
+      along (told first old new so.run so.fixed request reply along.goes along.drafts along.begun is)
 
   pub cut : (first old : PreparingReplies D) (so : Meanwhile D) (request : RequestView) (reply : ReplyView) (new : PreparingReplies D)
       → GoesMeanwhile first old so → PreparingFails sectors honest history faults old request reply new
@@ -483,7 +579,7 @@ module _ {D : Type 0} (sectors : D → ℕ) (honest : D → Type 0) (history : D
   cut first old so request reply new along is =
       of_here first old so
       (λ (m : Meanwhile D). (then : Meanwhile D) × TellsMeanwhileCut sectors honest history faults m request reply then × GoesMeanwhile first new then)
-      along (told_cut first old new so.run so.fixed request reply along.goes along.drafts is)
+      along (told_cut first old new so.run so.fixed request reply along.goes along.drafts along.begun is)
 
   -- ---- a read of a download
 
@@ -493,13 +589,13 @@ module _ {D : Type 0} (sectors : D → ℕ) (honest : D → Type 0) (history : D
   read_told first old so ticket offset count outcome new along is =
       let before : ServiceView D = inner_service old in
       let now : ServiceView D = inner_service new in
-      let same : now.drafting ≡ before.drafting = ap (λ (s : ServiceView D). s.drafting) is.0.same in
+      let same : now.drafting ≡ before.drafting = ap (λ (s : ServiceView D). s.drafting) is.0.0.same in
       let rests : Rests sectors honest history before now = record {
         read = record {
-          same = is.0.same ∙ ap (λ (d : Option DraftedView). record before { disk = now.disk; drafting = d }) (sym same);
-          disk = is.0.disk;
+          same = is.0.0.same ∙ ap (λ (d : Option DraftedView). record before { disk = now.disk; drafting = d }) (sym same);
+          disk = is.0.0.disk;
         };
-        up = is.0.up;
+        up = is.0.0.up;
       } in
       of_here first old so
       (λ (m : Meanwhile D). (then : Meanwhile D) × TellsMeanwhileRead sectors honest history faults m ticket offset count outcome then
@@ -511,6 +607,8 @@ module _ {D : Type 0} (sectors : D → ℕ) (honest : D → Type 0) (history : D
           goes = goes_rest sectors honest history (inner_service first) before now so.run along.goes rests;
           drafts = λ d there. let so_far = along.drafts d (sym same ∙ there) in
               (so_far.0, so_far.1, drafts_rest (inner_service first) before now so.run so_far.0 so_far.2 rests same);
+          begun = λ beginning there. let so_far = along.begun beginning (sym is.1 ∙ there) in
+              (same ∙ so_far.0, so_far.1, so_far.2, so_far.3);
         },
       )
 
@@ -518,70 +616,158 @@ module _ {D : Type 0} (sectors : D → ℕ) (honest : D → Type 0) (history : D
 
   module _ (first old new : PreparingReplies D) (run : List Happening) (fixed : Option ℕ)
       (goes : Goes sectors honest history (inner_service first) run (inner_service old))
-      (drafts : IfDrafts (inner_service first) (inner_service old) run fixed) (is : PreparingStep sectors honest history faults old new) where
+      (drafts : IfDrafts (inner_service first) (inner_service old) run fixed) (begun : IfBegun old run fixed) where
     abbrev then : ServiceView D
     then = inner_service old
 
     abbrev there : ServiceView D
     there = inner_service new
 
-    service_same : there ≡ record then { drafting = there.drafting }
-    service_same = ap (λ (r : MapReplies D). asked_service r) is.same
+    abbrev ToldPrepared : Type 0
+    ToldPrepared = (next : Meanwhile D) × TellsPrepared sectors honest history faults (meanwhile old run fixed) next × GoesMeanwhile first new next
 
-    disk_same : there.disk ≡ then.disk
-    disk_same = ap (λ (s : ServiceView D). s.disk) service_same
+    -- nothing happens
+    module _ (is : PreparingStep sectors honest history faults old new) where
+      service_same : there ≡ record then { drafting = there.drafting }
+      service_same = ap (λ (r : MapReplies D). asked_service r) is.same
 
-    prepared_rests : Rests sectors honest history then there
-    prepared_rests = record {
-      read = record {
-        same = service_same ∙ ap (λ (d : D). record then { disk = d; drafting = there.drafting }) (sym disk_same);
-        disk = subst (λ (d : D). OnlyReads sectors honest history then.disk d) (sym disk_same) (reads_none then.disk);
-      };
-      up = λ stored up is_honest. is.up stored up;
-    }
+      disk_same : there.disk ≡ then.disk
+      disk_same = ap (λ (s : ServiceView D). s.disk) service_same
 
-    now_goes : Goes sectors honest history (inner_service first) run there
-    now_goes = goes_rest sectors honest history (inner_service first) then there run goes prepared_rests
+      prepared_rests : Rests sectors honest history then there
+      prepared_rests = record {
+        read = record {
+          same = service_same ∙ ap (λ (d : D). record then { disk = d; drafting = there.drafting }) (sym disk_same);
+          disk = subst (λ (d : D). OnlyReads sectors honest history then.disk d) (sym disk_same) (reads_none then.disk);
+        };
+        up = λ stored up is_honest. is.up stored up;
+      }
 
-    abbrev Told : Type 0
-    Told = (next : Meanwhile D) × TellsPrepared sectors honest history faults (meanwhile old run fixed) next × GoesMeanwhile first new next
+      now_goes : Goes sectors honest history (inner_service first) run there
+      now_goes = goes_rest sectors honest history (inner_service first) then there run goes prepared_rests
 
-    told_prepared : (there.drafting ≡ then.drafting) ⊎ (there.drafting ≡ None)
-        ⊎ (CanPrepare then × (there.drafting ≡ Some (drafted_now then))) → Told
-    told_prepared (inl same) = (
-      meanwhile new run fixed,
-      (is, refl, inl (inl refl)),
-      record {
-        here = refl;
-        goes = now_goes;
-        drafts = λ d some. let so_far = drafts d (sym same ∙ some) in
-            (so_far.0, so_far.1, drafts_rest (inner_service first) then there run so_far.0 so_far.2 prepared_rests same);
-      },
-    )
-    told_prepared (inr (inl none)) = (
-      meanwhile new run None,
-      (is, refl, inl (inr refl)),
-      record { here = refl; goes = now_goes; drafts = λ d some. absurd (is_none there.drafting d some none) },
-    )
-    told_prepared (inr (inr fixes)) = (
-      meanwhile new run (Some (length run)),
-      (is, refl, inr refl),
-      record {
-        here = refl;
-        goes = now_goes;
-        drafts = λ d some. (
-          length run,
-          refl,
-          drafts_now (inner_service first) then there run goes prepared_rests fixes.0
-              (service_same ∙ ap (λ (o : Option DraftedView). record then { drafting = o }) fixes.1),
-        );
-      },
-    )
+      -- a whole publication that has begun stays
+      still_begun : KeepsDraft then.drafting there.drafting → (beginning_of new ≡ beginning_of old) ⊎ ((beginning_of new ≡ None) × (has_begun old ≡ false))
+          → IfBegun new run fixed
+      still_begun stays (inl same) beginning has =
+          let so_far = begun beginning (sym same ∙ has) in
+          (still_none then.drafting there.drafting stays so_far.0, so_far.1, so_far.2, so_far.3)
+      still_begun stays (inr none) beginning has = absurd (is_none (beginning_of new) beginning has none.0)
+
+      told_preparing : (there.drafting ≡ then.drafting) ⊎ (there.drafting ≡ None)
+          ⊎ (CanPrepare then × (there.drafting ≡ Some (drafted_now then)) × (beginning_of new ≡ None)) → ToldPrepared
+      told_preparing (inl same) = (
+        meanwhile new run fixed,
+        inl (is, refl, inl (inl refl)),
+        record {
+          here = refl;
+          goes = now_goes;
+          drafts = λ d some. let so_far = drafts d (sym same ∙ some) in
+              (so_far.0, so_far.1, drafts_rest (inner_service first) then there run so_far.0 so_far.2 prepared_rests same);
+          begun = still_begun (inl same) is.whole;
+        },
+      )
+      told_preparing (inr (inl none)) = (
+        meanwhile new run fixed,
+        inl (is, refl, inl (inl refl)),
+        record {
+          here = refl;
+          goes = now_goes;
+          drafts = no_drafts (inner_service first) there run fixed none;
+          begun = still_begun (inr none) is.whole;
+        },
+      )
+      told_preparing (inr (inr fixes)) = (
+        meanwhile new run (Some (length run)),
+        inl (is, refl, inr refl),
+        record {
+          here = refl;
+          goes = now_goes;
+          drafts = λ d some. (
+            length run,
+            refl,
+            drafts_now (inner_service first) then there run goes prepared_rests fixes.0
+                (service_same ∙ ap (λ (o : Option DraftedView). record then { drafting = o }) fixes.1),
+          );
+          begun = none_begun new run (Some (length run)) fixes.2;
+        },
+      )
+
+    -- a whole publication begins
+    told_begins : (outcome : Result ℕ ServiceFault) → BeginsWhole sectors honest history faults old outcome new → ToldPrepared
+    told_begins outcome is =
+        let so = drafts is.2.ready.draft is.2.ready.is in
+        let next : List Happening = so.2.before ++ begin outcome ∷ so.2.after in (
+          meanwhile new next fixed,
+          inr (inl (outcome, is, so.2.before, so.2.after, so.2.is, so.1 ∙ ap (λ (n : ℕ). Some n) so.2.count, refl, refl)),
+          record {
+            here = refl;
+            goes = late_runs first old new run fixed outcome is.2 so;
+            drafts = late_drafts first old new run fixed outcome is.2 so fixed;
+            begun = λ beginning has. (
+              ap (λ (c : Calls D). c.service.drafting) is.2.same,
+              so.0,
+              so.1,
+              subst (λ (b : Result ℕ ServiceFault). Begun next b so.0) (is_it (beginning_of new) outcome beginning is.0 has)
+                  (late_is_begun first old new run fixed outcome is.2 so),
+            );
+          },
+        )
+
+    -- what is known of it after a step
+    stepped_begun : (outcome : Result ℕ ServiceFault) → there.drafting ≡ None
+        → GoesOnWhole outcome (beginning_of old) (beginning_of new) → IfOk outcome (λ left. 0 < left)
+        → IfBegun new (run ++ step outcome ∷ []) fixed
+    stepped_begun (Ok left) none same some beginning has =
+        let so_far = begun beginning (sym same ∙ has) in
+        (none, so_far.1, so_far.2, begun_on run (step (Ok left) ∷ []) beginning so_far.1 so_far.3 (some, tt))
+    stepped_begun (Err fault) none ended some beginning has =
+        none_begun new (run ++ step (Err fault) ∷ []) fixed ended beginning has
+
+    -- it goes on by a step
+    told_steps : (outcome : Result ℕ ServiceFault) → StepsWhole sectors honest history faults old outcome new → ToldPrepared
+    told_steps outcome is =
+        let next : List Happening = run ++ step outcome ∷ [] in
+        let has = begun_left (beginning_of old) is.0 in
+        let none : there.drafting ≡ None = still_none then.drafting there.drafting is.3.takes.drafting (begun (Ok has.0) has.1).0 in (
+          meanwhile new next fixed,
+          inr (inr (inl (outcome, is, refl, refl))),
+          record {
+            here = refl;
+            goes = goes_on sectors honest history (inner_service first) then there run (step outcome ∷ []) goes
+                (goes_all sectors honest history then then there (step outcome ∷ []) (rests_none sectors honest history then) (there, is.3.takes, refl));
+            drafts = no_drafts (inner_service first) there next fixed none;
+            begun = stepped_begun outcome none is.1 is.3.unfinished;
+          },
+        )
+
+    -- it is cancelled
+    told_cancels : (outcome : Result (Unit {0}) ServiceFault) → CancelsWhole sectors honest history faults old outcome new → ToldPrepared
+    told_cancels outcome is =
+        let next : List Happening = run ++ cancel outcome ∷ [] in
+        let has = begun_left (beginning_of old) is.0 in
+        let none : there.drafting ≡ None = still_none then.drafting there.drafting is.3.takes.drafting (begun (Ok has.0) has.1).0 in (
+          meanwhile new next None,
+          inr (inr (inr (outcome, is, refl, refl))),
+          record {
+            here = refl;
+            goes = goes_on sectors honest history (inner_service first) then there run (cancel outcome ∷ []) goes
+                (goes_all sectors honest history then then there (cancel outcome ∷ []) (rests_none sectors honest history then) (there, is.3.takes, refl));
+            drafts = no_drafts (inner_service first) there next None none;
+            begun = none_begun new next None is.1;
+          },
+        )
+
+    told_prepared : Prepares sectors honest history faults old new → ToldPrepared
+    told_prepared (inl is) = told_preparing is is.draft
+    told_prepared (inr (inl is)) = told_begins is.0 is.1
+    told_prepared (inr (inr (inl is))) = told_steps is.0 is.1
+    told_prepared (inr (inr (inr is))) = told_cancels is.0 is.1
 
   pub prepared_told : (first old : PreparingReplies D) (so : Meanwhile D) (new : PreparingReplies D) → GoesMeanwhile first old so
-      → PreparingStep sectors honest history faults old new
+      → Prepares sectors honest history faults old new
       → (next : Meanwhile D) × TellsPrepared sectors honest history faults so next × GoesMeanwhile first new next
   prepared_told first old so new along is =
       of_here first old so
       (λ (m : Meanwhile D). (next : Meanwhile D) × TellsPrepared sectors honest history faults m next × GoesMeanwhile first new next)
-      along (told_prepared first old new so.run so.fixed along.goes along.drafts is is.draft)
+      along (told_prepared first old new so.run so.fixed along.goes along.drafts along.begun is)

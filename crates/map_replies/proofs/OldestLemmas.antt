@@ -105,3 +105,18 @@ module _ {D : Type 0} (sectors : D → ℕ) (honest : D → Type 0) (history : D
       breaks_at_last run.before old new
       (subst (λ (l : Result ℕ ServiceFault). TakesAll sectors honest history old (map step (run.before ++ l ∷ [])) new)
       (run.ends ∙ ap (λ (f : ServiceFault). Err f) (fault_of fault is)) run.takes)
+
+  -- it wasn't broken before the first of them
+  unbroken_at_first : (before : List (Result ℕ ServiceFault)) (old new : ServiceView D) → All IsUnfinished before
+      → TakesAll sectors honest history old (map step (before ++ Err Device ∷ [])) new → old.broken ≡ false
+  unbroken_at_first [] old new unfinished all = (all.1.machine nothing_known).0
+  unbroken_at_first (Ok left ∷ before) old new unfinished all = (all.1.machine nothing_known).0.unbroken
+  unbroken_at_first (Err fault ∷ before) old new unfinished all = absurd (unfinished 0 (Ok 0) (omega arith))
+
+  pub unbroken_before_rest : (old new : ServiceView D) (outcome : Result Published ServiceFault) → outcome ≡ Err Device
+      → TakesRest sectors honest history old outcome new → old.broken ≡ false
+  unbroken_before_rest old new (Ok published) is run = absurd (cc)
+  unbroken_before_rest old new (Err fault) is run =
+      unbroken_at_first run.before old new run.unfinished
+      (subst (λ (l : Result ℕ ServiceFault). TakesAll sectors honest history old (map step (run.before ++ l ∷ [])) new)
+      (run.ends ∙ ap (λ (f : ServiceFault). Err f) (fault_of fault is)) run.takes)

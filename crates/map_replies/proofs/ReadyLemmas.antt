@@ -1,5 +1,5 @@
 -- When a publication in the making can begin, and what it is then.
-use Rattle.std.proofs.Common.{◌≡◌, ◌⊎◌, inl, inr, ℕ, List, true, false, Option, Some, None, Result, Ok, Err, refl, sym, ap, subst, ◌∙◌}
+use Rattle.std.proofs.Common.{◌≡◌, ◌⊎◌, inl, inr, ℕ, List, [], ◌∷◌, Bool, true, false, Option, Some, None, Result, Ok, Err, refl, sym, ap, subst, ◌∙◌}
 use Rattle.std.specs.Prelude.{IfSome, IsSome, OnOk, OnErr}
 use Rattle.std.proofs.lemmas.Bool.{false≢true}
 use Rattle.std.specs.Option.{is_some, option_map}
@@ -13,6 +13,7 @@ use Rattle.tile_routes.specs.declared.method.Method.{Method}
 use Rattle.tile_routes.specs.declared.method.Method.TheVariants.{Post}
 use Rattle.tile_routes.specs.declared.target.Action.TheVariants.{Publish, PublishBegin}
 use Rattle.tile_service.specs.Drafted.{DraftedView}
+use Rattle.tile_service.specs.Machine.{Happening, cancel}
 use Rattle.tile_service.specs.Prepared.{CanPrepare}
 use Rattle.tile_service.specs.Service.{PublicationView, ServiceView, IsUp, BeginsDrafted, drafted_now}
 use Rattle.tile_service.specs.Stored.{Stored}
@@ -21,11 +22,17 @@ use Rattle.map_replies.specs.declared.calls.Calls.{Calls}
 use Rattle.map_replies.specs.declared.parts.Sending.{Sending}
 use Rattle.map_replies.specs.declared.preparing.PreparingReplies.{PreparingReplies}
 use Rattle.map_replies.specs.declared.service.MapReplies.{MapReplies}
+use Rattle.map_replies.specs.declared.turns.Turns.{Turns}
 use Rattle.map_replies.specs.Conditions.{AskView}
 use Rattle.map_replies.specs.Meanings.{asked_for}
 use Rattle.map_replies.specs.Preparing.{IsReady, IsToBegin, IsToPublishWhole, MayPost, BeginsLate, PreparingStep, asks_to_publish, inner_service}
+use Rattle.map_replies.specs.Preparing.{BeginsWhole, GivesUp, IsMadeReady, Prepares, beginning_of, has_begun, undrafted, undrafted_calls}
 use Rattle.map_replies.specs.Sending.{SendsMethod}
 use Rattle.map_replies.specs.State.{access_of, asked_service}
+
+pub none_if : {A : Type 0} (o : Option A) → is_some o ≡ false → o ≡ None
+none_if None is = refl
+none_if (Some a) is = absurd (false≢true (sym is))
 
 none_there : {A B : Type 0} (f : A → B) (o : Option A) → is_some (option_map f o) ≡ false → o ≡ None
 none_there f None is = refl
@@ -123,64 +130,115 @@ module _ {D : Type 0} where
   drafted_by_step (Ok a) old new (Some d) is begins can goes_on refused =
       inl (goes_on (subst (λ (o : Option DraftedView). IsSome o) (sym is) refl))
 
+-- what comes of a step, where no whole publication is prepared
+with_none : {A B C E N : Type 0} → A ⊎ B ⊎ (C × E) → N → A ⊎ B ⊎ (C × E × N)
+with_none (inl a) none = inl a
+with_none (inr (inl b)) none = inr (inl b)
+with_none (inr (inr is)) none = inr (inr (is.0, is.1, none))
+
 module _ {D : Type 0} (sectors : D → ℕ) (honest : D → Type 0) (history : D → History) (faults : D → ℕ) where
   abbrev Step : (old new : PreparingReplies D) → Type 0
   Step = PreparingStep sectors honest history faults
+
+  abbrev Prepared : (old new : PreparingReplies D) → Type 0
+  Prepared = Prepares sectors honest history faults
+
+  -- the whole publication that is prepared stays, or is none that has begun
+  abbrev WholeStays : (old new : PreparingReplies D) → Type 0
+  WholeStays old new = (beginning_of new ≡ beginning_of old) ⊎ ((beginning_of new ≡ None) × (has_begun old ≡ false))
 
   -- the same replies, with another service
   abbrev with_service : PreparingReplies D → ServiceView D → MapReplies D
   with_service old service = record old.replies { calls = record old.replies.calls { service = service } }
 
-  pub prepares_nothing : (old new : PreparingReplies D) → new.replies ≡ old.replies → Step old new
-  prepares_nothing old new same = record {
+  abbrev StaysUp : (old new : PreparingReplies D) → Type 0
+  StaysUp old new = (stored : Stored) → IsUp (sectors (inner_service old).disk) (history (inner_service old).disk) stored (inner_service old)
+      → IsUp (sectors (inner_service new).disk) (history (inner_service new).disk) stored (inner_service new)
+
+  step_nothing : (old new : PreparingReplies D) → new.replies ≡ old.replies → WholeStays old new → Step old new
+  step_nothing old new same whole = record {
     same = same ∙ ap (λ (o : Option DraftedView). with_service old (record (inner_service old) { drafting = o }))
         (sym (ap (λ (r : MapReplies D). (asked_service r).drafting) same));
     draft = inl (ap (λ (r : MapReplies D). (asked_service r).drafting) same);
+    whole = whole;
     up = λ stored up. subst (λ (s : ServiceView D). IsUp (sectors s.disk) (history s.disk) stored s)
         (sym (ap (λ (r : MapReplies D). asked_service r) same)) up;
   }
 
-  pub prepares_by : {A E : Type 0} (old new : PreparingReplies D) (r : Result A E) → new.replies ≡ with_service old (inner_service new)
+  pub prepares_nothing : (old new : PreparingReplies D) → new.replies ≡ old.replies → beginning_of new ≡ beginning_of old → Prepared old new
+  prepares_nothing old new same whole = inl (step_nothing old new same (inl whole))
+
+  pub prepares_by : {A E : Type 0} (old new : PreparingReplies D) (r : Result A E) → beginning_of old ≡ None → beginning_of new ≡ beginning_of old
+      → new.replies ≡ with_service old (inner_service new)
       → inner_service new ≡ record (inner_service old) { drafting = (inner_service new).drafting }
       → ((inner_service old).drafting ≡ None → OnOk r ((inner_service new).drafting ≡ Some (drafted_now (inner_service old))))
       → ((inner_service old).drafting ≡ None → OnOk r (CanPrepare (inner_service old)))
       → (IsSome (inner_service old).drafting → OnOk r ((inner_service new).drafting ≡ (inner_service old).drafting))
-      → OnErr r ((inner_service new).drafting ≡ None)
-      → ((stored : Stored) → IsUp (sectors (inner_service old).disk) (history (inner_service old).disk) stored (inner_service old)
-      → IsUp (sectors (inner_service new).disk) (history (inner_service new).disk) stored (inner_service new)) → Step old new
-  prepares_by old new r replies same begins can goes_on refused up = record {
+      → OnErr r ((inner_service new).drafting ≡ None) → StaysUp old new → Prepared old new
+  prepares_by old new r none whole replies same begins can goes_on refused up = inl (record {
     same = replies ∙ ap (with_service old) same;
-    draft = drafted_by_step r (inner_service old) (inner_service new) (inner_service old).drafting refl begins can goes_on refused;
+    draft = with_none (drafted_by_step r (inner_service old) (inner_service new) (inner_service old).drafting refl begins can goes_on refused)
+        (whole ∙ none);
+    whole = inl whole;
     up = up;
-  }
+  })
 
-  -- two steps are one
-  module _ (old middle new : PreparingReplies D) (first : Step old middle) (then : Step middle new) where
-    service_same : inner_service middle ≡ record (inner_service old) { drafting = (inner_service middle).drafting }
-    service_same = ap (λ (r : MapReplies D). asked_service r) first.same
+  -- the publication in the making is dropped
+  pub prepares_dropped : (old new : PreparingReplies D) → beginning_of new ≡ beginning_of old → new.replies ≡ with_service old (inner_service new)
+      → inner_service new ≡ undrafted (inner_service old) → StaysUp old new → Prepared old new
+  prepares_dropped old new whole replies same up =
+      let none : (inner_service new).drafting ≡ None = ap (λ (s : ServiceView D). s.drafting) same in
+      inl (record {
+        same = replies ∙ ap (with_service old)
+            (same ∙ ap (λ (o : Option DraftedView). record (inner_service old) { drafting = o }) (sym none));
+        draft = inr (inl none);
+        whole = inl whole;
+        up = up;
+      })
 
-    can_before : CanPrepare (inner_service middle) → CanPrepare (inner_service old)
-    can_before can =
-        let at = subst (λ (s : ServiceView D). CanPrepare s) service_same can in
-        record { unbroken = at.unbroken; none = at.none; generation = at.generation; ring = at.ring; is_map = at.is_map }
+  -- the whole publication that is prepared is given up
+  pub given_up : (old new : PreparingReplies D) → GivesUp sectors honest history faults old new → Prepared old new
+  given_up old new (none, inl is) = inl (step_nothing old new is.1 (inr (none, is.0)))
+  given_up old new (none, inr is) = inr (inr (inr (is.0, (is.1, none, is.2, is.3))))
 
-    both_drafted : Drafted (inner_service middle) (inner_service new) → Drafted (inner_service old) (inner_service middle)
-        → Drafted (inner_service old) (inner_service new)
-    both_drafted (inl same) (inl as_before) = inl (same ∙ as_before)
-    both_drafted (inl same) (inr (inl none)) = inr (inl (same ∙ none))
-    both_drafted (inl same) (inr (inr is)) = inr (inr (is.0, same ∙ is.1))
-    both_drafted (inr (inl none)) before = inr (inl none)
-    both_drafted (inr (inr is)) before =
-        inr (inr (can_before is.0, is.1 ∙ ap (λ (s : ServiceView D). Some (drafted_now s)) service_same))
+  -- the whole publication begins after a step that left nothing to prepare
+  pub unchanged_by : (old new : ServiceView D) → IsReady old → new ≡ record old { drafting = new.drafting }
+      → (IsSome old.drafting → new.drafting ≡ old.drafting) → new ≡ old
+  unchanged_by old new ready same goes_on =
+      same ∙ ap (λ (o : Option DraftedView). record old { drafting = o })
+      (goes_on (subst (λ (o : Option DraftedView). IsSome o) (sym ready.is) refl))
 
-    pub steps_on : Step old new
-    steps_on = record {
-      same = then.same ∙ ap (λ (r : MapReplies D). record r {
-        calls = record r.calls {
-          service =
-              record (asked_service r) { drafting = (inner_service new).drafting };
-        };
-      }) first.same;
-      draft = both_drafted then.draft first.draft;
-      up = λ stored up. then.up stored (first.up stored up);
-    }
+  pub begins_from : (old new : PreparingReplies D) (service : ServiceView D) (outcome : Result ℕ ServiceFault) → service ≡ inner_service old
+      → BeginsWhole sectors honest history faults (record old { replies = with_service old service }) outcome new
+      → BeginsWhole sectors honest history faults old outcome new
+  begins_from old new service outcome same is =
+      subst (λ (s : ServiceView D). BeginsWhole sectors honest history faults (record old { replies = with_service old s }) outcome new) same is
+
+  -- whoever has the turn
+  pub prepares_at : (old new : PreparingReplies D) (turns : Turns) (is_next : Bool)
+      → Prepared (record old { turns = turns; is_next = is_next }) new → Prepared old new
+  prepares_at old new turns is_next (inl is) = inl (record { same = is.same; draft = is.draft; whole = is.whole; up = is.up })
+  prepares_at old new turns is_next (inr is) = inr is
+
+  -- ---- before the answer to a call of a publication
+
+  -- it is dropped, or given up
+  pub made_ready : (old middle : PreparingReplies D) (request : RequestView) (ready : MapReplies D) → GivesUp sectors honest history faults old middle
+      → ready ≡ record middle.replies { calls = undrafted_calls middle.replies.calls }
+      → (done : List Happening) × IsMadeReady sectors honest history faults old request done ready (beginning_of middle)
+  made_ready old middle request ready (none, inl is) same = (
+    [],
+    inr (inl (refl, same ∙ ap (λ (r : MapReplies D). record r { calls = undrafted_calls r.calls }) is.1, none, is.0)),
+  )
+  made_ready old middle request ready (none, inr is) same = (
+    cancel is.0 ∷ [],
+    inr (inr (
+      is.0,
+      middle.replies.calls,
+      refl,
+      same ∙ ap (λ (r : MapReplies D). record r { calls = undrafted_calls middle.replies.calls }) is.2,
+      none,
+      is.1,
+      is.3,
+    )),
+  )

@@ -24,6 +24,7 @@ mod standing_by;
 mod tags;
 mod telling;
 mod turns;
+mod whole_publications;
 
 pub use checking::replaces_what_was_seen;
 pub use downloads::download_is_of_one_archive;

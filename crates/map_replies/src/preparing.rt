@@ -1,6 +1,7 @@
 //! The replies of a map between which a publication is prepared: its map is fixed as it is asked for, its tiles are made one by one while other
-//! requests are answered, and then it begins, or is made to its end at once. A tile of many features is made by parts too, before its reply.
-ghost use Rattle.std.specs.Prelude.{◌≡◌, ◌≤◌, true, [], length, vec_capacity, IsTrue, IfSome, None, Ok};
+//! requests are answered, and then it begins. A whole one is written by steps between other replies too. A tile of many features is made by parts
+//! too, before its reply.
+ghost use Rattle.std.specs.Prelude.{◌≡◌, ◌≤◌, true, [], length, vec_capacity, IsTrue, IfSome, None, Some, Ok};
 ghost use Rattle.http_serve.specs.Reply.{ReplyView, IsReply, InParts, IsWhole, HasShortWords, head_view, reply_view};
 ghost use Rattle.tile_routes.specs.Methods.{method_on};
 ghost use Rattle.tile_routes.specs.Paths.{asked_action};
@@ -9,10 +10,10 @@ ghost use Rattle.tile_routes.specs.declared.method.Method.TheVariants.{Post};
 ghost use Rattle.tile_routes.specs.declared.target.Action.TheVariants.{Publish, PublishBegin};
 ghost use Rattle.map_replies.specs.declared.replies.TheConstants.{MAX_TEXT};
 ghost use Rattle.map_replies.specs.Meanings.{asked_for};
-ghost use Rattle.map_replies.specs.Preparing.{asks_to_publish, without_draft, inner_size, BeginsLate, MayPost, PublishesLate, IsReady};
-ghost use Rattle.map_replies.specs.Preparing.{PreparingReplied, PreparingSends, PreparingStep};
+ghost use Rattle.map_replies.specs.Preparing.{asks_to_publish, without_draft, beginning_of, inner_size, BeginsLate, MayPost, IsReady};
+ghost use Rattle.map_replies.specs.Preparing.{PreparingReplied, PreparingSends, Prepares};
 ghost use Rattle.map_replies.specs.State.{access_of};
-ghost use Rattle.map_replies.specs.Words.{left_reply, published_reply};
+ghost use Rattle.map_replies.specs.Words.{left_reply};
 
 use crate::calls::Calls;
 use crate::long_tiles::{LongTiles, ReadyTargets, asked_tile, is_for_tile, target_hash};
@@ -26,6 +27,10 @@ use http_serve::{
 use sector_disk::Sectors;
 use std::alloc::AllocError;
 use tile_routes::{Action, Method, Target};
+use tile_service::ServiceFault;
+
+/// The first bytes of a request for any call of a publication.
+const PUBLISHING: &[u8] = b"POST /publish";
 
 /// The first bytes of a request for the beginning of a publication.
 const BEGINNING: &[u8] = b"POST /publish/begin ";
@@ -38,12 +43,14 @@ const WHOLE: &[u8] = b"POST /publish ";
 #[derive(Drop)]
 pub struct PreparingReplies<D: Sectors + Drop> {
     pub(crate) replies: MapReplies<D>,
+    /// What the beginning of the whole publication that is prepared came to, once it was made.
+    pub(crate) whole: Option<Result<u64, ServiceFault>>,
     /// The tile in the making.
     tiles: LongTiles,
     ready: ReadyTargets,
-    /// Which connection's publication is in the making.
+    /// Which connection's publication is prepared.
     turns: Turns,
-    /// Whether the request that comes next is the one for which it is in the making.
+    /// Whether the request that comes next is the one for which it is prepared.
     is_next: bool,
 }
 
@@ -110,7 +117,7 @@ fn after_step(goes_on: bool) -> Preparation {
 
 impl<D: Sectors + Drop> Calls<D> {
     /// Whether a publication is in the making and none is under way, in a service that isn't broken.
-    fn is_ready(&self) -> bool
+    pub(crate) fn is_ready(&self) -> bool
         ensures { IsTrue result → IsReady self.now.service }
     {
         let status = self.service.status();
@@ -134,19 +141,6 @@ impl<D: Sectors + Drop> Calls<D> {
         let outcome = self.service.publish_drafted();
         replies::left(text, outcome)
     }
-
-    /// Begins the publication that is in the making, and continues it to its end, with this memory for the reply.
-    fn publish_ready(&mut self, text: Vec<u8>) -> Reply
-        requires ready { IsReady self.old.service }
-        requires empty { text.items ≡ [] }
-        requires room { MAX_TEXT ≤ vec_capacity text }
-        ensures writable { IsWhole result }
-        ensures publishes { (outcome : _) × (reply_view [] result ≡ published_reply outcome)
-            × PublishesLate D.sectors D.honest D.history D.faults self.old outcome self.new }
-    {
-        let outcome = self.publish_drafted();
-        replies::published(text, outcome)
-    }
 }
 
 impl<D: Sectors + Drop> PreparingReplies<D> {
@@ -156,6 +150,7 @@ impl<D: Sectors + Drop> PreparingReplies<D> {
     {
         PreparingReplies {
             replies,
+            whole: None,
             tiles: LongTiles::new(),
             ready: ReadyTargets::new(),
             turns: Turns::new(),
@@ -168,10 +163,11 @@ impl<D: Sectors + Drop> PreparingReplies<D> {
         &mut self.replies
     }
 
-    /// Drops the publication in the making, if there is one.
+    /// Prepares no publication any more. One in the making is dropped, and a whole one that has begun stays under way.
     pub fn forget(&mut self)
         ensures { self.new ≡ without_draft self.old }
     {
+        self.whole = None;
         self.replies.calls.service.publish_drop();
     }
 
@@ -182,39 +178,77 @@ impl<D: Sectors + Drop> PreparingReplies<D> {
         self.replies
     }
 
-    /// Whether the publication in the making is that of another connection, which still has its turns. That of one which has none any more is
-    /// dropped.
-    fn waits_for_another(&mut self, connection: u64) -> bool
-        ensures { PreparingStep D.sectors D.honest D.history D.faults self.old self.new }
-    {
-        if self.turns.is_owner(connection) || self.replies.calls.service.drafting().is_none() {
-            return false;
-        }
-        if self.turns.has_to_wait(connection) {
-            return true;
-        }
-        self.replies.calls.service.publish_drop();
-        false
+    /// Whether a publication is prepared that the next request has to wait for: one that has begun, or one in the making if this is to be prepared.
+    fn is_prepared(&self) -> bool {
+        self.whole.is_some() || (self.is_next && self.replies.calls.service.drafting().is_some())
     }
 
-    /// Makes a step of the publication for which a connection asks, unless that of another one is in the making.
-    fn prepare_publication(&mut self, connection: u64) -> Preparation
-        ensures { PreparingStep D.sectors D.honest D.history D.faults self.old self.new }
+    /// What comes before the preparation of the reply to a request: it waits while the publication of another connection is prepared that still
+    /// has its turns. That of one which has none any more is dropped, or cancelled if it has begun.
+    fn waits_for_another(&mut self, connection: u64) -> Option<Preparation>
+        ensures prepares { Prepares D.sectors D.honest D.history D.faults self.old self.new }
+        ensures stays { result ≡ None → self.new ≡ self.old }
     {
-        if self.waits_for_another(connection) {
-            return Preparation::Waits;
+        if self.turns.is_owner(connection) {
+            return None;
         }
-        self.turns.give(connection);
-        self.is_next = true;
+        if !self.is_prepared() {
+            return None;
+        }
+        if self.turns.has_to_wait(connection) {
+            return Some(Preparation::Waits);
+        }
+        if self.whole.is_some() {
+            self.give_up();
+            return Some(Preparation::GoesOn);
+        }
+        self.replies.calls.service.publish_drop();
+        Some(Preparation::GoesOn)
+    }
+
+    /// Makes a step of the beginning of a publication by steps.
+    pub(crate) fn prepare_beginning(&mut self) -> Preparation
+        requires unbegun { beginning_of self.old ≡ None }
+        ensures { Prepares D.sectors D.honest D.history D.faults self.old self.new }
+    {
         match self.replies.calls.service.publish_prepare() {
             Ok(goes_on) => after_step(goes_on),
             Err(_) => Preparation::Ready,
         }
     }
 
+    /// Makes a step of the publication that a connection asks for, if its reply is to be prepared.
+    fn prepare_own(&mut self, connection: u64, is_whole: bool) -> Preparation
+        ensures { Prepares D.sectors D.honest D.history D.faults self.old self.new }
+    {
+        if !self.is_next {
+            return Preparation::Ready;
+        }
+        self.turns.give(connection);
+        if self.whole.is_some() {
+            return self.continue_whole();
+        }
+        if is_whole {
+            return self.prepare_whole();
+        }
+        self.prepare_beginning()
+    }
+
+    /// Makes a step for a request that begins as one for a call of a publication.
+    fn prepare_call(&mut self, connection: u64, asked: &[u8]) -> Preparation
+        ensures { Prepares D.sectors D.honest D.history D.faults self.old self.new }
+    {
+        self.is_next = is_prepared(asked);
+        match self.waits_for_another(connection) {
+            Some(preparation) => preparation,
+            None => self.prepare_own(connection, asked.starts_with(WHOLE)),
+        }
+    }
+
     /// Whether a tile has many features. It is looked for in the index once, and then known.
     fn is_long(&mut self, at: TileAt) -> bool
-        ensures { self.new.replies ≡ self.old.replies }
+        ensures same { self.new.replies ≡ self.old.replies }
+        ensures whole { beginning_of self.new ≡ beginning_of self.old }
     {
         if self.tiles.is_known(at) {
             return true;
@@ -228,7 +262,8 @@ impl<D: Sectors + Drop> PreparingReplies<D> {
 
     /// Makes the next part of a tile for the request of a connection, which has its turn.
     fn prepare_part(&mut self, connection: u64, at: TileAt) -> Preparation
-        ensures { self.new.replies ≡ self.old.replies }
+        ensures same { self.new.replies ≡ self.old.replies }
+        ensures whole { beginning_of self.new ≡ beginning_of self.old }
     {
         self.tiles.give(connection, at);
         let is_begun = self.replies.calls.service.tile_in_making() == Some(at);
@@ -242,7 +277,8 @@ impl<D: Sectors + Drop> PreparingReplies<D> {
     /// Makes the next part of a tile for the request of a connection. If another tile is in the making, for another connection, it waits for that
     /// one, but not if it has few features.
     fn prepare_tile(&mut self, connection: u64, at: TileAt) -> Preparation
-        ensures { self.new.replies ≡ self.old.replies }
+        ensures same { self.new.replies ≡ self.old.replies }
+        ensures whole { beginning_of self.new ≡ beginning_of self.old }
     {
         if self.tiles.is_other(connection, at) {
             if !self.is_long(at) {
@@ -258,7 +294,8 @@ impl<D: Sectors + Drop> PreparingReplies<D> {
 
     /// The same for a request that begins as that for a tile, unless nothing has to be made for it.
     fn prepare_asked(&mut self, connection: u64, asked: &[u8]) -> Preparation
-        ensures { self.new.replies ≡ self.old.replies }
+        ensures same { self.new.replies ≡ self.old.replies }
+        ensures whole { beginning_of self.new ≡ beginning_of self.old }
     {
         let hash = target_hash(asked);
         let stamp = self.replies.calls.service.tile_stamp();
@@ -282,7 +319,8 @@ impl<D: Sectors + Drop> PreparingReplies<D> {
 
     /// Makes the next part of what a request needs that asks for no publication.
     fn prepare_other(&mut self, connection: u64, asked: &[u8]) -> Preparation
-        ensures { self.new.replies ≡ self.old.replies }
+        ensures same { self.new.replies ≡ self.old.replies }
+        ensures whole { beginning_of self.new ≡ beginning_of self.old }
     {
         self.is_next = false;
         if !self.replies.calls.service.is_large() {
@@ -321,11 +359,10 @@ impl<D: Sectors + Drop> PreparingReplies<D> {
         }
     }
 
-    /// The same for a whole publication.
+    /// Memory for the answer to a whole publication, if that is what is asked for, by a request whose conditions don't refuse it.
     fn room_to_publish(&self, target: Target, request: &Request<'_>) -> Option<Vec<u8>>
         ensures asked { IfSome result (λ _. (asked_of target ≡ asked_action Publish) × (method_on request.now.method (asked_of target) ≡ Ok Post)) }
         ensures may { IfSome result (λ _. MayPost self.now.replies request.now) }
-        ensures ready { IfSome result (λ _. IsReady self.now.replies.calls.service) }
         ensures empty { IfSome result (λ text. text.items ≡ []) }
         ensures room { IfSome result (λ text. MAX_TEXT ≤ vec_capacity text) }
     {
@@ -338,17 +375,14 @@ impl<D: Sectors + Drop> PreparingReplies<D> {
         if self.replies.refuses_post(request) {
             return None;
         }
-        if !self.replies.calls.is_ready() {
-            return None;
-        }
         match replies::outcome_space(self.replies.calls.alloc) {
             Ok(text) => Some(text),
             Err(AllocError) => None,
         }
     }
 
-    /// Answers a request for a call of a publication, and drops the one in the making before.
-    fn answer_without_draft(&mut self, target: Target, request: &Request<'_>) -> Reply
+    /// Answers a request for a call of a publication. The publication that is prepared is dropped before, or cancelled if it has begun.
+    fn answer_afresh(&mut self, target: Target, request: &Request<'_>) -> Reply
         requires asked { asked_of target ≡ asked_for (access_of self.old.replies) request.now }
         requires publishes { asks_to_publish (asked_of target) ≡ true }
         ensures replied { (reply : ReplyView) × IsReply result reply
@@ -357,11 +391,37 @@ impl<D: Sectors + Drop> PreparingReplies<D> {
             × (inner_size self.new ≡ length reply.content)) }
         ensures writable { HasShortWords (head_view result) }
     {
+        self.give_up();
         self.replies.calls.service.publish_drop();
         self.replies.answer_at(target, request)
     }
 
-    /// Answers a request for a call of a publication. One that is in the making is dropped, unless it is made to its end.
+    /// Answers a request for a call of a publication. The whole one whose beginning came to this is made to its end, if that is what is asked for.
+    fn answer_begun(
+        &mut self,
+        target: Target,
+        request: &Request<'_>,
+        beginning: Result<u64, ServiceFault>,
+    ) -> Reply
+        requires asked { asked_of target ≡ asked_for (access_of self.old.replies) request.now }
+        requires publishes { asks_to_publish (asked_of target) ≡ true }
+        requires has { beginning_of self.old ≡ Some beginning }
+        ensures replied { (reply : ReplyView) × IsReply result reply
+            × PreparingReplied D.sectors D.honest D.history D.faults self.old request.now reply self.new
+            × InParts result.content (PreparingSends D.sectors D.honest D.history D.faults self.old request.now reply self.new
+            × (inner_size self.new ≡ length reply.content)) }
+        ensures writable { HasShortWords (head_view result) }
+    {
+        match self.room_to_publish(target, request) {
+            Some(text) => {
+                self.whole = None;
+                self.replies.calls.end_whole(text, beginning)
+            }
+            None => self.answer_afresh(target, request),
+        }
+    }
+
+    /// Answers a request for a call of a publication, with the whole one that is prepared.
     fn answer_whole(&mut self, target: Target, request: &Request<'_>) -> Reply
         requires asked { asked_of target ≡ asked_for (access_of self.old.replies) request.now }
         requires publishes { asks_to_publish (asked_of target) ≡ true }
@@ -371,13 +431,13 @@ impl<D: Sectors + Drop> PreparingReplies<D> {
             × (inner_size self.new ≡ length reply.content)) }
         ensures writable { HasShortWords (head_view result) }
     {
-        match self.room_to_publish(target, request) {
-            Some(text) => self.replies.calls.publish_ready(text),
-            None => self.answer_without_draft(target, request),
+        match self.whole {
+            Some(beginning) => self.answer_begun(target, request, beginning),
+            None => self.answer_afresh(target, request),
         }
     }
 
-    /// Answers a request for a call of a publication. One that is in the making is dropped, unless it begins or is made to its end.
+    /// Answers a request for a call of a publication. One that is prepared is dropped or cancelled, unless it begins or is made to its end.
     fn answer_publishing(&mut self, target: Target, request: &Request<'_>) -> Reply
         requires asked { asked_of target ≡ asked_for (access_of self.old.replies) request.now }
         requires publishes { asks_to_publish (asked_of target) ≡ true }
@@ -388,7 +448,10 @@ impl<D: Sectors + Drop> PreparingReplies<D> {
         ensures writable { HasShortWords (head_view result) }
     {
         match self.room_to_begin(target, request) {
-            Some(text) => self.replies.calls.begin_ready(text),
+            Some(text) => {
+                self.whole = None;
+                self.replies.calls.begin_ready(text)
+            }
             None => self.answer_whole(target, request),
         }
     }
@@ -436,11 +499,11 @@ impl<D: Sectors + Drop> Downloads for PreparingReplies<D> {
 }
 
 impl<D: Sectors + Drop> Prepares for PreparingReplies<D> {
-    ghost prepares = { PreparingStep D.sectors D.honest D.history D.faults };
+    ghost prepares = { Prepares D.sectors D.honest D.history D.faults };
 
     fn prepare(&mut self, connection: u64, asked: &[u8]) -> Preparation {
-        if is_prepared(asked) {
-            return self.prepare_publication(connection);
+        if asked.starts_with(PUBLISHING) {
+            return self.prepare_call(connection, asked);
         }
         self.prepare_other(connection, asked)
     }

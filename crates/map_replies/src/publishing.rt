@@ -8,7 +8,7 @@ ghost use Rattle.tile_service.specs.Service.{status_of};
 ghost use Rattle.map_replies.specs.Meanings.{MeansCall, MeansChange, OrNoMemory, MeansPublish, Answers, DiskFailed};
 ghost use Rattle.map_replies.specs.Sending.{IsAnswered};
 ghost use Rattle.map_replies.specs.Words.{left_reply, cancel_reply};
-ghost use Rattle.map_replies.specs.Preparing.{IsReady, GoesToItsEnd, PublishesLate};
+ghost use Rattle.map_replies.specs.Preparing.{GoesToItsEnd};
 ghost use Rattle.map_replies.specs.Tickets.{KeepsArchives, KeepsTickets, oldest_after};
 
 use crate::calls::Calls;
@@ -19,7 +19,11 @@ use sector_disk::Sectors;
 use tile_service::{Published, ServiceFault};
 
 /// The generation at the last step that may have written an area, after a call at this generation. One that is refused writes nothing.
-fn oldest_after<A>(outcome: &Result<A, ServiceFault>, oldest: u64, generation: u64) -> u64
+pub(crate) fn oldest_after<A>(
+    outcome: &Result<A, ServiceFault>,
+    oldest: u64,
+    generation: u64,
+) -> u64
     ensures { result ≡ oldest_after outcome.now oldest generation }
 {
     match outcome {
@@ -49,24 +53,13 @@ impl<D: Sectors + Drop> Calls<D> {
     }
 
     /// Continues the publication that is under way to its end.
-    fn publish_rest(&mut self) -> Result<Published, ServiceFault>
+    pub(crate) fn publish_rest(&mut self) -> Result<Published, ServiceFault>
         ensures { GoesToItsEnd D.sectors D.honest D.history D.faults self.old result self.new }
     {
         let generation = self.service.archive().generation;
         let outcome = self.service.publish_rest();
         self.oldest = oldest_after(&outcome, self.oldest, generation);
         outcome
-    }
-
-    /// Begins the publication that is in the making, and continues it to its end.
-    pub(crate) fn publish_drafted(&mut self) -> Result<Published, ServiceFault>
-        requires ready { IsReady self.old.service }
-        ensures { PublishesLate D.sectors D.honest D.history D.faults self.old result self.new }
-    {
-        match self.service.publish_drafted() {
-            Ok(_) => self.publish_rest(),
-            Err(fault) => Err(fault),
-        }
     }
 
     /// Begins a publication.

@@ -1,5 +1,8 @@
 //! Whose reply is prepared, where only one is at a time.
 
+/// After how many waits of others the first one that had to wait has no turns any more either: no listener has so many connections.
+const MAX_WAITS: u32 = 20_000;
+
 /// Which connection's reply is prepared, and whether another one has to wait for it. Connections that wait ask again after each turn of the
 /// others, so one that asks twice in a row knows that the owner has no turns any more.
 #[derive(Clone, Copy)]
@@ -8,6 +11,8 @@ pub(crate) struct Turns {
     owner: u64,
     /// The first connection that had to wait since then.
     waiter: Option<u64>,
+    /// How often others had to wait since that one did.
+    waits: u32,
 }
 
 impl Turns {
@@ -16,6 +21,7 @@ impl Turns {
         Turns {
             owner: 0,
             waiter: None,
+            waits: 0,
         }
     }
 
@@ -32,13 +38,15 @@ impl Turns {
 
     /// Whether a connection other than the owner has to wait for the owner's next turn.
     pub(crate) fn has_to_wait(&mut self, connection: u64) -> bool {
-        match self.waiter {
-            Some(waiter) => waiter != connection,
-            None => {
-                self.waiter = Some(connection);
-                true
-            }
+        if self.waiter == Some(connection) {
+            return false;
         }
+        if self.waiter.is_none() || self.waits >= MAX_WAITS {
+            self.waiter = Some(connection);
+            self.waits = 0;
+        }
+        self.waits = self.waits.saturating_add(1);
+        true
     }
 
     /// A connection doesn't wait any more.

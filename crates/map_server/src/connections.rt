@@ -39,8 +39,8 @@ where
     C: Clock,
     // The replies of all stretches, in order, report one run of the service. A crash at any moment leaves some first edits of it: all
     // that were acknowledged by then, on whatever connection, and none asked for later. Reads of downloads between them add nothing to it, nor
-    // does the preparation of a publication, whose beginning stands in the run where its map was fixed. What a crash leaves is told by the
-    // states that the calls left.
+    // do the tiles of a publication that are made meanwhile. Its beginning stands in the run where its map was fixed, and the steps of a whole one
+    // where they were made, between other replies too. What a crash leaves is told by the states that the calls left.
     // The bytes of each stretch are known.
     ensures all { OnOk result ((served : List Event) × (begun served ≡ connections) × AreOverKnown served × (run : List Happening)
         × (fixed : Option ℕ) × Serves (TellsMeanwhile D.sectors D.honest D.history D.faults) (TellsMeanwhileCut D.sectors D.honest D.history D.faults)

@@ -1,4 +1,4 @@
-use Rattle.std.proofs.Common.{inl, inr, refl, ap}
+use Rattle.std.proofs.Common.{None, inl, inr, refl, ap}
 use Rattle.map_replies.specs.Preparing.{PreparingReplied}
 use Rattle.map_replies.proofs.SendingLemmas.{whole_is}
 use Rattle.map_replies.proofs.ReadyLemmas.{to_begin}
@@ -10,11 +10,12 @@ returns-in-Some-clause-replied g c =
     let old = c.args.self.now in
     let late = c.begin_ready.ensures.begins in
     whole_is (λ view. PreparingReplied d.sectors d.honest d.history d.faults old c.args.request.now view
-    (record old { replies = record old.replies { calls = c.begin_ready.new.self } })) _ c.begin_ready.result c.begin_ready.ensures.writable
+    (record old { replies = record old.replies { calls = c.begin_ready.new.self }; whole = None })) _ c.begin_ready.result c.begin_ready.ensures.writable
     (inr (inl (
       late.0,
       to_begin old.replies c.args.request.now _ _ c.requires.asked refl c.in-Some.ensures.asked c.in-Some.ensures.may,
       late.1,
+      refl,
       refl,
       late.2,
     )))

@@ -1,4 +1,4 @@
-use Rattle.std.proofs.Common.{◌≡◌, false, inl, refl, sym, ap, ◌∙◌}
+use Rattle.std.proofs.Common.{◌≡◌, [], false, inl, refl, sym, ap, ◌∙◌}
 use Rattle.http_serve.proofs.PartLemmas.{in_parts}
 use Rattle.map_replies.specs.Preparing.{asks_to_publish, is_to_publish}
 use Rattle.map_replies.proofs.preparing.PreparingRepliesHandler.answer.Goals as goal
@@ -13,6 +13,6 @@ returns-else-is_to_publish-clause-replied g c =
     let told = c.answer_at.ensures.replied in (
       told.0,
       told.1,
-      inl (c.args.self.now.replies, inl (refl, other), told.2),
-      in_parts c.answer_at.result.content _ _ (λ sent. ((other, sent.0), sent.1)) told.3,
+      inl ([], c.args.self.now.replies, inl (refl, refl, refl, other), told.2),
+      in_parts c.answer_at.result.content _ _ (λ sent. ((other, sent.0, refl), sent.1)) told.3,
     )
