@@ -226,7 +226,8 @@ stands_on ring start (r ∷ rs) at old new same stands = (
 -- a journal with the same places in use, read as before, has the same records
 pub has_on : (records : List RecordData) (old new : Journal) (before after : History) → ring_of new ≡ ring_of old → new.place ≡ old.place
     → new.edits ≡ old.edits → new.used ≡ old.used → new.last ≡ old.last
-    → ((offset : ℕ) → offset < old.used → seen after (sector_at (ring_of old) (old.place + offset)) ≡ seen before (sector_at (ring_of old) (old.place + offset)))
+    → ((offset : ℕ) → offset < old.used → seen after (sector_at (ring_of old) (old.place + offset))
+    ≡ seen before (sector_at (ring_of old) (old.place + offset)))
     → HasRecords records old before → HasRecords records new after
 has_on records old new before after ring place edits used last same has =
     let start : start_of new.place new.edits ≡ start_of old.place old.edits = λ i. start_of (place i) (edits i) in

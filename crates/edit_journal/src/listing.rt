@@ -1,5 +1,6 @@
 //! The records in use, read again from the disk, from one of them on.
-ghost use Rattle.std.specs.Prelude.{◌≡◌, ◌≢◌, ◌↔◌, ◌≤◌, ◌<◌, ◌+◌, ◌-◌, ◌^◌, ◌∷◌, ℕ, List, length, take, drop, Ok, Err, IfOk, IfErr, IsTrue, MatchOption, MatchResult};
+ghost use Rattle.std.specs.Prelude.{◌≡◌, ◌≢◌, ◌↔◌, ◌≤◌, ◌<◌, ◌+◌, ◌-◌, ◌^◌, ◌∷◌, ℕ, List, length, take, drop, Ok, Err, IfOk, IfErr, IsTrue};
+ghost use Rattle.std.specs.Prelude.{MatchOption, MatchResult};
 ghost use Rattle.sector_disk.specs.Asked.{OnlyReads, TellsFailure};
 ghost use Rattle.sector_disk.specs.Disk.{seen};
 ghost use Rattle.edit_journal.specs.Records.{RecordData, record_data, records_of, IsRecordLength, AreUpTo, parts_of};

@@ -59,7 +59,8 @@ module _ (fs : List ℕ → List FeatureView) where
     where
       by : (b : Bool) → is_name name e.0 ≡ b → (is_some (lookup (is_name name) es) ≡ true → Contains (names_in es) name)
           → Contains (names_in (e ∷ es)) name
-      by true is rest = subst (λ n. Contains (names_in (e ∷ es)) n) (sym (same_name name (string_bytes e.0) is)) (contains_here (string_bytes e.0) (names_in es))
+      by true is rest = subst (λ n. Contains (names_in (e ∷ es)) n) (sym (same_name name (string_bytes e.0) is))
+          (contains_here (string_bytes e.0) (names_in es))
       by false is rest =
           contains_on (string_bytes e.0) (names_in es) name (rest (sym (ap (λ b. is_some (cond b (Some e.1) (lookup (is_name name) es))) is) ∙ h))
 
@@ -119,7 +120,8 @@ HasWritten fs e = (0 < length (fs (string_bytes e.0))) × Writes e.1 (string_byt
 
 pub all_written : (g : Gathered) (fs : List ℕ → List FeatureView) → Gathers g fs → IsAscending g → All (HasWritten fs) g.entries
 all_written g fs gathers ordered =
-    All-weaker (IsFound g) (HasWritten fs) (λ e is. subst (λ o. IsGathered o (string_bytes e.0) (fs (string_bytes e.0))) is (gathers (string_bytes e.0))) g.entries (found g ordered)
+    All-weaker (IsFound g) (HasWritten fs) (λ e is. subst (λ o. IsGathered o (string_bytes e.0) (fs (string_bytes e.0))) is (gathers (string_bytes e.0)))
+    g.entries (found g ordered)
 
 module _ (m : FeatureMap) (z x y : ℕ) (g : Gathered) where
   abbrev shown : List ℕ → List FeatureView

@@ -86,7 +86,8 @@ below_next (e ∷ m) n k ascends le none = elim (cases_lt e.0 n) [
       (λ more.
       without_higher (k + 1) e m (omega (arith, more))
       ∙ above_all (k + 1) e.0 m (omega (arith, more)) (ascends_head e m ascends)
-      ∙ ap (entry_of k) (sym (lookup_on k e m (λ s. omega (arith, s, more)) ∙ lookup_above m k (raised m k e.0 (omega (arith, more)) (ascends_head e m ascends))))
+      ∙ ap (entry_of k) (sym (lookup_on k e m (λ s. omega (arith, s, more))
+      ∙ lookup_above m k (raised m k e.0 (omega (arith, more)) (ascends_head e m ascends))))
       ∙ ap (λ l. l ++ entry_of k (lookup (is_at (nat_cmp k)) (e ∷ m)))
       (sym (without_higher n e m ge ∙ above_all n e.0 m (omega (arith, ge)) (ascends_head e m ascends))))
 ]
@@ -276,7 +277,8 @@ look_own m n e look = by e.1 look.own
 -- ---- a reader
 
 -- what is read of a number, whose text is its own
-pub stored_is : (n : ℕ) (o : Option (Bor Stored)) → IfSome o (λ s. s.now.0 ≡ n) → stored_in (option_copied o) ≡ entry_of n (option_map stored_data (option_copied o))
+pub stored_is : (n : ℕ) (o : Option (Bor Stored)) → IfSome o (λ s. s.now.0 ≡ n) → stored_in (option_copied o)
+    ≡ entry_of n (option_map stored_data (option_copied o))
 stored_is n None own = refl
 stored_is n (Some s) own = ap (λ k. (k, s.now.1) ∷ []) own
 

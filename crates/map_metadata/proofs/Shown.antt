@@ -209,15 +209,18 @@ module _ (m : FeatureMap) (g : Layers) (sums : SumsUp g m) where
   abbrev IsFound : String Global × LayerSummary → Type 0
   IsFound e = layer_at g (string_bytes e.0) ≡ Some e.1
 
-  kinds_at : (e : String Global × LayerSummary) → IsFound e → (key : List ℕ) → kind_at e.1.fields key ≡ with_kinds None (kinds_in (features_in m (string_bytes e.0)) key)
+  kinds_at : (e : String Global × LayerSummary) → IsFound e → (key : List ℕ) → kind_at e.1.fields key
+      ≡ with_kinds None (kinds_in (features_in m (string_bytes e.0)) key)
   kinds_at e is key = sym (ap (option_and_then (λ s. kind_at s.fields key)) is) ∙ sums.kinds (string_bytes e.0) key
 
   kinds_of_layer : (e : String Global × LayerSummary) → IsFound e → HasOrder e.1.fields
       → All (λ f. IsFieldKind (kinds_in (features_in m (string_bytes e.0)) f.0) f.1) (fields_data e.1.fields.entries)
   kinds_of_layer e is order =
       All-map (λ f. IsFieldKind (kinds_in (features_in m (string_bytes e.0)) f.0) f.1) (λ f. ((string_bytes f.0), f.1)) e.1.fields.entries
-      (All-weaker (λ f. kind_at e.1.fields (string_bytes f.0) ≡ Some f.1) (λ f. IsFieldKind (kinds_in (features_in m (string_bytes e.0)) (string_bytes f.0)) f.1)
-      (λ f here. kind_is (kinds_in (features_in m (string_bytes e.0)) (string_bytes f.0)) f.1 (sym (kinds_at e is (string_bytes f.0)) ∙ here)) e.1.fields.entries
+      (All-weaker (λ f. kind_at e.1.fields (string_bytes f.0) ≡ Some f.1)
+          (λ f. IsFieldKind (kinds_in (features_in m (string_bytes e.0)) (string_bytes f.0)) f.1)
+      (λ f here. kind_is (kinds_in (features_in m (string_bytes e.0)) (string_bytes f.0)) f.1 (sym (kinds_at e is (string_bytes f.0)) ∙ here))
+          e.1.fields.entries
       (All-found string_cmp_total e.1.fields order))
 
   keys_of_layer : (e : String Global × LayerSummary) → IsFound e → (key : List ℕ)

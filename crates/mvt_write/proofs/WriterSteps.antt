@@ -20,7 +20,8 @@ use Rattle.mvt_write.proofs.Pooled.{pool_of-push}
 use Rattle.mvt_write.proofs.TagSteps.{later, indices_more}
 
 -- no tags and no features
-pub starts : (w : LayerWriter) (name : List ℕ) → held_keys w.pools.value ≡ [] → held_values w.pools.value ≡ [] → w.tags.items ≡ [] → w.bytes.items ≡ bytes_field 1 name
+pub starts : (w : LayerWriter) (name : List ℕ) → held_keys w.pools.value ≡ [] → held_values w.pools.value ≡ []
+    → w.tags.items ≡ [] → w.bytes.items ≡ bytes_field 1 name
     → Writes w name [] []
 unfolding pool_of
 starts w name keys values tags bytes = record {
@@ -41,8 +42,10 @@ pooled_more part pool after before tags t is step =
     step ∙ ap (λ (p : List (List ℕ)). with_entry p (part t)) is ∙ sym (pool_of-push (map part (before ++ tags)) (part t)) ∙ ap pool_of (sym uses)
 
 pub tag_added : (old new : LayerWriter) (name : List ℕ) (fs : List FeatureView) (tags : List Tagged) (t : Tagged) → Writes old name fs tags
-    → held_keys new.pools.value ≡ with_entry (held_keys old.pools.value) t.0 → held_values new.pools.value ≡ with_entry (held_values old.pools.value) (value_written t.1)
-    → new.tags.items ≡ old.tags.items ++ (varint (index_of (held_keys new.pools.value) t.0) ++ varint (index_of (held_values new.pools.value) (value_written t.1)))
+    → held_keys new.pools.value ≡ with_entry (held_keys old.pools.value) t.0
+    → held_values new.pools.value ≡ with_entry (held_values old.pools.value) (value_written t.1)
+    → new.tags.items
+    ≡ old.tags.items ++ (varint (index_of (held_keys new.pools.value) t.0) ++ varint (index_of (held_values new.pools.value) (value_written t.1)))
     → new.bytes.items ≡ old.bytes.items → Writes new name fs (tags ++ t ∷ [])
 tag_added old new name fs tags t before by_key by_value by_indices same =
     let keys = held_keys old.pools.value in
@@ -51,7 +54,8 @@ tag_added old new name fs tags t before by_key by_value by_indices same =
       keys = pooled_more (λ u. u.0) keys (held_keys new.pools.value) (tags_of fs) tags t before.keys by_key;
       values = pooled_more (λ u. value_written u.1) values (held_values new.pools.value) (tags_of fs) tags t before.values by_value;
       indices =
-          indices_more keys (held_keys new.pools.value) values (held_values new.pools.value) tags (tags ++ t ∷ []) t old.tags.items new.tags.items before.indices by_key
+          indices_more keys (held_keys new.pools.value) values (held_values new.pools.value) tags (tags ++ t ∷ []) t old.tags.items new.tags.items
+          before.indices by_key
           by_value by_indices refl;
       bytes = λ ks vs.
           let k = later keys (held_keys new.pools.value) t.0 ks by_key in

@@ -8,7 +8,8 @@ use Rattle.tile_routes.specs.declared.routes.Route.{Route}
 use Rattle.tile_routes.specs.declared.target.Target.{Target}
 use Rattle.tile_routes.specs.declared.target.Target.TheVariants.{Tile, Feature, FeatureFrom, FeaturePage, EditsFrom, EditsAt, View, Action, Nothing}
 use Rattle.tile_routes.specs.declared.target.TileFormat.{TileFormat}
-use Rattle.tile_routes.specs.Paths.{Asked, asked_tile, asked_feature, asked_from, asked_page, asked_edits, asked_numbered, asked_view, asked_action, asked_nothing}
+use Rattle.tile_routes.specs.Paths.{Asked, asked_tile, asked_feature, asked_from, asked_page, asked_edits, asked_numbered, asked_view, asked_action}
+use Rattle.tile_routes.specs.Paths.{asked_nothing}
 
 -- what a target asks for
 abbrev pub asked_of : Target → Asked

@@ -2,7 +2,8 @@
 ghost use Rattle.std.specs.Prelude.{◌≡◌, IsTrue};
 ghost use Rattle.std.specs.Option.{option_map};
 ghost use Rattle.tile_routes.specs.Number.{number_of};
-ghost use Rattle.tile_routes.specs.Paths.{asked_tile, is_served, feature_asked, from_asked, page_asked, edits_asked, numbered_asked, named_tile, row_and_format};
+ghost use Rattle.tile_routes.specs.Paths.{asked_tile, is_served, feature_asked, from_asked, page_asked, edits_asked, numbered_asked, named_tile};
+ghost use Rattle.tile_routes.specs.Paths.{row_and_format};
 ghost use Rattle.tile_routes.specs.Targets.{asked_of, IsInRange, row_view};
 
 use crate::number::path_number;

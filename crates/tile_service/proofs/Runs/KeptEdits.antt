@@ -220,7 +220,8 @@ module _ {D : Type 0} (sectors : D → ℕ) (honest : D → Type 0) (history : D
         taken_split (x ∷ xs) ys (suc n) le = let one : suc n - suc (length xs) ≡ n - length xs = omega arith in
             ap (λ l. x ∷ l) (ap (λ (m : ℕ). xs ++ take m ys) one ∙ taken_split xs ys n (omega (arith, le)))
 
-    pub keeps_listed : (k m : ℕ) → k ≤ m → m ≤ length happenings → (image : Image) → LeftSince (history (run.at m).disk) (moment (history (run.at k).disk)) image
+    pub keeps_listed : (k m : ℕ) → k ≤ m → m ≤ length happenings → (image : Image)
+        → LeftSince (history (run.at m).disk) (moment (history (run.at k).disk)) image
         → KeepsListed (sectors old.disk) old.size start way (take m happenings) k image
     keeps_listed k m order within image left =
         let fits = (run.any_moment start is_honest up).fits k m order within image left in

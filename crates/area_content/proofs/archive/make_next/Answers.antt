@@ -5,7 +5,8 @@ use Rattle.feature_store.specs.Tiles.{IsTile, TilesView}
 use Rattle.pm_build.specs.Tiles.{Tile}
 use Rattle.area_content.specs.Collected.{tiles_of}
 use Rattle.area_content.proofs.Bounds.{many_tiles}
-use Rattle.area_content.proofs.Steps.{added_of_map, all_made, counted_more, can_add, counted_added, counted_beyond, going_on, going_passed, kept_added, kept_more}
+use Rattle.area_content.proofs.Steps.{added_of_map, all_made, counted_more, can_add, counted_added, counted_beyond, going_on, going_passed}
+use Rattle.area_content.proofs.Steps.{kept_added, kept_more}
 use Rattle.area_content.proofs.Steps.{still_beyond}
 use Rattle.area_content.proofs.archive.make_next.Goals as goal
 

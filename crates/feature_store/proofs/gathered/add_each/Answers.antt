@@ -11,7 +11,8 @@ use Rattle.feature_store.proofs.gathered.add_each.Goals as goal
 
 pub add_shown-requires-clause-allowed : goal.add_shown-requires-clause-allowed
 add_shown-requires-clause-allowed c =
-    read_from_map (λ e. IsAllowed e.0 e.1) found_data c.args.found.now c.loop-one.one-index c.one-item.result c.requires.allowed c.loop-one-test.true c.one-item.is
+    read_from_map (λ e. IsAllowed e.0 e.1) found_data c.args.found.now c.loop-one.one-index c.one-item.result c.requires.allowed c.loop-one-test.true
+    c.one-item.is
 
 pub loop-one-preserved : goal.loop-one-preserved
 loop-one-preserved c = λ fs gathers.

@@ -36,7 +36,8 @@ loop-name-preserved c =
       bytes = λ fs has.
           layers_more c.loop-name.out.items c.finish.new.out.items (map (layer_of fs) done) (map (layer_of fs) (done ++ e ∷ [])) (layer_of fs e)
           (inv.bytes fs has)
-          (c.in_ok-finish.ensures (string_bytes e.0) (fs (string_bytes e.0)) (all_here (HasWritten fs) done e rest (subst (All (HasWritten fs)) (sym items) has)).1)
+          (c.in_ok-finish.ensures (string_bytes e.0) (fs (string_bytes e.0))
+          (all_here (HasWritten fs) done e rest (subst (All (HasWritten fs)) (sym items) has)).1)
           (map-append (layer_of fs) done (e ∷ []));
     }
 

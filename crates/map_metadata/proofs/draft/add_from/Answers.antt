@@ -19,6 +19,7 @@ loop-preserved c =
     record {
       further = omega (arith, c.loop.invariant.further, c.in-Some.ensures.further);
       within = omega (arith, c.in-Some.ensures.within);
-      sums = λ sums. read_more c.loop.layers c.add_had.new.layers m c.loop.end c.in-Some.number (entry_of c.in-Some.number (option_map feature_view c.in-Some.had))
+      sums = λ sums. read_more c.loop.layers c.add_had.new.layers m c.loop.end c.in-Some.number
+          (entry_of c.in-Some.number (option_map feature_view c.in-Some.had))
           c.in-Some.ensures.found (c.loop.invariant.sums sums) (c.in_ok-add_had.ensures c.in-Some.number);
     }

@@ -38,7 +38,8 @@ invariant_of-self-2 c =
     let same = same_led pool entry code others others before.second (λ q. refl) in
     let own : slot_index slots entry ≡ None = ap named (ap (λ (p : ℕ). get_or slots p 0) (sym c.requires.place) ∙ c.requires.free) in
     let absent : has_entry pool entry ≡ false = absent_if_none pool entry (rw own at (before.looked entry)) in
-    let steps = first_led pool entry (slot_index slots) (slot_index (set slots c.args.place (suc (length pool)))) beside beside_after before.first before.free same names in
+    let steps = first_led pool entry (slot_index slots) (slot_index (set slots c.args.place (suc (length pool)))) beside beside_after before.first
+    before.free same names in
     record {
       looked = λ q. rw (pushed, after) (found_more pool entry _ _ absent before.looked steps q);
       free = λ q. rw (pushed, after) (first_free pool entry _ _ beside beside_after before.free same names q);

@@ -52,7 +52,8 @@ invariant_of-self-2 c =
     let absent : has_entry pool entry ≡ false = absent_if_none pool entry (sym c.requires.free
     ∙ others_tell pool (slot entry) (code entry) (others entry) entry c.requires.slot c.requires.code (before.looked entry)) in
     record {
-      looked = λ q. rw pushed (found_more pool entry _ _ absent before.looked (next_led pool entry slot beside beside_after before.first c.requires.slot more) q);
+      looked = λ q. rw pushed (found_more pool entry _ _ absent before.looked
+          (next_led pool entry slot beside beside_after before.first c.requires.slot more) q);
       free = λ q. rw pushed (next_free pool entry slot beside beside_after before.free c.requires.slot more q);
       coded = next_free pool entry code others others_after before.coded c.requires.code steps;
       first = λ q. rw pushed (still_within pool entry slot before.first q);

@@ -51,7 +51,8 @@ invariant_of-self-then-index-next c =
     let last : c.in_ok-index.index ≡ length pool = c.if-index-next.true ∙ c.len-next.ensures in
     let none : code entry ≡ None = next_is_new (code entry) c.in_ok-index.index (length pool) (before.second entry)
     (rw (← c.requires.code, ← c.len-next.ensures) c.in_ok-index.ensures.number) last in
-    let updates : (k : ℕ) → get nat_cmp c.number_of.new.numbers k ≡ cond (is_eq (nat_cmp (text_code entry) k)) (Some (length pool)) (get nat_cmp before.codes k) =
+    let updates : (k : ℕ) → get nat_cmp c.number_of.new.numbers k ≡ cond (is_eq (nat_cmp (text_code entry) k)) (Some (length pool))
+    (get nat_cmp before.codes k) =
     λ k. rw (← c.requires.code, ← last) (c.in_ok-index.ensures.updates.0 k) in
     let names = code_names pool entry before.codes c.number_of.new.numbers none updates in
     let steps = first_led pool entry code code_after others others before.second before.coded (λ q. refl) names in
@@ -59,7 +60,8 @@ invariant_of-self-then-index-next c =
     let beside_after = λ (q : List ℕ). led (pool ++ entry ∷ []) (code_after q) q (others q) in
     let absent : has_entry pool entry ≡ false = unseen_code pool (slot entry) (code entry) (others entry) entry c.requires.slot none (before.looked entry) in
     record {
-      looked = λ q. rw pushed (found_more pool entry _ _ absent before.looked (next_led pool entry slot beside beside_after before.first c.requires.slot steps) q);
+      looked = λ q. rw pushed (found_more pool entry _ _ absent before.looked
+          (next_led pool entry slot beside beside_after before.first c.requires.slot steps) q);
       free = λ q. rw pushed (next_free pool entry slot beside beside_after before.free c.requires.slot steps q);
       coded = first_free pool entry code code_after others others before.coded (λ q. refl) names;
       first = λ q. rw pushed (still_within pool entry slot before.first q);
@@ -124,7 +126,8 @@ returns-then-is_at-clause-index c =
     let old : code_index before.codes entry ≡ Some c.in_ok-index.index = other_is_old (code_index before.codes entry) c.in_ok-index.index c.len-next.result
     (rw (← c.requires.code) c.in_ok-index.ensures.number) c.if-index-next.false in
     let alike : bytes_eq (get_or (entries_of before.entries) c.in_ok-index.index []) entry ≡ true = rw (← same) (sym c.is_at.ensures ∙ c.if-is_at.true) in
-    rw same (second_held (entries_of before.entries) (slot_index before.slots.value entry) (code_index before.codes entry) (bytes_index before.others entry) entry
+    rw same (second_held (entries_of before.entries) (slot_index before.slots.value entry) (code_index before.codes entry)
+    (bytes_index before.others entry) entry
     c.in_ok-index.index c.requires.slot old alike (before.looked entry)).0
 
 pub returns-then-is_at-clause-entries : goal.returns-then-is_at-clause-entries
@@ -135,7 +138,8 @@ returns-then-is_at-clause-entries c =
     let old : code_index before.codes entry ≡ Some c.in_ok-index.index = other_is_old (code_index before.codes entry) c.in_ok-index.index c.len-next.result
     (rw (← c.requires.code) c.in_ok-index.ensures.number) c.if-index-next.false in
     let alike : bytes_eq (get_or (entries_of before.entries) c.in_ok-index.index []) entry ≡ true = rw (← same) (sym c.is_at.ensures ∙ c.if-is_at.true) in
-    let held = second_held (entries_of before.entries) (slot_index before.slots.value entry) (code_index before.codes entry) (bytes_index before.others entry) entry
+    let held = second_held (entries_of before.entries) (slot_index before.slots.value entry) (code_index before.codes entry)
+    (bytes_index before.others entry) entry
     c.in_ok-index.index c.requires.slot old alike (before.looked entry) in
     same ∙ sym (with_held (entries_of before.entries) entry held.1)
 
