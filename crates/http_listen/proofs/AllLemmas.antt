@@ -37,12 +37,12 @@ acts_of_other number other (deed ∷ deeds) acts n =
     cons_same (nat_eq deed.number other) deed.act (acts_of other deeds) (acts_of other (deeds ++ deeds_of number acts))
     (acts_of_other number other deeds acts n)
 
-module _ {S : Type 0} (replies fails : S → RequestView → ReplyView → S → Type 0)
+module _ {S : Type 0} (replies : S → RequestView → ReplyView → S → Type 0)
     (reads : S → Ticket → (offset count : ℕ) → Result (List ℕ) RestFault → S → Type 0) (ticket_of : S → Ticket) (prepares : S → S → Type 0) where
   -- Deeds, and then other ones.
-  pub runs_both : (old middle new : S) (front back : List Deed) → Runs replies fails reads ticket_of prepares old front middle
-      → Runs replies fails reads ticket_of prepares middle back new → Runs replies fails reads ticket_of prepares old (front ++ back) new
-  runs_both old middle new [] back first then = subst (λ (s : S). Runs replies fails reads ticket_of prepares s back new) first then
+  pub runs_both : (old middle new : S) (front back : List Deed) → Runs replies reads ticket_of prepares old front middle
+      → Runs replies reads ticket_of prepares middle back new → Runs replies reads ticket_of prepares old (front ++ back) new
+  runs_both old middle new [] back first then = subst (λ (s : S). Runs replies reads ticket_of prepares s back new) first then
   runs_both old middle new (deed ∷ front) back first then = (first.0, first.1, runs_both first.0 middle new front back first.2 then)
 
 -- Equal values of two options.

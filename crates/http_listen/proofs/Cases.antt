@@ -1,17 +1,33 @@
 -- What a stretch came to, by its result.
-use Rattle.std.proofs.Common.{ℕ, List, Bool, Option, Result, Ok, Err}
-use Rattle.std.specs.Prelude.{IfOk, IfErr}
-use Rattle.http_serve.specs.declared.connection.ServeFault.{ServeFault}
-use Rattle.http_serve.specs.declared.connection.Served.{Served}
+use Rattle.std.proofs.Common.{ℕ, List, [], Bool, Option, None, Some, Result, Ok, Err, refl}
+use Rattle.std.specs.declared.alloc.AllocError.{AllocError}
 use Rattle.http_requests.specs.Requests.{RequestView}
+use Rattle.http_serve.specs.Found.{AnswersFound, ServesFound}
 use Rattle.http_serve.specs.Reply.{ReplyView}
-use Rattle.http_serve.specs.Told.{IsServed, IsServedUpTo}
-use Rattle.http_listen.specs.Connections.{CameTo}
+use Rattle.http_serve.specs.declared.answers.Rest.{Rest}
+use Rattle.http_serve.specs.declared.connection.Answer.{Answer}
+use Rattle.http_serve.specs.declared.connection.Served.{Served}
+use Rattle.http_listen.specs.Connections.{CameTo, IsAnswered, Stretch}
 
-module _ {S : Type 0} (replies fails : S → RequestView → ReplyView → S → Type 0) where
-  pub came : (old new : S) (left held leaves holds : Option (List ℕ)) (result : Result Served ServeFault)
-      → IfOk result (λ served. IsServed replies old left held served new leaves holds)
-      → IfErr result (λ fault. IsServedUpTo replies fails old left held fault new leaves holds) → (first : Bool)
-      → CameTo replies fails result old (record { first = first; result = result; left = left; held = held; leaves = leaves; holds = holds }) new
-  came old new left held leaves holds (Ok served) ok err first = ok
-  came old new left held leaves holds (Err fault) ok err first = err
+-- what is left to read of bytes that were to be answered: all, if memory ran out
+abbrev pub left_after : List ℕ → Result Answer AllocError → List ℕ
+left_after bytes (Ok answer) = []
+left_after bytes (Err fault) = bytes
+
+-- the stretch in which they were
+abbrev pub stretch_over : Bool → List ℕ → Option (List ℕ) → Result Answer AllocError → Option (List ℕ) → Stretch
+stretch_over first bytes held result holds =
+    record { first = first; result = result; left = Some bytes; held = held; leaves = Some (left_after bytes result); holds = holds }
+
+module _ {S : Type 0} (replies sends : S → RequestView → ReplyView → S → Type 0) where
+  found : (old new : S) (bytes : List ℕ) (held holds : Option (List ℕ)) (answer : Answer) (first : Bool) (served : Served) (rest : Option Rest)
+      → AnswersFound replies sends old bytes held served rest new holds
+      → IsAnswered replies served rest old (stretch_over first bytes held (Ok answer) holds) new
+  found old new bytes held holds answer first served None is = is.told
+  found old new bytes held holds answer first served (Some rest) is = is.part
+
+  pub came : (old new : S) (bytes : List ℕ) (held holds : Option (List ℕ)) (result : Result Answer AllocError)
+      → ServesFound replies sends old bytes held result new holds → (first : Bool)
+      → CameTo replies result old (stretch_over first bytes held result holds) new
+  came old new bytes held holds (Ok answer) is first = found old new bytes held holds answer first answer.served answer.rest is.answers
+  came old new bytes held holds (Err fault) is first = (is.none.0, refl, is.none.1)

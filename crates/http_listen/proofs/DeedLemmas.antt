@@ -9,10 +9,10 @@ use Rattle.http_listen.specs.Conversations.{Act, answered, fetched, prepared, De
 use Rattle.http_listen.specs.Deeds.{IsEventOf, AreEventsOf}
 use Rattle.std.specs.Prelude.{false}
 
-module _ {S : Type 0} (replies fails : S → RequestView → ReplyView → S → Type 0)
+module _ {S : Type 0} (replies : S → RequestView → ReplyView → S → Type 0)
     (reads : S → Ticket → (offset count : ℕ) → Result (List ℕ) RestFault → S → Type 0) (ticket_of : S → Ticket) (prepares : S → S → Type 0) where
-  act_happens : (act : Act) (old new : S) → Does replies fails reads ticket_of prepares old act new
-      → (event : Event) × Happens replies fails reads prepares old event new × IsEventOf act event
+  act_happens : (act : Act) (old new : S) → Does replies reads ticket_of prepares old act new
+      → (event : Event) × Happens replies reads prepares old event new × IsEventOf act event
   act_happens (answered bytes out result ticket) old new d = (
     at_stretch (record { first = false; result = result; left = Some bytes; held = Some []; leaves = d.0.0; holds = Some out }),
     d.0.1,
@@ -22,8 +22,8 @@ module _ {S : Type 0} (replies fails : S → RequestView → ReplyView → S →
   act_happens prepared old new d = (at_preparation, d, tt)
 
   -- All that was done is events.
-  pub deeds_serve : (deeds : List Deed) (old new : S) → Runs replies fails reads ticket_of prepares old deeds new
-      → (served : List Event) × Serves replies fails reads prepares old served new × AreEventsOf deeds served
+  pub deeds_serve : (deeds : List Deed) (old new : S) → Runs replies reads ticket_of prepares old deeds new
+      → (served : List Event) × Serves replies reads prepares old served new × AreEventsOf deeds served
   deeds_serve [] old new r = ([], r, tt)
   deeds_serve (deed ∷ deeds) old new r =
       let one = act_happens deed.act old r.0 r.1 in

@@ -15,31 +15,31 @@ known_both : (front back : List Event) → AreOverKnown front → AreOverKnown b
 known_both [] back known then = then
 known_both (event ∷ front) back known then = (known.0, known_both front back known.1 then)
 
-module _ {S : Type 0} (replies fails : S → RequestView → ReplyView → S → Type 0)
+module _ {S : Type 0} (replies : S → RequestView → ReplyView → S → Type 0)
     (reads : S → Ticket → (offset count : ℕ) → Result (List ℕ) RestFault → S → Type 0) (prepares : S → S → Type 0) where
   -- Events, and then other events, are both lists in one.
   pub serves_both : (old : S) (front back : List Event) (middle new : S)
-      → Serves replies fails reads prepares old front middle → Serves replies fails reads prepares middle back new
-      → Serves replies fails reads prepares old (front ++ back) new
-  serves_both old [] back middle new first then = subst (λ (s : S). Serves replies fails reads prepares s back new) first then
+      → Serves replies reads prepares old front middle → Serves replies reads prepares middle back new
+      → Serves replies reads prepares old (front ++ back) new
+  serves_both old [] back middle new first then = subst (λ (s : S). Serves replies reads prepares s back new) first then
   serves_both old (event ∷ front) back middle new first then =
       (first.0, first.1, serves_both first.0 front back middle new first.2 then)
 
   -- Two lists in one are the events of the first, and then those of the second.
   pub serves_parts : (old : S) (front back : List Event) (new : S)
-      → Serves replies fails reads prepares old (front ++ back) new
-      → (middle : S) × Serves replies fails reads prepares old front middle × Serves replies fails reads prepares middle back new
+      → Serves replies reads prepares old (front ++ back) new
+      → (middle : S) × Serves replies reads prepares old front middle × Serves replies reads prepares middle back new
   serves_parts old [] back new both = (old, refl, both)
   serves_parts old (event ∷ front) back new both =
       let parts = serves_parts both.0 front back new both.2 in (parts.0, (both.0, both.1, parts.1), parts.2)
 
   -- events of this many connections, whose stretches are over known bytes, lead from the old state to the new one
   abbrev pub ServesCount : ℕ → S → S → Type 0
-  ServesCount count old new = (served : List Event) × Serves replies fails reads prepares old served new × (begun served ≡ count) × AreOverKnown served
+  ServesCount count old new = (served : List Event) × Serves replies reads prepares old served new × (begun served ≡ count) × AreOverKnown served
 
   -- One event more leads on.
   next_serves : (event : Event) (count : ℕ) (old middle new : S) → IsOverKnown event → ServesCount count old middle
-      → Happens replies fails reads prepares middle event new → ServesCount (count + begun (event ∷ [])) old new
+      → Happens replies reads prepares middle event new → ServesCount (count + begun (event ∷ [])) old new
   next_serves event count old middle new known before then =
       let one = event ∷ [] in (
         before.0 ++ one,
@@ -50,17 +50,17 @@ module _ {S : Type 0} (replies fails : S → RequestView → ReplyView → S →
       )
 
   -- the stretch that leads on, the first of its connection or another one
-  abbrev one_more : Bool → (old new : S) → NextStretch replies fails old new → Stretch
+  abbrev one_more : Bool → (old new : S) → NextStretch replies old new → Stretch
   one_more first old new then = record { first = first; result = then.0; left = Some then.1.0; held = then.1.1; leaves = then.1.2; holds = then.1.3 }
 
   -- The first stretch of one connection more.
-  pub serves_first : (count : ℕ) (old middle new : S) → ServesCount count old middle → NextStretch replies fails middle new
+  pub serves_first : (count : ℕ) (old middle new : S) → ServesCount count old middle → NextStretch replies middle new
       → ServesCount (count + 1) old new
   serves_first count old middle new before then =
       next_serves (at_stretch (one_more true middle new then)) count old middle new refl before (then.1.4 true)
 
   -- One more of a connection that was served before.
-  pub serves_again : (count : ℕ) (old middle new : S) → ServesCount count old middle → NextStretch replies fails middle new
+  pub serves_again : (count : ℕ) (old middle new : S) → ServesCount count old middle → NextStretch replies middle new
       → ServesCount count old new
   serves_again count old middle new before then = subst (λ n. ServesCount n old new) (add-zero count)
       (next_serves (at_stretch (one_more false middle new then)) count old middle new refl before (then.1.4 false))
@@ -82,13 +82,13 @@ module _ {S : Type 0} (replies fails : S → RequestView → ReplyView → S →
       serves_steps more count old then.0 new (serves_preparation count old middle then.0 before then.1) then.2
 
   -- Several of these, and perhaps one more stretch.
-  pub serves_answer : (count : ℕ) (old middle new : S) → ServesCount count old middle → NextAnswer replies fails prepares middle new
+  pub serves_answer : (count : ℕ) (old middle new : S) → ServesCount count old middle → NextAnswer replies prepares middle new
       → ServesCount count old new
   serves_answer count old middle new before then = answered then.3
     where
       stepped : ServesCount count old then.1
       stepped = serves_steps then.0 count old middle then.1 before then.2
 
-      answered : (new ≡ then.1) ⊎ NextStretch replies fails then.1 new → ServesCount count old new
+      answered : (new ≡ then.1) ⊎ NextStretch replies then.1 new → ServesCount count old new
       answered (inl same) = subst (λ (s : S). ServesCount count old s) (sym same) stepped
       answered (inr stretch) = serves_again count old then.1 new stepped stretch

@@ -18,13 +18,13 @@ pub step_more : {S : Type 0} (prepares : S → S → Type 0) (steps : ℕ) (old 
 step_more {S} prepares zero old middle new same step = (new, subst (λ (s : S). prepares s new) same step, refl)
 step_more prepares (suc more) old middle new steps step = (steps.0, steps.1, step_more prepares more steps.0 middle new steps.2 step)
 
-module _ {S : Type 0} (replies fails : S → RequestView → ReplyView → S → Type 0)
+module _ {S : Type 0} (replies : S → RequestView → ReplyView → S → Type 0)
     (reads : S → Ticket → (offset count : ℕ) → Result (List ℕ) RestFault → S → Type 0) (ticket_of : S → Ticket) (prepares : S → S → Type 0) where
   -- They are acts of a connection, before these.
   pub runs_prepared : (number steps : ℕ) (acts : List Act) (old middle new : S) → AreSteps prepares steps old middle
-      → Runs replies fails reads ticket_of prepares middle (deeds_of number acts) new
-      → Runs replies fails reads ticket_of prepares old (deeds_of number (prepared_first steps acts)) new
+      → Runs replies reads ticket_of prepares middle (deeds_of number acts) new
+      → Runs replies reads ticket_of prepares old (deeds_of number (prepared_first steps acts)) new
   runs_prepared number zero acts old middle new same runs =
-      subst (λ (s : S). Runs replies fails reads ticket_of prepares s (deeds_of number acts) new) same runs
+      subst (λ (s : S). Runs replies reads ticket_of prepares s (deeds_of number acts) new) same runs
   runs_prepared number (suc more) acts old middle new steps runs =
       (steps.0, steps.1, runs_prepared number more acts steps.0 middle new steps.2 runs)

@@ -4,7 +4,8 @@ use Rattle.std.proofs.Common.{take, drop, take-append-drop, true≢false, inl}
 use Rattle.std.specs.Prelude.{◌≤◌, ◌+◌, ◌-◌, length, ⊤, is_some, IfOk, IfErr, OnErr, MatchOption}
 use Rattle.std.specs.declared.option.Option.{Option}
 use Rattle.httparse.specs.declared.spans.HeaderSpan.{HeaderSpan}
-use Rattle.http_serve.specs.declared.connection.ServeFault.{ServeFault}
+use Rattle.std.specs.declared.alloc.AllocError.{AllocError}
+use Rattle.http_serve.specs.declared.connection.Answer.{Answer}
 use Rattle.http_serve.specs.declared.connection.Served.{Served}
 use Rattle.http_serve.specs.declared.handlers.RestFault.{RestFault}
 use Rattle.http_serve.specs.declared.handlers.Ticket.{Ticket}
@@ -248,7 +249,7 @@ module _ {S : Type 0} (told : S → Option Told) where
   }
 
   -- The first bytes of the input were answered, and then some of the replies sent. Nothing waited to be sent before.
-  pub steps_answered : (old front new : Peer S) (end : ℕ) (result : Result Served ServeFault) (ticket : Ticket) (whole : Type 0)
+  pub steps_answered : (old front new : Peer S) (end : ℕ) (result : Result Answer AllocError) (ticket : Ticket) (whole : Type 0)
       → old.connection.output ≡ [] → front.stream ≡ old.stream
       → Moves (told front.stream) front.connection.output [] [] (told new.stream) new.connection.output
       → new.connection.input ≡ drop end old.connection.input → new.state.number ≡ old.state.number → is_some new.state.drops ≡ is_some old.state.drops

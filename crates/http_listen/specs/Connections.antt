@@ -1,18 +1,21 @@
 -- Connections of which one is served at a time, in stretches.
-use Rattle.std.specs.Prelude.{◌≡◌, ◌⊎◌, ℕ, zero, suc, Bool, false, List, [], ◌∷◌, length, filter, Option, Some, IsSome, Result, Ok, Err, ⊤}
-use Rattle.http_serve.specs.declared.connection.ServeFault.{ServeFault}
+use Rattle.std.specs.Prelude.{◌≡◌, ◌⊎◌, ℕ, zero, suc, Bool, false, List, [], ◌∷◌, length, filter, Option, None, Some, IsSome, Result, Ok, Err, ⊤}
+use Rattle.std.specs.declared.alloc.AllocError.{AllocError}
+use Rattle.http_serve.specs.declared.answers.Rest.{Rest}
+use Rattle.http_serve.specs.declared.connection.Answer.{Answer}
 use Rattle.http_serve.specs.declared.connection.Served.{Served}
 use Rattle.http_serve.specs.declared.handlers.RestFault.{RestFault}
 use Rattle.http_serve.specs.declared.handlers.Ticket.{Ticket}
 use Rattle.http_requests.specs.Requests.{RequestView}
 use Rattle.http_serve.specs.Reply.{ReplyView}
-use Rattle.http_serve.specs.Told.{IsServed, IsServedUpTo}
+use Rattle.http_serve.specs.Served.{AnswersNext}
+use Rattle.http_serve.specs.Told.{IsServed, IsServedInPart}
 
 -- A stretch of a connection, in which no other is served: whether it is the connection's first, what it came to, and what was left to read
 -- and held of what was written, before it and after it, where this is known.
 pub record Stretch : Type 0 where
   pub first : Bool
-  pub result : Result Served ServeFault
+  pub result : Result Answer AllocError
   pub left : Option (List ℕ)
   pub held : Option (List ℕ)
   pub leaves : Option (List ℕ)
@@ -48,21 +51,27 @@ abbrev pub AreOverKnown : List Event → Type 0
 AreOverKnown [] = ⊤
 AreOverKnown (event ∷ events) = IsOverKnown event × AreOverKnown events
 
--- replies, and those of which the handler's part fails
-module _ {S : Type 0} (replies fails : S → RequestView → ReplyView → S → Type 0) where
-  -- what a stretch came to, or what its fault leaves
-  abbrev pub CameTo : Result Served ServeFault → S → Stretch → S → Type 0
-  CameTo (Ok served) old stretch new = IsServed replies old stretch.left stretch.held served new stretch.leaves stretch.holds
-  CameTo (Err fault) old stretch new = IsServedUpTo replies fails old stretch.left stretch.held fault new stretch.leaves stretch.holds
+-- replies
+module _ {S : Type 0} (replies : S → RequestView → ReplyView → S → Type 0) where
+  -- In a stretch all was answered and the replies are there whole, or one request was, and its reply but for this rest.
+  abbrev pub IsAnswered : Served → Option Rest → S → Stretch → S → Type 0
+  IsAnswered served None old stretch new = IsServed replies old stretch.left stretch.held served new stretch.leaves stretch.holds
+  IsAnswered served (Some rest) old stretch new =
+      IsServedInPart replies (AnswersNext replies) old stretch.left stretch.held 0 new stretch.leaves stretch.holds
+
+  -- what a stretch came to; if memory runs out, nothing was answered
+  abbrev pub CameTo : Result Answer AllocError → S → Stretch → S → Type 0
+  CameTo (Ok answer) old stretch new = IsAnswered answer.served answer.rest old stretch new
+  CameTo (Err fault) old stretch new = (new ≡ old) × (stretch.leaves ≡ stretch.left) × (stretch.holds ≡ stretch.held)
 
   -- a stretch over known bytes with this result, of a connection that it is the first of or isn't, leads from a state to the next
-  abbrev pub ComesTo : Result Served ServeFault → S → S → Type 0
+  abbrev pub ComesTo : Result Answer AllocError → S → S → Type 0
   ComesTo result old new = (input : List ℕ) × (held : Option (List ℕ)) × (leaves : Option (List ℕ)) × (holds : Option (List ℕ))
       × ((first : Bool) → CameTo result old (record { first = first; result = result; left = Some input; held = held; leaves = leaves; holds = holds }) new)
 
   -- a stretch leads from a state to the next
   abbrev pub NextStretch : S → S → Type 0
-  NextStretch old new = (result : Result Served ServeFault) × ComesTo result old new
+  NextStretch old new = (result : Result Answer AllocError) × ComesTo result old new
 
 -- this many steps of the preparation of a reply, one after the other, lead from a state to the next
 abbrev pub AreSteps : {S : Type 0} (prepares : S → S → Type 0) → ℕ → S → S → Type 0
@@ -70,10 +79,10 @@ AreSteps prepares zero old new = new ≡ old
 AreSteps {S} prepares (suc more) old new = (middle : S) × prepares old middle × AreSteps prepares more middle new
 
 -- the same, and replies
-module _ {S : Type 0} (replies fails : S → RequestView → ReplyView → S → Type 0) (prepares : S → S → Type 0) where
+module _ {S : Type 0} (replies : S → RequestView → ReplyView → S → Type 0) (prepares : S → S → Type 0) where
   -- steps lead from a state to the next, and then perhaps a stretch, which answers
   abbrev pub NextAnswer : S → S → Type 0
-  NextAnswer old new = (steps : ℕ) × (middle : S) × AreSteps prepares steps old middle × ((new ≡ middle) ⊎ NextStretch replies fails middle new)
+  NextAnswer old new = (steps : ℕ) × (middle : S) × AreSteps prepares steps old middle × ((new ≡ middle) ⊎ NextStretch replies middle new)
 
 -- reads of a content by its ticket
 module _ {S : Type 0} (reads : S → Ticket → (offset count : ℕ) → Result (List ℕ) RestFault → S → Type 0) where
@@ -82,11 +91,11 @@ module _ {S : Type 0} (reads : S → Ticket → (offset count : ℕ) → Result 
   NextPart old new = (ticket : Ticket) × (offset : ℕ) × (count : ℕ) × (outcome : Result (List ℕ) RestFault)
       × reads old ticket offset count outcome new
 
-module _ {S : Type 0} (replies fails : S → RequestView → ReplyView → S → Type 0)
+module _ {S : Type 0} (replies : S → RequestView → ReplyView → S → Type 0)
     (reads : S → Ticket → (offset count : ℕ) → Result (List ℕ) RestFault → S → Type 0) (prepares : S → S → Type 0) where
   -- an event leads from a state to the next
   abbrev pub Happens : S → Event → S → Type 0
-  Happens old (at_stretch s) new = CameTo replies fails s.result old s new
+  Happens old (at_stretch s) new = CameTo replies s.result old s new
   Happens old (at_part ticket offset count outcome) new = reads old ticket offset count outcome new
   Happens old at_preparation new = prepares old new
 

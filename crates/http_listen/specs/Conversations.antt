@@ -2,7 +2,8 @@
 use Rattle.std.specs.Prelude.{◌≡◌, ◌≢◌, ◌≤◌, ◌+◌, ◌-◌, ◌⊎◌, ℕ, Bool, nat_eq, cond, List, [], ◌∷◌, ◌++◌, length, Option, None, Some, is_some}
 use Rattle.std.specs.Prelude.{Result, Ok, Err, MatchOption, ⊤, false}
 use Rattle.httparse.specs.declared.spans.HeaderSpan.{HeaderSpan}
-use Rattle.http_serve.specs.declared.connection.ServeFault.{ServeFault}
+use Rattle.std.specs.declared.alloc.AllocError.{AllocError}
+use Rattle.http_serve.specs.declared.connection.Answer.{Answer}
 use Rattle.http_serve.specs.declared.connection.Served.{Served}
 use Rattle.http_serve.specs.declared.handlers.RestFault.{RestFault}
 use Rattle.http_serve.specs.declared.handlers.Ticket.{Ticket}
@@ -23,7 +24,7 @@ use Rattle.http_listen.specs.Talks.{Told, Grows, Moves}
 -- what is done for a connection
 pub data Act : Type 0 where
   -- these bytes were answered by these replies, and came to this; the last reply's content has this ticket
-  answered : (asked replies : List ℕ) → Result Served ServeFault → Ticket → Act
+  answered : (asked replies : List ℕ) → Result Answer AllocError → Ticket → Act
   -- this many bytes of a content that a reply left were read by its ticket, from an offset on, or couldn't be
   fetched : Ticket → (offset count : ℕ) → Result (List ℕ) RestFault → Act
   -- a step was made of the preparation of its next reply
@@ -86,19 +87,19 @@ pub record Conversation (first : Option Told) (acts : List Act) (last : Option T
   pub left : Option Unsent
   pub follows : Follows None acts left
 
--- replies, and those of which the handler's part fails
-module _ {S : Type 0} (replies fails : S → RequestView → ReplyView → S → Type 0) where
+-- replies
+module _ {S : Type 0} (replies : S → RequestView → ReplyView → S → Type 0) where
   -- bytes were answered: what a writer that held nothing holds then is the replies
-  abbrev pub Answers : S → (bytes replies : List ℕ) → Result Served ServeFault → S → Type 0
-  Answers old bytes out result new = (leaves : Option (List ℕ)) × CameTo replies fails result old
+  abbrev pub Answers : S → (bytes replies : List ℕ) → Result Answer AllocError → S → Type 0
+  Answers old bytes out result new = (leaves : Option (List ℕ)) × CameTo replies result old
       (record { first = false; result = result; left = Some bytes; held = Some []; leaves = leaves; holds = Some out }) new
 
 -- the same handler, with its reads, tickets and preparations
-module _ {S : Type 0} (replies fails : S → RequestView → ReplyView → S → Type 0)
+module _ {S : Type 0} (replies : S → RequestView → ReplyView → S → Type 0)
     (reads : S → Ticket → (offset count : ℕ) → Result (List ℕ) RestFault → S → Type 0) (ticket_of : S → Ticket) (prepares : S → S → Type 0) where
   -- An act leads from a state to the next. What is answered is one request, or bytes that begin with none.
   abbrev pub Does : S → Act → S → Type 0
-  Does old (answered bytes out result ticket) new = Answers replies fails old bytes out result new × (ticket ≡ ticket_of new) × IsOneOrNone bytes
+  Does old (answered bytes out result ticket) new = Answers replies old bytes out result new × (ticket ≡ ticket_of new) × IsOneOrNone bytes
   Does old (fetched ticket offset count outcome) new = reads old ticket offset count outcome new
   Does old prepared new = prepares old new
 
@@ -217,12 +218,12 @@ deeds_of number [] = []
 deeds_of number (act ∷ acts) = record { number = number; act = act } ∷ deeds_of number acts
 
 -- a handler
-module _ {S : Type 0} (replies fails : S → RequestView → ReplyView → S → Type 0)
+module _ {S : Type 0} (replies : S → RequestView → ReplyView → S → Type 0)
     (reads : S → Ticket → (offset count : ℕ) → Result (List ℕ) RestFault → S → Type 0) (ticket_of : S → Ticket) (prepares : S → S → Type 0) where
   -- All that was done, in this order, leads from a state to the next.
   abbrev pub Runs : S → List Deed → S → Type 0
   Runs old [] new = new ≡ old
-  Runs old (deed ∷ deeds) new = (middle : S) × Does replies fails reads ticket_of prepares old deed.act middle × Runs middle deeds new
+  Runs old (deed ∷ deeds) new = (middle : S) × Does replies reads ticket_of prepares old deed.act middle × Runs middle deeds new
 
 -- no two connections have one number
 abbrev pub AreApart : {S : Type 0} → (ℕ → Option (Peer S)) → Type 0

@@ -15,8 +15,8 @@ use crate::rests::{Unsent, add_part, once_sent};
 use crate::talks::Talks;
 use crate::waits::Waits;
 use http_requests::FieldSpans;
-use http_serve::{Asked, Downloads, NOTHING_ASKED, Preparation, Prepares, ServeFault, Served};
-use std::alloc::Global;
+use http_serve::{Answer, Asked, Downloads, NOTHING_ASKED, Preparation, Prepares};
+use std::alloc::{AllocError, Global};
 use std::net::OpenStream;
 use std::time::{Clock, Duration};
 use thiserror::Error;
@@ -49,17 +49,17 @@ fn serve_front<S, H>(
     fields: &FieldSpans,
     asked: Asked,
     handler: &mut H,
-) -> Result<Served, ServeFault>
+) -> Result<Answer, AllocError>
 where
     S: Talks + OpenStream + Drop,
     H: Downloads,
     requires sent { peer.old.connection.output ≡ [] }
     requires found { IsFound peer.old.connection.input fields.now asked }
-    ensures comes { ComesTo H.replies H.fails result handler.old handler.new }
+    ensures comes { ComesTo H.replies result handler.old handler.new }
     // What is left is read by the ticket of the reply that stopped.
     ensures unsent { peer.new.state.unsent ≡ rest_after (H.ticket_of handler.new) result }
     // The replies to these bytes are to be sent. Nothing was read.
-    ensures answers { Answers H.replies H.fails handler.old (take asked.end peer.old.connection.input) peer.new.connection.output result handler.new }
+    ensures answers { Answers H.replies handler.old (take asked.end peer.old.connection.input) peer.new.connection.output result handler.new }
     ensures input { peer.new.connection.input ≡ drop asked.end peer.old.connection.input }
     ensures stream { peer.new.stream ≡ peer.old.stream }
     ensures state { peer.new.state ≡ record peer.old.state { unsent = peer.new.state.unsent } }
@@ -78,10 +78,11 @@ where
     requires whole { peer.state.unsent ≡ None }
     requires fresh { peer.connection.input ≡ [] }
     requires sent { peer.connection.output ≡ [] }
-    ensures comes { NextStretch H.replies H.fails handler.old handler.new }
-    ensures acted { (act : Act) × Does H.replies H.fails H.reads H.ticket_of H.prepares handler.old act handler.new
+    ensures comes { NextStretch H.replies handler.old handler.new }
+    ensures acted { (act : Act) × Does H.replies H.reads H.ticket_of H.prepares handler.old act handler.new
         × Acts S.told (W.marks log.old) (peer_at pool.old.places) peer (act ∷ []) (W.marks log.new) (peer_at pool.new.places) }
 {
+    pool.spare.refill();
     let outcome = serve_front(&mut peer, &pool.fields, NOTHING_ASKED, handler);
     pool.opened(peer, once_sent(outcome), log);
 }
@@ -93,8 +94,8 @@ struct Acted {
     ending: Ending,
 }
 
-/// Answers what was found at the front of a connection's input, in a stretch of it, and begins to send the replies. Nothing waits to be sent before.
-/// The time since `start` is that of the answer.
+/// Answers what was found at the front of a connection's input, in a stretch of it, and begins to send the replies, in spare room if memory runs out.
+/// Nothing waits to be sent before. The time since `start` is that of the answer.
 fn answer_front<S, H, C>(
     clock: &C,
     start: Duration,
@@ -110,11 +111,13 @@ where
     requires sent { peer.old.connection.output ≡ [] }
     requires whole { peer.old.state.unsent ≡ None }
     requires asked { IsAsked peer.old.connection.input peer.old.state.ended pool.old.fields asked }
-    ensures comes { NextStretch H.replies H.fails handler.old handler.new }
+    ensures comes { NextStretch H.replies handler.old handler.new }
     ensures places { pool.new.places ≡ pool.old.places }
-    ensures acts { (act : Act) × Does H.replies H.fails H.reads H.ticket_of H.prepares handler.old act handler.new
+    ensures acts { (act : Act) × Does H.replies H.reads H.ticket_of H.prepares handler.old act handler.new
         × Steps S.told peer.old (act ∷ []) (result.ending ≡ None) peer.new }
 {
+    pool.spare.refill();
+    peer.connection.begin(&mut pool.spare);
     let outcome = serve_front(peer, &pool.fields, asked, handler);
     let now = pool.spend(clock, start);
     peer.answered(now, outcome);
@@ -177,9 +180,9 @@ where
     requires sent { peer.old.connection.output ≡ [] }
     requires whole { peer.old.state.unsent ≡ None }
     requires asked { IsAsked peer.old.connection.input peer.old.state.ended pool.old.fields asked }
-    ensures comes { NextAnswer H.replies H.fails H.prepares handler.old handler.new }
+    ensures comes { NextAnswer H.replies H.prepares handler.old handler.new }
     ensures places { pool.new.places ≡ pool.old.places }
-    ensures acts { (acts : List Act) × Runs H.replies H.fails H.reads H.ticket_of H.prepares handler.old (deeds_of peer.old.state.number acts) handler.new
+    ensures acts { (acts : List Act) × Runs H.replies H.reads H.ticket_of H.prepares handler.old (deeds_of peer.old.state.number acts) handler.new
         × Steps S.told peer.old acts (result.ending ≡ None) peer.new }
 {
     let start = time_of(clock);
@@ -213,8 +216,8 @@ where
     requires sent { peer.value.connection.output ≡ [] }
     requires whole { peer.value.state.unsent ≡ None }
     requires asked { IsAsked peer.value.connection.input peer.value.state.ended pool.old.fields asked }
-    ensures comes { NextAnswer H.replies H.fails H.prepares handler.old handler.new }
-    ensures acted { (acts : List Act) × Runs H.replies H.fails H.reads H.ticket_of H.prepares handler.old (deeds_of peer.value.state.number acts) handler.new
+    ensures comes { NextAnswer H.replies H.prepares handler.old handler.new }
+    ensures acted { (acts : List Act) × Runs H.replies H.reads H.ticket_of H.prepares handler.old (deeds_of peer.value.state.number acts) handler.new
         × Acts S.told (W.marks log.old) (peer_at pool.old.places) peer.value acts (W.marks log.new) (peer_at pool.new.places) }
 {
     let Acted { now, ending } = prepare_front(clock, pool, &mut peer, asked, handler);
@@ -238,7 +241,7 @@ where
     ensures reads { NextPart H.reads handler.old handler.new }
     ensures places { pool.new.places ≡ pool.old.places }
     // If the part can't be read, the connection ends with the word for why.
-    ensures acts { (act : Act) × Does H.replies H.fails H.reads H.ticket_of H.prepares handler.old act handler.new
+    ensures acts { (act : Act) × Does H.replies H.reads H.ticket_of H.prepares handler.old act handler.new
         × Steps S.told peer.old (act ∷ []) (result.ending ≡ None) peer.new × IsEndedBy act result.ending }
 {
     let start = time_of(clock);
@@ -265,7 +268,7 @@ where
     requires sent { peer.value.connection.output ≡ [] }
     requires rest { peer.value.state.unsent ≡ Some unsent }
     ensures reads { NextPart H.reads handler.old handler.new }
-    ensures acted { (act : Act) × Does H.replies H.fails H.reads H.ticket_of H.prepares handler.old act handler.new
+    ensures acted { (act : Act) × Does H.replies H.reads H.ticket_of H.prepares handler.old act handler.new
         × Acts S.told (W.marks log.old) (peer_at pool.old.places) peer.value (act ∷ []) (W.marks log.new) (peer_at pool.new.places) }
 {
     let Acted { now, ending } = read_part(clock, pool, &mut peer, unsent, handler);
@@ -292,7 +295,8 @@ where
 /// All connections hold at most `Waits::max_held` bytes of requests and replies. Once a step exceeds that, connections are ended before the next
 /// one until it is met, first the one that has waited longest for its peer: if it has sent a part of a request, with the reply 503 `Memory` and
 /// logged as `memory`, otherwise as one whose write failed. If no connection waits for its peer, one that has sent a part of a request and is to
-/// be read gets that reply. So does each connection for whose input or buffers memory runs out before its request is answered.
+/// be read gets that reply. So does each connection for whose input memory runs out. If it runs out for the head of a reply, spare room is taken, and
+/// the connection goes on; only if there is none either, it ends with that reply.
 ///
 /// At most `Waits::max_open` connections are open, and never more than `MAX_OPEN`. At that limit, or when one can't be accepted for
 /// want of descriptors or memory, room is made for it: a connection that has ended is closed, or else the one that waits longest for a
@@ -332,19 +336,19 @@ where
     H: Prepares,
     W: Logs<L::Stream>,
     C: Clock,
-    ensures all { OnOk result ((served : List Event) × Serves H.replies H.fails H.reads H.prepares handler.old served handler.new
+    ensures all { OnOk result ((served : List Event) × Serves H.replies H.reads H.prepares handler.old served handler.new
         × (begun served ≡ connections)) }
-    ensures fewer { OnErr result ((served : List Event) × Serves H.replies H.fails H.reads H.prepares handler.old served handler.new
+    ensures fewer { OnErr result ((served : List Event) × Serves H.replies H.reads H.prepares handler.old served handler.new
         × (begun served < connections)) }
     // The bytes of each stretch are known, so what was read is: the requests that were answered are its bytes.
-    ensures known { OnOk result ((served : List Event) × Serves H.replies H.fails H.reads H.prepares handler.old served handler.new
+    ensures known { OnOk result ((served : List Event) × Serves H.replies H.reads H.prepares handler.old served handler.new
         × (begun served ≡ connections) × AreOverKnown served) }
-    ensures fewer_known { OnErr result ((served : List Event) × Serves H.replies H.fails H.reads H.prepares handler.old served handler.new
+    ensures fewer_known { OnErr result ((served : List Event) × Serves H.replies H.reads H.prepares handler.old served handler.new
         × (begun served < connections) × AreOverKnown served) }
     // What is done is done for the connections, each by its number, and what is answered at once is one request, or bytes that begin with none. Of
     // a connection nothing is answered or prepared while something of its last reply's content is left, and what is read of that is its next
     // bytes, by that reply's ticket.
-    ensures named { (deeds : List Deed) × Runs H.replies H.fails H.reads H.ticket_of H.prepares handler.old deeds handler.new
+    ensures named { (deeds : List Deed) × Runs H.replies H.reads H.ticket_of H.prepares handler.old deeds handler.new
         × AreInOrder connections deeds
         × ((count : ℕ) × (count ≤ connections) × OnOk result (count ≡ connections)
         × AreOver L.Stream.Talks.told count deeds (W.marks log.old) (W.marks log.new)) }

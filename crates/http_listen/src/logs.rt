@@ -8,6 +8,7 @@ use crate::ends::EndFault;
 use crate::lines::write_line;
 use http_serve::Served;
 use std::io::{self, Write};
+use std::marker::Model;
 
 /// A log of connections, which is given their streams: each as its connection is opened, and to close it. What is proved of a connection is said
 /// of these two, for every log, also for one that records none, since what serves connections can't see which it is.
@@ -48,15 +49,23 @@ pub struct Log<W> {
     out: W,
 }
 
+impl<W> Model for Log<W> {
+    ghost Value = { W };
+
+    ghost view = { λ log. log.out };
+}
+
 impl<W> Log<W> {
     /// A log that writes to this.
-    pub fn new(out: W) -> Self {
+    pub fn new(out: W) -> Self
+        ensures { result ≡ out }
+    {
         Log { out }
     }
 }
 
 impl<W: Write, S: Drop> Logs<S> for Log<W> {
-    ghost lines = { λ log. W.contents log.out };
+    ghost lines = { λ log. W.contents log };
 
     fn opened(&mut self, _number: u64, _stream: &S) {}
 

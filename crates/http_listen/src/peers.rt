@@ -18,8 +18,8 @@ use crate::rests::{Unsent, once_sent};
 use crate::talks::Talks;
 use crate::turns::Next;
 use http_requests::{FieldSpans, MAX_REQUEST};
-use http_serve::{Connection, End, ServeFault, Served};
-use std::alloc::Global;
+use http_serve::{Answer, Connection, End, Served};
+use std::alloc::{AllocError, Global};
 use std::io::{self, ErrorKind};
 use std::net::{OpenStream, Shutdown};
 use std::time::Duration;
@@ -228,7 +228,7 @@ impl<S> Peer<S> {
     }
 
     /// The first bytes of its input were answered in a stretch that came to this.
-    pub(crate) fn answered(&mut self, now: Duration, outcome: Result<Served, ServeFault>)
+    pub(crate) fn answered(&mut self, now: Duration, outcome: Result<Answer, AllocError>)
         ensures { Stands self.old self.new }
     {
         let outcome = once_sent(outcome);

@@ -16,7 +16,7 @@ use crate::talks::Talks;
 use crate::turns::Next;
 use crate::waits::Waits;
 use http_requests::{FieldSpans, NO_FIELDS};
-use http_serve::{Asked, Served};
+use http_serve::{Asked, Served, Spare};
 use std::alloc::Global;
 use std::net::OpenStream;
 use std::time::{Clock, Duration};
@@ -68,6 +68,8 @@ pub(crate) struct Pool<S> {
     piece: [u8; PIECE],
     /// Where the header fields of the request are that was found last.
     pub(crate) fields: FieldSpans,
+    /// Room for the head of one reply, for which memory runs out.
+    pub(crate) spare: Spare,
     /// How many of those that may have their turn have it before the next wait.
     pub(crate) round: usize,
     /// How many connections are accepted at most before the next wait.
@@ -109,6 +111,7 @@ impl<S> Pool<S> {
             preparing_time,
             piece: [0; PIECE],
             fields: NO_FIELDS,
+            spare: Spare::new(alloc),
             round: 0,
             accepts: 0,
             comes: false,

@@ -4,7 +4,8 @@ ghost use Rattle.http_serve.specs.declared.handlers.RestFault.{RestFault};
 ghost use Rattle.http_listen.specs.Rests.{rest_after, once_sent, EndsAt};
 
 use crate::ends::EndFault;
-use http_serve::{Connection, Downloads, End, PART_SIZE, ServeFault, Served, Ticket};
+use http_serve::{Answer, Connection, Downloads, PART_SIZE, Served, Ticket};
+use std::alloc::AllocError;
 
 /// The rest of a content, which isn't sent yet.
 #[derive(Clone, Copy)]
@@ -19,16 +20,21 @@ pub(crate) struct Unsent {
 impl Unsent {
     /// What is left after a stretch that came to this.
     pub(crate) fn after<H: Downloads>(
-        outcome: &Result<Served, ServeFault>,
+        outcome: &Result<Answer, AllocError>,
         handler: &H,
     ) -> Option<Unsent>
         ensures { result ≡ rest_after (H.ticket_of handler.now) outcome.now }
     {
         match *outcome {
-            Err(ServeFault::Rest { from, length, .. }) => Some(Unsent {
+            Ok(
+                Answer {
+                    rest: Some(rest),
+                    ..
+                },
+            ) => Some(Unsent {
                 ticket: handler.ticket(),
-                at: from,
-                end: length,
+                at: rest.from,
+                end: rest.length,
             }),
             _ => None,
         }
@@ -57,25 +63,12 @@ impl Unsent {
 }
 
 /// What a connection comes to after a stretch, once the rest that it left is sent too.
-pub(crate) fn once_sent(outcome: Result<Served, ServeFault>) -> Result<Served, EndFault>
+pub(crate) fn once_sent(outcome: Result<Answer, AllocError>) -> Result<Served, EndFault>
     ensures { result ≡ once_sent outcome }
 {
     match outcome {
-        Ok(served) => Ok(served),
-        Err(ServeFault::Memory) => Err(EndFault::Memory),
-        Err(ServeFault::Read { requests }) => Err(EndFault::Read { requests }),
-        Err(ServeFault::Write { requests }) => Err(EndFault::Write { requests }),
-        Err(ServeFault::Content { requests }) => Err(EndFault::Device { requests }),
-        Err(
-            ServeFault::Rest {
-                requests,
-                close,
-                ..
-            },
-        ) => Ok(Served {
-            requests: requests.saturating_add(1),
-            end: if close { End::Asked } else { End::Closed },
-        }),
+        Ok(answer) => Ok(answer.served),
+        Err(_) => Err(EndFault::Memory),
     }
 }
 

@@ -17,7 +17,7 @@ use Rattle.http_values.specs.Codes.{code_of}
 use Rattle.http_requests.specs.Requests.{RequestView}
 use Rattle.http_serve.specs.declared.contents.SendFault.{SendFault}
 use Rattle.http_serve.specs.declared.contents.SendFault.TheVariants as cuts
-use Rattle.http_serve.specs.Told.{HasContent, IsNotMemory, IsNotRest}
+use Rattle.http_serve.specs.Told.{HasContent, IsNotMemory}
 use Rattle.http_serve.proofs.KnownLemmas.{Appends-then, Appends_none}
 
 -- one more part after those so far
@@ -211,11 +211,6 @@ cut_content size requests cuts.Content is = is
 pub cut_no_memory : (requests : ℕ) (fault : SendFault) → IsNotMemory (cut_after requests fault)
 cut_no_memory requests cuts.Write = tt
 cut_no_memory requests cuts.Content = tt
-
--- or Rest
-pub cut_whole : (requests : ℕ) (fault : SendFault) → IsNotRest (cut_after requests fault)
-cut_whole requests cuts.Write = tt
-cut_whole requests cuts.Content = tt
 
 -- ---- a rest that is left
 

@@ -1,7 +1,7 @@
 -- A connection, read by read.
 use Rattle.std.proofs.Common.{◌≡◌, ◌≢◌, ℕ, Bool, ◌<◌, ◌≤◌, List, [], ◌∷◌, ◌++◌, Option, Some, None, take, length, ◌+◌, ◌*◌, refl, sym, ap, ◌∙◌, subst}
 use Rattle.std.proofs.Common.{append_assoc, arith, inl, inr, length-append, zero, suc}
-use Rattle.std.specs.Prelude.{⊤, Result, Ok, Err, IfOk, IfErr}
+use Rattle.std.specs.Prelude.{⊤, Result, Ok, Err, IfOk, IfErr, OnErr}
 use Rattle.httparse.specs.Grammar.{RequestHead}
 use Rattle.std.proofs.lemmas.List.{append-nil}
 use Rattle.std.specs.Io.KnownBytes.{Appends, Consumes, IsAtEnd}
@@ -12,7 +12,7 @@ use Rattle.http_serve.specs.declared.connection.End.{End}
 use Rattle.http_serve.specs.declared.connection.End.TheVariants.{Closed, Asked, Refused, Turns}
 use Rattle.http_serve.specs.declared.connection.Served.{Served}
 use Rattle.http_serve.specs.declared.connection.ServeFault.{ServeFault}
-use Rattle.http_serve.specs.declared.connection.ServeFault.TheVariants.{Memory, Read, Write, Content, Rest}
+use Rattle.http_serve.specs.declared.connection.ServeFault.TheVariants.{Memory, Read, Write, Content}
 use Rattle.http_serve.specs.declared.contents.SendFault.{SendFault}
 use Rattle.http_serve.specs.declared.contents.SendFault.TheVariants as cuts
 use Rattle.http_requests.specs.declared.frames.Frame.{Frame}
@@ -26,9 +26,9 @@ use Rattle.http_requests.specs.Requests.{RequestView, request_view_at, has_head_
 use Rattle.http_serve.specs.Reply.{ReplyView, reply_at, refusal_bytes}
 use Rattle.http_serve.specs.Served.{RisesBy, reply_count, Answers, AnswersEnd, AnswersAll, AnswersNext, RepliesNext}
 use Rattle.http_serve.specs.Served.{Carries, Ends, Breaks, Stops, Anything, MayFollow}
-use Rattle.http_serve.specs.Steps.{HasPlainEnd, IsFinished, IsUnfinished, IsBroken, IsLeftAt}
+use Rattle.http_serve.specs.Steps.{HasPlainEnd, IsFinished, IsUnfinished, IsBroken}
 use Rattle.http_serve.specs.Told.{end_of, IfTurns, IsServed, IsServedTo, IsServedSoFar, IsServedInPart, IsServedUpTo, IsAnswered, LosesAtMost}
-use Rattle.http_serve.specs.Told.{HasContent, IsNotRest, OnRest, StopsAtRest, MeetsTurns, KeepsTurns, AnswersInput}
+use Rattle.http_serve.specs.Told.{HasContent, IsServedToRest, MeetsTurns, KeepsTurns, AnswersInput}
 use Rattle.http_requests.proofs.HeadLemmas.{empty_no_head, refused_none}
 use Rattle.http_serve.proofs.KnownLemmas.{Appends-then, Consumes-then, Consumes_none}
 use Rattle.http_serve.proofs.CarryLemmas.{Begins-append, Begins-then, Answers-then, Carries_start, Ends_push}
@@ -53,6 +53,11 @@ refused_other e = cc
 pub if_ok : {A E : Type 0} (r : Result A E) (P Q : A → Type 0) → ((a : A) → P a → Q a) → IfOk r P → IfOk r Q
 if_ok (Ok a) P Q f x = f a x
 if_ok (Err e) P Q f x = tt
+
+-- a fact of an error, and one that follows
+pub on_err : {A E : Type 0} {P Q : Type 0} (r : Result A E) → (P → Q) → OnErr r P → OnErr r Q
+on_err (Ok a) f x = tt
+on_err (Err e) f x = f x
 
 pub if_err : {A E : Type 0} (r : Result A E) (P Q : E → Type 0) → ((e : E) → P e → Q e) → IfErr r P → IfErr r Q
 if_err (Ok a) P Q f x = tt
@@ -93,13 +98,6 @@ module _ {S : Type 0} (old : S) (bytes : List ℕ) (held : Option (List ℕ)) (b
   cut_breaks replies fails reply n new now cuts.Content so given cut sent =
       Breaks_at replies (AnswersNext fails) old bytes held before middle here holds so_far (reply_at input frame reply) n new now so
       (Frame_next fails middle input spans frame request here rest reply new is whole given) cut sent
-
-pub not_rest : (fault : ServeFault) (fact : ℕ → Bool → ℕ → ℕ → Type 0) → IsNotRest fault → OnRest fault fact
-not_rest Memory fact is = tt
-not_rest (Read n) fact is = tt
-not_rest (Write n) fact is = tt
-not_rest (Content n) fact is = tt
-not_rest (Rest n close from size) fact is = absurd is
 
 module _ {S : Type 0} (replies : S → RequestView → ReplyView → S → Type 0) where
   pub SoFar_start : (old : S) (left held : Option (List ℕ)) (waiting : List ℕ) → waiting ≡ []
@@ -289,15 +287,16 @@ module _ {S : Type 0} (replies : S → RequestView → ReplyView → S → Type 
       SoFar_broken fails (Write n) y = SoFar_breaks (RepliesNext replies Anything) (RepliesNext replies (MayFollow last)) n
           (λ at rest next is. Next-follows at rest next (MayFollow last) new is) y
       SoFar_broken fails (Content n) y = SoFar_breaks (AnswersNext fails) (AnswersNext fails) n (λ at rest next is. is) y
-      SoFar_broken fails (Rest n close from size) y = SoFar_breaks (AnswersNext replies) (AnswersNext replies) n (λ at rest next is. is) y
 
-      pub SoFar_left : (sends : S → RequestView → ReplyView → S → Type 0) (fault : ServeFault)
-          → IsLeftAt replies sends middle full holds requests fault new now → StopsAtRest replies sends old left held fault new last now
-      SoFar_left sends Memory y = tt
-      SoFar_left sends (Read n) y = tt
-      SoFar_left sends (Write n) y = tt
-      SoFar_left sends (Content n) y = tt
-      SoFar_left sends (Rest n close from size) y =
+      -- a reply that was answered is cut
+      pub SoFar_part : (n : ℕ) → Breaks replies (AnswersNext replies) middle full holds requests new now n
+          → IsServedInPart replies (AnswersNext replies) old left held n new last now
+      SoFar_part n y = SoFar_breaks (AnswersNext replies) (AnswersNext replies) n (λ at rest next is. is) y
+
+      pub SoFar_left : (sends : S → RequestView → ReplyView → S → Type 0) (n : ℕ) (close : Bool) (from size : ℕ)
+          → Stops replies sends middle full holds requests close from size new now n
+          → IsServedToRest replies sends old left held n close from size new last now
+      SoFar_left sends n close from size y =
           let z = subst (λ (t : List ℕ). Stops replies sends middle t holds requests close from size new now n) joined y in
           record {
             bytes = so.bytes ++ more;
@@ -474,7 +473,6 @@ finished_reads turns input left waiting head reason held before (Err Memory) hol
 finished_reads turns input left waiting head reason held before (Err (Read n)) holds so x = let told = x.told in absurd (cc)
 finished_reads turns input left waiting head reason held before (Err (Write n)) holds so x = so
 finished_reads turns input left waiting head reason held before (Err (Content n)) holds so x = so
-finished_reads turns input left waiting head reason held before (Err (Rest n close from size)) holds so x = so
 
 -- A reply that is cut is no failed read: all reads of the limit may have returned bytes.
 pub broken_reads : {S : Type 0} (replies fails : S → RequestView → ReplyView → S → Type 0) (old : S) (waiting : List ℕ) (held : Option (List ℕ))
@@ -485,7 +483,6 @@ broken_reads replies fails old waiting held before Memory new holds turns input 
 broken_reads replies fails old waiting held before (Read n) new holds turns input left so is = absurd is
 broken_reads replies fails old waiting held before (Write n) new holds turns input left so is = so
 broken_reads replies fails old waiting held before (Content n) new holds turns input left so is = so
-broken_reads replies fails old waiting held before (Rest n close from size) new holds turns input left so is = so
 
 -- what the input's end is answered with isn't read in parts
 pub unfinished_content : (size : ℕ) (waiting : List ℕ) (head : Option RequestHead) (reason : Refusal) (held : Option (List ℕ)) (before : ℕ)

@@ -10,10 +10,9 @@ use Rattle.http_requests.specs.Requests.{RequestView, request_view_at, is_head}
 use Rattle.httparse.specs.Spans.{span_bytes}
 use Rattle.http_serve.specs.Reply.{ReplyView, head_of, reply_head, reply_bytes, has_no_content}
 use Rattle.http_serve.specs.declared.answers.Rest.{Rest}
+use Rattle.http_serve.specs.declared.connection.Answer.{Answer}
 use Rattle.http_serve.specs.declared.connection.End.TheVariants as ends
 use Rattle.http_serve.specs.declared.connection.Served.{Served}
-use Rattle.http_serve.specs.declared.connection.ServeFault.{ServeFault}
-use Rattle.http_serve.specs.declared.connection.ServeFault.TheVariants as faults
 use Rattle.http_serve.specs.declared.inputs.Asked.{Asked}
 
 -- both, and whether its buffers are reserved and kept
@@ -56,14 +55,6 @@ pub record IsNextPiece (piece output : List ℕ) : Type 0 where
   pub is : output ≡ piece ++ behind
   pub some : piece ≡ [] → output ≡ []
 
--- the fault is one of an answer: there is no memory for the reply, or the rest of its content is left
-abbrev pub IsOfAnswer : ServeFault → Type 0
-IsOfAnswer faults.Memory = ⊤
-IsOfAnswer (faults.Read requests) = ⊥
-IsOfAnswer (faults.Write requests) = ⊥
-IsOfAnswer (faults.Content requests) = ⊥
-IsOfAnswer (faults.Rest requests close from size) = ⊤
-
 -- Of a reply only its head and the content up to its rest is to be sent, which is none of a reply that is sent without its content.
 pub record Leaves (close bare : Bool) (reply : ReplyView) (rest : Rest) (output : List ℕ) : Type 0 where
   pub size_is : rest.length ≡ length reply.content
@@ -85,7 +76,10 @@ module _ {S : Type 0} (replies sends : S → RequestView → ReplyView → S →
     pub shown : IsToSend frame.close (is_head (span_bytes bytes frame.method)) reply rest output
     pub left : IfSome rest (λ r. sends old (request_view_at bytes fields frame) reply new × (size new ≡ r.length))
 
--- what an answer to a request comes to whose reply has this rest; close says whether the connection ends after it
-abbrev pub answered : (close : Bool) → Option Rest → Result Served ServeFault
-answered close None = Ok (record { requests = 1; end = cond close ends.Asked ends.Closed })
-answered close (Some rest) = Err (faults.Rest 0 close rest.from rest.length)
+-- what a connection comes to once the reply to a request is sent; close says whether it ends after it
+abbrev pub once_replied : (close : Bool) → Served
+once_replied close = record { requests = 1; end = cond close ends.Asked ends.Closed }
+
+-- what an answer to a request comes to whose reply has this rest
+abbrev pub answered : (close : Bool) → Option Rest → Answer
+answered close rest = record { served = once_replied close; rest = rest }

@@ -6,15 +6,15 @@ use Rattle.http_serve.specs.declared.connection.End.TheVariants.{Turns}
 use Rattle.http_serve.specs.declared.serving.Pause.{Pause}
 use Rattle.http_serve.specs.declared.serving.Pause.TheVariants.{Ended, More}
 use Rattle.http_serve.specs.declared.connection.ServeFault.{ServeFault}
-use Rattle.http_serve.specs.declared.connection.ServeFault.TheVariants.{Memory, Read, Write, Content, Rest}
+use Rattle.http_serve.specs.declared.connection.ServeFault.TheVariants.{Memory, Read, Write, Content}
 use Rattle.http_serve.specs.declared.connection.Served.{Served}
 use Rattle.http_requests.specs.declared.frames.TheConstants.{MAX_REQUEST}
 use Rattle.http_requests.specs.declared.refusals.Refusal.{Refusal}
 use Rattle.http_requests.specs.Requests.{IsRefused, EndsAs, Ending, going, closed, asked, refused}
 use Rattle.http_requests.specs.Requests.{RequestView, has_head_method}
 use Rattle.http_serve.specs.Reply.{ReplyView, refusal_bytes}
-use Rattle.http_serve.specs.Served.{RisesBy, reply_count, AnswersNext, RepliesNext, Carries, Ends, Breaks, Stops, Anything}
-use Rattle.http_serve.specs.Told.{end_of, OnRest}
+use Rattle.http_serve.specs.Served.{RisesBy, reply_count, AnswersNext, RepliesNext, Carries, Ends, Breaks, Anything}
+use Rattle.http_serve.specs.Told.{end_of}
 
 -- what is written at an end that needs no handler
 abbrev pub HasPlainEnd : Ending → List ℕ → Type 0
@@ -62,12 +62,3 @@ module _ {S : Type 0} (replies fails : S → RequestView → ReplyView → S →
   IsBroken old waiting held before (Write requests) new holds =
       Breaks replies (RepliesNext replies Anything) old waiting held before new holds requests
   IsBroken old waiting held before (Content requests) new holds = Breaks replies (AnswersNext fails) old waiting held before new holds requests
-  IsBroken old waiting held before (Rest requests close from size) new holds =
-      Breaks replies (AnswersNext replies) old waiting held before new holds requests
-
--- replies, and those whose content is being read in parts
-module _ {S : Type 0} (replies sends : S → RequestView → ReplyView → S → Type 0) where
-  -- if the fault is Rest, the next reply is written up to the rest of its content
-  abbrev pub IsLeftAt : S → List ℕ → Option (List ℕ) → ℕ → ServeFault → S → Option (List ℕ) → Type 0
-  IsLeftAt old waiting held before fault new holds =
-      OnRest fault (λ requests close from size. Stops replies sends old waiting held before close from size new holds requests)

@@ -4,7 +4,7 @@ use Rattle.std.specs.Io.KnownBytes.{Consumes, Appends}
 use Rattle.http_serve.specs.declared.connection.End.{End}
 use Rattle.http_serve.specs.declared.connection.End.TheVariants.{Closed, Asked, Refused, Turns}
 use Rattle.http_serve.specs.declared.connection.ServeFault.{ServeFault}
-use Rattle.http_serve.specs.declared.connection.ServeFault.TheVariants.{Memory, Read, Write, Content, Rest}
+use Rattle.http_serve.specs.declared.connection.ServeFault.TheVariants.{Memory, Read, Write, Content}
 use Rattle.http_serve.specs.declared.connection.Served.{Served}
 use Rattle.http_serve.specs.Buffers.{buffer_size}
 use Rattle.http_serve.specs.Reads.{GivesTimes}
@@ -44,7 +44,6 @@ giving_reads turns (Err Memory) = 0
 giving_reads turns (Err (Read requests)) = turns - 1
 giving_reads turns (Err (Write requests)) = turns
 giving_reads turns (Err (Content requests)) = turns
-giving_reads turns (Err (Rest requests close from size)) = turns
 
 -- at most this many reads were made, each of at most the size of the buffer
 abbrev pub KeepsTurns : ℕ → Result Served ServeFault → Option (List ℕ) → Option (List ℕ) → Type 0
@@ -59,22 +58,6 @@ HasContent size fault = ⊤
 abbrev pub IsNotMemory : ServeFault → Type 0
 IsNotMemory Memory = ⊥
 IsNotMemory fault = ⊤
-
--- the fault isn't Rest
-abbrev pub IsNotRest : ServeFault → Type 0
-IsNotRest Memory = ⊤
-IsNotRest (Read requests) = ⊤
-IsNotRest (Write requests) = ⊤
-IsNotRest (Content requests) = ⊤
-IsNotRest (Rest requests close from size) = ⊥
-
--- a fact about the rest of a content that was left, if that is the fault
-abbrev pub OnRest : ServeFault → (ℕ → Bool → ℕ → ℕ → Type 0) → Type 0
-OnRest Memory fact = ⊤
-OnRest (Read requests) fact = ⊤
-OnRest (Write requests) fact = ⊤
-OnRest (Content requests) fact = ⊤
-OnRest (Rest requests close from size) fact = fact requests close from size
 
 module _ {S : Type 0} (replies : S → RequestView → ReplyView → S → Type 0) where
   -- The bytes read are requests up to this ending, whatever may follow. The replies were
@@ -134,8 +117,6 @@ module _ {S : Type 0} (replies fails : S → RequestView → ReplyView → S →
       IsServedInPart replies (RepliesNext replies (MayFollow leaves)) old left held requests new leaves holds
   IsServedUpTo old left held (Content requests) new leaves holds =
       IsServedInPart replies (AnswersNext fails) old left held requests new leaves holds
-  IsServedUpTo old left held (Rest requests close from size) new leaves holds =
-      IsServedInPart replies (AnswersNext replies) old left held requests new leaves holds
 
 -- replies, and those whose content is being read in parts
 module _ {S : Type 0} (replies sends : S → RequestView → ReplyView → S → Type 0) where
@@ -145,11 +126,6 @@ module _ {S : Type 0} (replies sends : S → RequestView → ReplyView → S →
     pub bytes : List ℕ
     pub read : Consumes left leaves bytes
     pub stops : Stops replies sends old bytes held 0 close from size new holds requests
-
-  -- that is so if the fault is Rest
-  abbrev pub StopsAtRest : S → Option (List ℕ) → Option (List ℕ) → ServeFault → S → Option (List ℕ) → Option (List ℕ) → Type 0
-  StopsAtRest old left held fault new leaves holds =
-      OnRest fault (λ requests close from size. IsServedToRest old left held requests close from size new leaves holds)
 
 -- the same handler, with what its content has left, what a reader has left and what a writer holds
 module _ {S R W : Type 0} (replies fails : S → RequestView → ReplyView → S → Type 0) (size : S → ℕ)

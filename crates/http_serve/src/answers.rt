@@ -13,11 +13,13 @@ use crate::refusals::refusal_reply;
 use crate::{Content, Handler, Reply, Request};
 use http_requests::{FieldSpans, Fields, Frame, Rejection, is_head, path_of};
 
-/// What a handler replied and isn't to be sent yet: the content of `length` bytes from the byte `from` on.
-#[derive(Clone, Copy)]
-pub(crate) struct Rest {
-    pub(crate) from: u64,
-    pub(crate) length: u64,
+/// What of a reply's content isn't to be sent yet: it has `length` bytes, and these are those from the byte `from` on.
+#[derive(Clone, Copy, Debug, PartialEq, Eq)]
+pub struct Rest {
+    /// The offset of its first byte.
+    pub from: u64,
+    /// The length of the whole content in bytes.
+    pub length: u64,
 }
 
 /// The rest of a content of `length` bytes of which the first `from` are there.

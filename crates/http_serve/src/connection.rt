@@ -6,16 +6,14 @@ ghost use Rattle.http_requests.specs.Frame.{IsNext};
 ghost use Rattle.http_serve.specs.Buffers.{buffer_size};
 ghost use Rattle.http_requests.specs.Requests.{has_head_method};
 ghost use Rattle.http_requests.specs.declared.frames.Next.TheVariants.{Whole};
-ghost use Rattle.http_serve.specs.Connections.{IsAsked, IsFound, IsNextPiece, IsOfAnswer, NeedsMore, Replied, answered, found_end};
+ghost use Rattle.http_serve.specs.Connections.{IsAsked, IsFound, IsNextPiece, NeedsMore, Replied, answered, found_end};
 ghost use Rattle.http_serve.specs.Found.{ServesFound};
 ghost use Rattle.http_serve.specs.Reply.{refusal_bytes};
 ghost use Rattle.http_serve.specs.Steps.{IsFinished};
-ghost use Rattle.http_serve.specs.Told.{IsNotMemory};
-ghost use Rattle.http_serve.specs.declared.connection.ServeFault.TheVariants.{Memory};
 
 use crate::answers::{Rest, refuse_in, reply_in};
 use crate::inputs::{Asked, Input, READ_SPACE};
-use crate::outputs::Output;
+use crate::outputs::{Output, Spare};
 use crate::replies::REPLY_SPACE;
 use crate::{Downloads, Handler, RestFault, Ticket};
 use http_requests::{FieldSpans, Frame, Next, Rejection};
@@ -52,28 +50,14 @@ pub struct Served {
 /// Why serving a connection failed. `requests` counts the replies written in full.
 #[derive(Clone, Copy, Debug, PartialEq, Eq, Error)]
 pub enum ServeFault {
-    /// Memory ran out: for the buffers, before the first read, or for the head of a reply, before its request was answered.
+    /// Memory for the buffers ran out, before the first read.
     Memory,
     /// A read failed.
-    Read {
-        requests: u64,
-    },
+    Read { requests: u64 },
     /// A write failed or took 0 bytes.
-    Write {
-        requests: u64,
-    },
+    Write { requests: u64 },
     /// The handler couldn't read a content after its first bytes.
-    Content {
-        requests: u64,
-    },
-    /// No fault of the peer: the next reply is written up to the byte `from` of its content, which has `length` bytes, and the rest is
-    /// the caller's to read and write. `close` says whether the connection ends after it.
-    Rest {
-        requests: u64,
-        close: bool,
-        from: u64,
-        length: u64,
-    },
+    Content { requests: u64 },
 }
 
 impl fmt::Display for ServeFault {
@@ -83,32 +67,38 @@ impl fmt::Display for ServeFault {
             ServeFault::Read { requests } => ("a read failed", requests),
             ServeFault::Write { requests } => ("a write failed", requests),
             ServeFault::Content { requests } => ("a content could not be read", requests),
-            ServeFault::Rest { requests, .. } => ("the rest of a content was left", requests),
         };
         write!(f, "{what} after {requests} replies")
     }
 }
 
+/// What an answer comes to.
+#[derive(Clone, Copy, Debug, PartialEq, Eq)]
+pub struct Answer {
+    /// What the connection comes to, once the rest of the reply is sent too.
+    pub served: Served,
+    /// What isn't to be sent yet of the reply's content.
+    pub rest: Option<Rest>,
+}
+
 /// What an answer to a request comes to whose reply has this rest. `close` says whether the connection ends after it.
-fn answered(close: bool, rest: Option<Rest>) -> Result<Served, ServeFault>
+fn answered(close: bool, rest: Option<Rest>) -> Answer
     ensures { result ≡ answered close rest }
 {
-    let requests = 1;
-    match rest {
-        Some(Rest { from, length }) => Err(ServeFault::Rest {
-            requests: 0,
-            close,
-            from,
-            length,
-        }),
-        None if close => Ok(Served {
-            requests,
-            end: End::Asked,
-        }),
-        None => Ok(Served {
-            requests,
-            end: End::Closed,
-        }),
+    let end = if close { End::Asked } else { End::Closed };
+    Answer {
+        served: Served { requests: 1, end },
+        rest,
+    }
+}
+
+/// What an answer comes to that has so many replies, and no rest.
+fn whole(requests: u64, end: End) -> Answer
+    ensures { result ≡ record { served = record { requests = requests; end = end }; rest = None } }
+{
+    Answer {
+        served: Served { requests, end },
+        rest: None,
     }
 }
 
@@ -218,33 +208,43 @@ impl Connection {
         self.input.front(count)
     }
 
+    /// Makes room for the head of the next reply, unless the buffers are reserved or nothing was read. If memory runs out, the spare room is
+    /// taken. Nothing waits to be sent before.
+    pub fn begin(&mut self, spare: &mut Spare)
+        requires { self.old.output ≡ [] }
+        ensures { self.new ≡ self.old }
+    {
+        if self.reserved || self.input.len() == 0 {
+            return;
+        }
+        self.output.begin_with(spare);
+    }
+
     /// Answers what was found at the front of the input, whose header fields are at these spans, as `serve_with` answers an input of these bytes
     /// alone, and drops it from the input. The reply is to be sent then, up to the rest of its content: up to the bytes of it that the reply
     /// doesn't hold. `fetch` reads these later.
     ///
     /// # Errors
     ///
-    /// `Memory` if there is none for the head of a reply, and not if the buffers are reserved. Nothing was asked of the handler then, and nothing
-    /// waits to be sent, but the bytes are dropped all the same. `Rest` if the reply has a rest: its front waits to be sent.
+    /// There is no memory for the head of a reply: not if the buffers are reserved. Nothing was asked of the handler then, and nothing waits to be
+    /// sent, but the bytes are dropped all the same.
     pub fn answer<H: Handler>(
         &mut self,
         handler: &mut H,
         fields: &FieldSpans,
         asked: Asked,
-    ) -> Result<Served, ServeFault>
+    ) -> Result<Answer, AllocError>
         requires sent { self.old.output ≡ [] }
         requires found { IsFound self.old.input fields.now asked }
-        // With the fault Rest exactly what comes before the rest is to be sent: with the rest it is the whole reply to a whole request.
-        ensures serves { ServesFound H.replies H.fails H.sends handler.old (take asked.end self.old.input) (Some []) result
-            handler.new (Some self.new.output) }
+        // If there is a rest, exactly what comes before it is to be sent: with the rest it is the whole reply to a whole request.
+        ensures serves { ServesFound H.replies H.sends handler.old (take asked.end self.old.input) (Some []) result handler.new (Some self.new.output) }
         ensures input { self.new.input ≡ drop asked.end self.old.input }
-        ensures faults { IfErr result IsOfAnswer }
         ensures reserved { self.new.reserved ≡ self.old.reserved }
-        ensures succeeds { IsTrue self.old.reserved → IfErr result IsNotMemory }
+        ensures succeeds { IsTrue self.old.reserved → IsOk result }
     {
-        let served = self.answer_found(handler, fields, asked.found);
+        let answer = self.answer_found(handler, fields, asked.found);
         self.drop_input(asked.end);
-        served
+        answer
     }
 
     /// Reads `count` bytes of a ticket's content from an offset to where they wait to be sent: nothing waits there before. If there is no memory
@@ -368,42 +368,36 @@ impl Connection {
         handler: &mut H,
         fields: &FieldSpans,
         frame: &Frame,
-    ) -> Result<Served, ServeFault>
+    ) -> Result<Answer, AllocError>
         requires sent { self.old.output ≡ [] }
         requires found { IsNext self.old.input fields.now (Whole frame.now) }
-        ensures serves { ServesFound H.replies H.fails H.sends handler.old (take frame.now.body.end self.old.input) (Some []) result
+        ensures serves { ServesFound H.replies H.sends handler.old (take frame.now.body.end self.old.input) (Some []) result
             handler.new (Some self.new.output) }
         ensures same { self.new ≡ record self.old { output = self.new.output } }
-        ensures faults { IfErr result IsOfAnswer }
-        ensures succeeds { IsTrue self.old.reserved → IfErr result IsNotMemory }
+        ensures succeeds { IsTrue self.old.reserved → IsOk result }
     {
         match self.reply(handler, fields, frame) {
-            Ok(rest) => answered(frame.close, rest),
-            Err(_) => Err(ServeFault::Memory),
+            Ok(rest) => Ok(answered(frame.close, rest)),
+            Err(fault) => Err(fault),
         }
     }
 
     /// Answers all bytes, which begin with no request, for this reason: nothing follows, or nothing that could begin with them is one.
-    fn answer_rest(&mut self, reason: Rejection) -> Result<Served, ServeFault>
+    fn answer_rest(&mut self, reason: Rejection) -> Result<Answer, AllocError>
         requires sent { self.old.output ≡ [] }
-        ensures ends { (head : Option RequestHead) → reason.bare ≡ has_head_method head
-            → IfOk result (λ served. IsFinished self.old.input head reason.refusal (Some []) 0 served (Some self.new.output)) }
-        ensures memory { IfErr result (λ fault. (fault ≡ Memory) × (self.new.output ≡ [])) }
+        ensures ends { (head : Option RequestHead) → reason.bare ≡ has_head_method head → IfOk result (λ answer.
+            IsFinished self.old.input head reason.refusal (Some []) 0 answer.served (Some self.new.output)) }
+        ensures whole { IfOk result (λ answer. answer.rest ≡ None) }
+        ensures memory { OnErr result (self.new.output ≡ []) }
         ensures same { self.new ≡ record self.old { output = self.new.output } }
         ensures succeeds { IsTrue self.old.reserved → IsOk result }
     {
         if self.input.len() == 0 {
-            return Ok(Served {
-                requests: 0,
-                end: End::Closed,
-            });
+            return Ok(whole(0, End::Closed));
         }
         match self.refuse(reason) {
-            Ok(()) => Ok(Served {
-                requests: 1,
-                end: End::Refused,
-            }),
-            Err(_) => Err(ServeFault::Memory),
+            Ok(()) => Ok(whole(1, End::Refused)),
+            Err(fault) => Err(fault),
         }
     }
 
@@ -413,14 +407,13 @@ impl Connection {
         handler: &mut H,
         fields: &FieldSpans,
         found: Next,
-    ) -> Result<Served, ServeFault>
+    ) -> Result<Answer, AllocError>
         requires sent { self.old.output ≡ [] }
         requires found { IsNext self.old.input fields.now found }
-        ensures serves { ServesFound H.replies H.fails H.sends handler.old (take (found_end self.old.input found) self.old.input) (Some []) result
+        ensures serves { ServesFound H.replies H.sends handler.old (take (found_end self.old.input found) self.old.input) (Some []) result
             handler.new (Some self.new.output) }
         ensures same { self.new ≡ record self.old { output = self.new.output } }
-        ensures faults { IfErr result IsOfAnswer }
-        ensures succeeds { IsTrue self.old.reserved → IfErr result IsNotMemory }
+        ensures succeeds { IsTrue self.old.reserved → IsOk result }
     {
         match found {
             Next::Whole(frame) => self.answer_request(handler, fields, &frame),

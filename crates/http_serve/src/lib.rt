@@ -14,13 +14,15 @@ mod sessions;
 mod tags;
 mod writes;
 
-pub use connection::{Connection, End, MAX_READS, ServeFault, Served};
+pub use answers::Rest;
+pub use connection::{Answer, Connection, End, MAX_READS, ServeFault, Served};
 pub use handlers::{
     ContentFault, Downloads, Handler, PART_SIZE, Preparation, Prepares, Request, RestFault, Ticket,
 };
 pub use http_requests::Fields;
 pub use http_values::Status;
 pub use inputs::{Asked, NOTHING_ASKED, READ_SPACE};
+pub use outputs::Spare;
 pub use replies::{Content, ContentRange, EntityTag, MAX_WORD, Reply, Tag, WeakTag};
 pub use serving::serve_with;
 pub use sessions::Buffers;

@@ -9,9 +9,30 @@ use crate::replies::{MAX_REPLY_HEAD, REPLY_SPACE, put_reply_head};
 use crate::{Content, Downloads, Reply, RestFault, Ticket};
 use std::alloc::{AllocError, Global};
 use std::marker::Model;
+use std::mem;
 
 /// The room that a reply begins with, in bytes: for the head of every reply, and for a small content behind most heads.
 const FIRST_SPACE: usize = 2_048;
+
+/// Room for the head of a reply, which is taken where memory runs out.
+#[derive(Drop)]
+pub struct Spare {
+    front: Vec<u8>,
+}
+
+impl Spare {
+    /// No room yet. It holds no memory.
+    pub fn new(alloc: Global) -> Self {
+        Spare {
+            front: Vec::new(alloc),
+        }
+    }
+
+    /// Makes room again, if it was taken and there is memory for it.
+    pub fn refill(&mut self) {
+        let _ = self.front.reserve(FIRST_SPACE);
+    }
+}
 
 /// Bytes that wait to be sent.
 #[derive(Drop)]
@@ -121,6 +142,20 @@ impl Output {
         self.lent = Content::Empty;
         self.taken = 0;
         self.front.reserve(FIRST_SPACE)
+    }
+
+    /// The same. If memory runs out, the spare room is taken.
+    pub(crate) fn begin_with(&mut self, spare: &mut Spare)
+        requires { self.old.waiting ≡ [] }
+        ensures { self.new.waiting ≡ [] }
+    {
+        if self.begin().is_ok() {
+            return;
+        }
+        self.front = mem::replace(&mut spare.front, Vec::new(self.alloc));
+        self.front.clear();
+        self.lent = Content::Empty;
+        self.taken = 0;
     }
 
     /// The front of a reply waits, in place of what did: its head, and the content that it holds, unless only the head is sent.

@@ -8,7 +8,7 @@ ghost use Rattle.http_serve.specs.Parts.{GivesOrFails, IsCutIn};
 ghost use Rattle.http_serve.specs.Reply.{ReplyView, reply_at, refusal_bytes};
 ghost use Rattle.http_serve.specs.Sent.{Sends};
 ghost use Rattle.http_serve.specs.Steps.{IsPaused, IsBroken, IsFinished, IsUnfinished};
-ghost use Rattle.http_serve.specs.Told.{IsServed, IsServedUpTo, HasContent, IsNotMemory, IsNotRest, MeetsTurns, KeepsTurns, Serves};
+ghost use Rattle.http_serve.specs.Told.{IsServed, IsServedUpTo, HasContent, IsNotMemory, MeetsTurns, KeepsTurns, Serves};
 ghost use Rattle.http_serve.specs.declared.connection.ServeFault.TheVariants.{Memory};
 ghost use Rattle.http_serve.specs.declared.handlers.TheConstants.{PART_SIZE};
 
@@ -101,7 +101,6 @@ fn answer_whole<H: Handler, W: Write>(
         handler.new (W.contents writer.new)) }
     ensures content { IfErr result (HasContent (H.size handler.new)) }
     ensures no_memory { IfErr result IsNotMemory }
-    ensures whole { IfErr result IsNotRest }
 {
     let mut fields = NO_FIELDS;
     'requests: loop {
@@ -155,7 +154,6 @@ fn answer_read<H: Handler, W: Write>(
         handler.new (W.contents writer.new)) }
     ensures content { IfErr result (HasContent (H.size handler.new)) }
     ensures no_memory { IfErr result IsNotMemory }
-    ensures whole { IfErr result IsNotRest }
 {
     answer_whole(
         handler,
@@ -180,7 +178,6 @@ fn finish<W: Write>(
     ensures fault { (head : Option RequestHead) → reason.bare ≡ has_head_method head
         → IfErr result (λ fault. IsUnfinished connection.old.input head reason.refusal (W.contents writer.old) requests fault (W.contents writer.new)) }
     ensures no_memory { IfErr result IsNotMemory }
-    ensures whole { IfErr result IsNotRest }
     ensures reserved { connection.new.reserved ≡ connection.old.reserved }
 {
     if connection.input_len() == 0 {
@@ -214,7 +211,6 @@ fn serve_session<R: Read, W: Write, H: Handler>(
     ensures no_memory { IfErr result IsNotMemory }
     ensures turns { IfOk result (λ served. MeetsTurns R.remaining turns reader.old reader.new served.end) }
     ensures reads { KeepsTurns turns result (R.remaining reader.old) (R.remaining reader.new) }
-    ensures whole { IfErr result IsNotRest }
 {
     session.begin();
     let mut requests = 0;
@@ -260,8 +256,6 @@ pub fn serve_with<R: Read, W: Write, H: Handler>(
     // Buffers that are allocated stay so, and then memory can't run out.
     ensures kept { IsTrue buffers.old.allocated → IfErr result IsNotMemory }
     ensures keeps { (result ≡ Err Memory) ⊎ IsTrue buffers.new.allocated }
-    // The rest of a content is never left.
-    ensures whole { IfErr result IsNotRest }
 {
     if buffers.allocate().is_err() {
         return Err(ServeFault::Memory);

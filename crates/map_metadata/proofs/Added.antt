@@ -70,7 +70,7 @@ tags_more left rest t name kind p q whole first kind_is after so_far =
 -- the kind of a key that has one, once a value more is taken in
 pub kind_met : (old : Fields) (key name : List ℕ) (known kind : FieldKind) → Some known ≡ kind_at old key
     → (if bytes_eq key name then Some (joined known kind) else kind_at old name)
-        ≡ (if bytes_eq key name then Some (with_kind (kind_at old name) kind) else kind_at old name)
+    ≡ (if bytes_eq key name then Some (with_kind (kind_at old name) kind) else kind_at old name)
 kind_met old key name known kind found = by (bytes_eq key name) refl
   where
     by : (b : Bool) → bytes_eq key name ≡ b

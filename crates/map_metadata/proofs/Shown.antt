@@ -218,9 +218,9 @@ module _ (m : FeatureMap) (g : Layers) (sums : SumsUp g m) where
   kinds_of_layer e is order =
       All-map (λ f. IsFieldKind (kinds_in (features_in m (string_bytes e.0)) f.0) f.1) (λ f. ((string_bytes f.0), f.1)) e.1.fields.entries
       (All-weaker (λ f. kind_at e.1.fields (string_bytes f.0) ≡ Some f.1)
-          (λ f. IsFieldKind (kinds_in (features_in m (string_bytes e.0)) (string_bytes f.0)) f.1)
+      (λ f. IsFieldKind (kinds_in (features_in m (string_bytes e.0)) (string_bytes f.0)) f.1)
       (λ f here. kind_is (kinds_in (features_in m (string_bytes e.0)) (string_bytes f.0)) f.1 (sym (kinds_at e is (string_bytes f.0)) ∙ here))
-          e.1.fields.entries
+      e.1.fields.entries
       (All-found string_cmp_total e.1.fields order))
 
   keys_of_layer : (e : String Global × LayerSummary) → IsFound e → (key : List ℕ)

@@ -42,7 +42,7 @@ put_behind : (ys : List Field) (x : Field) (rest : List Field) → IsStrictlySor
 put_behind [] x rest s = refl
 put_behind (y ∷ ys) x rest s =
     let first = behind (string_bytes y.0) (string_bytes x.0) (before_there (string_bytes y.0) ys x rest
-        (sorted_head string_cmp y.0 (keys_of (ys ++ x ∷ rest)) s)) in
+    (sorted_head string_cmp y.0 (keys_of (ys ++ x ∷ rest)) s)) in
     rw first (ap (member (string_bytes y.0) (string (kind_name y.1)))
     (put_behind ys x rest (sorted_tail string_cmp y.0 (keys_of (ys ++ x ∷ rest)) s)))
 

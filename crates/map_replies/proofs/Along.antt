@@ -4,7 +4,7 @@ use Rattle.http_serve.specs.declared.connection.End.{End}
 use Rattle.http_serve.specs.declared.connection.End.TheVariants.{Closed, Asked, Refused, Turns}
 use Rattle.http_serve.specs.declared.connection.Served.{Served}
 use Rattle.http_serve.specs.declared.connection.ServeFault.{ServeFault}
-use Rattle.http_serve.specs.declared.connection.ServeFault.TheVariants.{Memory, Read, Write, Content, Rest}
+use Rattle.http_serve.specs.declared.connection.ServeFault.TheVariants.{Memory, Read, Write, Content}
 use Rattle.http_requests.specs.Requests.{Request, RequestView, Ending, going, closed, asked, refused}
 use Rattle.http_serve.specs.Reply.{ReplyView}
 use Rattle.http_serve.specs.Served.{Answers, AnswersEnd, AnswersAll, AnswersNext, RepliesNext, MayFollow, Carries, Ends, Breaks}
@@ -13,12 +13,10 @@ use Rattle.http_serve.specs.Told.{IfTurns, IsServedTo, IsServedSoFar, IsServedIn
 -- States of S answer by replies, states of T by tells. Along relates the two: for each reply, a T related to the S before it leads to
 -- some T related to the S after it. Then each connection that S answers is one that T answers, with the same bytes read and written,
 -- and the final states are related.
-module _ {S T : Type 0} (replies fails : S → RequestView → ReplyView → S → Type 0) (tells tells_cut : T → RequestView → ReplyView → T → Type 0)
+module _ {S T : Type 0} (replies : S → RequestView → ReplyView → S → Type 0) (tells : T → RequestView → ReplyView → T → Type 0)
     (Along : S → T → Type 0)
     (step : (old : S) (told : T) (request : RequestView) (reply : ReplyView) (new : S) → Along old told → replies old request reply new
-    → (now : T) × tells told request reply now × Along new now)
-    (step_cut : (old : S) (told : T) (request : RequestView) (reply : ReplyView) (new : S) → Along old told → fails old request reply new
-    → (now : T) × tells_cut told request reply now × Along new now) where
+    → (now : T) × tells told request reply now × Along new now) where
   -- some T that P holds for and that is related to this S
   abbrev pub Some_along : S → (T → Type 0) → Type 0
   Some_along new P = (now : T) × P now × Along new now
@@ -92,15 +90,6 @@ module _ {S T : Type 0} (replies fails : S → RequestView → ReplyView → S �
     stays old new told is.same along,
   )
 
-  failed_along : (old : S) (bytes out : List ℕ) (new : S) (told : T) → Along old told → AnswersNext fails old bytes out new
-      → Some_along new (λ now. AnswersNext tells_cut told bytes out now)
-  failed_along old bytes out new told along is =
-      let one = step_cut old told _ is.reply new along is.replied in (
-        one.0,
-        record { request = is.request; rest = is.rest; reply = is.reply; is = is.is; replied = one.1; out_is = is.out_is },
-        one.2,
-      )
-
   breaks_along : (IsNext : S → List ℕ → List ℕ → S → Type 0) (IsTold : T → List ℕ → List ℕ → T → Type 0)
       (next : (old : S) (bytes out : List ℕ) (new : S) (told : T) → Along old told → IsNext old bytes out new
       → Some_along new (λ now. IsTold told bytes out now))
@@ -160,16 +149,39 @@ module _ {S T : Type 0} (replies fails : S → RequestView → ReplyView → S �
       (λ now. IsServedSoFar tells told left held served.requests now leaves holds) (λ now. IsServedTo tells told left held served now leaves holds)
       (so_far_along old left held served.requests new leaves holds told along) (to_along old left held served new leaves holds told along) is
 
-  -- and one that a fault ended
+  -- and one whose last reply has a rest
+  pub part_along : (old : S) (left held : Option (List ℕ)) (requests : ℕ) (new : S) (leaves holds : Option (List ℕ)) (told : T) → Along old told
+      → IsServedInPart replies (AnswersNext replies) old left held requests new leaves holds
+      → Some_along new (λ now. IsServedInPart tells (AnswersNext tells) told left held requests now leaves holds)
+  part_along = in_part_along (AnswersNext replies) (AnswersNext tells) answered_along
+
+-- The same, with replies whose content can't be read to its end.
+module _ {S T : Type 0} (replies fails : S → RequestView → ReplyView → S → Type 0) (tells tells_cut : T → RequestView → ReplyView → T → Type 0)
+    (Along : S → T → Type 0)
+    (step : (old : S) (told : T) (request : RequestView) (reply : ReplyView) (new : S) → Along old told → replies old request reply new
+    → (now : T) × tells told request reply now × Along new now)
+    (step_cut : (old : S) (told : T) (request : RequestView) (reply : ReplyView) (new : S) → Along old told → fails old request reply new
+    → (now : T) × tells_cut told request reply now × Along new now) where
+  failed_along : (old : S) (bytes out : List ℕ) (new : S) (told : T) → Along old told → AnswersNext fails old bytes out new
+      → Some_along replies tells Along step new (λ now. AnswersNext tells_cut told bytes out now)
+  failed_along old bytes out new told along is =
+      let one = step_cut old told _ is.reply new along is.replied in (
+        one.0,
+        record { request = is.request; rest = is.rest; reply = is.reply; is = is.is; replied = one.1; out_is = is.out_is },
+        one.2,
+      )
+
+  -- a connection that a fault ended
   pub fault_along : (old : S) (left held : Option (List ℕ)) (fault : ServeFault) (new : S) (leaves holds : Option (List ℕ)) (told : T) → Along old told
       → IsServedUpTo replies fails old left held fault new leaves holds
-      → Some_along new (λ now. IsServedUpTo tells tells_cut told left held fault now leaves holds)
-  fault_along old left held Memory new leaves holds told along is = (told, (refl, is.1, is.2), stays old new told is.0 along)
-  fault_along old left held (Read requests) new leaves holds told along is = so_far_along old left held requests new leaves holds told along is
+      → Some_along replies tells Along step new (λ now. IsServedUpTo tells tells_cut told left held fault now leaves holds)
+  fault_along old left held Memory new leaves holds told along is =
+      (told, (refl, is.1, is.2), stays replies tells Along step old new told is.0 along)
+  fault_along old left held (Read requests) new leaves holds told along is =
+      so_far_along replies tells Along step old left held requests new leaves holds told along is
   fault_along old left held (Write requests) new leaves holds told along is =
-      in_part_along (RepliesNext replies (MayFollow leaves)) (RepliesNext tells (MayFollow leaves))
-      (λ at bytes out then so goes is. next_along at bytes (MayFollow leaves) out then so goes is) old left held requests new leaves holds told along is
+      in_part_along replies tells Along step (RepliesNext replies (MayFollow leaves)) (RepliesNext tells (MayFollow leaves))
+      (λ at bytes out then so goes is. next_along replies tells Along step at bytes (MayFollow leaves) out then so goes is) old left held requests new
+      leaves holds told along is
   fault_along old left held (Content requests) new leaves holds told along is =
-      in_part_along (AnswersNext fails) (AnswersNext tells_cut) failed_along old left held requests new leaves holds told along is
-  fault_along old left held (Rest requests close from size) new leaves holds told along is =
-      in_part_along (AnswersNext replies) (AnswersNext tells) answered_along old left held requests new leaves holds told along is
+      in_part_along replies tells Along step (AnswersNext fails) (AnswersNext tells_cut) failed_along old left held requests new leaves holds told along is

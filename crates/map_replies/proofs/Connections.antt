@@ -112,9 +112,8 @@ module _ {D : Type 0} (sectors : D → ℕ) (honest : D → Type 0) (history : D
       × TakesRun sectors honest history (asked_service old) run (asked_service new)
       × TakesStates sectors honest history (asked_service old) run (asked_service new)
   connection_runs old remains held served new leaves holds is =
-      let along = served_along (ServiceReplies sectors honest history faults) (ServiceFails sectors honest history faults)
-      (Tells sectors honest history faults) (TellsCut sectors honest history faults) (GoesWhole old) (whole_replied old) (whole_cut old) old remains held served
-      new leaves holds (course old []) (whole_from old) is in (
+      let along = served_along (ServiceReplies sectors honest history faults) (Tells sectors honest history faults) (GoesWhole old) (whole_replied old) old
+      remains held served new leaves holds (course old []) (whole_from old) is in (
         along.0.run,
         subst (λ (c : Course D). IsServed (Tells sectors honest history faults) (course old []) remains held served c leaves holds) along.2.0.0 along.1,
         takes_run sectors honest history (asked_service old) along.0.run (asked_service new) along.2.0.1.run,

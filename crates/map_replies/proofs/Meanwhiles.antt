@@ -33,9 +33,9 @@ use Rattle.map_replies.specs.declared.service.MapReplies.{MapReplies}
 use Rattle.map_replies.specs.declared.preparing.PreparingReplies.{PreparingReplies}
 use Rattle.map_replies.specs.Conditions.{ask_of}
 use Rattle.map_replies.specs.Meanings.{DiskFailed, asked_for, last_outcome}
-use Rattle.map_replies.specs.Preparing.{IsMadeReady, BeginsLate, PreparingReplied, PreparingFails, PreparingReads, PreparingStep, Meanwhile}
+use Rattle.map_replies.specs.Preparing.{IsMadeReady, BeginsLate, PreparingReplied, PreparingReads, PreparingStep, Meanwhile}
 use Rattle.map_replies.specs.Preparing.{IsToPublishWhole, GoesToItsEnd, EndsLate, BeginsWhole, StepsWhole, CancelsWhole, GoesOnWhole, Prepares}
-use Rattle.map_replies.specs.Preparing.{IsToBegin, TellsMeanwhile, TellsMeanwhileCut, TellsMeanwhileRead, TellsPrepared, is_to_publish, inner_service}
+use Rattle.map_replies.specs.Preparing.{IsToBegin, TellsMeanwhile, TellsMeanwhileRead, TellsPrepared, is_to_publish, inner_service}
 use Rattle.map_replies.specs.Preparing.{AreMeanwhile, beginning_of, has_begun, is_begun, meanwhile, without_draft}
 use Rattle.map_replies.specs.Tickets.{KeepsOldest, KeepsTickets, oldest_after}
 use Rattle.map_replies.specs.Words.{left_reply, published_reply}
@@ -398,17 +398,6 @@ module _ {D : Type 0} (sectors : D → ℕ) (honest : D → Type 0) (history : D
               (ap (λ (r : MapReplies D). (asked_service r).drafting) made.3) made.4 is,
         )
 
-    -- what is told of a reply that was cut short because the disk failed
-    told_cut : PreparingFails sectors honest history faults old request reply new
-        → (then : Meanwhile D) × TellsMeanwhileCut sectors honest history faults (meanwhile old run fixed) request reply then
-        × GoesMeanwhile first new then
-    told_cut is =
-        let so = is.1.0 in (
-          meanwhile new (run ++ so.0.0) fixed,
-          (((so.0.0, so.0.1, so.0.2, refl, so.1, so.2, so.3), is.1.1), inl refl),
-          beside_goes old.replies refl is.2 is.0 so,
-        )
-
     -- tickets are held after it: nothing of the disk changes, and no archive
     late_held : (outcome : Result ℕ ServiceFault) → BeginsLate old.replies.calls outcome new.replies.calls
         → KeepsTickets honest history old.replies.calls new.replies.calls
@@ -572,14 +561,6 @@ module _ {D : Type 0} (sectors : D → ℕ) (honest : D → Type 0) (history : D
       of_here first old so
       (λ (m : Meanwhile D). (then : Meanwhile D) × TellsMeanwhile sectors honest history faults m request reply then × GoesMeanwhile first new then)
       along (told first old new so.run so.fixed request reply along.goes along.drafts along.begun is)
-
-  pub cut : (first old : PreparingReplies D) (so : Meanwhile D) (request : RequestView) (reply : ReplyView) (new : PreparingReplies D)
-      → GoesMeanwhile first old so → PreparingFails sectors honest history faults old request reply new
-      → (then : Meanwhile D) × TellsMeanwhileCut sectors honest history faults so request reply then × GoesMeanwhile first new then
-  cut first old so request reply new along is =
-      of_here first old so
-      (λ (m : Meanwhile D). (then : Meanwhile D) × TellsMeanwhileCut sectors honest history faults m request reply then × GoesMeanwhile first new then)
-      along (told_cut first old new so.run so.fixed request reply along.goes along.drafts along.begun is)
 
   -- ---- a read of a download
 

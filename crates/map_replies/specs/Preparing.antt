@@ -30,7 +30,7 @@ use Rattle.map_replies.specs.Conditions.{ask_of, needed, refuses}
 use Rattle.map_replies.specs.Meanings.{DiskFailed, asked_for, last_outcome}
 use Rattle.map_replies.specs.State.{access_of, tags_of, asked_service, settings_of, sending_size, sending_ticket, ServiceReplies, ServiceSends, ServiceFails}
 use Rattle.map_replies.specs.State.{ServiceReads}
-use Rattle.map_replies.specs.State.{course, KeepsArchivesOn, Tells, TellsCut}
+use Rattle.map_replies.specs.State.{course, KeepsArchivesOn, Tells}
 use Rattle.map_replies.specs.Tickets.{KeepsTickets, oldest_after}
 use Rattle.map_replies.specs.Words.{left_reply, published_reply}
 
@@ -299,11 +299,6 @@ module _ {D : Type 0} (sectors : D → ℕ) (honest : D → Type 0) (history : D
   abbrev pub TellsMeanwhile : Meanwhile D → RequestView → ReplyView → Meanwhile D → Type 0
   TellsMeanwhile old request reply new =
       TellsNow old request reply new ⊎ TellsLate old request reply new ⊎ TellsWholeLate old request reply new
-
-  -- the same for a reply whose content couldn't be read to its end: the disk has failed
-  abbrev pub TellsMeanwhileCut : Meanwhile D → RequestView → ReplyView → Meanwhile D → Type 0
-  TellsMeanwhileCut old request reply new =
-      TellsCut sectors honest history faults (course old.replies.replies old.run) request reply (course new.replies.replies new.run) × StaysFixed old new
 
   -- bytes of a ticket's content were read, or couldn't be: nothing happens
   abbrev pub TellsMeanwhileRead : Meanwhile D → Ticket → (offset count : ℕ) → Result (List ℕ) RestFault → Meanwhile D → Type 0

@@ -1,19 +1,21 @@
 -- What happens in stretches of connections, in reads of downloads and in preparations of a publication, one after the other.
-use Rattle.std.proofs.Common.{ℕ, List, [], ◌∷◌, Option, None, Ok, Err, Result, refl, sym, subst}
-use Rattle.http_serve.specs.declared.connection.ServeFault.{ServeFault}
+use Rattle.std.proofs.Common.{ℕ, List, [], ◌∷◌, Option, None, Some, Ok, Err, Result, refl, sym, subst}
+use Rattle.std.specs.declared.alloc.AllocError.{AllocError}
+use Rattle.http_serve.specs.declared.answers.Rest.{Rest}
+use Rattle.http_serve.specs.declared.connection.Answer.{Answer}
 use Rattle.http_serve.specs.declared.connection.Served.{Served}
-use Rattle.http_listen.specs.Connections.{Stretch, Event, at_stretch, at_part, at_preparation, CameTo, Happens, Serves}
+use Rattle.http_listen.specs.Connections.{Stretch, Event, at_stretch, at_part, at_preparation, IsAnswered, CameTo, Happens, Serves}
 use Rattle.http_listen.specs.Conversations.{Deed, Runs}
 use Rattle.http_listen.specs.Deeds.{AreEventsOf}
 use Rattle.http_listen.proofs.DeedLemmas.{deeds_serve}
-use Rattle.map_replies.proofs.Along.{served_along, fault_along}
+use Rattle.map_replies.proofs.Along.{served_along, part_along}
 use Rattle.map_replies.proofs.Goes.{passes_goes}
-use Rattle.map_replies.proofs.Meanwhiles.{GoesMeanwhile, goes_from, replied, cut, read_told, prepared_told}
+use Rattle.map_replies.proofs.Meanwhiles.{GoesMeanwhile, goes_from, replied, read_told, prepared_told}
 use Rattle.map_replies.proofs.Passing.{Passes, passes_none, takes_between}
 use Rattle.map_replies.specs.Moments.{TakesBetweenReads}
-use Rattle.map_replies.specs.Preparing.{PreparingReplied, PreparingFails, PreparingReads, Prepares, Meanwhile, meanwhile}
+use Rattle.map_replies.specs.Preparing.{PreparingReplied, PreparingReads, Prepares, Meanwhile, meanwhile}
 use Rattle.map_replies.specs.Preparing.{inner_service, inner_ticket, without_draft}
-use Rattle.map_replies.specs.Preparing.{TellsMeanwhile, TellsMeanwhileCut, TellsMeanwhileRead, TellsPrepared}
+use Rattle.map_replies.specs.Preparing.{TellsMeanwhile, TellsMeanwhileRead, TellsPrepared}
 use Rattle.map_replies.specs.declared.preparing.PreparingReplies.{PreparingReplies}
 use Rattle.sector_disk.specs.Disk.{History}
 use Rattle.tile_service.proofs.Runs.Callers.{takes_run}
@@ -23,11 +25,11 @@ use Rattle.tile_service.specs.Runs.{TakesRun}
 module _ {D : Type 0} (sectors : D → ℕ) (honest : D → Type 0) (history : D → History) (faults : D → ℕ) where
   -- the events that a service answers, and those that report what happens to it
   abbrev pub ServiceServes : PreparingReplies D → List Event → PreparingReplies D → Type 0
-  ServiceServes = Serves (PreparingReplied sectors honest history faults) (PreparingFails sectors honest history faults)
+  ServiceServes = Serves (PreparingReplied sectors honest history faults)
       (PreparingReads sectors honest history faults) (Prepares sectors honest history faults)
 
   abbrev pub TellsAll : Meanwhile D → List Event → Meanwhile D → Type 0
-  TellsAll = Serves (TellsMeanwhile sectors honest history faults) (TellsMeanwhileCut sectors honest history faults)
+  TellsAll = Serves (TellsMeanwhile sectors honest history faults)
       (TellsMeanwhileRead sectors honest history faults) (TellsPrepared sectors honest history faults)
 
   -- since a first state
@@ -36,27 +38,31 @@ module _ {D : Type 0} (sectors : D → ℕ) (honest : D → Type 0) (history : D
     abbrev Along : PreparingReplies D → Meanwhile D → Type 0
     Along now so = GoesMeanwhile sectors honest history faults first now so
 
-    -- one stretch more
-    came_along : (result : Result Served ServeFault) (stretch : Stretch) (old new : PreparingReplies D) (before : Meanwhile D) → Along old before
-        → CameTo (PreparingReplied sectors honest history faults) (PreparingFails sectors honest history faults) result old stretch new
-        → (after : Meanwhile D) × CameTo (TellsMeanwhile sectors honest history faults) (TellsMeanwhileCut sectors honest history faults)
-        result before stretch after × Along new after
-    came_along (Ok served) stretch old new before so is = served_along
-        (PreparingReplied sectors honest history faults) (PreparingFails sectors honest history faults)
-        (TellsMeanwhile sectors honest history faults) (TellsMeanwhileCut sectors honest history faults) Along
-        (replied sectors honest history faults first) (cut sectors honest history faults first)
+    answered_along : (served : Served) (rest : Option Rest) (stretch : Stretch) (old new : PreparingReplies D) (before : Meanwhile D) → Along old before
+        → IsAnswered (PreparingReplied sectors honest history faults) served rest old stretch new
+        → (after : Meanwhile D) × IsAnswered (TellsMeanwhile sectors honest history faults) served rest before stretch after × Along new after
+    answered_along served None stretch old new before so is = served_along
+        (PreparingReplied sectors honest history faults) (TellsMeanwhile sectors honest history faults) Along
+        (replied sectors honest history faults first)
         old stretch.left stretch.held served new stretch.leaves stretch.holds before so is
-    came_along (Err fault) stretch old new before so is = fault_along
-        (PreparingReplied sectors honest history faults) (PreparingFails sectors honest history faults)
-        (TellsMeanwhile sectors honest history faults) (TellsMeanwhileCut sectors honest history faults) Along
-        (replied sectors honest history faults first) (cut sectors honest history faults first)
-        old stretch.left stretch.held fault new stretch.leaves stretch.holds before so is
+    answered_along served (Some rest) stretch old new before so is = part_along
+        (PreparingReplied sectors honest history faults) (TellsMeanwhile sectors honest history faults) Along
+        (replied sectors honest history faults first)
+        old stretch.left stretch.held 0 new stretch.leaves stretch.holds before so is
+
+    -- one stretch more
+    came_along : (result : Result Answer AllocError) (stretch : Stretch) (old new : PreparingReplies D) (before : Meanwhile D) → Along old before
+        → CameTo (PreparingReplied sectors honest history faults) result old stretch new
+        → (after : Meanwhile D) × CameTo (TellsMeanwhile sectors honest history faults) result before stretch after × Along new after
+    came_along (Ok answer) stretch old new before so is = answered_along answer.served answer.rest stretch old new before so is
+    came_along (Err fault) stretch old new before so is =
+        (before, (refl, is.1, is.2), subst (λ (s : PreparingReplies D). Along s before) (sym is.0) so)
 
     -- one event more
     event_along : (event : Event) (old new : PreparingReplies D) (before : Meanwhile D) → Along old before
-        → Happens (PreparingReplied sectors honest history faults) (PreparingFails sectors honest history faults)
+        → Happens (PreparingReplied sectors honest history faults)
         (PreparingReads sectors honest history faults) (Prepares sectors honest history faults) old event new
-        → (after : Meanwhile D) × Happens (TellsMeanwhile sectors honest history faults) (TellsMeanwhileCut sectors honest history faults)
+        → (after : Meanwhile D) × Happens (TellsMeanwhile sectors honest history faults)
         (TellsMeanwhileRead sectors honest history faults) (TellsPrepared sectors honest history faults) before event after × Along new after
     event_along (at_stretch s) old new before so is = came_along s.result s old new before so is
     event_along (at_part ticket offset count outcome) old new before so is =
@@ -92,7 +98,7 @@ module _ {D : Type 0} (sectors : D → ℕ) (honest : D → Type 0) (history : D
 
   -- what was done for connections of a service
   abbrev pub ServiceRuns : PreparingReplies D → List Deed → PreparingReplies D → Type 0
-  ServiceRuns = Runs (PreparingReplied sectors honest history faults) (PreparingFails sectors honest history faults)
+  ServiceRuns = Runs (PreparingReplied sectors honest history faults)
       (PreparingReads sectors honest history faults) inner_ticket (Prepares sectors honest history faults)
 
   -- It reports one run of the service.
@@ -102,7 +108,7 @@ module _ {D : Type 0} (sectors : D → ℕ) (honest : D → Type 0) (history : D
       × TakesRun sectors honest history (inner_service old) run (inner_service new)
       × TakesBetweenReads sectors honest history (inner_service old) run (inner_service new)
   deeds_run old deeds new is =
-      let all = deeds_serve (PreparingReplied sectors honest history faults) (PreparingFails sectors honest history faults)
+      let all = deeds_serve (PreparingReplied sectors honest history faults)
       (PreparingReads sectors honest history faults) inner_ticket (Prepares sectors honest history faults) deeds (without_draft old) new is in
       let told = stretches_run old all.0 new all.1 in
       (all.0, all.2, told.0, told.1, told.2, told.3, told.4)

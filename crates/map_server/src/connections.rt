@@ -6,7 +6,7 @@ ghost use Rattle.http_listen.specs.Deeds.{AreEventsOf};
 ghost use Rattle.http_listen.specs.Goes.{AreOver};
 ghost use Rattle.http_listen.specs.Orders.{AreInOrder};
 ghost use Rattle.map_replies.specs.Moments.{TakesBetweenReads};
-ghost use Rattle.map_replies.specs.Preparing.{TellsMeanwhile, TellsMeanwhileCut, TellsMeanwhileRead, TellsPrepared};
+ghost use Rattle.map_replies.specs.Preparing.{TellsMeanwhile, TellsMeanwhileRead, TellsPrepared};
 ghost use Rattle.map_replies.specs.Preparing.{inner_service, meanwhile, without_draft};
 ghost use Rattle.tile_service.specs.Machine.{Happening};
 ghost use Rattle.tile_service.specs.Runs.{TakesRun};
@@ -43,13 +43,13 @@ where
     // where they were made, between other replies too. What a crash leaves is told by the states that the calls left.
     // The bytes of each stretch are known.
     ensures all { OnOk result ((served : List Event) × (begun served ≡ connections) × AreOverKnown served × (run : List Happening)
-        × (fixed : Option ℕ) × Serves (TellsMeanwhile D.sectors D.honest D.history D.faults) (TellsMeanwhileCut D.sectors D.honest D.history D.faults)
+        × (fixed : Option ℕ) × Serves (TellsMeanwhile D.sectors D.honest D.history D.faults)
         (TellsMeanwhileRead D.sectors D.honest D.history D.faults) (TellsPrepared D.sectors D.honest D.history D.faults)
         (meanwhile (without_draft service.old) [] None) served (meanwhile service.new run fixed)
         × TakesRun D.sectors D.honest D.history (inner_service service.old) run (inner_service service.new)
         × TakesBetweenReads D.sectors D.honest D.history (inner_service service.old) run (inner_service service.new)) }
     ensures fewer { OnErr result ((served : List Event) × (begun served < connections) × AreOverKnown served × (run : List Happening)
-        × (fixed : Option ℕ) × Serves (TellsMeanwhile D.sectors D.honest D.history D.faults) (TellsMeanwhileCut D.sectors D.honest D.history D.faults)
+        × (fixed : Option ℕ) × Serves (TellsMeanwhile D.sectors D.honest D.history D.faults)
         (TellsMeanwhileRead D.sectors D.honest D.history D.faults) (TellsPrepared D.sectors D.honest D.history D.faults)
         (meanwhile (without_draft service.old) [] None) served (meanwhile service.new run fixed)
         × TakesRun D.sectors D.honest D.history (inner_service service.old) run (inner_service service.new)
@@ -59,7 +59,7 @@ where
     // them, and perhaps the reply for want of memory. The acts of all connections, in the order in which they were made, report one run of the
     // service.
     ensures named { (deeds : List Deed) × (served : List Event) × AreEventsOf deeds served × (run : List Happening) × (fixed : Option ℕ)
-        × Serves (TellsMeanwhile D.sectors D.honest D.history D.faults) (TellsMeanwhileCut D.sectors D.honest D.history D.faults)
+        × Serves (TellsMeanwhile D.sectors D.honest D.history D.faults)
         (TellsMeanwhileRead D.sectors D.honest D.history D.faults) (TellsPrepared D.sectors D.honest D.history D.faults)
         (meanwhile (without_draft service.old) [] None) served (meanwhile service.new run fixed)
         × TakesRun D.sectors D.honest D.history (inner_service service.old) run (inner_service service.new)

@@ -83,8 +83,7 @@ impl CommandFault {
             | CommandFault::Device(_)
             | CommandFault::Told => "Device",
             CommandFault::Connection(ServeFault::Read { .. }) => "Read",
-            CommandFault::Connection(ServeFault::Write { .. } | ServeFault::Rest { .. })
-            | CommandFault::Write(_) => "Write",
+            CommandFault::Connection(ServeFault::Write { .. }) | CommandFault::Write(_) => "Write",
             CommandFault::Listen { .. } => "Listen",
         }
     }

@@ -1,6 +1,7 @@
-use Rattle.std.proofs.Common.{◌≡◌, [], None, refl, ap, ◌∙◌, take}
+use Rattle.std.proofs.Common.{◌≡◌, [], None, refl, ap, ◌∙◌, take, drop}
 use Rattle.std.specs.Prelude.{is_some}
 use Rattle.http_listen.specs.declared.peers.State.{State}
+use Rattle.http_serve.specs.Connections.{ConnectionView}
 use Rattle.http_listen.specs.Conversations.{answered}
 use Rattle.http_listen.specs.Talks.{Moves}
 use Rattle.http_listen.proofs.AskedLemmas.{asked_one}
@@ -21,9 +22,9 @@ returns-clause-acts g c =
     let then : Moves (told front.stream) front.connection.output [] [] (told new.stream) new.connection.output =
     rw (← stands.stream, ← stands.output) sent.moves in (
       answered (take c.args.asked.end old.connection.input) front.connection.output outcome ticket,
-      (made.answers, refl, asked_one old.connection.input c.args.pool.now.fields c.args.asked c.requires.asked.0),
+      (rw c.begin.ensures at made.answers, refl, asked_one old.connection.input c.args.pool.now.fields c.args.asked c.requires.asked.0),
       steps_answered told old front new c.args.asked.end outcome ticket (c.send_replies-ending.result ≡ None) c.requires.sent made.stream then
-          (sent.beside.input ∙ stands.input ∙ made.input)
+          (sent.beside.input ∙ stands.input ∙ made.input ∙ ap (λ (v : ConnectionView). drop c.args.asked.end v.input) c.begin.ensures)
           (sent.beside.number ∙ stands.number ∙ ap (λ (s : State). s.number) made.state)
           (ap is_some (sent.beside.drops ∙ stands.drops ∙ ap (λ (s : State). s.drops) made.state))
           (c.requires.whole, sent.unsent ∙ stands.unsent ∙ made.unsent),

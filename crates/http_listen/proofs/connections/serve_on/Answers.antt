@@ -27,14 +27,14 @@ turns-preserved g c =
     let done = c.turns.invariant.2 in
     elim c.match-find.branch [
       | in-New w ↦ rw (w.handler-is, w.begun-is, w.pool-is, w.log-is) (
-        serves_first replies fails reads prepares begun c.args.handler.now c.turns.handler _ c.turns.invariant.0 w.open.ensures.comes,
+        serves_first replies reads prepares begun c.args.handler.now c.turns.handler _ c.turns.invariant.0 w.open.ensures.comes,
         omega (arith, ltb-true c.turns.begun c.args.connections (c.find.ensures.wanted w.in-New.stream w.in-New.is)),
         (
             let peer = w.new-peer.result in
             let made = w.new-peer.ensures in
             let act = w.open.ensures.acted in (
               done.0 ++ deeds_of peer.state.number (act.0 ∷ []),
-              runs_both replies fails reads tickets prepares c.args.handler.now c.turns.handler w.open.new.handler done.0
+              runs_both replies reads tickets prepares c.args.handler.now c.turns.handler w.open.new.handler done.0
                   (deeds_of peer.state.number (act.0 ∷ [])) done.1 (w.open.new.handler, act.1, refl),
               session_new told peer (act.0 ∷ []) w.in-New.stream done.2 w.in-New.ensures.goes made.number made.stream made.input made.output made.unsent
                   w.opened.ensures.opens act.2,
@@ -42,26 +42,26 @@ turns-preserved g c =
             ),
       )
       | in-Asks w ↦ rw (w.handler-is, w.begun-is, w.pool-is, w.log-is) (
-        serves_answer replies fails reads prepares begun c.args.handler.now c.turns.handler _ c.turns.invariant.0 w.answer.ensures.comes,
+        serves_answer replies reads prepares begun c.args.handler.now c.turns.handler _ c.turns.invariant.0 w.answer.ensures.comes,
         c.turns.invariant.1,
         (
             let peer = w.in-Asks.peer.value in
             let acts = w.answer.ensures.acted in (
               done.0 ++ deeds_of peer.state.number acts.0,
-              runs_both replies fails reads tickets prepares c.args.handler.now c.turns.handler w.answer.new.handler done.0
+              runs_both replies reads tickets prepares c.args.handler.now c.turns.handler w.answer.new.handler done.0
                   (deeds_of peer.state.number acts.0) done.1 acts.1,
               session_acts told peer acts.0 done.2 w.in-Asks.ensures.goes acts.2,
             )
             ),
       )
       | in-Reads w ↦ rw (w.handler-is, w.begun-is, w.pool-is, w.log-is) (
-        serves_part replies fails reads prepares begun c.args.handler.now c.turns.handler _ c.turns.invariant.0 w.send_part.ensures.reads,
+        serves_part replies reads prepares begun c.args.handler.now c.turns.handler _ c.turns.invariant.0 w.send_part.ensures.reads,
         c.turns.invariant.1,
         (
             let peer = w.in-Reads.peer.value in
             let act = w.send_part.ensures.acted in (
               done.0 ++ deeds_of peer.state.number (act.0 ∷ []),
-              runs_both replies fails reads tickets prepares c.args.handler.now c.turns.handler w.send_part.new.handler done.0
+              runs_both replies reads tickets prepares c.args.handler.now c.turns.handler w.send_part.new.handler done.0
                   (deeds_of peer.state.number (act.0 ∷ [])) done.1 (w.send_part.new.handler, act.1, refl),
               session_acts told peer (act.0 ∷ []) done.2 w.in-Reads.ensures.goes act.2,
             )

@@ -4,13 +4,13 @@ use Rattle.http_serve.specs.declared.connection.ServeFault.{ServeFault}
 use Rattle.http_requests.specs.Frame.{IsNext}
 use Rattle.http_serve.specs.Connections.{ConnectionView}
 use Rattle.http_serve.specs.Steps.{IsBroken}
-use Rattle.http_serve.specs.Told.{HasContent, IsNotMemory, IsNotRest}
+use Rattle.http_serve.specs.Told.{HasContent, IsNotMemory}
 use Rattle.http_requests.specs.Requests.{asked, refused}
 use Rattle.http_serve.specs.Reply.{refusal_bytes}
 use Rattle.http_serve.specs.Served.{Anything, Carries}
 use Rattle.http_requests.proofs.HeadLemmas.{missing_now}
 use Rattle.http_serve.proofs.CarryLemmas.{Carries_start, Ends_push, Breaks_refused, Frame_push, Frame_ends}
-use Rattle.http_serve.proofs.PartLemmas.{cut_content, cut_no_memory, cut_whole}
+use Rattle.http_serve.proofs.PartLemmas.{cut_content, cut_no_memory}
 use Rattle.http_serve.proofs.ServeLemmas.{asked_other, refused_other, cut_breaks}
 use Rattle.http_serve.proofs.serving.answer_whole.Goals as goal
 
@@ -85,11 +85,6 @@ returns-in-Err-answer_one-clause-content g c =
 pub returns-in-Err-answer_one-clause-no_memory : goal.returns-in-Err-answer_one-clause-no_memory
 returns-in-Err-answer_one-clause-no_memory g c =
     subst IsNotMemory (sym c.after.ensures) (cut_no_memory c.requests.requests c.in-Err-answer_one.fault)
-
-pub returns-in-Err-answer_one-clause-whole : goal.returns-in-Err-answer_one-clause-whole
-returns-in-Err-answer_one-clause-whole g c =
-    subst IsNotRest (sym c.after.ensures)
-    (cut_whole c.requests.requests c.in-Err-answer_one.fault)
 
 pub returns-then-frame-clause-ok : goal.returns-then-frame-clause-ok
 returns-then-frame-clause-ok g c =

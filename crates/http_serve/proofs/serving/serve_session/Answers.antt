@@ -125,9 +125,6 @@ returns-in_default-clause-reads g c =
 pub returns-then-count-eq0-clause-no_memory : goal.returns-then-count-eq0-clause-no_memory
 returns-then-count-eq0-clause-no_memory g c = c.finish.ensures.no_memory
 
-pub returns-then-count-eq0-clause-whole : goal.returns-then-count-eq0-clause-whole
-returns-then-count-eq0-clause-whole g c = c.finish.ensures.whole
-
 pub returns-in_err-served-clause-served : goal.returns-in_err-served-clause-served
 returns-in_err-served-clause-served g c = exit_no_value c.from_residual.result _ _ c.from_residual.ensures.1
 
@@ -151,10 +148,6 @@ returns-in_err-served-clause-reads g c =
     subst (λ (r : Result Served ServeFault). KeepsTurns c.args.turns r (g.R.Read.remaining c.args.reader.now) (g.R.Read.remaining c.read_from.new.reader))
     (sym (exit_is c.from_residual.result fault c.from_residual.ensures.1))
     (broken_reads g.H.Handler.replies g.H.Handler.fails _ _ _ _ fault _ _ c.args.turns _ _ lost c.in_err-served.ensures.err)
-
-pub returns-in_err-served-clause-whole : goal.returns-in_err-served-clause-whole
-returns-in_err-served-clause-whole g c =
-    exit_fault c.from_residual.result _ c.in_err-served.field-0.0 c.from_residual.ensures.1 c.in_err-served.ensures.whole
 
 pub returns-clause-reads : goal.returns-clause-reads
 returns-clause-reads g c =

@@ -21,6 +21,6 @@ returns-in_ok-push-clause-weight c =
 pub returns-else-not-is_empty-clause-left : goal.returns-else-not-is_empty-clause-left
 returns-else-not-is_empty-clause-left c =
     let none = empty c.quarter_of-part.result.boxes.items (vec_len c.quarter_of-part.result.boxes) c.is_empty.result c.quarter_of-part.result.boxes.ok.0
-        c.is_empty.ensures
+    c.is_empty.ensures
     c.if-not-is_empty.false in
     ap (λ t. t ++ left_of c.args.squares.now.items) (sym (of_none c.quarter_of-part.result none) ∙ c.quarter_of-part.ensures.tiles)

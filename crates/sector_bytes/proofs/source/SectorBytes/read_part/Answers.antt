@@ -14,5 +14,5 @@ returns-clause-untouched g c = elim c.if-ne.branch [
 pub returns-in-Some-clause-read : goal.returns-in-Some-clause-read
 returns-in-Some-clause-read g c = λ honest.
     on_ok_weaker c.read_whole.result (whole_read _ c.read_whole.new.into c.args.offset (length c.args.into.now) (c.in-Some.ensures.variant.0 refl)
-        c.requires.fits c.read_whole.ensures.length)
+    c.requires.fits c.read_whole.ensures.length)
     (c.read_whole.ensures.read honest)
