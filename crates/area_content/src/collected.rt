@@ -1,16 +1,23 @@
 //! The tiles of an archive in the making.
-ghost use Rattle.std.specs.Prelude.{◌≡◌, ◌++◌, ◌∷◌, [], Some, None, OnOk, IfErr};
+ghost use Rattle.std.specs.Prelude.{◌≡◌, ◌*◌, ◌++◌, ◌∷◌, [], min, Some, None, OnOk, IfErr};
 ghost use Rattle.feature_store.specs.Store.{FeatureMap, snapshot};
 ghost use Rattle.pm_build.specs.Building.{AreFew, AreTooMany, CanAdd};
 ghost use Rattle.area_content.specs.Faults.{HasManyTiles, IsContentFault, told_as};
 ghost use Rattle.area_content.specs.Room.{AreBeyondIf, AreWithin, least_sectors};
+ghost use Rattle.area_content.specs.declared.collected.TheConstants.{MAX_RESERVED_SECTORS};
+ghost use Rattle.sector_disk.specs.declared.disk.TheConstants.{SECTOR_BYTES};
 
 use crate::content::sectors_for;
 use crate::fault::ContentFault;
 use pm_build::{ArchiveBuilder, ArchiveCounter, BuildFault};
 use pm_header::HEADER_BYTES;
+use sector_disk::SECTOR_BYTES;
 use std::alloc::{AllocError, Global};
 use std::mem;
+
+/// Memory for contents is reserved for at most this many sectors, 33 MiB. glibc always gives a block of more than 32 MiB pages of its own: as the
+/// block grows they are moved, not copied. A smaller one may be copied at each growth. Pages that nothing was written to take no memory.
+const MAX_RESERVED_SECTORS: u64 = 67_584;
 
 /// The tiles that were added so far. Their contents are kept as long as they fit in the area. From the first tile on that doesn't, none is
 /// kept, and what an archive of all has is counted.
@@ -39,16 +46,23 @@ fn least_sectors(builder: &ArchiveBuilder, text: &[u8], metadata: &[u8]) -> u64
     sectors_for(text.len()) + sectors_for(archive)
 }
 
+/// How many bytes of contents memory is reserved for, if the area has `area` sectors.
+fn capacity_for(area: u64) -> usize
+    ensures { result ≡ min area MAX_RESERVED_SECTORS * SECTOR_BYTES }
+{
+    area.min(MAX_RESERVED_SECTORS) as usize * SECTOR_BYTES
+}
+
 impl Collected {
     ghost use Rattle.area_content.specs.Collected.{tiles_of};
 
-    /// No tiles. It allocates nothing.
-    pub(crate) fn new(alloc: Global) -> Collected
+    /// No tiles, for an area of `area` sectors. It tries to reserve memory for their contents, and doesn't need it.
+    pub(crate) fn new(alloc: Global, area: u64) -> Collected
         ensures kept { result.kept ≡ [] }
         ensures counted { result.counted ≡ None }
     {
         Collected {
-            kept: ArchiveBuilder::new(alloc),
+            kept: ArchiveBuilder::with_capacity(alloc, capacity_for(area)),
             counted: None,
             alloc,
         }

@@ -121,7 +121,7 @@ impl ContentDraft {
             text,
             metadata,
             tiles,
-            collected: Collected::new(alloc),
+            collected: Collected::new(alloc, area),
             made: 0,
             area,
             stage: Stage::Going,

@@ -61,6 +61,18 @@ impl ArchiveBuilder {
         }
     }
 
+    /// A builder without tiles, with memory for `bytes` bytes of contents, or as `new` if that is refused.
+    pub fn with_capacity(alloc: Global, bytes: usize) -> ArchiveBuilder
+        ensures { result ≡ [] }
+    {
+        ArchiveBuilder {
+            runs: Vec::new(alloc),
+            contents: Contents::with_capacity(alloc, bytes),
+            addressed: 0,
+            alloc,
+        }
+    }
+
     /// Whether no tile was added.
     pub fn is_empty(&self) -> bool
         ensures { IsTrue result ↔ (self.now ≡ []) }

@@ -44,6 +44,19 @@ impl Contents {
         }
     }
 
+    /// No contents, with memory for `bytes` bytes of them, or as `new` if that is refused.
+    pub(crate) fn with_capacity(alloc: Global, bytes: usize) -> Contents
+        ensures { result ≡ record { contents = []; firsts = [] } }
+    {
+        match Vec::with_capacity(alloc, bytes) {
+            Ok(bytes) => Contents {
+                index: ContentIndex::new(alloc),
+                bytes,
+            },
+            Err(_) => Contents::new(alloc),
+        }
+    }
+
     /// What is known of them.
     pub(crate) fn index(&self) -> &ContentIndex
         ensures { result.now ≡ self.now }
