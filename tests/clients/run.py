@@ -26,6 +26,7 @@ from encodings_of_files import encodings
 from endings import endings
 from front import in_front
 from full_disks import disk_full
+from hang_ups import hang_ups
 from imports import imports
 from killed_servers import kills
 from large_imports import large
@@ -96,6 +97,7 @@ def main():
         "doors": doors,
         "steps": steps,
         "meanwhile": meanwhile,
+        "hang-ups": hang_ups,
         "standby": standby,
         "long-follow": long_follow,
         "takeover": takeover,
