@@ -5,6 +5,7 @@ import os
 import random
 import select
 import shutil
+import signal
 import socket
 import struct
 import threading
@@ -239,6 +240,21 @@ class Stand:
         self.cases.show(f"{name}: it wasn't over", is_written, True)
         self.others_are_served(name)
 
+    def nothing_is_written(self):
+        """Of a publication that is prepared, and of one that has begun, no byte is on the disk, also after its asker is gone and the process killed."""
+        self.change()
+        with open(self.server.disk, "rb") as disk:
+            before = disk.read()
+            stream = self.asked([BEGIN])[0]
+            drafting = status_of(self.server)["drafting"]
+            disk.seek(0)
+            self.cases.show("while a publication is prepared, the disk is as it was", [drafting is not None, disk.read() == before], [True, True])
+            hang_up(stream, True)
+            begun, _ = looked_at(self.server, has_begun)
+            self.server.end(signal.SIGKILL)
+            disk.seek(0)
+            self.cases.show("once it has begun, and the server was killed, it is too", [begun[-1] > 0, disk.read() == before], [True, True])
+
     def many(self):
         """Sixty-four clients that each want one of the tiles hang up, in an order by chance."""
         self.change()
@@ -275,6 +291,7 @@ def hang_ups(cases, folder):
                 stand.while_written(resets, waits)
         stand.many()
         stand.beside_an_editor()
+        stand.nothing_is_written()
         stand.looker.connection.close()
         cases.say(f"the longest waits: for a tile {max(took for took, _ in stand.times):.2f} s, for a publication {max(took for _, took in stand.times):.2f} s")
     os.remove(server.disk)
