@@ -1,9 +1,11 @@
 """The part `hang-ups` of run.py: clients that ask for a large tile or a publication, and hang up before the reply."""
 import http.client
 import json
+import multiprocessing
 import os
 import random
 import select
+import selectors
 import shutil
 import signal
 import socket
@@ -294,4 +296,61 @@ def hang_ups(cases, folder):
         stand.nothing_is_written()
         stand.looker.connection.close()
         cases.say(f"the longest waits: for a tile {max(took for took, _ in stand.times):.2f} s, for a publication {max(took for _, took in stand.times):.2f} s")
+    os.remove(server.disk)
+
+
+def crowd(port, count):
+    """Editors who change points far away, so fast that the server is never without a request."""
+    ready, number = selectors.DefaultSelector(), 0
+
+    def send(stream):
+        body = feature("far", 5, 5, {"points": [[number, 5]]}).encode()
+        stream.sendall(b"PUT /features/%d HTTP/1.1\r\nhost: x\r\ncontent-length: %d\r\n\r\n%s" % (9000 + number % count, len(body), body))
+
+    for _ in range(count):
+        stream = socket.create_connection(("127.0.0.1", port))
+        ready.register(stream, selectors.EVENT_READ)
+        send(stream)
+    while True:
+        for key, _ in ready.select():
+            key.fileobj.recv(65536)
+            number += 1
+            send(key.fileobj)
+
+
+def shrinking(cases, folder):
+    """A map comes down to 1,024 features while a large tile is made and another client waits for its own, and grows again. Neither of the two asks
+    any more; another large tile is wanted beside twenty editors."""
+    far = feature("far", 5, 5, {"points": [[1, 5]]})
+    wide = feature(last=1, geometry={"points": [[0, 0], [2**31, 2**31], [2**32 - 1, 2**32 - 1]]})
+    added = [{"put": 5000 + number, "feature": json.loads(wide)} for number in range(64)]
+    with Server(folder, "shrinking", 262144) as server:
+        editor = http.client.HTTPConnection("127.0.0.1", server.port)
+
+        def edit(path, body, method="POST"):
+            editor.request(method, path, body)
+            return editor.getresponse().read()
+
+        for number in range(1004):
+            chance = random.Random(number)
+            places = [[chance.randrange(2**32), chance.randrange(2**32)] for _ in range(600)]
+            edit(f"/features/{number}", feature(last=1, geometry={"points": places}), "PUT")
+        edit("/edits", json.dumps({"changes": [{"put": 9000 + number, "feature": json.loads(far)} for number in range(20)]}))
+        edit("/edits", json.dumps({"changes": added}))
+        streams = [socket.create_connection(("127.0.0.1", server.port)) for _ in range(2)]
+        for stream, request in zip(streams, (A, B)):
+            stream.sendall(request)
+        edit("/features/1", b"", "GET")
+        edit("/edits", json.dumps({"changes": [{"delete": 5000 + number} for number in range(64)]}))
+        cases.show("the map shrinks: both get their tiles", [answer(stream)[0] for stream in streams], [200, 200])
+        edit("/edits", json.dumps({"changes": added}))
+        editors = multiprocessing.Process(target=crowd, args=(server.port, 20), daemon=True)
+        editors.start()
+        with socket.create_connection(("127.0.0.1", server.port)) as other:
+            time.sleep(1)
+            other.settimeout(BOUND)
+            other.sendall(tile_of(OTHER))
+            cases.show("the map shrinks, and grows: another client gets its tile in time", reply_in_time(other)[0], 200)
+        editors.terminate()
+        editors.join()
     os.remove(server.disk)

@@ -26,7 +26,7 @@ from encodings_of_files import encodings
 from endings import endings
 from front import in_front
 from full_disks import disk_full
-from hang_ups import hang_ups
+from hang_ups import hang_ups, shrinking
 from imports import imports
 from killed_servers import kills
 from large_imports import large
@@ -98,6 +98,7 @@ def main():
         "steps": steps,
         "meanwhile": meanwhile,
         "hang-ups": hang_ups,
+        "shrinking": shrinking,
         "standby": standby,
         "long-follow": long_follow,
         "takeover": takeover,

@@ -153,6 +153,11 @@ impl LongTiles {
         }
     }
 
+    /// No tile is made any more: the map has few features now.
+    pub(crate) fn forget(&mut self) {
+        self.current = None;
+    }
+
     /// Whether the tile may be begun, once more.
     pub(crate) fn begins(&mut self) -> bool {
         if self.tries >= MAX_TRIES {

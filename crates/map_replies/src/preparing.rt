@@ -324,6 +324,7 @@ impl<D: Sectors + Drop> PreparingReplies<D> {
     {
         self.is_next = false;
         if !self.replies.calls.service.is_large() {
+            self.tiles.forget();
             return Preparation::Ready;
         }
         if !is_for_tile(asked) {
