@@ -29,8 +29,15 @@ def tile_of(name):
 
 
 A, B, C = tile_of(FIRST), tile_of(SECOND), tile_of(THIRD)
-# A whole publication that is refused by its head, after it was prepared: it is under way then, and who asked for it is gone.
-REFUSED = WHOLE.replace(b"\r\n\r\n", b"\r\ncontent-length: 65537\r\n\r\n")
+# Requests for publications and a tile that their heads refuse, and the replies' status.
+REFUSED = [
+    ("413 Body", WHOLE.replace(b"\r\n\r\n", b"\r\ncontent-length: 65537\r\n\r\n"), 413),
+    ("501 Coding", BEGIN.replace(b"\r\n\r\n", b"\r\ntransfer-encoding: chunked\r\n\r\n"), 501),
+    ("417 Expect", WHOLE.replace(b"\r\n\r\n", b"\r\nexpect: something\r\n\r\n"), 417),
+    ("400 Host", b"POST /publish HTTP/1.1\r\n\r\n", 400),
+    ("400 Head", BEGIN.replace(b"\r\n\r\n", b"\r\nno field\r\n\r\n"), 400),
+    ("400 Head, of a tile", A.replace(b"\r\n\r\n", b"\r\nno field\r\n\r\n"), 400),
+]
 # Who asks for what, in this order, and which of them hang up, in this order.
 ROWS = [
     ("the client whose tile is made", [A], [0]),
@@ -61,9 +68,6 @@ ROWS = [
     ("who publishes, while another waits to begin", [WHOLE, BEGIN], [0]),
     ("who waits to begin", [WHOLE, BEGIN], [1]),
     ("who begins, and who waits to publish", [BEGIN, WHOLE], [0, 1]),
-    ("who publishes by a request that is refused", [REFUSED], [0]),
-    ("who publishes by a request that is refused, while another waits to", [REFUSED, WHOLE], [0]),
-    ("who publishes by a request that is refused, and who waits to", [REFUSED, WHOLE, A, WHOLE], [0, 1, 2]),
 ]
 
 
@@ -257,6 +261,17 @@ class Stand:
             disk.seek(0)
             self.cases.show("once it has begun, and the server was killed, it is too", [begun[-1] > 0, disk.read() == before], [True, True])
 
+    def refused(self):
+        """Of a publication whose request its head refuses nothing is prepared."""
+        self.change()
+        for name, request, wanted in REFUSED:
+            before = status_of(self.server)
+            with self.connected() as stream:
+                stream.sendall(request)
+                status, _ = reply_in_time(stream)
+            found = [status, status_of(self.server) == before, before["drafting"], before["left"]]
+            self.cases.show(f"{name}: nothing is prepared", found, [wanted, True, None, None])
+
     def many(self):
         """Sixty-four clients that each want one of the tiles hang up, in an order by chance."""
         self.change()
@@ -291,6 +306,7 @@ def hang_ups(cases, folder):
                 stand.row(name, requests, leavers, resets)
             for waits in (False, True):
                 stand.while_written(resets, waits)
+        stand.refused()
         stand.many()
         stand.beside_an_editor()
         stand.nothing_is_written()

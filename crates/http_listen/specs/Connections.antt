@@ -6,6 +6,8 @@ use Rattle.http_serve.specs.declared.connection.Answer.{Answer}
 use Rattle.http_serve.specs.declared.connection.Served.{Served}
 use Rattle.http_serve.specs.declared.handlers.RestFault.{RestFault}
 use Rattle.http_serve.specs.declared.handlers.Ticket.{Ticket}
+use Rattle.http_requests.specs.declared.frames.Next.{Next}
+use Rattle.http_requests.specs.declared.frames.Next.TheVariants.{Whole, Refused, More}
 use Rattle.http_requests.specs.Requests.{RequestView}
 use Rattle.http_serve.specs.Reply.{ReplyView}
 use Rattle.http_serve.specs.Served.{AnswersNext}
@@ -72,6 +74,12 @@ module _ {S : Type 0} (replies : S → RequestView → ReplyView → S → Type 
   -- a stretch leads from a state to the next
   abbrev pub NextStretch : S → S → Type 0
   NextStretch old new = (result : Result Answer AllocError) × ComesTo result old new
+
+-- what was found in bytes is no request
+abbrev pub IsNoRequest : Next → Type 0
+IsNoRequest (Whole frame) = ⊥
+IsNoRequest (Refused rejection) = ⊤
+IsNoRequest (More missing) = ⊤
 
 -- this many steps of the preparation of a reply, one after the other, lead from a state to the next
 abbrev pub AreSteps : {S : Type 0} (prepares : S → S → Type 0) → ℕ → S → S → Type 0

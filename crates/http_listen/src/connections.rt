@@ -6,7 +6,7 @@ ghost use Rattle.http_listen.specs.Conversations.{Act, Deed, Answers, Does, IsEn
 ghost use Rattle.http_listen.specs.Orders.{AreInOrder};
 ghost use Rattle.http_listen.specs.Goes.{Acts, AreOver};
 ghost use Rattle.http_listen.specs.Places.{peer_at};
-ghost use Rattle.http_listen.specs.Connections.{Event, Serves, ComesTo, NextStretch, NextAnswer, NextPart, AreOverKnown, AreSteps, begun};
+ghost use Rattle.http_listen.specs.Connections.{Event, Serves, ComesTo, NextStretch, NextAnswer, NextPart, AreOverKnown, AreSteps, IsNoRequest, begun};
 
 use crate::logs::Logs;
 use crate::peers::{Ending, Peer};
@@ -14,7 +14,7 @@ use crate::pool::{Found, Pool, time_of};
 use crate::rests::{Unsent, add_part, once_sent};
 use crate::talks::Talks;
 use crate::waits::Waits;
-use http_requests::FieldSpans;
+use http_requests::{FieldSpans, Next};
 use http_serve::{Answer, Asked, Downloads, NOTHING_ASKED, Preparation, Prepares};
 use std::alloc::{AllocError, Global};
 use std::net::OpenStream;
@@ -164,6 +164,26 @@ fn prepare_for<H: Prepares, C: Clock>(
     true
 }
 
+/// The same for what was found at the front of a connection's input. The refusal of bytes that are no request needs no step, and gets none.
+fn prepare_found<H: Prepares, C: Clock>(
+    clock: &C,
+    start: Duration,
+    longest: Duration,
+    number: u64,
+    found: Next,
+    asked: &[u8],
+    handler: &mut H,
+) -> bool
+    ensures steps { (steps : ℕ) × AreSteps H.prepares steps handler.old handler.new }
+    ensures none { IsNoRequest found → handler.new ≡ handler.old }
+{
+    match found {
+        Next::Whole(_) => prepare_for(clock, start, longest, number, asked, handler),
+        Next::Refused(_) => false,
+        Next::More(_) => false,
+    }
+}
+
 /// Makes steps of the preparation of the reply to what was found at the front of a connection's input, as many as fit in its turn, and answers it
 /// if none is left.
 fn prepare_front<S, H, C>(
@@ -186,11 +206,12 @@ where
         × Steps S.told peer.old acts (result.ending ≡ None) peer.new }
 {
     let start = time_of(clock);
-    if prepare_for(
+    if prepare_found(
         clock,
         start,
         pool.preparing_time,
         peer.state.number,
+        asked.found,
         peer.connection.front(asked.end),
         handler,
     ) {
