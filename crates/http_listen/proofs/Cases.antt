@@ -24,7 +24,7 @@ module _ {S : Type 0} (replies sends : S → RequestView → ReplyView → S →
       → AnswersFound replies sends old bytes held served rest new holds
       → IsAnswered replies served rest old (stretch_over first bytes held (Ok answer) holds) new
   found old new bytes held holds answer first served None is = is.told
-  found old new bytes held holds answer first served (Some rest) is = is.part
+  found old new bytes held holds answer first served (Some rest) is = (is.close, is.counted, is.part)
 
   pub came : (old new : S) (bytes : List ℕ) (held holds : Option (List ℕ)) (result : Result Answer AllocError)
       → ServesFound replies sends old bytes held result new holds → (first : Bool)

@@ -9,6 +9,7 @@ use Rattle.http_serve.specs.declared.handlers.Ticket.{Ticket}
 use Rattle.http_requests.specs.declared.frames.Next.{Next}
 use Rattle.http_requests.specs.declared.frames.Next.TheVariants.{Whole, Refused, More}
 use Rattle.http_requests.specs.Requests.{RequestView}
+use Rattle.http_serve.specs.Connections.{once_replied}
 use Rattle.http_serve.specs.Reply.{ReplyView}
 use Rattle.http_serve.specs.Served.{AnswersNext}
 use Rattle.http_serve.specs.Told.{IsServed, IsServedInPart}
@@ -55,11 +56,11 @@ AreOverKnown (event ∷ events) = IsOverKnown event × AreOverKnown events
 
 -- replies
 module _ {S : Type 0} (replies : S → RequestView → ReplyView → S → Type 0) where
-  -- In a stretch all was answered and the replies are there whole, or one request was, and its reply but for this rest.
+  -- In a stretch all was answered and the replies are there whole, or one request was, and its reply but for this rest: it is counted as one.
   abbrev pub IsAnswered : Served → Option Rest → S → Stretch → S → Type 0
   IsAnswered served None old stretch new = IsServed replies old stretch.left stretch.held served new stretch.leaves stretch.holds
-  IsAnswered served (Some rest) old stretch new =
-      IsServedInPart replies (AnswersNext replies) old stretch.left stretch.held 0 new stretch.leaves stretch.holds
+  IsAnswered served (Some rest) old stretch new = (close : Bool) × (served ≡ once_replied close)
+      × IsServedInPart replies (AnswersNext replies) old stretch.left stretch.held 0 new stretch.leaves stretch.holds
 
   -- what a stretch came to; if memory runs out, nothing was answered
   abbrev pub CameTo : Result Answer AllocError → S → Stretch → S → Type 0

@@ -45,10 +45,11 @@ module _ {D : Type 0} (sectors : D → ℕ) (honest : D → Type 0) (history : D
         (PreparingReplied sectors honest history faults) (TellsMeanwhile sectors honest history faults) Along
         (replied sectors honest history faults first)
         old stretch.left stretch.held served new stretch.leaves stretch.holds before so is
-    answered_along served (Some rest) stretch old new before so is = part_along
-        (PreparingReplied sectors honest history faults) (TellsMeanwhile sectors honest history faults) Along
+    answered_along served (Some rest) stretch old new before so is =
+        let part = part_along (PreparingReplied sectors honest history faults) (TellsMeanwhile sectors honest history faults) Along
         (replied sectors honest history faults first)
-        old stretch.left stretch.held 0 new stretch.leaves stretch.holds before so is
+        old stretch.left stretch.held 0 new stretch.leaves stretch.holds before so is.2 in
+        (part.0, (is.0, is.1, part.1), part.2)
 
     -- one stretch more
     came_along : (result : Result Answer AllocError) (stretch : Stretch) (old new : PreparingReplies D) (before : Meanwhile D) → Along old before
