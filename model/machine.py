@@ -14,6 +14,8 @@ from tiles import tile
 NUMBER_END = 2**63
 MAX_ELEMENTS = 65535
 STEP_SECTORS = 64
+# After how many sectors what the steps of a publication wrote is synced.
+SYNC_SECTORS = 512
 BEGUN = object()
 # How many features a step of a draft reads, and how many are in a part of a tile.
 READ_AT_ONCE, FEATURES_OF_A_PART = 256, 32
@@ -309,13 +311,13 @@ class Service:
         return left - STEP_SECTORS + 1 if left > STEP_SECTORS else 0
 
     def advance(self, going, more, pauses):
-        """Writes the next `more` sectors, and syncs them if an edit may come before the next; after the last one it installs the root,
-        and reclaims the places of its edits."""
+        """Writes the next `more` sectors, and syncs at each `SYNC_SECTORS` if an edit may come before the next; after the last one it installs the
+        root, and reclaims the places of its edits."""
         generation = self.root.generation + 1
         write_area(self.disk, self.layout, generation, going.held, range(going.written, going.written + more))
         going.written += more
         if going.written < going.sectors:
-            if pauses:
+            if pauses and going.written % SYNC_SECTORS == 0:
                 self.disk.sync()
             return
         root = Root(generation, going.edits, going.place, *going.lengths)

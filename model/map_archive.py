@@ -7,6 +7,8 @@ from tiles import tile, varint
 LEAF_ENTRIES = 512
 MAX_ENTRIES = 131072
 LONGEST_RUN = 2**32 - 1
+# How many bytes a tile has at least that a step adds which makes nothing.
+LARGE_TILE = 65536
 WORLD = [-1800000000, -850511287, 1800000000, 850511287]
 
 
@@ -85,13 +87,16 @@ def tiles_of(found):
 
 def steps_of_tiles(found, features):
     """Yields how many tiles each step makes. One reads which tiles the features of a zoom cover. Then each tile that may show something is made in
-    parts, of so many features each: a tile that shows something is there with its last part. This is so of maps of some hundred features, of which
-    no more need be looked at to find the next tile than a step may."""
+    parts, of so many features each: a tile that shows something is there with its last part, or with the next step, which adds it, if it is large.
+    This is so of maps of some hundred features, of which no more need be looked at to find the next tile than a step may."""
     for zoom in range(MAX_ZOOM + 1):
         yield 0
         for _, place, near in near_tiles_of(found, zoom):
             yield from [0] * (-(-len(near) // features) - 1)
-            yield 1 if tile(near, *place) else 0
+            made = tile(near, *place)
+            if made and len(made) >= LARGE_TILE:
+                yield 0
+            yield 1 if made else 0
 
 
 def runs_of(tiles):

@@ -467,16 +467,16 @@ def long_tiles(script):
 
 
 # How many turns the publication of a large map takes at most, and after how many of them it has begun: the map is fixed, its features are read,
-# which tiles they cover is read of each of 20 zooms, its only tile is made, and no other one is found.
-TURNS, BEGINS = 70, 24
+# which tiles they cover is read of each of 20 zooms, its only tile is made, then added, since it is large, and no other one is found.
+TURNS, BEGINS = 70, 25
 SHOWN_AT_ONCE = request("GET", "/map.pmtiles", b"", "range: bytes=0-126")
 
 
 def with_large_map(script):
-    """A disk with a map of several steps of 64 sectors, of which nothing is published."""
-    script.disk(1024)
+    """A disk with a map of eleven steps of 64 sectors, of which nothing is published."""
+    script.disk(4096)
     script.admin()
-    for number in range(1, 4):
+    for number in range(1, 7):
         script.ask(*large_put(number))
 
 
@@ -518,7 +518,7 @@ def whole_steps(script):
     listen(script, first, second, order=order, log=logged((2, 3, "closed"), (1, 2, "closed")), time=30)
     script.note("The disk fails at one of its calls: at a step between replies, at the last one, or at an edit between them.")
     for kind in ("from", "lost", "made"):
-        for number in (3, 4, 66, 67, 68, 69, 70, 132, 133, 134, 350, 380):
+        for number in (3, 4, 66, 67, 68, 69, 70, 132, 134, 514, *range(516, 524), 700, 715, 730):
             with_large_map(script)
             script.again(kind, number)
             others = [DONE, put(9), *[DONE] * (BEGINS - 2), DONE, DONE, put(8), DONE, DONE, request("DELETE", "/features/9"), DONE]

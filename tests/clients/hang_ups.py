@@ -234,14 +234,18 @@ class Stand:
             streams[place].close()
 
     def while_written(self, resets, waits):
-        """Who publishes hangs up while the sectors are written, and maybe others that wait."""
-        self.change()
-        streams = self.asked([WHOLE])
-        looked_at(self.server, has_begun)
-        streams += self.asked([WHOLE, A] if waits else [])
-        is_written = status_of(self.server)["left"] is not None
-        for stream in streams:
-            hang_up(stream, resets)
+        """Who publishes hangs up while the sectors are written, and maybe others that wait. If it was over before, all is done again."""
+        for _ in range(100):
+            self.change()
+            streams = self.asked([WHOLE])
+            looked_at(self.server, has_begun)
+            streams += self.asked([WHOLE, A] if waits else [])
+            is_written = status_of(self.server)["left"] is not None
+            for stream in streams:
+                hang_up(stream, resets)
+            if is_written:
+                break
+            self.published()
         name = f"who publishes, while it is written{', and others that wait' if waits else ''}, {'reset' if resets else 'closed'}"
         self.cases.show(f"{name}: it wasn't over", is_written, True)
         self.others_are_served(name)

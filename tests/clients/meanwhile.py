@@ -157,7 +157,7 @@ def written(cases, folder):
             found, longest = looked_at(server, lambda _: select.select([asker], [], [], 0)[0])
             lefts = sorted({left for left in found if left is not None}, reverse=True)
             cases.show("a whole publication of some MB is made", answer(asker)[0], 200)
-            cases.show("others are answered while its sectors are written", len(lefts) > 9, True)
+            cases.show("others are answered while its sectors are written", len(lefts) > 2, True)
             cases.show("each step is 64 sectors less", {(one - other) % 64 for one, other in zip(lefts, lefts[1:])}, {0})
             cases.show("nobody waits for a second", longest < 1, True)
             asker.sendall(WHOLE)

@@ -1,6 +1,6 @@
 -- One tile more of an archive in the making.
-use Rattle.std.proofs.Common.{◌≡◌, ℕ, ◌+◌, ◌<◌, ◌≤◌, List, [], ◌∷◌, ◌++◌, length, All, Option, Some, None, sym, ap, subst, ◌∙◌}
-use Rattle.std.proofs.lemmas.List.{length_push}
+use Rattle.std.proofs.Common.{◌≡◌, ℕ, ◌+◌, ◌<◌, ◌≤◌, List, [], ◌∷◌, ◌++◌, All, Option, Some, None, IfSome, Result, Ok, Err, OnOk, Vec, Global}
+use Rattle.std.proofs.Common.{refl, sym, subst, ◌∙◌, arith}
 use Rattle.std.proofs.lemmas.List.Elements.{All-weaker}
 use Rattle.feature_store.specs.Store.{FeatureMap}
 use Rattle.feature_store.specs.Tiles.{IsNextTile, IsTile, ShowsNothing, ShowsNothingFrom}
@@ -8,39 +8,80 @@ use Rattle.feature_store.proofs.Below.{none_left}
 use Rattle.pm_build.specs.Building.{AreFew, CanAdd}
 use Rattle.pm_build.specs.Tiles.{Tile}
 use Rattle.area_content.specs.declared.collected.Collected.{Collected}
-use Rattle.area_content.specs.Collected.{AreGoing, AreMade, tiles_of}
+use Rattle.area_content.specs.Collected.{AreCollected, AreGoing, AreMade, tiles_of}
 use Rattle.area_content.specs.Faults.{AreAdded, IsShort}
 use Rattle.area_content.specs.Room.{AreBeyond, AreBeyondIf, AreWithin, added_so_far}
+use Rattle.area_content.specs.Waiting.{IsLastMade, least_id}
 use Rattle.area_content.proofs.MapTiles.{can_be_added, next_added, passed_added}
 use Rattle.area_content.proofs.Written.{beyond_more}
 
-module _ (m : FeatureMap) (metadata : List ℕ) (area from : ℕ) (c : Collected) (going : AreGoing m metadata area from c) where
+module _ (m : FeatureMap) (metadata : List ℕ) (area from : ℕ) (c : Collected) (are : AreCollected m metadata area from c) where
   -- those that are kept, while none is counted
   pub kept_added : c.counted ≡ None → AreAdded m from c.kept
-  kept_added none = subst (λ (o : Option (List Tile)). AreAdded m from (added_so_far c.kept o)) none going.added
+  kept_added none = subst (λ (o : Option (List Tile)). AreAdded m from (added_so_far c.kept o)) none are.added
 
   -- those that are counted
   pub counted_added : (ts : List Tile) → c.counted ≡ Some ts → AreAdded m from ts
-  counted_added ts is = subst (λ (o : Option (List Tile)). AreAdded m from (added_so_far c.kept o)) is going.added
+  counted_added ts is = subst (λ (o : Option (List Tile)). AreAdded m from (added_so_far c.kept o)) is are.added
 
   pub counted_beyond : (ts : List Tile) → c.counted ≡ Some ts → AreBeyond m metadata area ts
-  counted_beyond ts is = subst (λ (o : Option (List Tile)). AreBeyondIf m metadata area o) is going.beyond
+  counted_beyond ts is = subst (λ (o : Option (List Tile)). AreBeyondIf m metadata area o) is are.beyond
 
   -- ids whose tiles show nothing are passed
-  pub going_passed : (new : ℕ) → from ≤ new → ShowsNothing m from new → AreGoing m metadata area new c
-  going_passed new le nothing = record {
-    added = passed_added m from new (tiles_of c) going.added le nothing;
-    within = going.within;
-    beyond = going.beyond;
+  pub passed : (new : ℕ) → from ≤ new → ShowsNothing m from new → AreCollected m metadata area new c
+  passed new le nothing = record {
+    added = passed_added m from new (tiles_of c) are.added le nothing;
+    within = are.within;
+    beyond = are.beyond;
   }
 
   -- once no tile is left, all are added
   pub all_made : ShowsNothingFrom m from → AreMade m metadata area c
   all_made none = record {
-    all = none_left m from (tiles_of c) going.added.below none;
-    short = going.added.short;
-    beyond = going.beyond;
+    all = none_left m from (tiles_of c) are.added.below none;
+    short = are.added.short;
+    beyond = are.beyond;
   }
+
+  -- they go on while none waits
+  pub none_waits : c.waiting ≡ None → AreGoing m metadata area from c
+  none_waits none = record {
+    collected = subst (λ (o : Option (ℕ × Vec ℕ Global)). AreCollected m metadata area (least_id o from) c) (sym none) are;
+    waiting = subst (λ (o : Option (ℕ × Vec ℕ Global)). IfSome o (λ t. IsLastMade m from (t.0, t.1.items))) (sym none) tt;
+  }
+
+-- the next tile is the last one before the ids that are left
+pub last_made : (m : FeatureMap) (from new_from : ℕ) (t : Tile) → IsNextTile m from t → IsShort t → new_from ≡ t.0 + 1 → IsLastMade m new_from t
+last_made m from new_from t next short last = record { of_map = next.tile; short = short; last = last }
+
+-- and the next one after those below its own id
+pub next_of_last : (m : FeatureMap) (from : ℕ) (t : Tile) → IsLastMade m from t → IsNextTile m t.0 t
+next_of_last m from t last = record {
+  here = omega arith;
+  tile = last.of_map;
+  between = λ z x y id place ge lt. absurd (omega (arith, ge, lt));
+}
+
+-- those before a tile go on while it waits
+pub one_waits : (m : FeatureMap) (metadata : List ℕ) (area from : ℕ) (c : Collected) (t : ℕ × Vec ℕ Global) → c.waiting ≡ Some t
+    → AreCollected m metadata area t.0 c → IsLastMade m from (t.0, t.1.items) → AreGoing m metadata area from c
+one_waits m metadata area from c t is are last = record {
+  collected = subst (λ (o : Option (ℕ × Vec ℕ Global)). AreCollected m metadata area (least_id o from) c) (sym is) are;
+  waiting = subst (λ (o : Option (ℕ × Vec ℕ Global)). IfSome o (λ t. IsLastMade m from (t.0, t.1.items))) (sym is) last;
+}
+
+-- an option that is no tile is none
+none_is : (o : Option (ℕ × Vec ℕ Global)) → ((t : ℕ × Vec ℕ Global) → o ≡ Some t → ⊥) → o ≡ None
+none_is None not = refl
+none_is (Some t) not = absurd (not t refl)
+
+module _ (m : FeatureMap) (metadata : List ℕ) (area from : ℕ) (c : Collected) (going : AreGoing m metadata area from c) where
+  -- if none waited, those below `from` are added, whatever waits now
+  pub none_waited : (taken now : Option (ℕ × Vec ℕ Global)) → taken ≡ c.waiting → ((t : ℕ × Vec ℕ Global) → taken ≡ Some t → ⊥)
+      → AreCollected m metadata area from (record { kept = c.kept; counted = c.counted; waiting = now; alloc = c.alloc })
+  none_waited taken now is not =
+      let are = subst (λ (o : Option (ℕ × Vec ℕ Global)). AreCollected m metadata area (least_id o from) c) (sym is ∙ none_is taken not) going.collected in
+      record { added = are.added; within = are.within; beyond = are.beyond }
 
 -- tiles that were added are of the map
 pub added_of_map : (m : FeatureMap) (from : ℕ) (ts : List Tile) → AreAdded m from ts → All (IsTile m) ts
@@ -51,10 +92,10 @@ added_of_map m from ts added =
 pub can_add : (m : FeatureMap) (from : ℕ) (ts : List Tile) (t : Tile) → AreAdded m from ts → IsNextTile m from t → IsShort t → CanAdd ts t
 can_add m from ts t added next short = can_be_added m from ts t added.below next short
 
--- and they go on with it
+-- and they are added with it
 pub going_on : (m : FeatureMap) (metadata : List ℕ) (area from new_from : ℕ) (ts : List Tile) (t : Tile) (new : Collected) → AreAdded m from ts
     → IsNextTile m from t → IsShort t → new_from ≡ t.0 + 1 → tiles_of new ≡ ts ++ t ∷ [] → AreFew (tiles_of new) → AreWithin m metadata area new.kept
-    → AreBeyondIf m metadata area new.counted → AreGoing m metadata area new_from new
+    → AreBeyondIf m metadata area new.counted → AreCollected m metadata area new_from new
 going_on m metadata area from new_from ts t new added next short at grown few within beyond =
     let more = next_added m from ts t added next short (subst AreFew grown few) in
     record {
@@ -68,14 +109,7 @@ pub still_beyond : (m : FeatureMap) (metadata : List ℕ) (area : ℕ) (ts new :
     → AreBeyond m metadata area new
 still_beyond m metadata area ts new t beyond grown = subst (AreBeyond m metadata area) (sym grown) (beyond_more m metadata area ts t beyond)
 
--- one tile more is counted
-pub counted_more : (c : Collected) (counter : List Tile) (new : List Tile) (t : Tile) → c.counted ≡ Some counter → new ≡ counter ++ t ∷ []
-    → length new ≡ length (tiles_of c) + 1
-counted_more c counter new t is grown =
-    ap (λ (ts : List Tile). length ts) grown ∙ length_push counter t
-    ∙ ap (λ (o : Option (List Tile)). length (added_so_far c.kept o) + 1) (sym is)
-
-pub kept_more : (c : Collected) (new : List Tile) (t : Tile) → c.counted ≡ None → new ≡ c.kept ++ t ∷ [] → length new ≡ length (tiles_of c) + 1
-kept_more c new t none grown =
-    ap (λ (ts : List Tile). length ts) grown ∙ length_push c.kept t
-    ∙ ap (λ (o : Option (List Tile)). length (added_so_far c.kept o) + 1) (sym none)
+-- what two clauses say of a call that returns `Ok`
+pub both_ok : {T E : Type 0} (P Q : Type 0) (r : Result T E) → OnOk r P → OnOk r Q → OnOk r (P × Q)
+both_ok P Q (Ok x) p q = (p, q)
+both_ok P Q (Err e) p q = tt

@@ -7,3 +7,4 @@ pub mod Inside
 pub mod Progress
 pub mod Room
 pub mod Tiles
+pub mod Waiting

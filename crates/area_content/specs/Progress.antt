@@ -1,4 +1,4 @@
--- What a step of an archive in the making made.
+-- What a step of an archive in the making did.
 use Rattle.std.specs.Prelude.{ℕ, ⊤}
 use Rattle.area_content.specs.declared.archive.Progress.{Progress}
 use Rattle.area_content.specs.declared.archive.Progress.TheVariants.{Part, Tile, Over}

@@ -1,5 +1,5 @@
 //! The archive of the tiles of a map.
-ghost use Rattle.std.specs.Prelude.{◌≡◌, ◌<◌, ◌≤◌, ◌^◌, ◌+◌, ℕ, List, Ok, false, length, IfOk, IfErr};
+ghost use Rattle.std.specs.Prelude.{◌≡◌, ◌<◌, ◌≤◌, ◌^◌, ◌+◌, ℕ, List, Ok, false, length, OnOk, IfOk, IfErr};
 ghost use Rattle.feature_store.specs.Moments.{IsAsOf};
 ghost use Rattle.feature_store.specs.Store.{snapshot};
 ghost use Rattle.feature_store.specs.Tiles.{GoesOn, IfTile, IsNextTile, ShowsNothing, ShowsNothingFrom};
@@ -8,10 +8,11 @@ ghost use Rattle.pm_metadata.specs.Archive.{IsMetadata};
 ghost use Rattle.pm_build.specs.Bounded.{IsSize};
 ghost use Rattle.pm_build.specs.Built.{archive_bytes};
 ghost use Rattle.pm_build.specs.Tiles.{Tile};
-ghost use Rattle.area_content.specs.Collected.{AreGoing, AreMade, tiles_of};
+ghost use Rattle.area_content.specs.Collected.{AreCollected, AreGoing, AreMade, tiles_of};
 ghost use Rattle.area_content.specs.Faults.{AreAdded, IsContentFault, IsShort};
 ghost use Rattle.area_content.specs.Progress.{IfGoing, tiles_in};
 ghost use Rattle.area_content.specs.Tiles.{IsArchiveOfTiles};
+ghost use Rattle.area_content.specs.Waiting.{IsLastMade, steps_ahead};
 ghost use Rattle.area_content.specs.declared.archive.Progress.TheVariants as progress;
 
 use crate::collected::Collected;
@@ -22,12 +23,15 @@ use feature_store::{Making, Moment, Store, Tiles};
 use pm_build::{ArchiveBuilder, BuiltArchive};
 use std::alloc::{AllocError, Global};
 
-/// What a step of an archive in the making made.
+/// A tile of this many bytes or more is added in a step of its own: to make its last part and to add it are both long then.
+const LARGE_TILE_BYTES: usize = 65_536;
+
+/// What a step of an archive in the making did.
 #[derive(Clone, Copy)]
 pub(crate) enum Progress {
-    /// A part of a tile.
+    /// It made a part of a tile, and added none.
     Part,
-    /// A tile.
+    /// It added a tile.
     Tile,
     /// Nothing, since no tile is left.
     Over,
@@ -68,8 +72,38 @@ fn next_short(
     Ok(Making::Whole(tile))
 }
 
-/// Makes a part of the next tile of a moment, and at its last part adds the tile to its archive. `store` is the map as it is now, `text` the
-/// snapshot of the moment.
+/// Adds the last tile that was made to its archive. `store` is the map as it is now, `text` the snapshot of the moment.
+fn add_tile(
+    collected: &mut Collected,
+    tile: feature_store::Tile,
+    tiles: &mut Tiles,
+    store: &Store,
+    moment: &Moment,
+    text: &[u8],
+    metadata: &[u8],
+    area: u64,
+) -> Result<(), ContentFault>
+    requires same { moment.now.features ≡ tiles.old.features }
+    requires there { moment.now.lost ≡ false }
+    requires as_of { IsAsOf moment.now store.now.features }
+    requires collected { AreCollected tiles.old.features metadata.now area tile.0 collected.old }
+    requires last { IsLastMade tiles.old.features tiles.old.from (tile.0, tile.1.items) }
+    requires snapshot { text.now ≡ snapshot tiles.old.features }
+    ensures unchanged { tiles.new ≡ tiles.old }
+    ensures collected { OnOk result (AreCollected tiles.old.features metadata.now area tiles.old.from collected.new) }
+    ensures waiting { OnOk result (collected.new.waiting ≡ collected.old.waiting) }
+    ensures count { OnOk result (length (tiles_of collected.new) ≡ length (tiles_of collected.old) + 1) }
+    ensures fault { IfErr result (IsContentFault tiles.old.features metadata.now area) }
+{
+    let (id, content) = tile;
+    match &mut collected.counted {
+        Some(counter) => count_tile(counter, id, content, tiles, store, moment),
+        None => collected.keep(id, &content, text, metadata, area),
+    }
+}
+
+/// Makes a part of the next tile of a moment, and at its last part adds the tile to its archive. A large tile waits, and the next step adds it
+/// and makes no part. `store` is the map as it is now, `text` the snapshot of the moment.
 pub(crate) fn make_next(
     tiles: &mut Tiles,
     collected: &mut Collected,
@@ -87,26 +121,30 @@ pub(crate) fn make_next(
     requires area { area < 2 ^ 23 }
     ensures map { tiles.new.features ≡ tiles.old.features }
     ensures going { IfOk result (IfGoing (AreGoing tiles.old.features metadata.now area tiles.new.from collected.new)) }
-    ensures ahead { IfOk result (IfGoing (tiles.new.ahead < tiles.old.ahead)) }
+    ensures ahead { IfOk result (IfGoing (steps_ahead collected.new.waiting tiles.new.ahead < steps_ahead collected.old.waiting tiles.old.ahead)) }
     ensures count { IfOk result (λ progress. length (tiles_of collected.new) ≡ length (tiles_of collected.old) + tiles_in progress) }
     ensures made { result ≡ Ok progress.Over → AreMade tiles.old.features metadata.now area collected.new }
     ensures fault { IfErr result (IsContentFault tiles.old.features metadata.now area) }
 {
-    let (id, content) = match next_short(tiles, store, moment, area) {
+    if let Some(tile) = collected.waiting.take() {
+        return match add_tile(collected, tile, tiles, store, moment, text, metadata, area) {
+            Ok(()) => Ok(Progress::Tile),
+            Err(fault) => Err(fault),
+        };
+    }
+    let tile = match next_short(tiles, store, moment, area) {
         Ok(Making::Whole(tile)) => tile,
         Ok(Making::Part) => return Ok(Progress::Part),
         Ok(Making::Over) => return Ok(Progress::Over),
         Err(fault) => return Err(fault),
     };
-    match &mut collected.counted {
-        Some(counter) => match count_tile(counter, id, content, tiles, store, moment) {
-            Ok(()) => Ok(Progress::Tile),
-            Err(fault) => Err(fault),
-        },
-        None => match collected.keep(id, &content, text, metadata, area) {
-            Ok(()) => Ok(Progress::Tile),
-            Err(fault) => Err(fault),
-        },
+    if tile.1.len() >= LARGE_TILE_BYTES {
+        collected.waiting = Some(tile);
+        return Ok(Progress::Part);
+    }
+    match add_tile(collected, tile, tiles, store, moment, text, metadata, area) {
+        Ok(()) => Ok(Progress::Tile),
+        Err(fault) => Err(fault),
     }
 }
 

@@ -9,6 +9,7 @@ ghost use Rattle.sector_disk.specs.declared.disk.TheConstants.{SECTOR_BYTES};
 
 use crate::content::sectors_for;
 use crate::fault::ContentFault;
+use feature_store::Tile;
 use pm_build::{ArchiveBuilder, ArchiveCounter, BuildFault};
 use pm_header::HEADER_BYTES;
 use sector_disk::SECTOR_BYTES;
@@ -25,6 +26,8 @@ const MAX_RESERVED_SECTORS: u64 = 67_584;
 pub(crate) struct Collected {
     pub(crate) kept: ArchiveBuilder,
     pub(crate) counted: Option<ArchiveCounter>,
+    /// The tile after them, if it is made and not added yet.
+    pub(crate) waiting: Option<Tile>,
     pub(crate) alloc: Global,
 }
 
@@ -60,10 +63,12 @@ impl Collected {
     pub(crate) fn new(alloc: Global, area: u64) -> Collected
         ensures kept { result.kept ≡ [] }
         ensures counted { result.counted ≡ None }
+        ensures waiting { result.waiting ≡ None }
     {
         Collected {
             kept: ArchiveBuilder::with_capacity(alloc, capacity_for(area)),
             counted: None,
+            waiting: None,
             alloc,
         }
     }
@@ -72,6 +77,7 @@ impl Collected {
     fn count(&mut self) -> Result<(), AllocError>
         ensures counted { OnOk result (self.new.counted ≡ Some self.old.kept) }
         ensures kept { OnOk result (self.new.kept ≡ []) }
+        ensures waiting { OnOk result (self.new.waiting ≡ self.old.waiting) }
     {
         let kept = mem::replace(&mut self.kept, ArchiveBuilder::new(self.alloc));
         let counter = kept.into_counter()?;
@@ -98,6 +104,7 @@ impl Collected {
         ensures few { OnOk result (AreFew (tiles_of self.new)) }
         ensures within { OnOk result ((m : FeatureMap) → text.now ≡ snapshot m → AreWithin m metadata.now area self.new.kept) }
         ensures beyond { OnOk result ((m : FeatureMap) → text.now ≡ snapshot m → AreBeyondIf m metadata.now area self.new.counted) }
+        ensures waiting { OnOk result (self.new.waiting ≡ self.old.waiting) }
         ensures fault { IfErr result (λ fault. (m : FeatureMap) → (AreTooMany (self.old.kept ++ (id, content.now) ∷ []) → HasManyTiles m)
             → IsContentFault m metadata.now area fault) }
     {

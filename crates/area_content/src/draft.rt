@@ -30,17 +30,18 @@ pub enum Stage {
     Failed,
 }
 
-/// The content of an area for a map as of a moment, in the making. Each step makes a part of a tile, and the map may be edited between two of
-/// them (`feature_store::Store::place_after`, `remove_after`). What it holds is the snapshot, the boxes of the features, the contents of the
-/// tiles so far, which fit into the area, and the tile in hand. Once a tile doesn't fit, no content is kept: what it holds then is a record
-/// for each run and for each different content, and two tiles.
+/// The content of an area for a map as of a moment, in the making. Each step makes a part of a tile or adds a large one, and the map may be
+/// edited between two of them (`feature_store::Store::place_after`, `remove_after`). What it holds is the snapshot, the boxes of the features,
+/// the contents of the tiles so far, which fit into the area, and one tile more, which is in the making or not added yet. Once a tile doesn't
+/// fit, no content is kept: what it holds then is a record for each run and for each different content, the last tile that was added and the
+/// one after it. A step that adds this one may make an equal tile again.
 #[derive(Drop)]
 pub struct ContentDraft {
     text: Vec<u8>,
     metadata: Vec<u8>,
     tiles: Tiles,
     collected: Collected,
-    /// How many tiles are collected.
+    /// How many tiles are added.
     made: u64,
     area: u64,
     stage: Stage,
@@ -129,7 +130,7 @@ impl ContentDraft {
         })
     }
 
-    /// How many tiles are made.
+    /// How many tiles are made and added.
     pub fn made(&self) -> u64
         ensures { self.now.stage ≡ Going
             → (tiles : List Tile) × AreTilesBelow self.now.features self.now.from tiles × (result ≡ length tiles) }
@@ -137,7 +138,8 @@ impl ContentDraft {
         self.made
     }
 
-    /// Makes a part of the next tile of the moment, `store` being the map as it is now. It is true if tiles may be left.
+    /// Makes a part of the next tile of the moment, `store` being the map as it is now, and at its last part adds the tile. A large tile is added
+    /// by the next step, which makes no part. It is true if tiles may be left.
     ///
     /// # Errors
     ///
@@ -209,6 +211,7 @@ impl ContentDraft {
         let Collected {
             kept,
             counted,
+            waiting: _,
             alloc: _,
         } = collected;
         match counted {

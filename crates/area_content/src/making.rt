@@ -59,8 +59,8 @@ fn draft_of(
 ///
 /// The tiles are made by ascending id. Their contents are kept as long as they can fit in the area: a header, the metadata and each different
 /// content once take no more sectors than are left beside the snapshot. From the first tile on that no longer fits, only their number and
-/// their lengths are. So what is kept above the area are a record for each run and for each different content, and two tiles. After a fault
-/// everything is freed.
+/// their lengths are. So what is kept above the area are a record for each run and for each different content, and three tiles at most: the
+/// last one that was added, the one after it, and an equal one that is made again. After a fault everything is freed.
 ///
 /// # Errors
 ///

@@ -144,7 +144,7 @@ fn finish_tile(store: &Store, hand: TileInHand) -> Result<Option<Vec<u8>>, Alloc
     store.finish_tile(hand)
 }
 
-/// Whether features of a tile in the making are left after this many parts.
+/// Whether a part of a tile in the making is left after this many.
 fn is_left_after(store: &Store, hand: TileInHand, parts: usize) -> Result<bool, AllocError>
     requires { hand.features ≡ store.now.features }
 {
@@ -395,8 +395,8 @@ impl CachedMap {
         }
     }
 
-    /// Whether more than this many features have boxes near the tile, or as many but for less than a part. It makes that many and forgets them. The
-    /// only error is out of memory.
+    /// Whether more than `count` features have boxes near the tile, or as many but for less than a part. It makes that many and forgets them. `count` is
+    /// at most 1,024: a tile of more features also has parts that only write its layers. The only error is out of memory.
     pub fn has_more(&self, at: TileAt, count: usize) -> Result<bool, AllocError> {
         if at.z > MAX_ZOOM {
             return Ok(false);

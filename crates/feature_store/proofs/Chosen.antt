@@ -9,6 +9,7 @@ use Rattle.std.specs.Ordering.{nat_cmp}
 use Rattle.std.specs.Str.{bytes_eq}
 use Rattle.std.specs.declared.cmp.Ordering.TheVariants.{Less}
 use Rattle.std.proofs.lemmas.Bool.{cases_eq}
+use Rattle.std.proofs.lemmas.Bool.Decides.{nat_tests}
 use Rattle.std.proofs.lemmas.List.{take_more, append-nil, map-append, take_all, take-append-drop, take-take, drop-take}
 use Rattle.std.proofs.lemmas.List.Concat.{flat_map-append}
 use Rattle.std.proofs.lemmas.List.Elements.{All-nil, All-cons, All-head, All-tail, All-append, filter_map-append}
@@ -25,7 +26,7 @@ use Rattle.feature_store.specs.declared.tile_parts.TileParts.{TileParts}
 use Rattle.feature_store.specs.Gathered.{Gathers}
 use Rattle.feature_store.specs.Indexed.{ShowsAll}
 use Rattle.feature_store.specs.Layers.{numbered_cut, cut_for, cuts_of}
-use Rattle.feature_store.specs.Parts.{IsInMaking, added}
+use Rattle.feature_store.specs.Parts.{IsInMaking, added, work_of}
 use Rattle.feature_store.specs.Store.{FeatureMap, IsMap, feature_at, entry_at}
 use Rattle.feature_store.proofs.Gathers.{gathers_same}
 
@@ -174,15 +175,19 @@ all_chosen m ns name z x y is_map shows = chosen_are name z x y m ns is_map.asce
 
 -- ---- a tile in the making
 
+-- where no layers are being written, nothing is left only once all numbers are added
+pub all_added : (numbers left : ℕ) → work_of None numbers left ≡ 0 → left ≡ 0
+all_added numbers left none = grind (arith, nat_tests)
+
 -- once all numbers are added, all is gathered that the tile shows
-pub all_shown : (m : FeatureMap) (p : TileParts) → IsMap m → IsInMaking m p → p.left ≡ 0
+pub all_shown : (m : FeatureMap) (p : TileParts) → IsMap m → IsInMaking m p → p.end ≡ None → p.left ≡ 0
     → Gathers p.gathered (λ name. cuts_of m name p.at.z p.at.x p.at.y)
-all_shown m p is_map making none =
+all_shown m p is_map making gathered none =
     let numbers = p.numbers.items in
     let all : added p ≡ numbers = take_all (length numbers - p.left) numbers (omega (arith, none)) in
     gathers_same p.gathered _ _
     (λ name. ap (λ ns. cuts_of (chosen m ns) name p.at.z p.at.x p.at.y) all ∙ all_chosen m numbers name p.at.z p.at.x p.at.y is_map making.shown)
-    making.gathers
+    (making.gathers gathered)
 
 -- the first numbers, and a part of those that are left
 pub parted : (ns : List ℕ) (left count : ℕ) → count ≤ left → left ≤ length ns

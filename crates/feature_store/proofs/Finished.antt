@@ -16,11 +16,6 @@ use Rattle.feature_store.proofs.TilesRead.{tile_reads}
 use Rattle.feature_store.proofs.Unique.{is_the_list}
 use Rattle.feature_store.proofs.Walk.{some_written}
 
--- a map of no entries has none
-pub no_entries : {X : Type 0} (xs : List X) → length xs ≡ 0 → xs ≡ []
-no_entries [] none = refl
-no_entries (x ∷ xs) none = absurd (omega (arith, none))
-
 -- what holds of all holds of the first that is left
 pub all_here : {X : Type 0} (P : X → Type 0) (done : List X) (x : X) (rest : List X) → All P (done ++ x ∷ rest) → P x
 all_here P [] x rest all = All-head P x rest all

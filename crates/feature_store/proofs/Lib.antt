@@ -2,6 +2,7 @@ pub mod Below
 mod Allowed
 mod Boxes
 mod Chosen
+mod Ends
 mod Entries
 mod Finished
 mod Gathers

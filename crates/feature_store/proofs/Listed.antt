@@ -19,11 +19,15 @@ use Rattle.std.proofs.lemmas.Map.Views.{All-found}
 use Rattle.feature_model.specs.Data.{FeatureData}
 use Rattle.mvt_layer.specs.Tile.{FeatureView}
 use Rattle.mvt_write.specs.declared.layer_writer.LayerWriter.{LayerWriter}
-use Rattle.mvt_write.specs.Writes.{Writes}
 use Rattle.tile_cutter.specs.Cut.{feature_cut}
-use Rattle.feature_store.specs.Gathered.{Gathered, IsGathered, Gathers, layer_of, layers_of}
+use Rattle.feature_store.specs.Gathered.{Gathered, HasWritten, IsGathered, Gathers, layer_of, layers_of}
 use Rattle.feature_store.specs.Layers.{cut_for, cuts_of, names_of, IsLayer, AreLayers}
 use Rattle.feature_store.specs.Store.{FeatureMap}
+
+-- a map of no entries has none
+pub no_entries : {X : Type 0} (xs : List X) → length xs ≡ 0 → xs ≡ []
+no_entries [] none = refl
+no_entries (x ∷ xs) none = absurd (omega (arith, none))
 
 -- ---- names
 
@@ -115,9 +119,6 @@ found : (g : Gathered) → IsAscending g → All (IsFound g) g.entries
 found g ordered = All-found string_cmp_total g ordered
 
 -- the features of a name that is there
-abbrev pub HasWritten : (List ℕ → List FeatureView) → String Global × LayerWriter → Type 0
-HasWritten fs e = (0 < length (fs (string_bytes e.0))) × Writes e.1 (string_bytes e.0) (fs (string_bytes e.0)) []
-
 pub all_written : (g : Gathered) (fs : List ℕ → List FeatureView) → Gathers g fs → IsAscending g → All (HasWritten fs) g.entries
 all_written g fs gathers ordered =
     All-weaker (IsFound g) (HasWritten fs) (λ e is. subst (λ o. IsGathered o (string_bytes e.0) (fs (string_bytes e.0))) is (gathers (string_bytes e.0)))

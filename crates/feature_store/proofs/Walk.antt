@@ -14,8 +14,7 @@ use Rattle.mvt_write.specs.Written.{written}
 use Rattle.feature_store.specs.Layers.{is_tile, layers}
 use Rattle.feature_store.specs.Store.{FeatureMap}
 use Rattle.feature_store.specs.declared.tile_parts.TileParts.{TileParts}
-use Rattle.feature_store.specs.declared.tile_parts.TheConstants.{PART_NUMBERS}
-use Rattle.feature_store.specs.Parts.{IfHand, IsBegun, IsInHand, IsNoneInHand, NONE_IN_HAND}
+use Rattle.feature_store.specs.Parts.{IfHand, IsBegun, IsInHand, IsNoneInHand, NONE_IN_HAND, work_left}
 use Rattle.feature_store.specs.declared.all_tiles.Begun.{Begun}
 use Rattle.feature_store.specs.declared.all_tiles.Begun.TheVariants.{Hand}
 use Rattle.feature_store.specs.Tiles.{ShowsNothing, IsNextTile, IsTile, HasPlace, tile_bytes}
@@ -73,11 +72,11 @@ none_left stage hand none = rw none (omega arith)
 
 module _ (stage : ℕ) (hand after : Option (ℕ × TileParts)) (h : ℕ × TileParts) (is : hand ≡ Some h) (none : after ≡ None) where
   -- the tile in hand is taken
-  pub hand_left : ahead_of stage (left_in after) + h.1.left ≤ ahead_of stage (left_in hand)
+  pub hand_left : ahead_of stage (left_in after) + work_left h.1 ≤ ahead_of stage (left_in hand)
   unfolding ahead_of
   hand_left = rw (is, none) (omega arith)
 
-  pub hand_ahead : 0 < h.1.left → ahead_of stage (left_in after) < ahead_of stage (left_in hand)
+  pub hand_ahead : 0 < work_left h.1 → ahead_of stage (left_in after) < ahead_of stage (left_in hand)
   unfolding ahead_of
   hand_ahead some = rw (is, none) (omega (arith, some))
 
@@ -101,7 +100,7 @@ ahead_part stage left new start hand le fewer = omega (arith, fewer, le)
 pub of_hand : (P : ℕ × TileParts → Type 0) (b : Begun) (h : ℕ × TileParts) → b ≡ Hand h → IfHand P b → P h
 of_hand P b h is told = subst (λ (c : Begun). IfHand P c) is told
 
--- a tile that isn't whole has features left
+-- some of a tile that isn't whole is left
 pub some_left : (left : ℕ) (whole : Bool) → IsTrue whole ↔ (left ≡ 0) → whole ≡ false → 0 < left
 some_left left whole is not = by (cases_lt 0 left)
   where
@@ -109,17 +108,9 @@ some_left left whole is not = by (cases_lt 0 left)
     by (inl some) = some
     by (inr none) = absurd (false≢true (sym not ∙ is.1 (omega (arith, none))))
 
--- a part of a tile that isn't whole after it leaves fewer features
-pub fewer_left : (old new : ℕ) (whole : Bool) → new ≡ old - PART_NUMBERS → IsTrue whole ↔ (new ≡ 0) → whole ≡ false → new < old
-fewer_left old new whole less is not = by (cases_lt 0 new)
-  where
-    by : (0 < new) ⊎ (new ≤ 0) → new < old
-    by (inl some) = omega (arith, some, less)
-    by (inr none) = absurd (false≢true (sym not ∙ is.1 (omega (arith, none))))
-
 -- where no tile is in hand, the least id of the next tile is that of those that aren't begun
 pub none_in_hand : (m : FeatureMap) (hand : Option (ℕ × TileParts)) (from id stage : ℕ)
-    → IfSome hand (λ h. (from ≡ h.0 + 1) × (0 < h.1.left) × IsInHand m h) → least_id hand from ≡ id → IsNoneInHand (ahead_of stage (left_in hand))
+    → IfSome hand (λ h. (from ≡ h.0 + 1) × (0 < work_left h.1) × IsInHand m h) → least_id hand from ≡ id → IsNoneInHand (ahead_of stage (left_in hand))
     → from ≡ id
 unfolding ahead_of
 none_in_hand m None from id stage is least none = least

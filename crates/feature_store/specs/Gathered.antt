@@ -21,6 +21,10 @@ IsGathered (Some w) name fs = (0 < length fs) × Writes w name fs []
 abbrev pub Gathers : Gathered → (List ℕ → List FeatureView) → Type 0
 Gathers g fs = (name : List ℕ) → IsGathered (get_by_text g name) name (fs name)
 
+-- a name has features, and the writer of its layer has these
+abbrev pub HasWritten : (List ℕ → List FeatureView) → String Global × LayerWriter → Type 0
+HasWritten fs e = (0 < length (fs (string_bytes e.0))) × Writes e.1 (string_bytes e.0) (fs (string_bytes e.0)) []
+
 -- a name and its features as a layer
 abbrev pub layer_of : (List ℕ → List FeatureView) → String Global × LayerWriter → LayerView
 layer_of fs e = layers.layer_of (string_bytes e.0) (fs (string_bytes e.0))

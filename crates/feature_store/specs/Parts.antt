@@ -1,10 +1,13 @@
 -- A tile in the making.
-use Rattle.std.specs.Prelude.{◌≡◌, ℕ, List, ◌<◌, ◌≤◌, ◌-◌, ◌*◌, ◌^◌, length, take, ⊤}
+use Rattle.std.specs.Prelude.{◌≡◌, ℕ, List, ◌<◌, ◌≤◌, ◌+◌, ◌-◌, ◌*◌, ◌^◌, length, take, Option, Some, None, IfSome, nat_lt, if◌then◌else◌, ⊤}
 use Rattle.feature_model.specs.declared.limits.TheConstants.{MAX_ZOOM}
 use Rattle.feature_store.specs.Chosen.{chosen}
 use Rattle.feature_store.specs.declared.all_tiles.Begun.{Begun}
 use Rattle.feature_store.specs.declared.all_tiles.Begun.TheVariants.{Hand, Part, Over}
+use Rattle.feature_store.specs.declared.tile_end.TileEnd.{TileEnd}
+use Rattle.feature_store.specs.declared.tile_parts.TheConstants.{SHORT_NUMBERS}
 use Rattle.feature_store.specs.declared.tile_parts.TileParts.{TileParts}
+use Rattle.feature_store.specs.Ends.{Ends, END_WORK, end_work}
 use Rattle.feature_store.specs.Gathered.{Gathers}
 use Rattle.feature_store.specs.Indexed.{ShowsAll}
 use Rattle.feature_store.specs.Layers.{cuts_of}
@@ -16,21 +19,32 @@ use Rattle.hilbert_id.specs.Curve.{IsTileId}
 abbrev pub added : TileParts → List ℕ
 added p = take (length p.numbers.items - p.left) p.numbers.items
 
--- A tile of the map in the making: its numbers are those that it needs, and what is gathered is what it shows of the features that are added.
+-- A tile of the map in the making: its numbers are those that it needs, and what is gathered is what it shows of the features that are added, or its
+-- layers are being written.
 pub record IsInMaking (m : FeatureMap) (p : TileParts) : Type 0 where
   pub zoom : p.at.z ≤ MAX_ZOOM
   pub shown : ShowsAll m p.at.z p.at.x p.at.y p.numbers.items
   pub left : p.left ≤ length p.numbers.items
-  pub gathers : Gathers p.gathered (λ name. cuts_of (chosen m (added p)) name p.at.z p.at.x p.at.y)
+  pub gathers : p.end ≡ None → Gathers p.gathered (λ name. cuts_of (chosen m (added p)) name p.at.z p.at.x p.at.y)
+  pub ends : IfSome p.end (Ends m p.at.z p.at.x p.at.y)
 
--- more numbers than a tile may have
+-- how much is left of a tile of this many numbers, of which some are left to add, and whose layers are perhaps being written
+abbrev pub work_of : Option TileEnd → (numbers left : ℕ) → ℕ
+work_of None numbers left = if nat_lt SHORT_NUMBERS numbers then END_WORK + left else left
+work_of (Some e) numbers left = end_work e
+
+-- a number that falls with each part of a tile, and is 0 once it is whole
+abbrev pub work_left : TileParts → ℕ
+work_left p = work_of p.end (length p.numbers.items) p.left
+
+-- more than is left of any tile
 abbrev pub NONE_IN_HAND : ℕ
-NONE_IN_HAND = 2 ^ 64
+NONE_IN_HAND = 2 ^ 132
 
 -- a tile of the map in the making, and its id
 pub record IsInHand (m : FeatureMap) (hand : ℕ × TileParts) : Type 0 where
   pub id : IsTileId hand.1.at.z hand.1.at.x hand.1.at.y hand.0
-  pub few : hand.1.left < NONE_IN_HAND
+  pub few : work_left hand.1 < NONE_IN_HAND
   pub making : IsInMaking m hand.1
 
 -- it is the first tile from `from` on that may show something of the map

@@ -5,7 +5,7 @@ use Rattle.feature_store.specs.declared.all_tiles.Tiles.TheInside.{Inside}
 use Rattle.feature_store.specs.declared.tile_parts.TileParts.{TileParts}
 use Rattle.feature_store.specs.Boxes.{AreFirst}
 use Rattle.feature_store.specs.Left.{AreLeft, left_of, stage_of}
-use Rattle.feature_store.specs.Parts.{IsInHand, NONE_IN_HAND}
+use Rattle.feature_store.specs.Parts.{IsInHand, NONE_IN_HAND, work_left}
 use Rattle.feature_store.specs.Store.{IsMap}
 use Rattle.feature_store.specs.Tiles.{TilesView}
 
@@ -14,12 +14,12 @@ abbrev pub least_id : Option (ℕ × TileParts) → ℕ → ℕ
 least_id None from = from
 least_id (Some hand) from = hand.0
 
--- how many numbers of the tile in hand are left
+-- how much of the tile in hand is left
 abbrev pub left_in : Option (ℕ × TileParts) → ℕ
 left_in None = 0
-left_in (Some hand) = hand.1.left
+left_in (Some hand) = work_left hand.1
 
--- a number that falls with each step to the next tile, and between them as fewer numbers of the tile in hand are left
+-- a number that falls with each step to the next tile, and between them with each part of the tile in hand
 unfoldable pub ahead_of : (stage left : ℕ) → ℕ
 ahead_of stage left = stage * NONE_IN_HAND + left
 
@@ -33,4 +33,4 @@ pub record IsWalk (w : Inside) : Type 0 where
   pub zoom : w.left.zoom ≤ MAX_ZOOM + 1
   pub first : IfSome w.left.first (AreFirst w.left.zoom w.map)
   pub left : AreLeft w.map w.left.zoom w.from (left_of w.left.walk)
-  pub hand : IfSome w.hand (λ hand. (w.from ≡ hand.0 + 1) × (0 < hand.1.left) × IsInHand w.map hand)
+  pub hand : IfSome w.hand (λ hand. (w.from ≡ hand.0 + 1) × (0 < work_left hand.1) × IsInHand w.map hand)

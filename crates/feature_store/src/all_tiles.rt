@@ -75,7 +75,7 @@ impl Model for Tiles {
 }
 
 impl Tiles {
-    ghost use Rattle.feature_store.specs.Parts.{IsBegun, IfHand, IsNearer, IsNoneInHand};
+    ghost use Rattle.feature_store.specs.Parts.{IsBegun, IfHand, IsNearer, IsNoneInHand, work_left};
     ghost use Rattle.feature_store.specs.declared.all_tiles.Begun.TheVariants as begun;
     ghost use Rattle.feature_store.specs.declared.all_tiles.Making.TheVariants.{Part, Over};
 
@@ -113,7 +113,7 @@ impl Tiles {
         ensures map { self.new.features ≡ self.old.features }
         ensures tile { IfOk result (IfHand (IsBegun self.old.features self.old.from)) }
         ensures from { IfOk result (IfHand (λ hand. self.new.from ≡ hand.0 + 1)) }
-        ensures left { IfOk result (IfHand (λ hand. self.new.ahead + hand.1.left ≤ self.old.ahead)) }
+        ensures left { IfOk result (IfHand (λ hand. self.new.ahead + work_left hand.1 ≤ self.old.ahead)) }
         ensures after { IfOk result (IfHand (λ hand. IsNoneInHand self.new.ahead)) }
         ensures ahead { IfOk result (IsNearer self.old.ahead self.new.ahead) }
         ensures part { result ≡ Ok begun.Part → self.new.from ≡ self.old.from }

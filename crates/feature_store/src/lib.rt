@@ -19,6 +19,7 @@ mod prepared;
 mod records;
 mod snapshot_texts;
 mod store;
+mod tile_end;
 mod tile_in_hand;
 mod tile_parts;
 mod tiles_left;

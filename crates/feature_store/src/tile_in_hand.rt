@@ -7,7 +7,6 @@ ghost use Rattle.feature_store.specs.Inside.{entries_data};
 ghost use Rattle.feature_store.specs.Layers.{layers};
 ghost use Rattle.feature_store.specs.Store.{IsMap};
 ghost use Rattle.feature_store.specs.Tiles.{tile_bytes};
-ghost use Rattle.feature_store.specs.declared.tile_parts.TheConstants.{PART_NUMBERS};
 
 use crate::cutter::Cutter;
 use crate::moment::Moment;
@@ -70,7 +69,7 @@ impl TileInHand {
         self.parts.at
     }
 
-    /// Whether all features are added.
+    /// Whether no part of it is left to make.
     pub fn is_whole(&self) -> bool
         ensures { IsTrue result ↔ (self.now.left ≡ 0) }
     {
@@ -79,12 +78,13 @@ impl TileInHand {
 }
 
 impl Store {
-    /// Adds the next `PART_NUMBERS` features to a tile, or those that are left if they are fewer. The only error is out of memory.
+    /// Makes the next part of a tile: it adds `PART_NUMBERS` features, or those that are left if they are fewer. Once all are added, and if they are
+    /// more than 1,024, it writes a part of the layers. The only error is out of memory.
     pub fn add_part(&self, hand: TileInHand) -> Result<TileInHand, AllocError>
         requires { hand.features ≡ self.now.features }
         ensures map { IfOk result (λ next. next.features ≡ hand.features) }
         ensures at { IfOk result (λ next. next.at ≡ hand.at) }
-        ensures left { IfOk result (λ next. next.left ≡ hand.left - PART_NUMBERS) }
+        ensures left { IfOk result (λ next. next.left ≤ hand.left - 1) }
     {
         let TileInHand {
             features,
@@ -99,7 +99,7 @@ impl Store {
         })
     }
 
-    /// The bytes of a tile of which all features are added, as `tile` gives them. The only error is out of memory.
+    /// The bytes of a tile of which no part is left to make, as `tile` gives them. The only error is out of memory.
     pub fn finish_tile(&self, hand: TileInHand) -> Result<Option<Vec<u8>>, AllocError>
         requires map { hand.features ≡ self.now.features }
         requires whole { hand.left ≡ 0 }

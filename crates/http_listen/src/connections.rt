@@ -12,6 +12,7 @@ use crate::logs::Logs;
 use crate::peers::{Ending, Peer};
 use crate::pool::{Found, Pool, time_of};
 use crate::rests::{Unsent, add_part, once_sent};
+use crate::step_time::StepTime;
 use crate::talks::Talks;
 use crate::waits::Waits;
 use http_requests::{FieldSpans, Next};
@@ -135,16 +136,17 @@ where
     ensures places { pool.new.places ≡ pool.old.places }
 {
     let now = pool.spend(clock, start);
+    pool.step_time.end(time_of(clock));
     peer.put_off(now);
     Acted { now, ending: None }
 }
 
-/// Makes steps of the preparation of the reply to these bytes of a connection, one at least, until they have taken this long since `start` or
-/// one has to wait for other connections. It is true while steps may be left.
+/// Makes steps of the preparation of the reply to these bytes of a connection, one at least, until they have taken as long since `start` as a turn
+/// may or one has to wait for other connections. It is true while steps may be left.
 fn prepare_for<H: Prepares, C: Clock>(
     clock: &C,
     start: Duration,
-    longest: Duration,
+    step_time: StepTime,
     number: u64,
     asked: &[u8],
     handler: &mut H,
@@ -157,7 +159,7 @@ fn prepare_for<H: Prepares, C: Clock>(
             Preparation::Waits => return true,
             Preparation::GoesOn => {}
         }
-        if time_of(clock).saturating_sub(start) >= longest {
+        if time_of(clock).saturating_sub(start) >= step_time.of_turn(start) {
             return true;
         }
     }
@@ -168,7 +170,7 @@ fn prepare_for<H: Prepares, C: Clock>(
 fn prepare_found<H: Prepares, C: Clock>(
     clock: &C,
     start: Duration,
-    longest: Duration,
+    step_time: StepTime,
     number: u64,
     found: Next,
     asked: &[u8],
@@ -178,7 +180,7 @@ fn prepare_found<H: Prepares, C: Clock>(
     ensures none { IsNoRequest found → handler.new ≡ handler.old }
 {
     match found {
-        Next::Whole(_) => prepare_for(clock, start, longest, number, asked, handler),
+        Next::Whole(_) => prepare_for(clock, start, step_time, number, asked, handler),
         Next::Refused(_) => false,
         Next::More(_) => false,
     }
@@ -209,7 +211,7 @@ where
     if prepare_found(
         clock,
         start,
-        pool.preparing_time,
+        pool.step_time,
         peer.state.number,
         asked.found,
         peer.connection.front(asked.end),
@@ -307,7 +309,8 @@ where
 /// read or answered.
 ///
 /// The handler may prepare a reply in steps. In a round each connection that is ready has one turn, and the turn of one whose reply is
-/// being prepared is as many steps as begin within `Waits::preparing_time`, at least one. Between two rounds new connections are accepted.
+/// being prepared is as many steps, at least one, as begin within the time that all other turns took since the last turn with steps, or within
+/// `Waits::preparing_time` if that is longer, and never more than four times that. Between two rounds new connections are accepted.
 /// Until its reply nothing more is read of such a connection, its peer's time doesn't run, and it isn't ended to make room for others.
 ///
 /// Between two requests a connection holds no buffers. Otherwise it has at most `http_requests::MAX_REQUEST` bytes of input, and the reply that

@@ -15,6 +15,7 @@ mod pool;
 mod readiness;
 mod refusals;
 mod rests;
+mod step_time;
 mod system_listener;
 mod talks;
 mod turns;

@@ -12,6 +12,7 @@ use crate::logs::Logs;
 use crate::peers::{Ending, GivenUp, PIECE, Peer};
 use crate::places::{List, Places};
 use crate::rests::Unsent;
+use crate::step_time::StepTime;
 use crate::talks::Talks;
 use crate::turns::Next;
 use crate::waits::Waits;
@@ -63,7 +64,7 @@ pub(crate) struct Pool<S> {
     /// How many reads each of them may make.
     max_reads: u64,
     /// How long a turn goes on with steps of the preparation of a reply.
-    pub(crate) preparing_time: Duration,
+    pub(crate) step_time: StepTime,
     /// What each read is made into. It has nothing of an earlier one that anybody reads.
     piece: [u8; PIECE],
     /// Where the header fields of the request are that was found last.
@@ -93,8 +94,8 @@ pub(crate) struct Pool<S> {
 }
 
 impl<S> Pool<S> {
-    /// No connection is open. All together may hold this many bytes, each may make this many reads, and a turn goes on this long with steps
-    /// of a preparation.
+    /// No connection is open. All together may hold this many bytes, each may make this many reads, and a turn goes on this long at least with
+    /// steps of a preparation.
     pub(crate) fn new(
         alloc: Global,
         max_held: usize,
@@ -108,7 +109,7 @@ impl<S> Pool<S> {
             places: Places::new(alloc),
             max_held,
             max_reads,
-            preparing_time,
+            step_time: StepTime::new(preparing_time),
             piece: [0; PIECE],
             fields: NO_FIELDS,
             spare: Spare::new(alloc),

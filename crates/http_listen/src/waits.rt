@@ -13,7 +13,7 @@ pub const MAX_OPEN: usize = 16_384;
 /// How many bytes of requests and replies all connections hold at most: 256 MiB.
 pub const MAX_HELD: usize = 268_435_456;
 
-/// How many milliseconds a turn goes on with steps of a preparation.
+/// How many milliseconds a turn goes on at least with steps of a preparation.
 pub const PREPARING_MILLISECONDS: u64 = 1;
 
 /// What a stream has become ready for.
@@ -54,7 +54,8 @@ pub trait Waits {
         MAX_READS
     }
 
-    /// How long a connection's turn goes on with steps of the preparation of its reply. The step that exceeds it is the turn's last one.
+    /// How long a connection's turn goes on at least with steps of the preparation of its reply: it goes on as long as all other turns took since the
+    /// last turn with steps, but no more than four times this. The step that exceeds its time is the turn's last one.
     fn preparing_time(&self) -> Duration {
         Duration::from_millis(PREPARING_MILLISECONDS)
     }

@@ -10,5 +10,5 @@ pub use mvt_layer::{
     CURRENT_VERSION, DEFAULT_EXTENT, DEFAULT_VERSION, Layer, TagValue, TileFault, TileFeature,
     read_tile,
 };
-pub use mvt_write::{LayerWriter, write_tile};
+pub use mvt_write::{LayerWriter, TileWriter, write_tile};
 pub use pb_wire as wire;

@@ -1,5 +1,6 @@
 pub mod CanWrite
 pub mod Codes
+pub mod Ending
 pub mod Entries
 pub mod Fits
 pub mod Held
@@ -7,5 +8,6 @@ pub mod Parts
 pub mod Pools
 pub mod Slots
 pub mod Spans
+pub mod TileBytes
 pub mod Writes
 pub mod Written

@@ -24,7 +24,7 @@ pub(crate) struct Entries {
 }
 
 impl Entries {
-    ghost use Rattle.std.specs.Prelude.{◌≡◌, ◌<◌, ◌+◌, ◌^◌, ◌++◌, ◌∷◌, [], IfOk, OnOk, slice_index_or, vec_len, vec_capacity};
+    ghost use Rattle.std.specs.Prelude.{◌≡◌, ◌<◌, ◌+◌, ◌^◌, ◌++◌, ◌∷◌, ◌-◌, [], take, drop, IfOk, OnOk, slice_index_or, vec_len, vec_capacity};
     ghost use Rattle.std.specs.List.{flat_map};
     ghost use Rattle.std.specs.Str.{bytes_eq};
     ghost use Rattle.mvt_write.specs.Entries.{entries_of};
@@ -87,14 +87,30 @@ impl Entries {
         self.spans.push(Span { start, end }).unwrap();
     }
 
+    /// Appends the entries `from..to`, each as a field.
+    pub fn put_range(
+        &self,
+        out: &mut Vec<u8>,
+        number: u32,
+        from: usize,
+        to: usize,
+    ) -> Result<(), AllocError>
+        requires number { number < 2 ^ 29 }
+        requires order { from ≤ to }
+        requires within { to ≤ length (entries_of self.now) }
+        ensures { OnOk result (out.new.items ≡ out.old.items ++ flat_map (bytes_field number) (take (to - from) (drop from (entries_of self.now)))) }
+    {
+        for &span in &self.spans[from..to] {
+            put_bytes(out, number, self.part(span))?;
+        }
+        Ok(())
+    }
+
     /// Appends each entry as a field.
     pub fn put(&self, out: &mut Vec<u8>, number: u32) -> Result<(), AllocError>
         requires { number < 2 ^ 29 }
         ensures { OnOk result (out.new.items ≡ out.old.items ++ flat_map (bytes_field number) (entries_of self.now)) }
     {
-        for &span in &self.spans {
-            put_bytes(out, number, self.part(span))?;
-        }
-        Ok(())
+        self.put_range(out, number, 0, self.len())
     }
 }

@@ -6,6 +6,8 @@ ghost use Rattle.pb_wire.specs.Varint.{varint};
 ghost use Rattle.mvt_write.specs.Parts.{field_head};
 ghost use Rattle.mvt_write.specs.Written.{number_field, bytes_field};
 
+use mvt_layer::field_numbers::{LAYER_EXTENT, LAYER_VERSION};
+use mvt_layer::{CURRENT_VERSION, DEFAULT_EXTENT};
 use pb_wire::{WIRE_LEN, WIRE_VARINT, put_varint};
 use std::alloc::AllocError;
 
@@ -85,4 +87,13 @@ pub(crate) fn pack_numbers(packed: &mut Vec<u8>, numbers: &[u32]) -> Result<(), 
         put_varint(packed, u64::from(*n))?;
     }
     Ok(())
+}
+
+/// Appends the fields after the pools.
+pub(crate) fn put_end(out: &mut Vec<u8>) -> Result<(), AllocError>
+    ensures { OnOk result
+        (out.new.items ≡ out.old.items ++ (number_field LAYER_EXTENT DEFAULT_EXTENT ++ number_field LAYER_VERSION CURRENT_VERSION)) }
+{
+    put_number(out, LAYER_EXTENT, u64::from(DEFAULT_EXTENT))?;
+    put_number(out, LAYER_VERSION, u64::from(CURRENT_VERSION))
 }

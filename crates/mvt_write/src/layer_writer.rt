@@ -7,16 +7,19 @@ ghost use Rattle.geometry_commands.specs.Shapes.{ShapeView, shape_spelled, kind_
 ghost use Rattle.mvt_layer.specs.Tile.{Tagged, FeatureView, tag_view};
 ghost use Rattle.mvt_write.specs.CanWrite.{CanWriteValue};
 ghost use Rattle.mvt_write.specs.Fits.{FitsTag};
+ghost use Rattle.mvt_write.specs.Ending.{ending_bytes};
 ghost use Rattle.mvt_write.specs.Writes.{Writes, layer_of};
-ghost use Rattle.mvt_write.specs.Written.{number_field, bytes_field, layer_written};
+ghost use Rattle.mvt_write.specs.Written.{bytes_field, layer_written};
 
+use crate::ending::LayerEnding;
 use crate::feature::{FeatureHeads, put_message};
-use crate::field::{put_bytes, put_number};
+use crate::field::{put_bytes, put_end};
+use crate::spent::Spent;
 use crate::tag_pools::TagPools;
 use crate::tags::put_indices;
 use geometry_commands::ShapeKind;
-use mvt_layer::field_numbers::{LAYER_EXTENT, LAYER_NAME, LAYER_VERSION, TILE_LAYERS};
-use mvt_layer::{CURRENT_VERSION, DEFAULT_EXTENT, TagValue};
+use mvt_layer::TagValue;
+use mvt_layer::field_numbers::{LAYER_NAME, TILE_LAYERS};
 use std::alloc::{AllocError, Global};
 
 /// The bytes that a layer has room for at first: a few features, so that a small layer is one piece of memory.
@@ -36,15 +39,6 @@ pub struct LayerWriter {
     /// The fields of the layer's name and of its features.
     bytes: Vec<u8>,
     heads: FeatureHeads,
-}
-
-/// Appends the fields after the pools.
-fn put_end(out: &mut Vec<u8>) -> Result<(), AllocError>
-    ensures { OnOk result
-        (out.new.items ≡ out.old.items ++ (number_field LAYER_EXTENT DEFAULT_EXTENT ++ number_field LAYER_VERSION CURRENT_VERSION)) }
-{
-    put_number(out, LAYER_EXTENT, u64::from(DEFAULT_EXTENT))?;
-    put_number(out, LAYER_VERSION, u64::from(CURRENT_VERSION))
 }
 
 impl LayerWriter {
@@ -116,5 +110,14 @@ impl LayerWriter {
         writer.pools.put(&mut writer.bytes)?;
         put_end(&mut writer.bytes)?;
         put_bytes(out, TILE_LAYERS, &writer.bytes)
+    }
+
+    /// The layer without its pools' entries, these, and what they were looked up in, so that it can be finished by parts.
+    pub(crate) fn into_ending(self) -> (LayerEnding, Spent)
+        ensures { (name : List ℕ) (fs : List FeatureView) → Writes self name fs [] → ending_bytes result.0 ≡ layer_written (layer_of name fs) }
+    {
+        let pools = Box::into_inner(self.pools);
+        let (keys, values, spent) = pools.into_parts();
+        (LayerEnding::of(self.bytes, keys, values), spent)
     }
 }

@@ -2,6 +2,7 @@
 #![tactic(auto)]
 
 mod codes;
+mod ending;
 mod entries;
 mod feature;
 mod field;
@@ -9,10 +10,13 @@ mod layer;
 mod layer_writer;
 mod pool;
 mod span;
+mod spent;
 mod tag_pools;
 mod tags;
 mod tile;
+mod tile_writer;
 mod value;
 
 pub use layer_writer::LayerWriter;
 pub use tile::write_tile;
+pub use tile_writer::TileWriter;

@@ -11,6 +11,7 @@ ghost use Rattle.mvt_write.specs.Slots.{place_of, slot_index, code_index, bytes_
 
 use crate::codes::{FACTOR, text_code};
 use crate::entries::Entries;
+use crate::spent::SpentPool;
 use std::alloc::{AllocError, Global};
 use std::collections::BTreeMap;
 
@@ -182,5 +183,16 @@ impl Pool {
         ensures { OnOk result (out.new.items ≡ out.old.items ++ flat_map (bytes_field number) (held self.now)) }
     {
         self.entries.put(out, number)
+    }
+
+    /// Its entries, and what they were looked up in.
+    pub fn into_parts(self) -> (Entries, SpentPool)
+        ensures { entries_of result.0 ≡ held self }
+    {
+        let spent = SpentPool {
+            codes: self.codes.into_iter(),
+            others: self.others.into_iter(),
+        };
+        (self.entries, spent)
     }
 }

@@ -1,6 +1,8 @@
 //! The two pools of a layer.
 
+use crate::entries::Entries;
 use crate::pool::Pool;
+use crate::spent::Spent;
 use mvt_layer::field_numbers::{LAYER_KEYS, LAYER_VALUES};
 use std::alloc::{AllocError, Global};
 
@@ -15,6 +17,7 @@ pub(crate) struct TagPools {
 impl TagPools {
     ghost use Rattle.std.specs.Prelude.{◌≡◌, [], ◌++◌, IfOk, OnOk};
     ghost use Rattle.std.specs.List.{flat_map};
+    ghost use Rattle.mvt_write.specs.Entries.{entries_of};
     ghost use Rattle.mvt_write.specs.Held.{held_keys, held_values};
     ghost use Rattle.mvt_write.specs.Written.{bytes_field};
 
@@ -37,5 +40,19 @@ impl TagPools {
     {
         self.keys.put(out, LAYER_KEYS)?;
         self.values.put(out, LAYER_VALUES)
+    }
+
+    /// The keys, the values, and what they were looked up in.
+    pub fn into_parts(self) -> (Entries, Entries, Spent)
+        ensures keys { entries_of result.0 ≡ held_keys self }
+        ensures values { entries_of result.1 ≡ held_values self }
+    {
+        let (keys, spent_keys) = self.keys.into_parts();
+        let (values, spent_values) = self.values.into_parts();
+        let spent = Spent {
+            keys: spent_keys,
+            values: spent_values,
+        };
+        (keys, values, spent)
     }
 }

@@ -118,8 +118,8 @@ fn finished(content: ContentDraft) -> DraftStage
     }
 }
 
-/// The content with a part of a tile more, of the map of a moment; `store` is the map as it is now. A map whose moment is lost has no content,
-/// for want of memory.
+/// The content with a part of a tile more, or with a large one that was made, of the map of a moment; `store` is the map as it is now. A map whose
+/// moment is lost has no content, for want of memory.
 fn with_next_part(content: ContentDraft, store: &Store, moment: &Moment) -> DraftStage
     requires making { IsMaking content.area moment.now.features content }
     requires as_of { IsAsOf moment.now store.now.features }
@@ -167,7 +167,7 @@ fn with_all(reading: MapReading, store: &Store, moment: &Moment) -> DraftStage
     }
 }
 
-/// How far a draft is with some features more, or a part of a tile.
+/// How far a draft is with some features more, or a part of a tile, or a large one that was made.
 fn next_stage(stage: DraftStage, store: &Store, moment: &Option<Moment>) -> DraftStage
     requires making { IsOwn (map_then (moment_map moment.now)) stage }
     requires as_of { IsMomentOf moment.now store.now.features }
@@ -300,7 +300,7 @@ impl<D: Sectors + Drop> Service<D> {
     }
 
     /// Prepares a publication by a step, between which edits go on: the first call fixes the map of this moment, and reads nothing of it. Each
-    /// later one reads some of its features or, once all are read, makes a part of a tile of it. It is true while features or tiles may be left.
+    /// later one reads some of its features or, once all are read, makes a part of a tile of it or adds a large one. It is true while some may be left.
     /// `publish_drafted` then begins the publication of that map. Each edit meanwhile keeps the feature that it replaces; if memory for that is
     /// missing, the publication is refused for it, and not the edit. Nothing is written.
     ///

@@ -27,6 +27,9 @@ use std::marker::Model;
 /// How many sectors a step of a publication writes at most, beside the root.
 pub const STEP_SECTORS: u64 = 64;
 
+/// After how many sectors what the steps of a publication wrote is synced: so much at most does the sync of an edit write beside the edit.
+const SYNC_SECTORS: u64 = 512;
+
 /// A publication under way.
 #[derive(Drop)]
 pub(crate) struct Publication {
@@ -38,7 +41,7 @@ pub(crate) struct Publication {
     pub(crate) places: u64,
     /// How many sectors of the content are written.
     pub(crate) written: u64,
-    /// Whether each step syncs what it wrote, since an edit may come before the next.
+    /// Whether steps sync what they wrote, since an edit may come before the next.
     pub(crate) pauses: bool,
 }
 
@@ -84,8 +87,8 @@ fn content_for(alloc: Global, store: &Store, area: u64) -> Result<AreaContent, S
     }
 }
 
-/// Writes the sectors `from..to` of the content into the area of a generation. If a pause follows and they aren't the last, it syncs
-/// them, so that the sync of an edit before the next step doesn't write them.
+/// Writes the sectors `from..to` of the content into the area of a generation. If a pause follows, and they aren't the last, it syncs after each
+/// `SYNC_SECTORS` sectors, so that the sync of an edit before the next step doesn't write more of them.
 fn write_sectors<D: Sectors>(
     disk: &mut D,
     layout: Layout,
@@ -124,7 +127,7 @@ fn write_sectors<D: Sectors>(
     for index in from..to {
         write_area(disk, layout, generation, index, &content.sector(index))?;
     }
-    if pauses && to < content.sectors() {
+    if pauses && to < content.sectors() && to.is_multiple_of(SYNC_SECTORS) {
         disk.sync()?;
     }
     Ok(())

@@ -7,10 +7,10 @@ use Rattle.mvt_layer.specs.Tile.{FeatureView}
 use Rattle.mvt_write.specs.declared.layer_writer.LayerWriter.{LayerWriter}
 use Rattle.mvt_write.specs.Written.{written}
 use Rattle.mvt_write.proofs.LayerSteps.{layers_more}
-use Rattle.feature_store.specs.Gathered.{layer_of}
+use Rattle.feature_store.specs.Gathered.{HasWritten, layer_of}
 use Rattle.feature_store.specs.Layers.{cuts_of}
-use Rattle.feature_store.proofs.Finished.{all_here, bytes_of_none, bytes_of_some, no_entries}
-use Rattle.feature_store.proofs.Listed.{HasWritten, IsAscending, all_written}
+use Rattle.feature_store.proofs.Finished.{all_here, bytes_of_none, bytes_of_some}
+use Rattle.feature_store.proofs.Listed.{IsAscending, all_written, no_entries}
 use Rattle.feature_store.proofs.layers.written.Goals as goal
 
 pub returns-then-is_empty : goal.returns-then-is_empty

@@ -1,8 +1,7 @@
 use Rattle.std.proofs.Common.{◌≡◌, ◌++◌, ℕ, List, map, All}
 use Rattle.mvt_layer.specs.Tile.{FeatureView}
 use Rattle.mvt_write.specs.Written.{written}
-use Rattle.feature_store.specs.Gathered.{layer_of}
-use Rattle.feature_store.proofs.Listed.{HasWritten}
+use Rattle.feature_store.specs.Gathered.{HasWritten, layer_of}
 use Rattle.feature_store.proofs.layers.written.Given as goal
 
 -- the layers so far, and those that are left

@@ -1,5 +1,5 @@
 use Rattle.std.proofs.Common.{◌≡◌}
-use Rattle.feature_store.specs.Parts.{IsInMaking}
+use Rattle.feature_store.specs.Parts.{IsInMaking, work_left}
 use Rattle.feature_store.proofs.tile_parts.tile_of_numbers.Given as goal
 
 abbrev pub invariant-loop-parts : goal.invariant-loop-parts
@@ -9,4 +9,4 @@ invariant-loop-parts l = record {
 }
 
 abbrev pub decreases-loop-parts : goal.decreases-loop-parts
-decreases-loop-parts l = l.parts.left
+decreases-loop-parts l = work_left l.parts

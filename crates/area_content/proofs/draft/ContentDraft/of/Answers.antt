@@ -5,6 +5,7 @@ use Rattle.area_content.specs.Faults.{AreAdded}
 use Rattle.area_content.specs.Room.{AreBeyondIf, added_so_far}
 use Rattle.area_content.proofs.Drafts.{going_not_made}
 use Rattle.area_content.proofs.MapTiles.{none_added}
+use Rattle.area_content.proofs.Steps.{none_waits}
 use Rattle.area_content.proofs.draft.ContentDraft.of.Goals as goal
 
 pub invariant_of-result : goal.invariant_of-result
@@ -20,12 +21,14 @@ invariant_of-result c =
       text = finished.text ∙ ap snapshot (sym same);
       metadata = c.requires.metadata;
       area = c.requires.area;
-      going = λ going. record {
-        added = subst (λ (ts : List Tile). AreAdded m c.in_ok-text.tiles.from ts) (sym none)
-            (subst (λ (n : ℕ). AreAdded m n []) (sym finished.start) (none_added m));
-        within = inl c.new.ensures.kept;
-        beyond = subst (λ (o : Option (List Tile)). AreBeyondIf m metadata c.args.area o) (sym c.new.ensures.counted) tt;
-      };
+      going = λ going. none_waits m metadata c.args.area c.in_ok-text.tiles.from c.new.result
+          (record {
+            added = subst (λ (ts : List Tile). AreAdded m c.in_ok-text.tiles.from ts) (sym none)
+                (subst (λ (n : ℕ). AreAdded m n []) (sym finished.start) (none_added m));
+            within = inl c.new.ensures.kept;
+            beyond = subst (λ (o : Option (List Tile)). AreBeyondIf m metadata c.args.area o) (sym c.new.ensures.counted) tt;
+          })
+          c.new.ensures.waiting;
       count = λ going. sym (ap (λ (ts : List Tile). length ts) none);
       made = λ made. absurd (going_not_made made);
     }

@@ -3,11 +3,11 @@ use Rattle.std.specs.Option.{option_map}
 use Rattle.feature_store.specs.declared.tile_parts.TileParts.{TileParts}
 use Rattle.feature_store.specs.Layers.{layers}
 use Rattle.feature_store.specs.Left.{stage_of}
-use Rattle.feature_store.specs.Parts.{IsBegun, IsInMaking, IsNoneInHand}
+use Rattle.feature_store.specs.Parts.{IsBegun, IsInMaking, IsNoneInHand, work_left}
 use Rattle.feature_store.specs.Store.{FeatureMap}
 use Rattle.feature_store.specs.Tiles.{TilesView, tile_bytes}
 use Rattle.hilbert_id.specs.declared.tile_at.TileAt.{TileAt}
-use Rattle.feature_store.proofs.Walk.{ahead_part, fewer_left, none_in_hand, none_shown, of_hand, some_left}
+use Rattle.feature_store.proofs.Walk.{ahead_part, none_in_hand, none_shown, of_hand, some_left}
 use Rattle.feature_store.proofs.all_tiles.Tiles.next.Goals as goal
 
 pub returns-in-Over-clause-over : goal.returns-in-Over-clause-over
@@ -32,10 +32,10 @@ invariant_of-self-then-not-is_whole c =
       hand = (
         none_in_hand w.map w.hand w.from (hand.0 + 1) (stage_of w.left) c.self.invariant.hand (ap (λ (v : TilesView). v.from) c.self.view_is ∙ from)
             (subst (λ (v : TilesView). IsNoneInHand v.ahead) (sym c.self.view_is) after),
-        some_left c.add_part.new.self.left c.is_whole.result c.is_whole.ensures c.if-not-is_whole.true,
+        some_left (work_left c.add_part.new.self) c.is_whole.result c.is_whole.ensures c.if-not-is_whole.true,
         record {
           id = rw c.add_part.ensures.at begun.tile.id;
-          few = omega (arith, few, c.in_ok-add_part.ensures.left);
+          few = omega (arith, few, c.in_ok-add_part.ensures.work);
           making = subst (λ (k : FeatureMap). IsInMaking k c.add_part.new.self) map c.in_ok-add_part.ensures.making;
         },
       );
@@ -45,11 +45,12 @@ pub returns-then-not-is_whole-clause-ahead : goal.returns-then-not-is_whole-clau
 returns-then-not-is_whole-clause-ahead c =
     let start = c.args.self.now in
     let hand = c.in-Hand.hand in
-    let left = of_hand (λ (h : ℕ × TileParts). c.take_in_hand.new.self.ahead + h.1.left ≤ start.ahead) c.in_ok-hand.field-0 hand c.in-Hand.is
+    let left = of_hand (λ (h : ℕ × TileParts). c.take_in_hand.new.self.ahead + work_left h.1 ≤ start.ahead) c.in_ok-hand.field-0 hand c.in-Hand.is
     c.in_ok-hand.ensures.left in
-    ahead_part (stage_of c.self.inside.left) hand.1.left c.add_part.new.self.left start.ahead c.self.inside.hand
-    (subst (λ (v : TilesView). v.ahead + hand.1.left ≤ start.ahead) (sym c.self.view_is) left)
-    (fewer_left hand.1.left c.add_part.new.self.left c.is_whole.result c.in_ok-add_part.ensures.left c.is_whole.ensures c.if-not-is_whole.true)
+    let some = some_left (work_left c.add_part.new.self) c.is_whole.result c.is_whole.ensures c.if-not-is_whole.true in
+    ahead_part (stage_of c.self.inside.left) (work_left hand.1) (work_left c.add_part.new.self) start.ahead c.self.inside.hand
+    (subst (λ (v : TilesView). v.ahead + work_left hand.1 ≤ start.ahead) (sym c.self.view_is) left)
+    (omega (arith, some, c.in_ok-add_part.ensures.work))
 
 pub returns-in-None-clause-part : goal.returns-in-None-clause-part
 returns-in-None-clause-part c same =

@@ -3,7 +3,7 @@ use Rattle.tile_walk.specs.Walk.{before_step, IsFurther}
 use Rattle.tile_walk.specs.declared.step.Step.{Step}
 use Rattle.feature_store.specs.declared.tile_parts.TileParts.{TileParts}
 use Rattle.feature_store.specs.Left.{AllStay, left_of, stage_of}
-use Rattle.feature_store.specs.Parts.{IsBegun, IsInHand}
+use Rattle.feature_store.specs.Parts.{IsBegun, IsInHand, work_left}
 use Rattle.feature_store.specs.Tiles.{TilesView, HasPlace, ShowsNothingFrom}
 use Rattle.feature_store.specs.Walk.{ahead_of, left_in}
 use Rattle.feature_store.proofs.Zooms.{from_below, place_here, nothing_between, shows_step, one_less, none_from, of_some}
@@ -15,7 +15,7 @@ returns-in-Some-clause-left c =
     let w = c.self.inside in
     let hand = c.in-Some.hand in
     let is = sym c.take.ensures.value ∙ c.in-Some.is in
-    subst (λ (v : TilesView). ahead_of (stage_of w.left) (left_in c.take.new.self) + hand.1.left ≤ v.ahead) c.self.view_is
+    subst (λ (v : TilesView). ahead_of (stage_of w.left) (left_in c.take.new.self) + work_left hand.1 ≤ v.ahead) c.self.view_is
     (hand_left (stage_of w.left) w.hand c.take.new.self hand is c.take.ensures.after)
 
 pub returns-in-Some-clause-after : goal.returns-in-Some-clause-after
@@ -26,7 +26,7 @@ returns-in-Some-clause-ahead c =
     let w = c.self.inside in
     let hand = c.in-Some.hand in
     let is = sym c.take.ensures.value ∙ c.in-Some.is in
-    let held = of_some (λ (h : ℕ × TileParts). (w.from ≡ h.0 + 1) × (0 < h.1.left) × IsInHand w.map h) w.hand hand is c.self.invariant.hand in
+    let held = of_some (λ (h : ℕ × TileParts). (w.from ≡ h.0 + 1) × (0 < work_left h.1) × IsInHand w.map h) w.hand hand is c.self.invariant.hand in
     subst (λ (v : TilesView). ahead_of (stage_of w.left) (left_in c.take.new.self) < v.ahead) c.self.view_is
     (hand_ahead (stage_of w.left) w.hand c.take.new.self hand is c.take.ensures.after held.1)
 
@@ -176,7 +176,7 @@ returns-in-Tile-clause-tile c =
       between = nothing_between m is_map new.zoom from (id, numbers.items) (left_of new.walk) left;
       tile = record {
         id = rw c.of.ensures.at is;
-        few = c.of.ensures.left;
+        few = c.of.ensures.work;
         making = c.of.ensures.making m (shows_step m is_map new.zoom from (id, numbers.items) (left_of new.walk) left at.z at.x at.y zoom is);
       };
     } in
@@ -189,8 +189,8 @@ returns-in-Tile-clause-left c =
     let new = c.step.new.self in
     let none : w.hand ≡ None = sym c.take.ensures.value ∙ c.in_default.is in
     let further = subst (λ (s : Step). IsFurther (stage_of w.left) (stage_of new) s) c.in-Tile.is c.in_ok-step.ensures.further in
-    subst (λ (v : TilesView). ahead_of (stage_of new) (left_in c.take.new.self) + c.of.result.left ≤ v.ahead) c.self.view_is
-    (step_left (stage_of w.left) (stage_of new) w.hand c.take.new.self none c.take.ensures.after further c.of.result.left c.of.ensures.left)
+    subst (λ (v : TilesView). ahead_of (stage_of new) (left_in c.take.new.self) + work_left c.of.result ≤ v.ahead) c.self.view_is
+    (step_left (stage_of w.left) (stage_of new) w.hand c.take.new.self none c.take.ensures.after further (work_left c.of.result) c.of.ensures.work)
 
 pub returns-in-Tile-clause-after : goal.returns-in-Tile-clause-after
 returns-in-Tile-clause-after c = (stage_of c.step.new.self, none_left (stage_of c.step.new.self) c.take.new.self c.take.ensures.after)

@@ -3,7 +3,7 @@ use Rattle.feature_store.specs.Chosen.{chosen}
 use Rattle.feature_store.specs.Layers.{cuts_of}
 use Rattle.feature_store.proofs.Chosen.{cuts_parted, next_part, parted}
 use Rattle.feature_store.proofs.Gathers.{gathers_same}
-use Rattle.feature_store.proofs.tile_parts.TileParts.add_part.Goals as goal
+use Rattle.feature_store.proofs.tile_parts.TileParts.add_features.Goals as goal
 
 pub returns-clause-making : goal.returns-clause-making
 returns-clause-making c =
@@ -20,10 +20,11 @@ returns-clause-making c =
       zoom = making.zoom;
       shown = making.shown;
       left = omega (arith, making.left);
-      gathers = gathers_same c.add_numbers.new.gathered _ _
+      gathers = λ none. gathers_same c.add_numbers.new.gathered _ _
           (λ name. ap (λ ns. cuts_of (chosen m added) name at.z at.x at.y ++ cuts_of (chosen m ns) name at.z at.x at.y)
           (next_part numbers c.deref.result.now c.len.result old.left count (c.len.ensures ∙ old.numbers.ok.0) c.deref.ensures.value)
           ∙ cuts_parted m added part name at.z at.x at.y
           ∙ ap (λ ns. cuts_of (chosen m ns) name at.z at.x at.y) (sym (parted numbers old.left count (omega (arith, c.min-count.ensures)) making.left)))
-          (c.in_ok-add_numbers.ensures _ making.gathers);
+          (c.in_ok-add_numbers.ensures _ (making.gathers c.requires.gathered));
+      ends = making.ends;
     }

@@ -1,0 +1,61 @@
+use Rattle.std.proofs.lemmas.Result.{on_ok_weaker}
+use Rattle.pm_build.specs.Tiles.{Tile}
+use Rattle.area_content.proofs.Steps.{added_of_map, both_ok, can_add, counted_added, counted_beyond, going_on, kept_added, next_of_last, still_beyond}
+use Rattle.area_content.proofs.archive.add_tile.Goals as goal
+
+pub count_tile-requires-clause-can : goal.count_tile-requires-clause-can
+count_tile-requires-clause-can c =
+    let m = c.args.tiles.now.features in
+    let t : Tile = (c.args.tile.0, c.args.tile.1.items) in
+    let added = counted_added m c.args.metadata.now c.args.area t.0 c.args.collected.now c.requires.collected c.in-Some.counter c.in-Some.is in
+    can_add m t.0 c.in-Some.counter t added (next_of_last m c.args.tiles.now.from t c.requires.last) c.requires.last.short
+
+pub count_tile-requires-clause-of_map : goal.count_tile-requires-clause-of_map
+count_tile-requires-clause-of_map c =
+    let m = c.args.tiles.now.features in
+    let id = c.args.tile.0 in
+    added_of_map m id c.in-Some.counter
+    (counted_added m c.args.metadata.now c.args.area id c.args.collected.now c.requires.collected c.in-Some.counter c.in-Some.is)
+
+pub keep-requires-clause-can : goal.keep-requires-clause-can
+keep-requires-clause-can c =
+    let m = c.args.tiles.now.features in
+    let t : Tile = (c.args.tile.0, c.args.tile.1.items) in
+    let collected = c.args.collected.now in
+    let added = kept_added m c.args.metadata.now c.args.area t.0 collected c.requires.collected c.in-None.is in
+    rw c.deref.ensures.value (can_add m t.0 collected.kept t added (next_of_last m c.args.tiles.now.from t c.requires.last) c.requires.last.short)
+
+pub returns-in-Some-clause-collected : goal.returns-in-Some-clause-collected
+returns-in-Some-clause-collected c =
+    let m = c.args.tiles.now.features in
+    let from = c.args.tiles.now.from in
+    let metadata = c.args.metadata.now in
+    let area = c.args.area in
+    let t : Tile = (c.args.tile.0, c.args.tile.1.items) in
+    let are = c.requires.collected in
+    let collected = c.args.collected.now in
+    let counted = c.in-Some.counter in
+    let last = c.requires.last in
+    let added = counted_added m metadata area t.0 collected are counted c.in-Some.is in
+    let beyond = counted_beyond m metadata area t.0 collected are counted c.in-Some.is in
+    on_ok_weaker c.count_tile.result
+    (λ h. going_on m metadata area t.0 from counted t _ added (next_of_last m from t last) last.short last.last h.0 h.1 are.within
+    (still_beyond m metadata area counted c.count_tile.new.counter t beyond h.0))
+    (both_ok _ _ c.count_tile.result c.count_tile.ensures.added c.count_tile.ensures.few)
+
+pub returns-in-None-clause-collected : goal.returns-in-None-clause-collected
+returns-in-None-clause-collected c =
+    let m = c.args.tiles.now.features in
+    let from = c.args.tiles.now.from in
+    let metadata = c.args.metadata.now in
+    let area = c.args.area in
+    let t : Tile = (c.args.tile.0, c.args.tile.1.items) in
+    let collected = c.args.collected.now in
+    let last = c.requires.last in
+    let added = kept_added m metadata area t.0 collected c.requires.collected c.in-None.is in
+    let r = c.keep.result in
+    let is = c.keep.ensures in
+    on_ok_weaker r
+    (λ h. going_on m metadata area t.0 from collected.kept t c.keep.new.self added (next_of_last m from t last) last.short last.last
+    (rw c.deref.ensures.value at h.0.0) h.0.1 (h.1.0 m c.requires.snapshot) (h.1.1 m c.requires.snapshot))
+    (both_ok _ _ r (both_ok _ _ r is.added is.few) (both_ok _ _ r is.within is.beyond))
