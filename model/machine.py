@@ -135,14 +135,15 @@ class Draft:
     """A publication in the making: its moment, and how many tiles of its map are made. First its features are read, so many at a step; then its tiles
     are made zoom by zoom, and after the last one comes a step that finds none."""
 
-    def __init__(self, moment):
-        self.moment, self.made, self.left = moment, 0, self.steps()
+    def __init__(self, moment, area):
+        self.moment, self.made, self.left = moment, 0, self.steps(area)
 
-    def steps(self):
-        """Each step, and how many tiles it makes."""
+    def steps(self, area):
+        """Each step, and how many tiles it makes, for an area of so many sectors."""
         for _ in range(len(self.moment.map) // READ_AT_ONCE + 1):
             yield 0
-        yield from steps_of_tiles(self.moment.map, FEATURES_OF_A_PART)
+        left = area - whole_sectors(len(snapshot_text(self.moment.map)))
+        yield from steps_of_tiles(self.moment.map, FEATURES_OF_A_PART, left)
 
     def advance(self):
         """Makes the next step. Whether there was one."""
@@ -280,7 +281,7 @@ class Service:
             raise Refused("Busy")
         if self.root.generation == LAST_NUMBER:
             raise Refused("NumbersSpent")
-        self.draft = Draft(self.moment())
+        self.draft = Draft(self.moment(), self.layout.area)
         return True
 
     def drafted(self):

@@ -7,8 +7,9 @@ from tiles import tile, varint
 LEAF_ENTRIES = 512
 MAX_ENTRIES = 131072
 LONGEST_RUN = 2**32 - 1
-# How many bytes a tile has at least that a step adds which makes nothing.
-LARGE_TILE = 65536
+# How many bytes a tile has at least that isn't added by the step that makes its last part, and how many of them a step copies before it is added.
+LARGE_TILE, AHEAD = 65536, 262144
+SECTOR = 512
 WORLD = [-1800000000, -850511287, 1800000000, 850511287]
 
 
@@ -85,18 +86,34 @@ def tiles_of(found):
             yield number, held
 
 
-def steps_of_tiles(found, features):
+class Kept:
+    """The contents of an archive in the making. They are kept as long as header, metadata and contents fit in so many sectors."""
+
+    def __init__(self, found, sectors):
+        self.length, self.sectors, self.different, self.fits = 127 + len(metadata(found)), sectors, set(), True
+
+    def add(self, held):
+        self.length += 0 if held in self.different else len(held)
+        self.different.add(held)
+        self.fits = self.fits and -(-self.length // SECTOR) <= self.sectors
+
+
+def steps_of_tiles(found, features, sectors):
     """Yields how many tiles each step makes. One reads which tiles the features of a zoom cover. Then each tile that may show something is made in
-    parts, of so many features each: a tile that shows something is there with its last part, or with the next step, which adds it, if it is large.
-    This is so of maps of some hundred features, of which no more need be looked at to find the next tile than a step may."""
+    parts, of so many features each: a tile that shows something is there with its last part. If it is large, the steps after it add it: while contents
+    are kept, each copies a part of it, as long as a whole one is left, and then one adds it. The archive may have so many sectors. This is so of maps
+    of some hundred features, of which no more need be looked at to find the next tile than a step may."""
+    kept = Kept(found, sectors)
     for zoom in range(MAX_ZOOM + 1):
         yield 0
         for _, place, near in near_tiles_of(found, zoom):
             yield from [0] * (-(-len(near) // features) - 1)
             made = tile(near, *place)
             if made and len(made) >= LARGE_TILE:
-                yield 0
+                yield from [0] * (1 + (len(made) // AHEAD if kept.fits else 0))
             yield 1 if made else 0
+            if made:
+                kept.add(made)
 
 
 def runs_of(tiles):

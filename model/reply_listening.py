@@ -9,7 +9,7 @@ EMFILE, EINTR, ECONNABORTED, EPROTO, EINVAL, NO_NUMBER = 24, 4, 103, 71, 22, -1
 MAX_OPEN = 256
 MAX_DROPPED = 2**24
 
-A = request("GET", "/map/0/0/0.hex")
+A, HEAD = request("GET", "/map/0/0/0.hex"), request("HEAD", "/map/0/0/0.hex")
 LAST = request("GET", "/map/0/0/0.hex", b"", "connection: close")
 FRONT, BACK = A[:21], A[21:]
 B = put(8)
@@ -430,15 +430,16 @@ def whole_preparations(script):
 
 # ---- tiles that are made by parts
 
-MANY = 1100
+# Of so many points a tile is made by parts; of so many its numbers are listed before, by parts too.
+MANY, WIDE = 1100, 4200
 NEAR, FAR = request("GET", "/map/1/0/0.hex"), request("GET", "/map/1/1/1.hex")
 
 
-def with_many(script):
+def with_many(script, sectors=1024, many=MANY):
     """A disk with so many points in one place that their tile is made by parts."""
-    script.disk(1024)
-    for first in range(1, MANY, 64):
-        script.ask(batch_of(range(first, min(first + 64, MANY))))
+    script.disk(sectors)
+    for first in range(1, many, 64):
+        script.ask(batch_of(range(first, min(first + 64, many))))
 
 
 def long_tiles(script):
@@ -447,6 +448,10 @@ def long_tiles(script):
     one = Peer((0, A), (30, END), answered=[A])
     gone = request("DELETE", "/features/9")
     other = Peer((0, gone + DONE), (29, END), answered=[gone, DONE])
+    listen(script, one, other, order=[1, 1, 0], log=logged((2, 2, "closed"), (1, 1, "closed")), time=30)
+    script.note("So is one of which only the head is asked for.")
+    script.ask(put(9))
+    one, other = Peer((0, HEAD), (30, END), answered=[HEAD]), Peer((0, gone + DONE), (29, END), answered=[gone, DONE])
     listen(script, one, other, order=[1, 1, 0], log=logged((2, 2, "closed"), (1, 1, "closed")), time=30)
     script.note("It is cached. Two ask for the next one at once, and it is made for both.")
     listen(script, Peer((0, A + B + A), (30, END), answered=[A, B, A]), log=logged((1, 3, "closed")), time=30)
@@ -458,12 +463,22 @@ def long_tiles(script):
     third = Peer((0, FAR + SHOWN), (30, END), answered=[FAR, SHOWN])
     log = logged((1, 1, "closed"), (2, 1, "closed"), (3, 2, "closed"))
     listen(script, first, second, third, order=[2, 2, 0, 1], log=log, time=30)
-    script.note("Each edit has it begun anew, but only three times: then it is made at once.")
+    script.note("Each edit has it begun anew, but only four times: then edits wait for it, and others don't.")
     script.ask(put(2000))
     edits = [put(number) for number in range(2001, 2009)]
     first, second = Peer((0, A), (29, END), answered=[A]), Peer((0, b"".join(edits)), (30, END), answered=edits)
     log = logged((1, 1, "closed"), (2, 8, "closed"))
     listen(script, first, second, order=[1, 1, 1, 1, 0, 1, 1, 1, 1], log=log, time=30)
+
+
+def wide_tiles(script):
+    script.say("So is one of more than 4,096 features, of which the numbers are listed first: it has the edits of meanwhile, in between and behind them.")
+    with_many(script, 4096, WIDE)
+    gone = [request("DELETE", f"/features/{number}") for number in (9, 4199, 1)]
+    one, other = Peer((0, A), (30, END), answered=[A]), Peer((0, b"".join([*gone, put(9), put(5000)])), (29, END), answered=[*gone, put(9), put(5000)])
+    listen(script, one, other, order=[1, 1, 1, 1, 0, 1], log=logged((2, 5, "closed"), (1, 1, "closed")), time=30)
+    script.note("The tile of the next zoom has as many features, and its numbers are listed too; another one has none.")
+    listen(script, Peer((0, A + NEAR + FAR + SHOWN), (30, END), answered=[A, NEAR, FAR, SHOWN]), log=logged((1, 4, "closed")), time=30)
 
 
 # How many turns the publication of a large map takes at most, and after how many of them it has begun: the map is fixed, its features are read,
@@ -528,4 +543,4 @@ def whole_steps(script):
 
 
 BLOCKS = [no_descriptor, accepts_that_fail, so_many_are_open, turns, slow_readers, all_hold_too_much, so_many_reads]
-BLOCKS += [cut_anywhere, byte_by_byte, stages, paces, downloads, preparations, whole_preparations, whole_steps, long_tiles]
+BLOCKS += [cut_anywhere, byte_by_byte, stages, paces, downloads, preparations, whole_preparations, whole_steps, long_tiles, wide_tiles]

@@ -110,6 +110,29 @@ def large_maps():
         yield from ["archive", "stop"]
 
 
+def large_tiles():
+    def tagged(number, maxzoom, place):
+        """A feature of some 30,000 bytes, none of whose texts another one has."""
+        tags = " ".join(f"k{key:02}='{number:02}{key:02}*250" for key in range(30))
+        return f"put {number} p 0 {maxzoom} points {place},{place} {tags}"
+
+    def features(maxzoom, place):
+        return [*opened(4096), *(tagged(number, maxzoom, place) for number in range(1, 11))]
+
+    steps = "; ".join(["step"] * 20)
+    yield from heading(
+        "Ten features of 30,000 bytes: their tile has more than 262,144 bytes, so the step after its last part copies a part of it, and the one after that",
+        "adds it. Edits before the last part, before the copy and before it is added aren't in it.",
+    )
+    for before in (3, 4, 5):
+        yield from [*features(0, 0), f"prepare {before}", "drafting", put(11), "delete 3", put(2, 7), "prepare", "drafting", "prepare", "drafting"]
+        yield from ["prepare", "drafting", ALL, "drafted", steps, "archive", "verify", "tile 0 0 0", "stop"]
+    yield from heading("The tile of the next zoom is equal: a part of it is copied too, and then it has the other's content.")
+    yield from [*features(1, 0), "prepare 4", "drafting", *["prepare", "drafting"] * 6, "drafted", steps, "archive", "verify", "tile 1 0 0", "stop"]
+    yield from heading("It is another one, and both don't fit in the area: the third one is counted, and no part of it is copied.")
+    yield from [*features(2, 5 * 2**28), "prepare 4", "drafting", *["prepare", "drafting"] * 9, ALL, "drafting", "drafted", "archive", "stop"]
+
+
 # ---- the journal
 
 
@@ -327,4 +350,4 @@ def large_drafts():
         assert left.last - ended.last in (0, 1) and left.root.generation - ended.root.generation in (0, 1)
 
 
-BLOCKS = [parts, edits_between, every_part, large_maps, journals, refusals, areas, stops_between, random_drafts, random_stops, large_drafts]
+BLOCKS = [parts, edits_between, every_part, large_maps, large_tiles, journals, refusals, areas, stops_between, random_drafts, random_stops, large_drafts]

@@ -5,7 +5,7 @@
 
 The map is that of beginnings.py, with 20 tiles of zoom 12 and 320 of zoom 14. The tile of zoom 0 is asked for beside three readers, with 1 ms
 between two requests: of a feature, of a tile of zoom 14 that is cached, and of those that aren't. Then beside an editor, who changes a point
-every 10 ms; and beside three other clients, which ask for the tiles of zooms 1 to 3 at the same time. Five rounds each, of a server that was
+every 10 ms, and a reader of a feature; and beside three other clients, which ask for the tiles of zooms 1 to 3 at the same time. Five rounds each, of a server that was
 just started.
 """
 import http.client
@@ -110,7 +110,7 @@ def main():
         row("alone", disk, lambda port: [])
         row("a feature; a cached tile of zoom 14; others of zoom 14", disk,
             lambda port: [Asker(port, again("/features/1")), Asker(port, again(SMALL[0])), Asker(port, ((path,) for path in SMALL[1:]))])
-        row("an editor", disk, lambda port: [Asker(port, edits(), 0.01)])
+        row("an editor; a feature", disk, lambda port: [Asker(port, edits(), 0.01), Asker(port, again("/features/1"))])
         row("tiles of zooms 1, 2 and 3, a feature", disk,
             lambda port: [Asker(port, ((path,),)) for path in OTHERS] + [Asker(port, again("/features/1"))])
     finally:

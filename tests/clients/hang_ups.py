@@ -20,6 +20,8 @@ from stand import Server, curl, feature
 FEATURES, BATCH, POINTS = 8192, 64, 30
 # How many seconds others wait at most for a large tile, and for a publication.
 BOUND = 5
+# After how many seconds clients hang up whose tile is made beside editors.
+HELD = [0.01 * step for step in range(16)]
 FIRST, SECOND, THIRD, OTHER = NAMES = ["0/0/0", "1/0/0", "1/1/1", "1/0/1"]
 
 
@@ -285,6 +287,22 @@ class Stand:
             hang_up(stream, False)
         self.others_are_served("sixty-four clients that want tiles")
 
+    def held_edits(self):
+        """Edits wait for a tile that they had begun anew so often, but not once its client is gone."""
+        goes_on = []
+        for pause in HELD:
+            with Editor(self.server) as one, Editor(self.server) as other:
+                stream, = self.asked([A])
+                time.sleep(pause)
+                hang_up(stream, True)
+                before, until = (one.count, other.count), time.monotonic() + BOUND
+                while min(one.count - before[0], other.count - before[1]) < 3 and time.monotonic() < until:
+                    time.sleep(0.01)
+                goes_on.append(time.monotonic() < until)
+        self.cases.show("beside two editors: their edits go on once the client is gone for whose tile they wait", goes_on, [True] * len(HELD))
+        self.change()
+        self.others_are_served("after the two editors")
+
     def beside_an_editor(self):
         """The same beside a client that edits without a pause: each edit drops the tile in the making."""
         with Editor(self.server) as editor:
@@ -312,6 +330,7 @@ def hang_ups(cases, folder):
                 stand.while_written(resets, waits)
         stand.refused()
         stand.many()
+        stand.held_edits()
         stand.beside_an_editor()
         stand.nothing_is_written()
         stand.looker.connection.close()

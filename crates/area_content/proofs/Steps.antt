@@ -1,6 +1,6 @@
 -- One tile more of an archive in the making.
-use Rattle.std.proofs.Common.{◌≡◌, ℕ, ◌+◌, ◌<◌, ◌≤◌, List, [], ◌∷◌, ◌++◌, All, Option, Some, None, IfSome, Result, Ok, Err, OnOk, Vec, Global}
-use Rattle.std.proofs.Common.{refl, sym, subst, ◌∙◌, arith}
+use Rattle.std.proofs.Common.{◌≡◌, ℕ, ◌+◌, ◌<◌, ◌≤◌, List, [], ◌∷◌, ◌++◌, All, Option, Some, None, IfSome, Result, Ok, Err, OnOk}
+use Rattle.std.proofs.Common.{refl, sym, ap, subst, ◌∙◌, arith}
 use Rattle.std.proofs.lemmas.List.Elements.{All-weaker}
 use Rattle.feature_store.specs.Store.{FeatureMap}
 use Rattle.feature_store.specs.Tiles.{IsNextTile, IsTile, ShowsNothing, ShowsNothingFrom}
@@ -8,6 +8,7 @@ use Rattle.feature_store.proofs.Below.{none_left}
 use Rattle.pm_build.specs.Building.{AreFew, CanAdd}
 use Rattle.pm_build.specs.Tiles.{Tile}
 use Rattle.area_content.specs.declared.collected.Collected.{Collected}
+use Rattle.area_content.specs.declared.collected.Waiting.{Waiting}
 use Rattle.area_content.specs.Collected.{AreCollected, AreGoing, AreMade, tiles_of}
 use Rattle.area_content.specs.Faults.{AreAdded, IsShort}
 use Rattle.area_content.specs.Room.{AreBeyond, AreBeyondIf, AreWithin, added_so_far}
@@ -46,9 +47,19 @@ module _ (m : FeatureMap) (metadata : List ℕ) (area from : ℕ) (c : Collected
   -- they go on while none waits
   pub none_waits : c.waiting ≡ None → AreGoing m metadata area from c
   none_waits none = record {
-    collected = subst (λ (o : Option (ℕ × Vec ℕ Global)). AreCollected m metadata area (least_id o from) c) (sym none) are;
-    waiting = subst (λ (o : Option (ℕ × Vec ℕ Global)). IfSome o (λ t. IsLastMade m from (t.0, t.1.items))) (sym none) tt;
+    collected = subst (λ (o : Option Waiting). AreCollected m metadata area (least_id o from) c) (sym none) are;
+    waiting = subst (λ (o : Option Waiting). IfSome o (λ w. IsLastMade m from (w.tile.0, w.tile.1.items))) (sym none) tt;
   }
+
+-- the same tiles, if others are not added
+pub same_collected : (m : FeatureMap) (metadata : List ℕ) (area from : ℕ) (c d : Collected) → d.kept ≡ c.kept → d.counted ≡ c.counted
+    → AreCollected m metadata area from c → AreCollected m metadata area from d
+same_collected m metadata area from c d kept counted are = record {
+  added = subst (λ (ts : List Tile). AreAdded m from ts)
+      (sym (ap (λ (ts : List Tile). added_so_far ts d.counted) kept ∙ ap (λ (o : Option (List Tile)). added_so_far c.kept o) counted)) are.added;
+  within = subst (λ (ts : List Tile). AreWithin m metadata area ts) (sym kept) are.within;
+  beyond = subst (λ (o : Option (List Tile)). AreBeyondIf m metadata area o) (sym counted) are.beyond;
+}
 
 -- the next tile is the last one before the ids that are left
 pub last_made : (m : FeatureMap) (from new_from : ℕ) (t : Tile) → IsNextTile m from t → IsShort t → new_from ≡ t.0 + 1 → IsLastMade m new_from t
@@ -63,24 +74,24 @@ next_of_last m from t last = record {
 }
 
 -- those before a tile go on while it waits
-pub one_waits : (m : FeatureMap) (metadata : List ℕ) (area from : ℕ) (c : Collected) (t : ℕ × Vec ℕ Global) → c.waiting ≡ Some t
-    → AreCollected m metadata area t.0 c → IsLastMade m from (t.0, t.1.items) → AreGoing m metadata area from c
-one_waits m metadata area from c t is are last = record {
-  collected = subst (λ (o : Option (ℕ × Vec ℕ Global)). AreCollected m metadata area (least_id o from) c) (sym is) are;
-  waiting = subst (λ (o : Option (ℕ × Vec ℕ Global)). IfSome o (λ t. IsLastMade m from (t.0, t.1.items))) (sym is) last;
+pub one_waits : (m : FeatureMap) (metadata : List ℕ) (area from : ℕ) (c : Collected) (w : Waiting) → c.waiting ≡ Some w
+    → AreCollected m metadata area w.tile.0 c → IsLastMade m from (w.tile.0, w.tile.1.items) → AreGoing m metadata area from c
+one_waits m metadata area from c w is are last = record {
+  collected = subst (λ (o : Option Waiting). AreCollected m metadata area (least_id o from) c) (sym is) are;
+  waiting = subst (λ (o : Option Waiting). IfSome o (λ w. IsLastMade m from (w.tile.0, w.tile.1.items))) (sym is) last;
 }
 
 -- an option that is no tile is none
-none_is : (o : Option (ℕ × Vec ℕ Global)) → ((t : ℕ × Vec ℕ Global) → o ≡ Some t → ⊥) → o ≡ None
+none_is : (o : Option Waiting) → ((w : Waiting) → o ≡ Some w → ⊥) → o ≡ None
 none_is None not = refl
-none_is (Some t) not = absurd (not t refl)
+none_is (Some w) not = absurd (not w refl)
 
 module _ (m : FeatureMap) (metadata : List ℕ) (area from : ℕ) (c : Collected) (going : AreGoing m metadata area from c) where
   -- if none waited, those below `from` are added, whatever waits now
-  pub none_waited : (taken now : Option (ℕ × Vec ℕ Global)) → taken ≡ c.waiting → ((t : ℕ × Vec ℕ Global) → taken ≡ Some t → ⊥)
+  pub none_waited : (taken now : Option Waiting) → taken ≡ c.waiting → ((w : Waiting) → taken ≡ Some w → ⊥)
       → AreCollected m metadata area from (record { kept = c.kept; counted = c.counted; waiting = now; alloc = c.alloc })
   none_waited taken now is not =
-      let are = subst (λ (o : Option (ℕ × Vec ℕ Global)). AreCollected m metadata area (least_id o from) c) (sym is ∙ none_is taken not) going.collected in
+      let are = subst (λ (o : Option Waiting). AreCollected m metadata area (least_id o from) c) (sym is ∙ none_is taken not) going.collected in
       record { added = are.added; within = are.within; beyond = are.beyond }
 
 -- tiles that were added are of the map

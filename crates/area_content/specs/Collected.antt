@@ -21,7 +21,7 @@ pub record AreCollected (m : FeatureMap) (metadata : List ℕ) (area from : ℕ)
 -- the tiles of the map with ids below `from` are added, but for the last of them if it waits
 pub record AreGoing (m : FeatureMap) (metadata : List ℕ) (area from : ℕ) (c : Collected) : Type 0 where
   pub collected : AreCollected m metadata area (least_id c.waiting from) c
-  pub waiting : IfSome c.waiting (λ t. IsLastMade m from (t.0, t.1.items))
+  pub waiting : IfSome c.waiting (λ w. IsLastMade m from (w.tile.0, w.tile.1.items))
 
 -- all tiles of the map are added, and each is short
 pub record AreMade (m : FeatureMap) (metadata : List ℕ) (area : ℕ) (c : Collected) : Type 0 where

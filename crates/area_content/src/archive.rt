@@ -23,13 +23,13 @@ use feature_store::{Making, Moment, Store, Tiles};
 use pm_build::{ArchiveBuilder, BuiltArchive};
 use std::alloc::{AllocError, Global};
 
-/// A tile of this many bytes or more is added in a step of its own: to make its last part and to add it are both long then.
+/// A tile of this many bytes or more is added in steps of its own: to make its last part and to add it are both long then.
 const LARGE_TILE_BYTES: usize = 65_536;
 
 /// What a step of an archive in the making did.
 #[derive(Clone, Copy)]
 pub(crate) enum Progress {
-    /// It made a part of a tile, and added none.
+    /// It made a part of a tile or put one ahead, and added none.
     Part,
     /// It added a tile.
     Tile,
@@ -102,8 +102,8 @@ fn add_tile(
     }
 }
 
-/// Makes a part of the next tile of a moment, and at its last part adds the tile to its archive. A large tile waits, and the next step adds it
-/// and makes no part. `store` is the map as it is now, `text` the snapshot of the moment.
+/// Makes a part of the next tile of a moment, and at its last part adds the tile to its archive. A large tile waits: each step after it puts a
+/// part of its content ahead, and the last of them adds it. `store` is the map as it is now, `text` the snapshot of the moment.
 pub(crate) fn make_next(
     tiles: &mut Tiles,
     collected: &mut Collected,
@@ -126,7 +126,12 @@ pub(crate) fn make_next(
     ensures made { result ≡ Ok progress.Over → AreMade tiles.old.features metadata.now area collected.new }
     ensures fault { IfErr result (IsContentFault tiles.old.features metadata.now area) }
 {
-    if let Some(tile) = collected.waiting.take() {
+    if let Some(waiting) = collected.waiting.take() {
+        if waiting.parts > 0 {
+            collected.put_ahead(waiting);
+            return Ok(Progress::Part);
+        }
+        let tile = waiting.tile;
         return match add_tile(collected, tile, tiles, store, moment, text, metadata, area) {
             Ok(()) => Ok(Progress::Tile),
             Err(fault) => Err(fault),
@@ -139,7 +144,7 @@ pub(crate) fn make_next(
         Err(fault) => return Err(fault),
     };
     if tile.1.len() >= LARGE_TILE_BYTES {
-        collected.waiting = Some(tile);
+        collected.let_wait(tile);
         return Ok(Progress::Part);
     }
     match add_tile(collected, tile, tiles, store, moment, text, metadata, area) {

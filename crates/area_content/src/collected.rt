@@ -1,5 +1,5 @@
 //! The tiles of an archive in the making.
-ghost use Rattle.std.specs.Prelude.{◌≡◌, ◌*◌, ◌++◌, ◌∷◌, [], min, Some, None, OnOk, IfErr};
+ghost use Rattle.std.specs.Prelude.{◌≡◌, ◌<◌, ◌-◌, ◌*◌, ◌++◌, ◌∷◌, [], length, min, Some, None, OnOk, IfErr};
 ghost use Rattle.feature_store.specs.Store.{FeatureMap, snapshot};
 ghost use Rattle.pm_build.specs.Building.{AreFew, AreTooMany, CanAdd};
 ghost use Rattle.area_content.specs.Faults.{HasManyTiles, IsContentFault, told_as};
@@ -10,7 +10,7 @@ ghost use Rattle.sector_disk.specs.declared.disk.TheConstants.{SECTOR_BYTES};
 use crate::content::sectors_for;
 use crate::fault::ContentFault;
 use feature_store::Tile;
-use pm_build::{ArchiveBuilder, ArchiveCounter, BuildFault};
+use pm_build::{AHEAD_BYTES, ArchiveBuilder, ArchiveCounter, BuildFault};
 use pm_header::HEADER_BYTES;
 use sector_disk::SECTOR_BYTES;
 use std::alloc::{AllocError, Global};
@@ -20,6 +20,14 @@ use std::mem;
 /// block grows they are moved, not copied. A smaller one may be copied at each growth. Pages that nothing was written to take no memory.
 const MAX_RESERVED_SECTORS: u64 = 67_584;
 
+/// A tile that is made and not added to its archive yet.
+#[derive(Drop)]
+pub(crate) struct Waiting {
+    pub(crate) tile: Tile,
+    /// How many parts of its content are still to be put ahead.
+    pub(crate) parts: usize,
+}
+
 /// The tiles that were added so far. Their contents are kept as long as they fit in the area. From the first tile on that doesn't, none is
 /// kept, and what an archive of all has is counted.
 #[derive(Drop)]
@@ -27,7 +35,7 @@ pub(crate) struct Collected {
     pub(crate) kept: ArchiveBuilder,
     pub(crate) counted: Option<ArchiveCounter>,
     /// The tile after them, if it is made and not added yet.
-    pub(crate) waiting: Option<Tile>,
+    pub(crate) waiting: Option<Waiting>,
     pub(crate) alloc: Global,
 }
 
@@ -58,6 +66,7 @@ fn capacity_for(area: u64) -> usize
 
 impl Collected {
     ghost use Rattle.area_content.specs.Collected.{tiles_of};
+    ghost use Rattle.area_content.specs.Waiting.{parts_of};
 
     /// No tiles, for an area of `area` sectors. It tries to reserve memory for their contents, and doesn't need it.
     pub(crate) fn new(alloc: Global, area: u64) -> Collected
@@ -71,6 +80,34 @@ impl Collected {
             waiting: None,
             alloc,
         }
+    }
+
+    /// Lets a tile wait. If tiles are kept, the whole parts of its content, of `AHEAD_BYTES` bytes each, are put ahead before it is added.
+    pub(crate) fn let_wait(&mut self, tile: Tile)
+        ensures kept { self.new.kept ≡ self.old.kept }
+        ensures counted { self.new.counted ≡ self.old.counted }
+        ensures waiting { self.new.waiting ≡ Some (record { tile = tile; parts = parts_of self.old.counted (length tile.1.items) }) }
+    {
+        let parts = match &self.counted {
+            Some(_) => 0,
+            None => tile.1.len() / AHEAD_BYTES,
+        };
+        self.waiting = Some(Waiting { tile, parts });
+    }
+
+    /// Puts a part of the content of a tile ahead, which waits on.
+    pub(crate) fn put_ahead(&mut self, waiting: Waiting)
+        requires { 0 < waiting.parts }
+        ensures kept { self.new.kept ≡ self.old.kept }
+        ensures counted { self.new.counted ≡ self.old.counted }
+        ensures waiting { self.new.waiting ≡ Some (record { tile = waiting.tile; parts = waiting.parts - 1 }) }
+    {
+        let Waiting { tile, parts } = waiting;
+        self.kept.put_ahead(&tile.1);
+        self.waiting = Some(Waiting {
+            tile,
+            parts: parts - 1,
+        });
     }
 
     /// Counts the tiles from now on. The only error is out of memory; the tiles are lost then.

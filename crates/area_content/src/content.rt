@@ -9,6 +9,7 @@ ghost use Rattle.sector_bytes.specs.Bytes.{sector_piece};
 ghost use Rattle.sector_disk.specs.declared.disk.TheConstants.{SECTOR_BYTES};
 
 use crate::fault::ContentFault;
+use crate::spent::SpentContent;
 use pm_build::BuiltArchive;
 use sector_disk::SECTOR_BYTES;
 use std::marker::Model;
@@ -128,6 +129,13 @@ impl AreaContent {
         } else {
             archive_sector(&self.archive, index - first)
         }
+    }
+
+    /// Its two long lists, whose memory is to be given back by parts.
+    pub fn into_spent(self) -> SpentContent {
+        let AreaContent { snapshot, archive } = self;
+        let BuiltArchive { front: _, contents } = archive;
+        SpentContent::of(snapshot, contents)
     }
 }
 

@@ -30,11 +30,11 @@ pub enum Stage {
     Failed,
 }
 
-/// The content of an area for a map as of a moment, in the making. Each step makes a part of a tile or adds a large one, and the map may be
-/// edited between two of them (`feature_store::Store::place_after`, `remove_after`). What it holds is the snapshot, the boxes of the features,
-/// the contents of the tiles so far, which fit into the area, and one tile more, which is in the making or not added yet. Once a tile doesn't
-/// fit, no content is kept: what it holds then is a record for each run and for each different content, the last tile that was added and the
-/// one after it. A step that adds this one may make an equal tile again.
+/// The content of an area for a map as of a moment, in the making. Each step makes a part of a tile, copies a part of a large one, or adds it, and
+/// the map may be edited between two of them (`feature_store::Store::place_after`, `remove_after`). What it holds is the snapshot, the boxes of
+/// the features, the contents of the tiles so far, which fit into the area, one tile more, which is in the making or not added yet, and what is
+/// copied of that. Once a tile doesn't fit, no content is kept: what it holds then is a record for each run and for each different content, the
+/// last tile that was added and the one after it. A step that adds this one may make an equal tile again.
 #[derive(Drop)]
 pub struct ContentDraft {
     text: Vec<u8>,
@@ -139,7 +139,8 @@ impl ContentDraft {
     }
 
     /// Makes a part of the next tile of the moment, `store` being the map as it is now, and at its last part adds the tile. A large tile is added
-    /// by the next step, which makes no part. It is true if tiles may be left.
+    /// by the steps after that, which make no part: as long as contents are kept, each copies `AHEAD_BYTES` of its bytes behind them, if so many
+    /// are left, and the last one adds the tile. It is true if tiles may be left.
     ///
     /// # Errors
     ///

@@ -9,8 +9,10 @@ mod counting;
 mod draft;
 mod fault;
 mod making;
+mod spent;
 
 pub use content::AreaContent;
 pub use draft::{ContentDraft, Stage};
 pub use fault::ContentFault;
 pub use making::content_of;
+pub use spent::SpentContent;

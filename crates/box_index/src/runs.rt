@@ -1,6 +1,6 @@
 //! Runs of neighbouring blocks: a query skips a whole run where its span doesn't show.
 
-ghost use Rattle.std.specs.Prelude.{◌≡◌, ℕ, ◌*◌, ◌/◌, ◌<◌, ◌≤◌, ◌++◌, length, take, drop, slice_index_or, All, IfOk, OnOk, vec_len, vec_capacity};
+ghost use Rattle.std.specs.Prelude.{◌≡◌, ℕ, ◌*◌, ◌/◌, ◌^◌, ◌<◌, ◌≤◌, ◌++◌, length, take, drop, slice_index_or, All, IfOk, OnOk, vec_len, vec_capacity};
 ghost use Rattle.std.specs.Int.{div_ceil};
 ghost use Rattle.box_index.specs.Blocks.{joined};
 ghost use Rattle.box_index.specs.Covers.{Covers, CoversAll};
@@ -95,4 +95,32 @@ pub(crate) fn gather(
         }
     }
     Ok(found)
+}
+
+/// How many entries the blocks have whose span shows, or `usize::MAX` if they are more.
+fn reach_of_blocks(blocks: &[IndexBlock], bounds: &WorldBox, zoom: u8) -> usize
+    ensures least { length (ids_shown bounds.now zoom (joined blocks.now)) < 2 ^ 64 → length (ids_shown bounds.now zoom (joined blocks.now)) ≤ result }
+    ensures most { result ≤ length (joined blocks.now) }
+{
+    let mut count: usize = 0;
+    for block in blocks {
+        count = count.saturating_add(block.reach(bounds, zoom));
+    }
+    count
+}
+
+/// How many entries the blocks have whose run and own span show, or `usize::MAX` if they are more. It looks at no entry.
+pub(crate) fn reach(blocks: &[IndexBlock], runs: &[Span], bounds: &WorldBox, zoom: u8) -> usize
+    requires { AreCovered runs.now blocks.now }
+    ensures least { length (ids_shown bounds.now zoom (joined blocks.now)) < 2 ^ 64 → length (ids_shown bounds.now zoom (joined blocks.now)) ≤ result }
+    ensures most { result ≤ length (joined blocks.now) }
+{
+    let mut count: usize = 0;
+    for (run, span) in runs.iter().enumerate() {
+        if span.shows(bounds, zoom) {
+            let here = reach_of_blocks(run_of(blocks, run), bounds, zoom);
+            count = count.saturating_add(here);
+        }
+    }
+    count
 }

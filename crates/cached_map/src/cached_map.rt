@@ -396,12 +396,16 @@ impl CachedMap {
     }
 
     /// Whether more than `count` features have boxes near the tile, or as many but for less than a part. It makes that many and forgets them. `count` is
-    /// at most 1,024: a tile of more features also has parts that only write its layers. The only error is out of memory.
+    /// at most 1,024: a tile of more features also has parts that only write its layers. It is true at once for a wide tile, whose first parts list the
+    /// numbers of the map: blocks near it have more than 4,096 features. The only error is out of memory.
     pub fn has_more(&self, at: TileAt, count: usize) -> Result<bool, AllocError> {
         if at.z > MAX_ZOOM {
             return Ok(false);
         }
         let hand = self.store.begin_tile(at)?;
+        if hand.is_listing() {
+            return Ok(true);
+        }
         is_left_after(&self.store, hand, count / PART_NUMBERS)
     }
 

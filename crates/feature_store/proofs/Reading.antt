@@ -1,15 +1,16 @@
 -- What is read of a map by ascending number, and what a look-up from a number on finds of a moment.
 use Rattle.std.proofs.Common.{◌≡◌, ℕ, ◌+◌, ◌<◌, ◌≤◌, true, false, cond, List, [], ◌∷◌, ◌++◌, Option, Some, None, All, Bor, map}
 use Rattle.std.proofs.Common.{inl, inr, refl, sym, ap, subst, ◌∙◌, arith}
-use Rattle.std.specs.Prelude.{nat_lt, nat_le, IfSome}
+use Rattle.std.specs.Prelude.{◌⊎◌, nat_lt, nat_le, length, IsSome, IfSome}
 use Rattle.std.specs.BTreeMap.{is_at}
-use Rattle.std.specs.Map.{lookup}
+use Rattle.std.specs.List.{Contains}
+use Rattle.std.specs.Map.{keys_of, lookup}
 use Rattle.std.specs.Option.{is_some, unwrap_or, option_copied, option_map}
 use Rattle.std.specs.Ordering.{nat_cmp}
 use Rattle.std.proofs.lemmas.Bool.{cases_lt, false≢true}
 use Rattle.std.proofs.lemmas.Bool.Decides.{nat_tests}
 use Rattle.std.proofs.lemmas.List.{map-append}
-use Rattle.std.proofs.lemmas.List.Elements.{All-head, All-tail, All-weaker}
+use Rattle.std.proofs.lemmas.List.Elements.{All-nil, All-cons, All-head, All-tail, All-weaker}
 use Rattle.number_map.specs.Blocks.{Ascends, AreAbove, first_from}
 use Rattle.number_map.proofs.Entries.{ascends_head, ascends_tail, raised, lookup_here, lookup_on, lookup_above}
 use Rattle.number_map.proofs.Numbers.{by_order}
@@ -17,12 +18,14 @@ use Rattle.box_index.specs.declared.entry.IndexEntry.{IndexEntry}
 use Rattle.feature_model.specs.Data.{FeatureData, put}
 use Rattle.feature_model.specs.Types.{IsChange}
 use Rattle.feature_model.specs.declared.limits.TheConstants.{NUMBER_END}
-use Rattle.feature_store.specs.Indexed.{index_entry}
+use Rattle.tile_cutter.specs.Cut.{feature_cut}
+use Rattle.feature_store.specs.Indexed.{ShowsAll, index_entry}
 use Rattle.feature_store.specs.Inside.{Stored, stored_data, entries_data, IsOwn}
 use Rattle.feature_store.specs.Moments.{MomentView, IsAsOf, had_by}
 use Rattle.feature_store.specs.Reading.{below, entry_of, nearer, stored_in}
-use Rattle.feature_store.specs.Store.{FeatureMap, IsMap, feature_at, snapshot}
+use Rattle.feature_store.specs.Store.{FeatureMap, IsMap, feature_at, feature_from, snapshot}
 use Rattle.feature_store.proofs.Entries.{feature_found}
+use Rattle.feature_store.proofs.Listed.{contains_here, contains_on}
 use Rattle.feature_store.proofs.Snapshots.{snapshot_both, snapshot_none}
 
 -- ---- the features below a number
@@ -300,3 +303,49 @@ module _ (m : FeatureMap) (n k : ℕ) (o : Option (Bor Stored)) (own : IfSome o 
 
 pub no_text : (m : FeatureMap) → [] ≡ snapshot (below 0 m)
 no_text m = sym (ap snapshot (none_below m) ∙ snapshot_none)
+
+-- ---- a list of numbers
+
+-- the numbers up to the next one
+pub listed_next : (m : FeatureMap) (n : ℕ) (e : ℕ × FeatureData) (listed : List ℕ) → IsMap m → feature_from m n ≡ Some e → listed ≡ keys_of (below n m)
+    → listed ++ e.0 ∷ [] ≡ keys_of (below (e.0 + 1) m)
+unfolding feature_from
+listed_next m n e listed is_map is so_far =
+    let first = is_first m n e is_map.ascending is in
+    ap (λ ns. ns ++ e.0 ∷ []) so_far
+    ∙ sym (map-append (λ (d : ℕ × FeatureData). d.0) (below n m) ((e.0, e.1) ∷ []))
+    ∙ ap keys_of (sym (below_next m n e.0 is_map.ascending first.from first.between ∙ ap (λ o. below n m ++ entry_of e.0 o) first.here))
+
+-- all numbers, where none is next
+pub listed_all : (m : FeatureMap) (n : ℕ) → IsMap m → feature_from m n ≡ None → keys_of (below n m) ≡ keys_of m
+unfolding feature_from
+listed_all m n is_map none = ap keys_of (look_end m n is_map (λ j from less. none_from m n none j from))
+
+-- the next number can be followed by one
+pub next_end : (m : FeatureMap) (n : ℕ) (e : ℕ × FeatureData) → IsMap m → feature_from m n ≡ Some e → e.0 < NUMBER_END
+unfolding feature_from
+next_end m n e is_map is = of_first (λ d. d.0 < NUMBER_END) m n e is (numbers_end m is_map)
+
+-- no more numbers are listed than there are
+pub few_listed : (m : FeatureMap) (n : ℕ) → length (keys_of (below n m)) ≤ length m
+few_listed [] n = omega (arith, ap (λ (l : FeatureMap). length (keys_of l)) (of_none n))
+few_listed (e ∷ m) n = by (cases_lt e.0 n) (few_listed m n)
+  where
+    by : (e.0 < n) ⊎ (n ≤ e.0) → length (keys_of (below n m)) ≤ length m → length (keys_of (below n (e ∷ m))) ≤ length (e ∷ m)
+    by (inl lt) rest = omega (arith, rest, ap (λ (l : FeatureMap). length (keys_of l)) (with_lower n e m lt))
+    by (inr ge) rest = omega (arith, rest, ap (λ (l : FeatureMap). length (keys_of l)) (without_higher n e m ge))
+
+-- a tile needs no numbers but those of its map
+every_key : (m : FeatureMap) → All (λ e. Contains (keys_of m) e.0) m
+every_key [] = All-nil (λ e. Contains [] e.0)
+every_key (e ∷ m) =
+    All-cons (λ d. Contains (keys_of (e ∷ m)) d.0) e m (contains_here e.0 (keys_of m))
+    (All-weaker (λ d. Contains (keys_of m) d.0) (λ d. Contains (keys_of (e ∷ m)) d.0) (λ d in_rest. contains_on e.0 (keys_of m) d.0 in_rest) m (every_key m))
+
+pub all_numbers_show : (m : FeatureMap) (z x y : ℕ) (numbers : List ℕ) → IsMap m → numbers ≡ keys_of m → ShowsAll m z x y numbers
+all_numbers_show m z x y numbers is_map is =
+    subst (ShowsAll m z x y) (sym is) (record {
+      ascending = is_map.ascending;
+      every = All-weaker (λ e. Contains (keys_of m) e.0) (λ e. IsSome (feature_cut e.1 z x y) → Contains (keys_of m) e.0) (λ e there some. there)
+          m (every_key m);
+    })

@@ -18,6 +18,7 @@ pub mod ReaderInside
 pub mod Reading
 pub mod Records
 pub mod Snapshots
+pub mod Stages
 pub mod Store
 pub mod Tiles
 pub mod Walk

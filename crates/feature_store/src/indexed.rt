@@ -104,3 +104,15 @@ pub(crate) fn numbers_near(
 {
     index.query(alloc, &tile_box(at), at.z)
 }
+
+/// A tile with this many features near it, or fewer, isn't wide.
+const WIDE_REACH: usize = 4_096;
+
+/// Whether a tile is wide: more than `WIDE_REACH` features may be near it, and at least half of the `count` features of the map. It looks at none
+/// of them.
+pub(crate) fn is_wide(index: &BoxIndex, at: TileAt, count: usize) -> bool
+    requires { at.z ≤ MAX_ZOOM }
+{
+    let reach = index.reach(&tile_box(at), at.z);
+    reach > WIDE_REACH && count.saturating_sub(reach) <= reach
+}

@@ -22,7 +22,7 @@ use crate::all_tiles::Tiles;
 use crate::cutter::Cutter;
 use crate::fault::SnapshotFault;
 use crate::feature_boxes::FeatureBoxes;
-use crate::indexed::{index_entry, numbers_near};
+use crate::indexed::{index_entry, is_wide, numbers_near};
 use crate::late_index::{index_of, set_box, take_box};
 use crate::limit::TEXTS_END;
 use crate::moment::Moment;
@@ -323,12 +323,26 @@ impl Store {
         tile_of_numbers(self.alloc, &mut cutter, &self.features, &now, numbers, at)
     }
 
-    /// A tile of the map as it is now, of which no feature is added. The only error is out of memory.
+    /// Whether the index shows that a tile is wide.
+    fn is_wide(&self, at: TileAt) -> bool
+        requires { at.z ≤ MAX_ZOOM }
+    {
+        match &self.index {
+            Some(index) => is_wide(index, at, self.features.len()),
+            None => false,
+        }
+    }
+
+    /// A tile of the map as it is now, of which no feature is added. The features near it are looked up, in one call; but if they are more than 4,096
+    /// and most of the map, the numbers of the map are listed by the tile's first parts instead. The only error is out of memory.
     pub fn begin_tile(&self, at: TileAt) -> Result<TileInHand, AllocError>
         requires { at.z ≤ MAX_ZOOM }
         ensures map { IfOk result (λ hand. hand.features ≡ self.now.features) }
         ensures at { IfOk result (λ hand. hand.at ≡ at) }
     {
+        if self.is_wide(at) {
+            return TileInHand::listing(self.alloc, &self.features, at);
+        }
         let numbers = self.numbers_near(at)?;
         Ok(TileInHand::of(self.alloc, &self.features, at, numbers))
     }

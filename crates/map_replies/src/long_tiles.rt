@@ -4,13 +4,20 @@ use hilbert_id::TileAt;
 use http_requests::path_of;
 use tile_routes::{Target, requested_tile};
 
-/// The first bytes of a request for a tile. The path begins with the slash.
+/// The first bytes of a request for a tile, and of one for its head alone. The path begins with the slash.
 const TILE: &[u8] = b"GET /map/";
 
-/// How many bytes of these are before the path.
-const BEFORE_PATH: usize = 4;
+const HEAD_OF_TILE: &[u8] = b"HEAD /map/";
 
-/// How many times a tile is begun for a request: an edit drops what is made.
+/// What requests begin with that edit the map.
+const EDITS: [&[u8]; 4] = [
+    b"PUT /features/",
+    b"DELETE /features/",
+    b"POST /edits",
+    b"POST /admin/edits",
+];
+
+/// How many times a tile is begun for a request while edits go on: an edit drops what is made. It is begun once more while they wait.
 const MAX_TRIES: u32 = 4;
 
 /// How many tiles are known to be long.
@@ -34,12 +41,31 @@ fn first_word(bytes: &[u8]) -> &[u8] {
 
 /// Whether these bytes of a request begin as those for a tile.
 pub(crate) fn is_for_tile(asked: &[u8]) -> bool {
-    asked.starts_with(TILE)
+    asked.starts_with(TILE) || asked.starts_with(HEAD_OF_TILE)
+}
+
+/// How many bytes are before the path of a request for a tile that begins so: the method and a space.
+fn before_path(asked: &[u8]) -> usize {
+    if asked.starts_with(HEAD_OF_TILE) {
+        5
+    } else {
+        4
+    }
+}
+
+/// Whether these bytes of a request begin as those for an edit.
+pub(crate) fn is_for_edit(asked: &[u8]) -> bool {
+    for edit in EDITS {
+        if asked.starts_with(edit) {
+            return true;
+        }
+    }
+    false
 }
 
 /// The tile for which a request that begins so asks, if its target is a path, maybe with a query.
 pub(crate) fn asked_tile(asked: &[u8]) -> Option<TileAt> {
-    let target = first_word(asked.get(BEFORE_PATH..)?);
+    let target = first_word(asked.get(before_path(asked)..)?);
     match requested_tile(path_of(target)) {
         Target::Tile(at, _) => Some(at),
         _ => None,
@@ -49,7 +75,7 @@ pub(crate) fn asked_tile(asked: &[u8]) -> Option<TileAt> {
 /// A hash of the target of a request that begins so (FNV-1a).
 pub(crate) fn target_hash(asked: &[u8]) -> u64 {
     let mut hash = FIRST_HASH;
-    for byte in asked.get(TILE.len()..).unwrap_or(asked) {
+    for byte in asked.get(before_path(asked)..).unwrap_or(asked) {
         if *byte == b' ' {
             break;
         }
@@ -158,9 +184,22 @@ impl LongTiles {
         self.current = None;
     }
 
+    /// Whether the edit of a connection has to wait for the tile, of which edits dropped what was made so many times. It doesn't if the connection for
+    /// which the tile is made has no turns any more: the tile is forgotten then.
+    pub(crate) fn holds_edit(&mut self, connection: u64) -> bool {
+        if self.current.is_none() || self.tries <= MAX_TRIES {
+            return false;
+        }
+        if self.turns.has_to_wait(connection) {
+            return true;
+        }
+        self.current = None;
+        false
+    }
+
     /// Whether the tile may be begun, once more.
     pub(crate) fn begins(&mut self) -> bool {
-        if self.tries >= MAX_TRIES {
+        if self.tries > MAX_TRIES {
             return false;
         }
         self.tries += 1;

@@ -16,7 +16,9 @@ ghost use Rattle.map_replies.specs.State.{access_of};
 ghost use Rattle.map_replies.specs.Words.{left_reply};
 
 use crate::calls::Calls;
-use crate::long_tiles::{LongTiles, ReadyTargets, asked_tile, is_for_tile, target_hash};
+use crate::long_tiles::{
+    LongTiles, ReadyTargets, asked_tile, is_for_edit, is_for_tile, target_hash,
+};
 use crate::replies;
 use crate::service::MapReplies;
 use crate::turns::Turns;
@@ -292,7 +294,7 @@ impl<D: Sectors + Drop> PreparingReplies<D> {
         self.prepare_part(connection, at)
     }
 
-    /// The same for a request that begins as that for a tile, unless nothing has to be made for it.
+    /// The same for a request that begins as that for a tile, or for its head alone, unless nothing has to be made for it.
     fn prepare_asked(&mut self, connection: u64, asked: &[u8]) -> Preparation
         ensures same { self.new.replies ≡ self.old.replies }
         ensures whole { beginning_of self.new ≡ beginning_of self.old }
@@ -317,6 +319,17 @@ impl<D: Sectors + Drop> PreparingReplies<D> {
         Preparation::Ready
     }
 
+    /// What comes before the answer to a request that begins as an edit: it may have to wait for a tile.
+    fn prepare_edit(&mut self, connection: u64) -> Preparation
+        ensures same { self.new.replies ≡ self.old.replies }
+        ensures whole { beginning_of self.new ≡ beginning_of self.old }
+    {
+        if self.tiles.holds_edit(connection) {
+            return Preparation::Waits;
+        }
+        Preparation::Ready
+    }
+
     /// Makes the next part of what a request needs that asks for no publication.
     fn prepare_other(&mut self, connection: u64, asked: &[u8]) -> Preparation
         ensures same { self.new.replies ≡ self.old.replies }
@@ -327,10 +340,13 @@ impl<D: Sectors + Drop> PreparingReplies<D> {
             self.tiles.forget();
             return Preparation::Ready;
         }
-        if !is_for_tile(asked) {
-            return Preparation::Ready;
+        if is_for_tile(asked) {
+            return self.prepare_asked(connection, asked);
         }
-        self.prepare_asked(connection, asked)
+        if is_for_edit(asked) {
+            return self.prepare_edit(connection);
+        }
+        Preparation::Ready
     }
 
     /// Memory for the late answer to a beginning, if that is what is asked for, by a request whose conditions don't refuse it, and the publication in

@@ -99,6 +99,8 @@ impl<D: Sectors + Drop> MapReplies<D> {
             × (sending_size self.new ≡ length reply.content)) }
         ensures writable { HasShortWords (head_view result) }
     {
+        // Each reply gives back a part of the memory of the last publication.
+        self.calls.service.let_go();
         let method = target.method(request.method);
         let ask = Ask {
             fields: &request.fields,

@@ -1,4 +1,5 @@
 mod Adding
+mod FirstBytes
 mod Archive
 mod CounterSteps
 mod Counting
@@ -17,6 +18,7 @@ mod Listed
 mod Pieces
 mod FirstTiles
 mod Indexing
+mod Storing
 mod Tiles
 pub mod Vector
 mod Zooms

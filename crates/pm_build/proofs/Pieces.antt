@@ -2,7 +2,7 @@
 use Rattle.std.proofs.Common.{◌≡◌, ℕ, zero, suc, ◌+◌, ◌-◌, ◌<◌, ◌≤◌, List, [], ◌∷◌, ◌++◌, length, take, drop, get_or, slice_range}
 use Rattle.std.proofs.Common.{refl, sym, ap, ◌∙◌, append_assoc, arith}
 use Rattle.std.specs.List.{AllByRecursion, concat}
-use Rattle.std.proofs.lemmas.List.{append-nil, length-append, take-append-le, take-take, take_at, drop-drop, drop-take}
+use Rattle.std.proofs.lemmas.List.{append-nil, length-append, take-append-le, take-append-drop, take-take, take_at, drop-drop, drop-take}
 use Rattle.std.proofs.lemmas.List.Folds.{concat-append}
 use Rattle.std.proofs.lemmas.Slice.{between_is, between_from_start}
 use Rattle.std.proofs.Math.Seq.{drop-append-add}
@@ -73,7 +73,7 @@ pub record LiesAt (bytes piece : List ℕ) (offset len : ℕ) : Type 0 where
   pub within : offset + len ≤ length bytes
   pub there : slice_range bytes offset (offset + len) ≡ piece
 
-pub lies_at : (cs : List (List ℕ)) (bytes : List ℕ) (i offset len : ℕ) → bytes ≡ concat cs → i < length cs → offset ≡ length (concat (take i cs))
+lies_at : (cs : List (List ℕ)) (bytes : List ℕ) (i offset len : ℕ) → bytes ≡ concat cs → i < length cs → offset ≡ length (concat (take i cs))
     → len ≡ length (get_or cs i []) → LiesAt bytes (get_or cs i []) offset len
 lies_at cs bytes i offset len is lt at size =
     let p = part_at cs i lt in
@@ -90,6 +90,26 @@ lies_at cs bytes i offset len is lt at size =
       );
       there = ap (λ (xs : List ℕ). slice_range xs offset (offset + len)) whole
           ∙ part_middle (concat (take i cs)) (get_or cs i []) p.0 offset (offset + len) (sym at) end;
+    }
+
+-- bytes of which the first ones are these
+pub first_parts : (n : ℕ) (bytes front : List ℕ) → take n bytes ≡ front → bytes ≡ front ++ drop n bytes
+first_parts n bytes front is = sym (take-append-drop n bytes) ∙ ap (λ (xs : List ℕ). xs ++ drop n bytes) is
+
+pub first_within : (bytes front : List ℕ) → take (length front) bytes ≡ front → length front ≤ length bytes
+first_within bytes front is =
+    let whole = first_parts (length front) bytes front is in
+    omega (arith, ap (λ (xs : List ℕ). length xs) whole, length-append front (drop (length front) bytes))
+
+-- where each of some lists is in bytes that begin with all of them
+pub lies_stored : (cs : List (List ℕ)) (bytes : List ℕ) (i offset len : ℕ) → take (length (concat cs)) bytes ≡ concat cs → i < length cs
+    → offset ≡ length (concat (take i cs)) → len ≡ length (get_or cs i []) → LiesAt bytes (get_or cs i []) offset len
+lies_stored cs bytes i offset len is lt at size =
+    let lies = lies_at cs (concat cs) i offset len refl lt at size in
+    record {
+      within = omega (arith, lies.within, first_within bytes (concat cs) is);
+      there = ap (λ (xs : List ℕ). slice_range xs offset (offset + len)) (first_parts (length (concat cs)) bytes (concat cs) is)
+          ∙ part_front (concat cs) (drop (length (concat cs)) bytes) offset (offset + len) lies.within ∙ lies.there;
     }
 
 -- some lists and one more, one after the other

@@ -1,3 +1,4 @@
+pub mod Ahead
 pub mod Bounded
 pub mod Building
 pub mod Built

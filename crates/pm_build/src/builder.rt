@@ -96,6 +96,15 @@ impl ArchiveBuilder {
         self.contents.index().total()
     }
 
+    /// Copies and hashes the next bytes of the content of a tile that is to be added, at most `AHEAD_BYTES` of them, so that `add` copies and
+    /// hashes only those that are left. If bytes of another content were copied so, they are let go, here or by `add`. If memory is refused it
+    /// copies none, and `add` says so.
+    pub fn put_ahead(&mut self, content: &[u8])
+        ensures { self.new ≡ self.old }
+    {
+        self.contents.put_ahead(content);
+    }
+
     /// Adds a tile. The content is copied only if no tile before it has an equal one. It allocates memory only if the tile begins a run.
     ///
     /// # Errors

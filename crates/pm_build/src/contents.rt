@@ -1,13 +1,15 @@
 //! The different contents of tiles.
 
-ghost use Rattle.std.specs.Prelude.{◌≡◌, ◌<◌, ◌^◌, ◌++◌, ◌∷◌, [], List, length, None, OnOk, OnErr, IfOk, IfSome, Contains};
+ghost use Rattle.std.specs.Prelude.{◌≡◌, ◌<◌, ◌^◌, ◌++◌, ◌∷◌, [], List, length, drop, None, OnOk, OnErr, IfOk, IfSome, Contains};
 ghost use Rattle.std.specs.List.{concat};
+ghost use Rattle.pm_build.specs.Ahead.{first_bytes, AreStored};
 ghost use Rattle.pm_build.specs.Hashing.{content_hash};
 ghost use Rattle.pm_build.specs.Different.{content_at, offset_from, with_content};
 ghost use Rattle.pm_build.specs.Firsts.{AreFirsts};
 ghost use Rattle.pm_build.specs.Tiles.{Tile};
 
-use crate::hashing::hash_of;
+use crate::ahead::{first_bytes, known_if, put_part, put_rest};
+use crate::hashing::{HashedWords, hash_with};
 use crate::index::ContentIndex;
 use std::alloc::{AllocError, Global};
 use std::marker::Model;
@@ -17,8 +19,10 @@ use std::marker::Model;
 #[derive(Drop)]
 pub(crate) struct Contents {
     index: ContentIndex,
-    /// The contents, one after the other.
+    /// The contents, one after the other. Behind them may be first bytes of one that is to be added.
     bytes: Vec<u8>,
+    /// What is hashed of those behind the contents.
+    hashed: HashedWords,
 }
 
 impl Model for Contents {
@@ -33,6 +37,31 @@ impl Model for Contents {
     ghost invariant = { IsStore };
 }
 
+/// Adds a content that isn't stored, and returns its place. Its first `ahead` bytes are behind the contents already. `first` is the id of the
+/// first tile that has it.
+fn push(
+    index: &mut ContentIndex,
+    bytes: &mut Vec<u8>,
+    content: &[u8],
+    ahead: usize,
+    hash: u64,
+    first: u64,
+) -> Result<usize, AllocError>
+    requires stored { AreStored index.old.contents bytes.old.items }
+    requires ahead { ahead ≡ first_bytes (drop (length (concat index.old.contents)) bytes.old.items) content.now }
+    requires hash { hash ≡ content_hash content.now }
+    requires short { length content.now < 2 ^ 32 }
+    ensures stored { AreStored index.new.contents bytes.new.items }
+    ensures place { IfOk result (λ place. place ≡ length index.old.contents) }
+    ensures contents { OnOk result (index.new.contents ≡ index.old.contents ++ content.now ∷ []) }
+    ensures firsts { OnOk result (index.new.firsts ≡ index.old.firsts ++ first ∷ []) }
+    ensures unchanged { OnErr result (index.new ≡ index.old) }
+{
+    let from = index.total();
+    put_rest(bytes, from, ahead, content)?;
+    index.push(bytes, from, hash, first)
+}
+
 impl Contents {
     /// No contents. It allocates nothing.
     pub(crate) fn new(alloc: Global) -> Contents
@@ -41,6 +70,7 @@ impl Contents {
         Contents {
             index: ContentIndex::new(alloc),
             bytes: Vec::new(alloc),
+            hashed: HashedWords::none(),
         }
     }
 
@@ -52,6 +82,7 @@ impl Contents {
             Ok(bytes) => Contents {
                 index: ContentIndex::new(alloc),
                 bytes,
+                hashed: HashedWords::none(),
             },
             Err(_) => Contents::new(alloc),
         }
@@ -75,7 +106,15 @@ impl Contents {
     pub(crate) fn into_bytes(self) -> Vec<u8>
         ensures { result.items ≡ concat self.contents }
     {
-        self.bytes
+        let total = self.index.total();
+        let Contents {
+            index: _,
+            bytes,
+            hashed: _,
+        } = self;
+        let mut contents = bytes;
+        contents.truncate(total);
+        contents
     }
 
     /// The content at a place.
@@ -103,28 +142,17 @@ impl Contents {
         None
     }
 
-    /// Adds a content that isn't stored, and returns its place. `first` is the id of the first tile that has it.
-    fn push(&mut self, content: &[u8], hash: u64, first: u64) -> Result<usize, AllocError>
-        requires hash { hash ≡ content_hash content.now }
-        requires short { length content.now < 2 ^ 32 }
-        ensures place { IfOk result (λ place. place ≡ length self.old.contents) }
-        ensures contents { OnOk result (self.new.contents ≡ self.old.contents ++ content.now ∷ []) }
-        ensures firsts { OnOk result (self.new.firsts ≡ self.old.firsts ++ first ∷ []) }
-        ensures unchanged { OnErr result (self.new ≡ self.old) }
+    /// Copies the next bytes of a content that is to be added behind the contents, at most `AHEAD_BYTES` of them, and hashes their words. Bytes
+    /// there that are seen to be another content's are let go. If memory is refused it copies none.
+    pub(crate) fn put_ahead(&mut self, content: &[u8])
+        ensures { self.new ≡ self.old }
     {
-        let from = self.bytes.len();
-        self.bytes.extend_from_slice(content)?;
-        match self.index.push(&self.bytes, from, hash, first) {
-            Ok(place) => Ok(place),
-            Err(fault) => {
-                self.bytes.truncate(from);
-                Err(fault)
-            }
-        }
+        let from = self.index.total();
+        self.hashed = put_part(&mut self.bytes, from, self.hashed, content);
     }
 
     /// The place of this content, which is added after the others if it isn't stored yet, as that of the tile `first`. It allocates nothing
-    /// if it is.
+    /// if it is. What was put ahead of it is compared, and neither hashed nor copied again.
     pub(crate) fn place(&mut self, content: &[u8], first: u64) -> Result<usize, AllocError>
         requires { length content.now < 2 ^ 32 }
         ensures placed { IfOk result (λ place. (place < length self.new.contents) × (content_at self.new.contents place ≡ content.now)) }
@@ -133,10 +161,22 @@ impl Contents {
         ensures unchanged { OnErr result (self.new ≡ self.old) }
         ensures memory { OnErr result (offset_from 0 self.old.contents content.now ≡ None) }
     {
-        let hash = hash_of(content);
+        let from = self.index.total();
+        let ahead = first_bytes(&self.bytes, from, content);
+        let hash = hash_with(content, known_if(ahead > 0, self.hashed));
         match self.find(content, hash) {
             Some(place) => Ok(place),
-            None => self.push(content, hash, first),
+            None => {
+                self.hashed = HashedWords::none();
+                push(
+                    &mut self.index,
+                    &mut self.bytes,
+                    content,
+                    ahead,
+                    hash,
+                    first,
+                )
+            }
         }
     }
 }

@@ -2,6 +2,7 @@
 //! consecutive ids with equal contents are joined to runs, and each content is stored once, both as the tiles are added (4.2).
 #![tactic(auto)]
 
+mod ahead;
 mod builder;
 mod building;
 mod built;
@@ -19,6 +20,7 @@ mod placing;
 mod run;
 mod runs;
 
+pub use ahead::AHEAD_BYTES;
 pub use builder::ArchiveBuilder;
 pub use built::BuiltArchive;
 pub use counter::ArchiveCounter;

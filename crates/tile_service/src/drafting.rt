@@ -324,6 +324,7 @@ impl<D: Sectors + Drop> Service<D> {
             return Err(ServiceFault::Broken);
         }
         if self.draft.is_some() {
+            self.let_go();
             self.advance_draft();
             return Ok(is_going(&self.draft));
         }

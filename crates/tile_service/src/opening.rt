@@ -246,6 +246,7 @@ impl<D: Sectors + Drop> Service<D> {
                 publication: None,
                 draft: None,
                 moment: None,
+                spent: None,
                 published: found.published,
                 broken: false,
             }),

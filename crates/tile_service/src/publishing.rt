@@ -15,7 +15,7 @@ ghost use Rattle.tile_service.specs.declared.fault.ServiceFault.TheVariants.{Dev
 
 use crate::fault::ServiceFault;
 use crate::service::Service;
-use area_content::{AreaContent, ContentFault, content_of};
+use area_content::{AreaContent, ContentFault, SpentContent, content_of};
 use edit_journal::JournalPosition;
 use feature_store::Store;
 use generations::{Layout, Root, install, write_area};
@@ -170,6 +170,7 @@ impl<D: Sectors + Drop> Service<D> {
             snapshot_len: publication.content.snapshot_len(),
             archive_len: publication.content.archive_len(),
         };
+        let _before = self.spent.replace(publication.content.into_spent());
         match install(&mut self.disk, root) {
             Ok(()) => {
                 self.journal.release(publication.start);
@@ -269,6 +270,7 @@ impl<D: Sectors + Drop> Service<D> {
         if self.root.generation == u64::MAX {
             return Err(ServiceFault::NumbersSpent);
         }
+        self.spent = None;
         match content_for(self.alloc, self.map.store(), self.layout.area) {
             Ok(content) => {
                 let left = content.sectors() + 1;
@@ -351,5 +353,15 @@ impl<D: Sectors + Drop> Service<D> {
         }
         self.publication = None;
         Ok(())
+    }
+
+    /// Gives back a part of the memory that the content of the last publication had, if some of it is left. The kernel takes time for each page,
+    /// so no call gives back all of it.
+    pub fn let_go(&mut self)
+        ensures { self.new ≡ self.old }
+    {
+        if self.spent.is_some() {
+            self.spent = self.spent.take().and_then(SpentContent::shrunk);
+        }
     }
 }

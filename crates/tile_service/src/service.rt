@@ -4,6 +4,7 @@ ghost use Rattle.generations.specs.Sectors.{IsVersion};
 
 use crate::drafting::Draft;
 use crate::publishing::Publication;
+use area_content::SpentContent;
 use cached_map::CachedMap;
 use edit_journal::Journal;
 use feature_store::Moment;
@@ -31,6 +32,8 @@ pub struct Service<D: Sectors + Drop> {
     pub(crate) draft: Option<Draft>,
     /// The moment whose map it is of.
     pub(crate) moment: Option<Moment>,
+    /// What is left of the memory of the last publication's content.
+    pub(crate) spent: Option<SpentContent>,
     pub(crate) published: PublishedTiles,
     pub(crate) broken: bool,
 }
@@ -81,6 +84,7 @@ impl<D: Sectors + Drop> Service<D> {
             publication: _,
             draft: _,
             moment: _,
+            spent: _,
             published: _,
             broken: _,
         } = self;

@@ -1,5 +1,5 @@
-use Rattle.std.proofs.Common.{Ok, ap, refl}
-use Rattle.area_content.proofs.Steps.{all_made, last_made, none_waited, none_waits, one_waits, passed}
+use Rattle.std.proofs.Common.{Ok, ap}
+use Rattle.area_content.proofs.Steps.{all_made, last_made, none_waited, none_waits, one_waits, passed, same_collected}
 use Rattle.area_content.proofs.archive.make_next.Goals as goal
 
 pub returns-in-Ok-Part-clause-going : goal.returns-in-Ok-Part-clause-going
@@ -45,10 +45,13 @@ returns-then-len-ge-LARGE_TILE_BYTES-clause-going c =
     let old = c.args.collected.now in
     let tile = c.in-Ok-Whole.tile in
     let next = rw c.in-Ok-Whole.field-0-is at c.in-Ok-Whole.ensures.tile in
-    let are = none_waited m metadata area from old c.requires.going c.take.result _ c.take.ensures.value c.in_default.not-Some in
+    let now = c.take.new.self in
+    let are = none_waited m metadata area from old c.requires.going c.take.result now c.take.ensures.value c.in_default.not-Some in
     let before = passed m metadata area from _ are tile.0 next.0.here next.0.between in
+    let same = same_collected m metadata area tile.0 _ c.let_wait.new.self c.let_wait.ensures.kept c.let_wait.ensures.counted before in
     let new = c.next_short.new.tiles.from in
-    one_waits m metadata area new _ (tile.0, tile.1) refl before (last_made m from new (tile.0, tile.1.items) next.0 next.1 next.2)
+    one_waits m metadata area new c.let_wait.new.self _ c.let_wait.ensures.waiting same
+    (last_made m from new (tile.0, tile.1.items) next.0 next.1 next.2)
 
 pub add_tile-requires-2-clause-collected : goal.add_tile-requires-2-clause-collected
 add_tile-requires-2-clause-collected c =

@@ -11,6 +11,9 @@ invariant_of-result c =
     let same = ap (λ (v : MapView Stored). entries_data v.entries) (sym c.of.ensures) in
     record {
       is_map = subst IsMap same c.requires.is_map;
-      making = c.of-2.ensures.making (entries_data c.of.result.value.entries)
-          (subst (λ (m : FeatureMap). ShowsAll m at.z at.x at.y c.args.numbers.items) same c.requires.shown);
+      stage = (
+        c.of-2.ensures.work,
+        c.of-2.ensures.making (entries_data c.of.result.value.entries)
+            (subst (λ (m : FeatureMap). ShowsAll m at.z at.x at.y c.args.numbers.items) same c.requires.shown),
+      );
     }

@@ -1,6 +1,7 @@
 use Rattle.std.proofs.Common.{◌≡◌, sym, subst}
 use Rattle.http_requests.specs.Requests.{RequestView}
 use Rattle.tile_routes.specs.Targets.{asked_of}
+use Rattle.tile_service.specs.Service.{ServiceView}
 use Rattle.map_replies.specs.Meanings.{asked_for}
 use Rattle.map_replies.specs.State.{access_of}
 use Rattle.map_replies.proofs.Routed.{Replied, replied, refused}
@@ -18,12 +19,16 @@ returns-in-Ok-clause-replied g c =
       body = inside.body.now;
       close = inside.close;
     } in
-    subst (λ (r : RequestView). Replied d.sectors d.honest d.history d.faults old r c.in-Ok.reply (record old { calls = c.respond.new.self }))
+    let before = record old { calls = record old.calls { service = c.let_go.new.self } } in
+    subst (λ (s : ServiceView g.row.D.Denot). Replied d.sectors d.honest d.history d.faults
+    (record old { calls = record old.calls { service = s } }) c.args.request.now c.in-Ok.reply (record old { calls = c.respond.new.self }))
+    c.let_go.ensures
+    (subst (λ (r : RequestView). Replied d.sectors d.honest d.history d.faults before r c.in-Ok.reply (record old { calls = c.respond.new.self }))
     c.request.view_is
-    (replied d.sectors d.honest d.history d.faults old request c.respond.new.self _ _ c.method-method.ensures
+    (replied d.sectors d.honest d.history d.faults before request c.respond.new.self _ _ c.method-method.ensures
     (subst (λ (r : RequestView). asked_of c.args.target ≡ asked_for (access_of old) r) (sym c.request.view_is) c.requires.asked) c.respond.ensures.held
     c.in-Ok.reply
-    c.in-Ok.ensures.answered c.in-Ok.ensures.oldest)
+    c.in-Ok.ensures.answered c.in-Ok.ensures.oldest))
 
 pub returns-in-Err-clause-replied : goal.returns-in-Err-clause-replied
 returns-in-Err-clause-replied g c =
@@ -37,9 +42,13 @@ returns-in-Err-clause-replied g c =
       body = inside.body.now;
       close = inside.close;
     } in
-    subst (λ (r : RequestView). Replied d.sectors d.honest d.history d.faults old r c.refusal.result (record old { calls = c.respond.new.self }))
+    let before = record old { calls = record old.calls { service = c.let_go.new.self } } in
+    subst (λ (s : ServiceView g.row.D.Denot). Replied d.sectors d.honest d.history d.faults
+    (record old { calls = record old.calls { service = s } }) c.args.request.now c.refusal.result (record old { calls = c.respond.new.self }))
+    c.let_go.ensures
+    (subst (λ (r : RequestView). Replied d.sectors d.honest d.history d.faults before r c.refusal.result (record old { calls = c.respond.new.self }))
     c.request.view_is
-    (refused d.sectors d.honest d.history d.faults old request c.respond.new.self _ _ c.method-method.ensures
+    (refused d.sectors d.honest d.history d.faults before request c.respond.new.self _ _ c.method-method.ensures
     (subst (λ (r : RequestView). asked_of c.args.target ≡ asked_for (access_of old) r) (sym c.request.view_is) c.requires.asked) c.respond.ensures.held
     c.in-Err.fault c.refusal.result
-    c.refusal.ensures.writable c.refusal.ensures.reply c.in-Err.ensures.answered c.in-Err.ensures.oldest)
+    c.refusal.ensures.writable c.refusal.ensures.reply c.in-Err.ensures.answered c.in-Err.ensures.oldest))

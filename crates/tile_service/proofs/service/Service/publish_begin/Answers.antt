@@ -60,13 +60,13 @@ pub returns-then-self-2-clause-up : goal.returns-then-self-2-clause-up
 returns-then-self-2-clause-up g c = λ stored up. up
 
 pub returns-in-Err-clause-same : goal.returns-in-Err-clause-same
-returns-in-Err-clause-same g c = refl
+returns-in-Err-clause-same g c = rw (← c.self.view_is) refl
 
 pub returns-in-Err-clause-refused : goal.returns-in-Err-clause-refused
-returns-in-Err-clause-refused g c = refl
+returns-in-Err-clause-refused g c = rw (← c.self.view_is) refl
 
 pub returns-in-Err-clause-up : goal.returns-in-Err-clause-up
-returns-in-Err-clause-up g c = λ stored up. up
+returns-in-Err-clause-up g c = rw (← c.self.view_is) (λ stored up. up)
 
 pub returns-then-self-clause-machine : goal.returns-then-self-clause-machine
 returns-then-self-clause-machine g c = rw (← c.self.view_is) (λ known. (c.if-self.true, refl))
@@ -105,9 +105,6 @@ same-self-then-is_some g c = refl
 
 pub same-self-then-self-2 : goal.same-self-then-self-2
 same-self-then-self-2 g c = refl
-
-pub same-self-in-Err : goal.same-self-in-Err
-same-self-in-Err g c = refl
 
 pub content_for-requires : goal.content_for-requires
 content_for-requires g c = omega (arith, c.self.inside.layout.fits, c.self.inside.layout.size.1)
