@@ -101,6 +101,11 @@ class Looker:
             self.connection.request("GET", "/features/1")
             self.connection.getresponse().read()
 
+    def left(self):
+        """What is left of the publication under way. To start curl takes as long as to write a small one."""
+        self.connection.request("GET", "/admin/status")
+        return json.loads(self.connection.getresponse().read())["left"]
+
     def change(self, number):
         """An edit of a feature that is in each tile, so that none is cached."""
         self.connection.request("PUT", "/features/0", spread(FEATURES + number))
@@ -242,7 +247,7 @@ class Stand:
             streams = self.asked([WHOLE])
             looked_at(self.server, has_begun)
             streams += self.asked([WHOLE, A] if waits else [])
-            is_written = status_of(self.server)["left"] is not None
+            is_written = self.looker.left() is not None
             for stream in streams:
                 hang_up(stream, resets)
             if is_written:
