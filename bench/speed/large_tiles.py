@@ -5,8 +5,8 @@
 
 The map is that of beginnings.py, with 20 tiles of zoom 12 and 320 of zoom 14. The tile of zoom 0 is asked for beside three readers, with 1 ms
 between two requests: of a feature, of a tile of zoom 14 that is cached, and of those that aren't. Then beside an editor, who changes a point
-every 10 ms, and a reader of a feature; and beside three other clients, which ask for the tiles of zooms 1 to 3 at the same time. Five rounds each, of a server that was
-just started.
+every 10 ms, and a reader of a feature; and beside three other clients, which ask for the tiles of zooms 1 to 3 at the same time. Five rounds
+each, of a server that was just started.
 """
 import http.client
 import json
