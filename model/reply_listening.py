@@ -481,6 +481,46 @@ def wide_tiles(script):
     listen(script, Peer((0, A + NEAR + FAR + SHOWN), (30, END), answered=[A, NEAR, FAR, SHOWN]), log=logged((1, 4, "closed")), time=30)
 
 
+# ---- tiles that are read by parts
+
+# The tile of a map of these features has between 2 and 3 MiB: it is read by three parts.
+BULKY = range(3000, 3080)
+READ, READ_HEAD = request("GET", "/map/0/0/0.mvt"), request("HEAD", "/map/0/0/0.mvt")
+
+
+def with_archive(script):
+    """A disk with an archive that has such a tile, which isn't cached."""
+    with_many(script, 65536)
+    for number in BULKY:
+        script.ask(*large_put(number))
+    script.ask(PUBLISH)
+    script.again()
+
+
+def read_tiles(script):
+    script.say("A tile of more than 1 MiB of the archive is read by parts, and others are answered in between.")
+    with_archive(script)
+    one, other = Peer((0, READ), (30, END), answered=[READ]), Peer((0, 3 * SHOWN), (29, END), answered=3 * [SHOWN])
+    listen(script, one, other, order=[1, 1, 0, 1], log=logged((2, 3, "closed"), (1, 1, "closed")), time=30)
+    script.note("So is one of which only the head is asked for.")
+    script.again()
+    one, other = Peer((0, READ_HEAD), (30, END), answered=[READ_HEAD]), Peer((0, 3 * SHOWN), (29, END), answered=3 * [SHOWN])
+    listen(script, one, other, order=[1, 1, 0, 1], log=logged((2, 3, "closed"), (1, 1, "closed")), time=30)
+    script.note("It is cached then.")
+    one, other = Peer((0, READ), (30, END), answered=[READ]), Peer((0, 2 * SHOWN), (29, END), answered=2 * [SHOWN])
+    listen(script, one, other, order=[0, 1, 1], log=logged((2, 2, "closed"), (1, 1, "closed")), time=30)
+    script.note("An edit of it meanwhile is in it: it is made then, and what was read is of no use.")
+    script.again()
+    edit = request("DELETE", f"/features/{BULKY[0]}")
+    one, other = Peer((0, READ), (30, END), answered=[READ]), Peer((0, edit + SHOWN), (29, END), answered=[edit, SHOWN])
+    listen(script, one, other, order=[1, 1, 0], log=logged((2, 2, "closed"), (1, 1, "closed")), time=30)
+    script.note("The disk fails from one of its calls on, before a part is read or at one: the tile is made.")
+    script.ask(PUBLISH)
+    for number in (1, 2, 1000, 3000):
+        script.again("from", number)
+        listen(script, Peer((0, READ), (30, END), answered=[READ]), log=logged((1, 1, "closed")), time=30)
+
+
 # How many turns the publication of a large map takes at most, and after how many of them it has begun: the map is fixed, its features are read,
 # which tiles they cover is read of each of 20 zooms, its only tile is made, then added, since it is large, and no other one is found.
 TURNS, BEGINS = 70, 25
@@ -543,4 +583,4 @@ def whole_steps(script):
 
 
 BLOCKS = [no_descriptor, accepts_that_fail, so_many_are_open, turns, slow_readers, all_hold_too_much, so_many_reads]
-BLOCKS += [cut_anywhere, byte_by_byte, stages, paces, downloads, preparations, whole_preparations, whole_steps, long_tiles, wide_tiles]
+BLOCKS += [cut_anywhere, byte_by_byte, stages, paces, downloads, preparations, whole_preparations, whole_steps, long_tiles, wide_tiles, read_tiles]

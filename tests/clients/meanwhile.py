@@ -181,11 +181,76 @@ def written(cases, folder):
     os.remove(server.disk)
 
 
+def fill_tile(server):
+    """Puts 1,200 points of 3 KB in one place, so that a tile that has them has more than 3 MiB, and makes the tiles."""
+    other = http.client.HTTPConnection("127.0.0.1", server.port)
+    for number in range(1200):
+        body = feature(first=1, geometry={"points": [[2**28 + number, 2**28]]}, tags={f"k{at}": f"{number} {at} " + "x" * 1000 for at in range(3)})
+        other.request("PUT", f"/features/{number}", body)
+        other.getresponse().read()
+    other.close()
+
+
+def tile_of(server, path, method="GET"):
+    """Status, length and content of a reply to a request for a tile."""
+    other = http.client.HTTPConnection("127.0.0.1", server.port)
+    other.request(method, path)
+    reply = other.getresponse()
+    found = reply.status, int(reply.getheader("content-length")), reply.read()
+    other.close()
+    return found
+
+
+def both_tiles(server, paths):
+    """The tiles at two paths, asked for on two connections, and how many edits elsewhere were made meanwhile, each of which was acknowledged."""
+    count, right = 0, True
+    other = http.client.HTTPConnection("127.0.0.1", server.port)
+    with socket.create_connection(("127.0.0.1", server.port)) as asker, socket.create_connection(("127.0.0.1", server.port)) as second:
+        for stream, path in zip((asker, second), paths):
+            stream.sendall(f"GET {path} HTTP/1.1\r\nhost: x\r\n\r\n".encode())
+        while count < 3 or not select.select([second], [], [], 0)[0]:
+            other.request("PUT", f"/features/{2000 + count}", feature(first=1, geometry={"points": [[2**31 + 2**30, 2**31 + 2**30]]}))
+            reply = other.getresponse()
+            reply.read()
+            count, right = count + 1, right and reply.status == 200
+        found = [answer(asker), answer(second)]
+    other.close()
+    return found, right
+
+
+def large_tile(cases, folder):
+    """Tiles of more than 2 MiB of the archive, which are read by parts beside each other and beside edits elsewhere."""
+    paths = ["/map/1/0/0.mvt", "/map/2/0/0.mvt"]
+    with Server(folder, "large_tile", 65536) as server:
+        fill_tile(server)
+        made = [(200, tile_of(server, path)[2]) for path in paths]
+        cases.show("tiles of more than 2 MiB", [len(tile) > 2 * 2**20 for _, tile in made], [True, True])
+        cases.show("they are published", curl(server.url + "/publish", "-X", "POST")[0], "HTTP/1.1 200 OK")
+    with Server(folder, "large_tile", 65536) as server:
+        cases.show("HEAD of one of the archive", tile_of(server, paths[0], "HEAD"), (200, len(made[0][1]), b""))
+    with Server(folder, "large_tile", 65536) as server:
+        found, right = both_tiles(server, paths)
+        cases.show("two of the archive, read beside each other, are the same", found == made, True)
+        cases.show("and edits elsewhere are made meanwhile", right, True)
+        cases.show("they are the same after these edits", [(200, tile_of(server, path)[2]) for path in paths] == made, True)
+        curl(server.url + "/features/5", "-X", "DELETE")
+        changed = [(200, tile_of(server, path)[2]) for path in paths]
+        cases.show("an edit of theirs is in them", [len(old) > len(new) > 0 for (_, old), (_, new) in zip(made, changed)], [True, True])
+        with socket.create_connection(("127.0.0.1", server.port)) as asker:
+            asker.sendall(f"GET {paths[0]} HTTP/1.1\r\nhost: x\r\n\r\n".encode())
+            curl(server.url + "/publish", "-X", "POST")
+            cases.show("one that is asked for beside a publication", answer(asker) == changed[0], True)
+    with Server(folder, "large_tile", 65536) as server:
+        cases.show("they are in the next archive", both_tiles(server, paths) == (changed, True), True)
+    os.remove(server.disk)
+
+
 def meanwhile(cases, folder):
-    """Publications that are prepared by a tile at a time, between which edits and looks are answered."""
+    """Publications that are prepared by a tile at a time, between which edits and looks are answered, and large tiles that are read by parts."""
     begun(cases, folder)
     whole(cases, folder)
     written(cases, folder)
+    large_tile(cases, folder)
 
 
 def begun(cases, folder):

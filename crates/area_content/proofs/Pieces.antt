@@ -1,6 +1,8 @@
 -- A part of some bytes, and of bytes in two parts.
-use Rattle.std.proofs.Common.{◌≡◌, ℕ, zero, suc, ◌+◌, ◌-◌, ◌≤◌, List, [], ◌∷◌, ◌++◌, length, take, drop, replicate, refl, sym, ap, ◌∙◌, append_assoc, arith}
-use Rattle.std.proofs.lemmas.List.{length-append, take_at, drop_at, drop-replicate}
+use Rattle.std.proofs.Common.{◌≡◌, ℕ, zero, suc, ◌+◌, ◌-◌, ◌≤◌, List, [], ◌∷◌, ◌++◌, length, take, drop, replicate, slice_range}
+use Rattle.std.proofs.Common.{refl, sym, ap, ◌∙◌, append_assoc, arith}
+use Rattle.std.proofs.lemmas.List.{length-append, take-append-drop, take-take, take_at, drop_at, drop-replicate}
+use Rattle.std.proofs.lemmas.Slice.{between_is}
 use borrow.Rule.Slice.PartMut.{put_mid}
 use Rattle.area_content.specs.Content.{padded}
 
@@ -46,3 +48,11 @@ parts_padded f s sector new k le is same size =
     ∙ ap (λ (xs : List ℕ). f ++ (s ++ drop (length s) xs)) (drop_at f rest (length f) refl)
     ∙ ap (λ (xs : List ℕ). f ++ (s ++ xs)) (drop-replicate (length s) n 0)
     ∙ sym (append_assoc f s (replicate (n - length s) 0)) ∙ ap (λ (j : ℕ). (f ++ s) ++ replicate j 0) e
+
+-- the first bytes of a list and a part after them
+pub part_put : (put size : ℕ) (xs ahead seen : List ℕ) → ahead ≡ take put xs → seen ≡ xs → ahead ++ slice_range seen put (put + size) ≡ take (put + size) xs
+part_put put size xs ahead seen is same =
+    let part : slice_range seen put (put + size) ≡ drop put (take (put + size) xs) =
+    ap (λ (ys : List ℕ). slice_range ys put (put + size)) same ∙ between_is xs put (put + size) in
+    ap (λ (ys : List ℕ). ys ++ slice_range seen put (put + size)) (is ∙ sym (take-take put (put + size) xs (omega arith)))
+    ∙ ap (λ (ys : List ℕ). take put (take (put + size) xs) ++ ys) part ∙ take-append-drop put (take (put + size) xs)

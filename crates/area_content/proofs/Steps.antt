@@ -1,29 +1,31 @@
 -- One tile more of an archive in the making.
-use Rattle.std.proofs.Common.{◌≡◌, ℕ, ◌+◌, ◌<◌, ◌≤◌, List, [], ◌∷◌, ◌++◌, All, Option, Some, None, IfSome, Result, Ok, Err, OnOk}
+use Rattle.std.proofs.Common.{◌≡◌, ℕ, ◌+◌, ◌*◌, ◌<◌, ◌≤◌, List, [], ◌∷◌, ◌++◌, length, take, All, Option, Some, None, IfSome, Result, Ok, Err, OnOk}
 use Rattle.std.proofs.Common.{refl, sym, ap, subst, ◌∙◌, arith}
+use Rattle.std.proofs.Math.Nat.{div-mul-le_self}
 use Rattle.std.proofs.lemmas.List.Elements.{All-weaker}
 use Rattle.feature_store.specs.Store.{FeatureMap}
-use Rattle.feature_store.specs.Tiles.{IsNextTile, IsTile, ShowsNothing, ShowsNothingFrom}
+use Rattle.feature_store.specs.Tiles.{AreTiles, IsNextTile, IsTile, ShowsNothing, ShowsNothingFrom}
 use Rattle.feature_store.proofs.Below.{none_left}
 use Rattle.pm_build.specs.Building.{AreFew, CanAdd}
 use Rattle.pm_build.specs.Tiles.{Tile}
+use Rattle.pm_build.specs.declared.ahead.TheConstants.{AHEAD_BYTES}
 use Rattle.area_content.specs.declared.collected.Collected.{Collected}
 use Rattle.area_content.specs.declared.collected.Waiting.{Waiting}
 use Rattle.area_content.specs.Collected.{AreCollected, AreGoing, AreMade, tiles_of}
 use Rattle.area_content.specs.Faults.{AreAdded, IsShort}
 use Rattle.area_content.specs.Room.{AreBeyond, AreBeyondIf, AreWithin, added_so_far}
-use Rattle.area_content.specs.Waiting.{IsLastMade, least_id}
+use Rattle.area_content.specs.Waiting.{IsLastMade, IsWaiting, bytes_put, least_id, parts_of}
 use Rattle.area_content.proofs.MapTiles.{can_be_added, next_added, passed_added}
 use Rattle.area_content.proofs.Written.{beyond_more}
 
 module _ (m : FeatureMap) (metadata : List ℕ) (area from : ℕ) (c : Collected) (are : AreCollected m metadata area from c) where
   -- those that are kept, while none is counted
-  pub kept_added : c.counted ≡ None → AreAdded m from c.kept
-  kept_added none = subst (λ (o : Option (List Tile)). AreAdded m from (added_so_far c.kept o)) none are.added
+  pub kept_added : c.counted ≡ None → AreAdded m from c.kept.tiles
+  kept_added none = subst (λ (o : Option (List Tile)). AreAdded m from (added_so_far c.kept.tiles o)) none are.added
 
   -- those that are counted
   pub counted_added : (ts : List Tile) → c.counted ≡ Some ts → AreAdded m from ts
-  counted_added ts is = subst (λ (o : Option (List Tile)). AreAdded m from (added_so_far c.kept o)) is are.added
+  counted_added ts is = subst (λ (o : Option (List Tile)). AreAdded m from (added_so_far c.kept.tiles o)) is are.added
 
   pub counted_beyond : (ts : List Tile) → c.counted ≡ Some ts → AreBeyond m metadata area ts
   counted_beyond ts is = subst (λ (o : Option (List Tile)). AreBeyondIf m metadata area o) is are.beyond
@@ -44,19 +46,20 @@ module _ (m : FeatureMap) (metadata : List ℕ) (area from : ℕ) (c : Collected
     beyond = are.beyond;
   }
 
-  -- they go on while none waits
-  pub none_waits : c.waiting ≡ None → AreGoing m metadata area from c
-  none_waits none = record {
+  -- they go on while none waits and nothing is put ahead
+  pub none_waits : c.waiting ≡ None → c.kept.ahead ≡ [] → AreGoing m metadata area from c
+  none_waits none ahead = record {
     collected = subst (λ (o : Option Waiting). AreCollected m metadata area (least_id o from) c) (sym none) are;
-    waiting = subst (λ (o : Option Waiting). IfSome o (λ w. IsLastMade m from (w.tile.0, w.tile.1.items))) (sym none) tt;
+    waiting = subst (λ (o : Option Waiting). IfSome o (IsWaiting m from c.counted)) (sym none) tt;
+    ahead = ahead ∙ ap bytes_put (sym none);
   }
 
 -- the same tiles, if others are not added
-pub same_collected : (m : FeatureMap) (metadata : List ℕ) (area from : ℕ) (c d : Collected) → d.kept ≡ c.kept → d.counted ≡ c.counted
+pub same_collected : (m : FeatureMap) (metadata : List ℕ) (area from : ℕ) (c d : Collected) → d.kept.tiles ≡ c.kept.tiles → d.counted ≡ c.counted
     → AreCollected m metadata area from c → AreCollected m metadata area from d
 same_collected m metadata area from c d kept counted are = record {
   added = subst (λ (ts : List Tile). AreAdded m from ts)
-      (sym (ap (λ (ts : List Tile). added_so_far ts d.counted) kept ∙ ap (λ (o : Option (List Tile)). added_so_far c.kept o) counted)) are.added;
+      (sym (ap (λ (ts : List Tile). added_so_far ts d.counted) kept ∙ ap (λ (o : Option (List Tile)). added_so_far c.kept.tiles o) counted)) are.added;
   within = subst (λ (ts : List Tile). AreWithin m metadata area ts) (sym kept) are.within;
   beyond = subst (λ (o : Option (List Tile)). AreBeyondIf m metadata area o) (sym counted) are.beyond;
 }
@@ -75,11 +78,40 @@ next_of_last m from t last = record {
 
 -- those before a tile go on while it waits
 pub one_waits : (m : FeatureMap) (metadata : List ℕ) (area from : ℕ) (c : Collected) (w : Waiting) → c.waiting ≡ Some w
-    → AreCollected m metadata area w.tile.0 c → IsLastMade m from (w.tile.0, w.tile.1.items) → AreGoing m metadata area from c
-one_waits m metadata area from c w is are last = record {
+    → AreCollected m metadata area w.tile.0 c → IsWaiting m from c.counted w → c.kept.ahead ≡ take w.put w.tile.1.items → AreGoing m metadata area from c
+one_waits m metadata area from c w is are waits ahead = record {
   collected = subst (λ (o : Option Waiting). AreCollected m metadata area (least_id o from) c) (sym is) are;
-  waiting = subst (λ (o : Option Waiting). IfSome o (λ w. IsLastMade m from (w.tile.0, w.tile.1.items))) (sym is) last;
+  waiting = subst (λ (o : Option Waiting). IfSome o (IsWaiting m from c.counted)) (sym is) waits;
+  ahead = ahead ∙ ap bytes_put (sym is);
 }
+
+-- no more whole parts than there are bytes, and none of a tile that is counted
+parts_low : (counted : Option (List Tile)) (size : ℕ) → parts_of counted size * AHEAD_BYTES ≤ size
+parts_low None size = div-mul-le_self size AHEAD_BYTES
+parts_low (Some ts) size = omega arith
+
+none_counted : (counted : Option (List Tile)) (size put parts : ℕ) → put ≡ 0 → parts ≡ parts_of counted size
+    → IfSome counted (λ ts. (put ≡ 0) × (parts ≡ 0))
+none_counted None size put parts none is = tt
+none_counted (Some ts) size put parts none is = (none, is)
+
+-- a tile begins to wait
+pub begins_to_wait : (m : FeatureMap) (from : ℕ) (counted : Option (List Tile)) (w : Waiting) → IsLastMade m from (w.tile.0, w.tile.1.items) → w.put ≡ 0
+    → w.parts ≡ parts_of counted (length w.tile.1.items) → IsWaiting m from counted w
+begins_to_wait m from counted w last none parts = record {
+  last = last;
+  inside = omega (arith, none, ap (λ (n : ℕ). n * AHEAD_BYTES) parts, parts_low counted (length w.tile.1.items));
+  none = none_counted counted (length w.tile.1.items) w.put w.parts none parts;
+}
+
+-- all tiles, if they are counted
+pub counted_made : (m : FeatureMap) (metadata : List ℕ) (area : ℕ) (c : Collected) → AreMade m metadata area c → (ts : List Tile) → c.counted ≡ Some ts
+    → AreTiles m ts × All IsShort ts × AreBeyond m metadata area ts
+counted_made m metadata area c made ts is = (
+  subst (λ (o : Option (List Tile)). AreTiles m (added_so_far c.kept.tiles o)) is made.all,
+  subst (λ (o : Option (List Tile)). All IsShort (added_so_far c.kept.tiles o)) is made.short,
+  subst (λ (o : Option (List Tile)). AreBeyondIf m metadata area o) is made.beyond,
+)
 
 -- an option that is no tile is none
 none_is : (o : Option Waiting) → ((w : Waiting) → o ≡ Some w → ⊥) → o ≡ None
@@ -87,6 +119,10 @@ none_is None not = refl
 none_is (Some w) not = absurd (not w refl)
 
 module _ (m : FeatureMap) (metadata : List ℕ) (area from : ℕ) (c : Collected) (going : AreGoing m metadata area from c) where
+  -- if none waited, nothing was put ahead
+  pub none_put : (taken : Option Waiting) → taken ≡ c.waiting → ((w : Waiting) → taken ≡ Some w → ⊥) → c.kept.ahead ≡ []
+  none_put taken is not = going.ahead ∙ ap bytes_put (sym is ∙ none_is taken not)
+
   -- if none waited, those below `from` are added, whatever waits now
   pub none_waited : (taken now : Option Waiting) → taken ≡ c.waiting → ((w : Waiting) → taken ≡ Some w → ⊥)
       → AreCollected m metadata area from (record { kept = c.kept; counted = c.counted; waiting = now; alloc = c.alloc })
@@ -105,7 +141,7 @@ can_add m from ts t added next short = can_be_added m from ts t added.below next
 
 -- and they are added with it
 pub going_on : (m : FeatureMap) (metadata : List ℕ) (area from new_from : ℕ) (ts : List Tile) (t : Tile) (new : Collected) → AreAdded m from ts
-    → IsNextTile m from t → IsShort t → new_from ≡ t.0 + 1 → tiles_of new ≡ ts ++ t ∷ [] → AreFew (tiles_of new) → AreWithin m metadata area new.kept
+    → IsNextTile m from t → IsShort t → new_from ≡ t.0 + 1 → tiles_of new ≡ ts ++ t ∷ [] → AreFew (tiles_of new) → AreWithin m metadata area new.kept.tiles
     → AreBeyondIf m metadata area new.counted → AreCollected m metadata area new_from new
 going_on m metadata area from new_from ts t new added next short at grown few within beyond =
     let more = next_added m from ts t added next short (subst AreFew grown few) in

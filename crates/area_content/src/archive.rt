@@ -1,5 +1,5 @@
 //! The archive of the tiles of a map.
-ghost use Rattle.std.specs.Prelude.{◌≡◌, ◌<◌, ◌≤◌, ◌^◌, ◌+◌, ℕ, List, Ok, false, length, OnOk, IfOk, IfErr};
+ghost use Rattle.std.specs.Prelude.{◌≡◌, ◌<◌, ◌≤◌, ◌^◌, ◌+◌, [], ℕ, List, Ok, false, length, take, OnOk, IfOk, IfErr, IfSome};
 ghost use Rattle.feature_store.specs.Moments.{IsAsOf};
 ghost use Rattle.feature_store.specs.Store.{snapshot};
 ghost use Rattle.feature_store.specs.Tiles.{GoesOn, IfTile, IsNextTile, ShowsNothing, ShowsNothingFrom};
@@ -15,16 +15,14 @@ ghost use Rattle.area_content.specs.Tiles.{IsArchiveOfTiles};
 ghost use Rattle.area_content.specs.Waiting.{IsLastMade, steps_ahead};
 ghost use Rattle.area_content.specs.declared.archive.Progress.TheVariants as progress;
 
-use crate::collected::Collected;
+use crate::collected::{Collected, LARGE_TILE_BYTES, Waiting};
 use crate::content::sectors_for;
 use crate::counting::count_tile;
 use crate::fault::ContentFault;
+use crate::spent::{SpentContent, spend};
 use feature_store::{Making, Moment, Store, Tiles};
 use pm_build::{ArchiveBuilder, BuiltArchive};
 use std::alloc::{AllocError, Global};
-
-/// A tile of this many bytes or more is added in steps of its own: to make its last part and to add it are both long then.
-const LARGE_TILE_BYTES: usize = 65_536;
 
 /// What a step of an archive in the making did.
 #[derive(Clone, Copy)]
@@ -72,10 +70,13 @@ fn next_short(
     Ok(Making::Whole(tile))
 }
 
-/// Adds the last tile that was made to its archive. `store` is the map as it is now, `text` the snapshot of the moment.
+/// Adds the last tile that was made to its archive. The first `put` bytes of its content are ahead: none if tiles are counted. `store` is the map
+/// as it is now, `text` the snapshot of the moment. A long list that is of no use any more is put in `spent`.
 fn add_tile(
     collected: &mut Collected,
+    spent: &mut Option<SpentContent>,
     tile: feature_store::Tile,
+    put: usize,
     tiles: &mut Tiles,
     store: &Store,
     moment: &Moment,
@@ -88,9 +89,13 @@ fn add_tile(
     requires as_of { IsAsOf moment.now store.now.features }
     requires collected { AreCollected tiles.old.features metadata.now area tile.0 collected.old }
     requires last { IsLastMade tiles.old.features tiles.old.from (tile.0, tile.1.items) }
+    requires inside { put ≤ length tile.1.items }
+    requires ahead { collected.old.kept.ahead ≡ take put tile.1.items }
+    requires counted { IfSome collected.old.counted (λ counted. put ≡ 0) }
     requires snapshot { text.now ≡ snapshot tiles.old.features }
     ensures unchanged { tiles.new ≡ tiles.old }
     ensures collected { OnOk result (AreCollected tiles.old.features metadata.now area tiles.old.from collected.new) }
+    ensures ahead { OnOk result (collected.new.kept.ahead ≡ []) }
     ensures waiting { OnOk result (collected.new.waiting ≡ collected.old.waiting) }
     ensures count { OnOk result (length (tiles_of collected.new) ≡ length (tiles_of collected.old) + 1) }
     ensures fault { IfErr result (IsContentFault tiles.old.features metadata.now area) }
@@ -98,15 +103,23 @@ fn add_tile(
     let (id, content) = tile;
     match &mut collected.counted {
         Some(counter) => count_tile(counter, id, content, tiles, store, moment),
-        None => collected.keep(id, &content, text, metadata, area),
+        None => match collected.keep(id, &content, put, text, metadata, area) {
+            Ok(contents) => {
+                spend(spent, content, contents);
+                Ok(())
+            }
+            Err(fault) => Err(fault),
+        },
     }
 }
 
 /// Makes a part of the next tile of a moment, and at its last part adds the tile to its archive. A large tile waits: each step after it puts a
-/// part of its content ahead, and the last of them adds it. `store` is the map as it is now, `text` the snapshot of the moment.
+/// part of its content ahead, and the last of them puts the rest ahead and adds it. `store` is the map as it is now, `text` the snapshot of the
+/// moment. A long list that is of no use any more is put in `spent`.
 pub(crate) fn make_next(
     tiles: &mut Tiles,
     collected: &mut Collected,
+    spent: &mut Option<SpentContent>,
     store: &Store,
     moment: &Moment,
     text: &[u8],
@@ -128,11 +141,19 @@ pub(crate) fn make_next(
 {
     if let Some(waiting) = collected.waiting.take() {
         if waiting.parts > 0 {
-            collected.put_ahead(waiting);
-            return Ok(Progress::Part);
+            return match collected.put_ahead(waiting) {
+                Ok(()) => Ok(Progress::Part),
+                Err(_) => Err(ContentFault::Memory),
+            };
         }
-        let tile = waiting.tile;
-        return match add_tile(collected, tile, tiles, store, moment, text, metadata, area) {
+        let Waiting {
+            tile,
+            put,
+            parts: _,
+        } = waiting;
+        return match add_tile(
+            collected, spent, tile, put, tiles, store, moment, text, metadata, area,
+        ) {
             Ok(()) => Ok(Progress::Tile),
             Err(fault) => Err(fault),
         };
@@ -147,7 +168,9 @@ pub(crate) fn make_next(
         collected.let_wait(tile);
         return Ok(Progress::Part);
     }
-    match add_tile(collected, tile, tiles, store, moment, text, metadata, area) {
+    match add_tile(
+        collected, spent, tile, 0, tiles, store, moment, text, metadata, area,
+    ) {
         Ok(()) => Ok(Progress::Tile),
         Err(fault) => Err(fault),
     }
@@ -160,8 +183,8 @@ pub(crate) fn archive_of(
     metadata: &[u8],
 ) -> Result<BuiltArchive, AllocError>
     requires metadata { IsMetadata metadata.now }
-    ensures of_tiles { IfOk result (λ a. IsArchiveOfTiles builder metadata.now (archive_bytes a)) }
-    ensures bounded { IfOk result (λ a. IsSize builder metadata.now (length (archive_bytes a))) }
+    ensures of_tiles { IfOk result (λ a. IsArchiveOfTiles builder.tiles metadata.now (archive_bytes a)) }
+    ensures bounded { IfOk result (λ a. IsSize builder.tiles metadata.now (length (archive_bytes a))) }
 {
     if builder.is_empty() {
         return Ok(BuiltArchive {

@@ -1,7 +1,8 @@
 //! The tiles of an archive in the making.
-ghost use Rattle.std.specs.Prelude.{◌≡◌, ◌<◌, ◌-◌, ◌*◌, ◌++◌, ◌∷◌, [], length, min, Some, None, OnOk, IfErr};
+ghost use Rattle.std.specs.Prelude.{◌≡◌, ◌<◌, ◌≤◌, ◌+◌, ◌-◌, ◌*◌, ◌++◌, ◌∷◌, [], length, take, min, Err, Some, None, OnOk, IfErr};
 ghost use Rattle.feature_store.specs.Store.{FeatureMap, snapshot};
 ghost use Rattle.pm_build.specs.Building.{AreFew, AreTooMany, CanAdd};
+ghost use Rattle.pm_build.specs.declared.ahead.TheConstants.{AHEAD_BYTES};
 ghost use Rattle.area_content.specs.Faults.{HasManyTiles, IsContentFault, told_as};
 ghost use Rattle.area_content.specs.Room.{AreBeyondIf, AreWithin, least_sectors};
 ghost use Rattle.area_content.specs.declared.collected.TheConstants.{MAX_RESERVED_SECTORS};
@@ -16,15 +17,21 @@ use sector_disk::SECTOR_BYTES;
 use std::alloc::{AllocError, Global};
 use std::mem;
 
-/// Memory for contents is reserved for at most this many sectors, 33 MiB. glibc always gives a block of more than 32 MiB pages of its own: as the
-/// block grows they are moved, not copied. A smaller one may be copied at each growth. Pages that nothing was written to take no memory.
-const MAX_RESERVED_SECTORS: u64 = 67_584;
+/// A tile of this many bytes or more is put ahead and added in steps of its own: to make its last part and to add it are both long then.
+pub(crate) const LARGE_TILE_BYTES: usize = 65_536;
+
+/// Memory for contents is reserved for at most this many sectors, 65 MiB. glibc gives a block of more than 32 MiB pages of its own, if its heap has no
+/// free block as large (at its end it has less than 64 MiB): as the block grows they are moved, not copied. A smaller one may be copied at each
+/// growth. Pages that nothing was written to take no memory.
+const MAX_RESERVED_SECTORS: u64 = 133_120;
 
 /// A tile that is made and not added to its archive yet.
 #[derive(Drop)]
 pub(crate) struct Waiting {
     pub(crate) tile: Tile,
-    /// How many parts of its content are still to be put ahead.
+    /// How many first bytes of its content are put ahead.
+    pub(crate) put: usize,
+    /// How many whole parts of its content are still to be put ahead.
     pub(crate) parts: usize,
 }
 
@@ -51,7 +58,7 @@ pub(crate) fn to_content_fault(fault: BuildFault) -> ContentFault
 
 /// How many sectors a snapshot with this text takes, and an archive of the tiles that were added at least.
 fn least_sectors(builder: &ArchiveBuilder, text: &[u8], metadata: &[u8]) -> u64
-    ensures { (m : FeatureMap) → text.now ≡ snapshot m → result ≡ least_sectors m metadata.now builder.now }
+    ensures { (m : FeatureMap) → text.now ≡ snapshot m → result ≡ least_sectors m metadata.now builder.now.tiles }
 {
     let archive = HEADER_BYTES + metadata.len() + builder.content_len();
     sectors_for(text.len()) + sectors_for(archive)
@@ -70,7 +77,7 @@ impl Collected {
 
     /// No tiles, for an area of `area` sectors. It tries to reserve memory for their contents, and doesn't need it.
     pub(crate) fn new(alloc: Global, area: u64) -> Collected
-        ensures kept { result.kept ≡ [] }
+        ensures kept { result.kept ≡ record { tiles = []; ahead = [] } }
         ensures counted { result.counted ≡ None }
         ensures waiting { result.waiting ≡ None }
     {
@@ -86,43 +93,77 @@ impl Collected {
     pub(crate) fn let_wait(&mut self, tile: Tile)
         ensures kept { self.new.kept ≡ self.old.kept }
         ensures counted { self.new.counted ≡ self.old.counted }
-        ensures waiting { self.new.waiting ≡ Some (record { tile = tile; parts = parts_of self.old.counted (length tile.1.items) }) }
+        ensures waiting { self.new.waiting ≡ Some (record { tile = tile; put = 0; parts = parts_of self.old.counted (length tile.1.items) }) }
     {
         let parts = match &self.counted {
             Some(_) => 0,
             None => tile.1.len() / AHEAD_BYTES,
         };
-        self.waiting = Some(Waiting { tile, parts });
-    }
-
-    /// Puts a part of the content of a tile ahead, which waits on.
-    pub(crate) fn put_ahead(&mut self, waiting: Waiting)
-        requires { 0 < waiting.parts }
-        ensures kept { self.new.kept ≡ self.old.kept }
-        ensures counted { self.new.counted ≡ self.old.counted }
-        ensures waiting { self.new.waiting ≡ Some (record { tile = waiting.tile; parts = waiting.parts - 1 }) }
-    {
-        let Waiting { tile, parts } = waiting;
-        self.kept.put_ahead(&tile.1);
         self.waiting = Some(Waiting {
             tile,
-            parts: parts - 1,
+            put: 0,
+            parts,
         });
     }
 
-    /// Counts the tiles from now on. The only error is out of memory; the tiles are lost then.
-    fn count(&mut self) -> Result<(), AllocError>
-        ensures counted { OnOk result (self.new.counted ≡ Some self.old.kept) }
-        ensures kept { OnOk result (self.new.kept ≡ []) }
-        ensures waiting { OnOk result (self.new.waiting ≡ self.old.waiting) }
+    /// Puts the next part of the content of a tile ahead, which waits on. The only error is out of memory.
+    pub(crate) fn put_ahead(&mut self, waiting: Waiting) -> Result<(), AllocError>
+        requires parts { 0 < waiting.parts }
+        requires inside { waiting.put + waiting.parts * AHEAD_BYTES ≤ length waiting.tile.1.items }
+        requires ahead { self.old.kept.ahead ≡ take waiting.put waiting.tile.1.items }
+        ensures tiles { OnOk result (self.new.kept.tiles ≡ self.old.kept.tiles) }
+        ensures ahead { OnOk result (self.new.kept.ahead ≡ take (waiting.put + AHEAD_BYTES) waiting.tile.1.items) }
+        ensures counted { OnOk result (self.new.counted ≡ self.old.counted) }
+        ensures waiting { OnOk result
+            (self.new.waiting ≡ Some (record { tile = waiting.tile; put = waiting.put + AHEAD_BYTES; parts = waiting.parts - 1 })) }
     {
-        let kept = mem::replace(&mut self.kept, ArchiveBuilder::new(self.alloc));
-        let counter = kept.into_counter()?;
-        self.counted = Some(counter);
+        let Waiting { tile, put, parts } = waiting;
+        let end = put + AHEAD_BYTES;
+        self.kept.put_ahead(&tile.1[put..end])?;
+        self.waiting = Some(Waiting {
+            tile,
+            put: end,
+            parts: parts - 1,
+        });
         Ok(())
     }
 
-    /// Adds a tile, whose content is kept unless with it the snapshot `text` and an archive no longer fit in an area of `area` sectors.
+    /// Adds a tile to those whose contents are kept. The first `put` bytes of its content are ahead. A large one is put ahead whole.
+    fn add(&mut self, id: u64, content: &[u8], put: usize) -> Result<(), BuildFault>
+        requires inside { put ≤ length content.now }
+        requires ahead { self.old.kept.ahead ≡ take put content.now }
+        requires can { CanAdd self.old.kept.tiles (id, content.now) }
+        ensures added { OnOk result (self.new.kept.tiles ≡ self.old.kept.tiles ++ (id, content.now) ∷ []) }
+        ensures ahead { OnOk result (self.new.kept.ahead ≡ []) }
+        ensures few { OnOk result (AreFew self.new.kept.tiles) }
+        ensures many { result ≡ Err BuildFault.TooManyEntries → AreTooMany (self.old.kept.tiles ++ (id, content.now) ∷ []) }
+        ensures counted { self.new.counted ≡ self.old.counted }
+        ensures waiting { self.new.waiting ≡ self.old.waiting }
+    {
+        if content.len() < LARGE_TILE_BYTES {
+            return self.kept.add(id, content);
+        }
+        match self.kept.put_ahead(&content[put..]) {
+            Ok(()) => self.kept.add_ahead(id),
+            Err(_) => Err(BuildFault::Memory),
+        }
+    }
+
+    /// Counts the tiles from now on. Returns the list of contents that were kept, which is of no use any more. The only error is out of memory; the
+    /// tiles are lost then.
+    fn count(&mut self) -> Result<Vec<u8>, AllocError>
+        ensures counted { OnOk result (self.new.counted ≡ Some self.old.kept.tiles) }
+        ensures kept { OnOk result (self.new.kept ≡ record { tiles = []; ahead = [] }) }
+        ensures waiting { OnOk result (self.new.waiting ≡ self.old.waiting) }
+    {
+        let kept = mem::replace(&mut self.kept, ArchiveBuilder::new(self.alloc));
+        let (counter, spent) = kept.into_counter()?;
+        self.counted = Some(counter);
+        Ok(spent)
+    }
+
+    /// Adds a tile, whose content is kept unless with it the snapshot `text` and an archive no longer fit in an area of `area` sectors. The first
+    /// `put` bytes of its content are ahead. Returns the list of contents that were kept until then and are of no use any more, or an empty one.
     ///
     /// # Errors
     ///
@@ -131,29 +172,33 @@ impl Collected {
         &mut self,
         id: u64,
         content: &[u8],
+        put: usize,
         text: &[u8],
         metadata: &[u8],
         area: u64,
-    ) -> Result<(), ContentFault>
+    ) -> Result<Vec<u8>, ContentFault>
         requires none { self.old.counted ≡ None }
-        requires can { CanAdd self.old.kept (id, content.now) }
-        ensures added { OnOk result (tiles_of self.new ≡ self.old.kept ++ (id, content.now) ∷ []) }
+        requires inside { put ≤ length content.now }
+        requires ahead { self.old.kept.ahead ≡ take put content.now }
+        requires can { CanAdd self.old.kept.tiles (id, content.now) }
+        ensures added { OnOk result (tiles_of self.new ≡ self.old.kept.tiles ++ (id, content.now) ∷ []) }
+        ensures ahead { OnOk result (self.new.kept.ahead ≡ []) }
         ensures few { OnOk result (AreFew (tiles_of self.new)) }
-        ensures within { OnOk result ((m : FeatureMap) → text.now ≡ snapshot m → AreWithin m metadata.now area self.new.kept) }
+        ensures within { OnOk result ((m : FeatureMap) → text.now ≡ snapshot m → AreWithin m metadata.now area self.new.kept.tiles) }
         ensures beyond { OnOk result ((m : FeatureMap) → text.now ≡ snapshot m → AreBeyondIf m metadata.now area self.new.counted) }
         ensures waiting { OnOk result (self.new.waiting ≡ self.old.waiting) }
-        ensures fault { IfErr result (λ fault. (m : FeatureMap) → (AreTooMany (self.old.kept ++ (id, content.now) ∷ []) → HasManyTiles m)
+        ensures fault { IfErr result (λ fault. (m : FeatureMap) → (AreTooMany (self.old.kept.tiles ++ (id, content.now) ∷ []) → HasManyTiles m)
             → IsContentFault m metadata.now area fault) }
     {
-        match self.kept.add(id, content) {
+        match self.add(id, content, put) {
             Ok(()) => {}
             Err(fault) => return Err(to_content_fault(fault)),
         }
         if least_sectors(&self.kept, text, metadata) <= area {
-            return Ok(());
+            return Ok(Vec::new(self.alloc));
         }
         match self.count() {
-            Ok(()) => Ok(()),
+            Ok(spent) => Ok(spent),
             Err(_) => Err(ContentFault::Memory),
         }
     }

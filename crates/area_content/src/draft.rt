@@ -14,6 +14,7 @@ use crate::archive::{Progress, archive_of, make_next};
 use crate::collected::Collected;
 use crate::content::{AreaContent, sectors_for, within};
 use crate::fault::ContentFault;
+use crate::spent::SpentContent;
 use feature_store::{Moment, MomentReader, Store, Tiles};
 use pm_build::{ArchiveBuilder, ArchiveCounter};
 use std::alloc::{AllocError, Global};
@@ -33,14 +34,17 @@ pub enum Stage {
 /// The content of an area for a map as of a moment, in the making. Each step makes a part of a tile, copies a part of a large one, or adds it, and
 /// the map may be edited between two of them (`feature_store::Store::place_after`, `remove_after`). What it holds is the snapshot, the boxes of
 /// the features, the contents of the tiles so far, which fit into the area, one tile more, which is in the making or not added yet, and what is
-/// copied of that. Once a tile doesn't fit, no content is kept: what it holds then is a record for each run and for each different content, the
-/// last tile that was added and the one after it. A step that adds this one may make an equal tile again.
+/// copied of that, and what isn't given back yet of a large one that was added: each step gives back 2 MiB. Once a tile doesn't fit, no content is
+/// kept: what it holds then is a record for each run and for each different content, the last tile that was added and the one after it. A step that
+/// adds this one may make an equal tile again.
 #[derive(Drop)]
 pub struct ContentDraft {
     text: Vec<u8>,
     metadata: Vec<u8>,
     tiles: Tiles,
     collected: Collected,
+    /// What is left of the last large tile that was added, and of the contents that are kept no longer once tiles are counted.
+    spent: Option<SpentContent>,
     /// How many tiles are added.
     made: u64,
     area: u64,
@@ -86,9 +90,9 @@ fn content_with(
 ) -> Result<AreaContent, ContentFault>
     requires { IsMetadata metadata.now }
     ensures snapshot { IfOk result (λ c. c.snapshot ≡ text.items) }
-    ensures built { (m : FeatureMap) → IsMap m → AreTiles m builder → All IsShort builder → IfOk result (λ c. IsBuiltFor m metadata.now c.archive) }
+    ensures built { (m : FeatureMap) → IsMap m → AreTiles m builder.tiles → All IsShort builder.tiles → IfOk result (λ c. IsBuiltFor m metadata.now c.archive) }
     ensures fits { IfOk result (λ c. sectors_taken c ≤ area) }
-    ensures fault { (m : FeatureMap) → IsMap m → text.items ≡ snapshot m → AreTiles m builder → All IsShort builder
+    ensures fault { (m : FeatureMap) → IsMap m → text.items ≡ snapshot m → AreTiles m builder.tiles → All IsShort builder.tiles
         → IfErr result (IsContentFault m metadata.now area) }
 {
     let archive = match archive_of(alloc, builder, metadata) {
@@ -123,6 +127,7 @@ impl ContentDraft {
             metadata,
             tiles,
             collected: Collected::new(alloc, area),
+            spent: None,
             made: 0,
             area,
             stage: Stage::Going,
@@ -139,8 +144,8 @@ impl ContentDraft {
     }
 
     /// Makes a part of the next tile of the moment, `store` being the map as it is now, and at its last part adds the tile. A large tile is added
-    /// by the steps after that, which make no part: as long as contents are kept, each copies `AHEAD_BYTES` of its bytes behind them, if so many
-    /// are left, and the last one adds the tile. It is true if tiles may be left.
+    /// by the steps after that, which make no part: as long as contents are kept, each copies `AHEAD_BYTES` of its bytes after them, and the last
+    /// one copies the rest and adds the tile. It is true if tiles may be left.
     ///
     /// # Errors
     ///
@@ -160,9 +165,11 @@ impl ContentDraft {
         ensures fault { IfErr result (IsContentFault self.old.features self.old.metadata self.old.area) }
     {
         self.stage = Stage::Failed;
+        self.spent = self.spent.take().and_then(SpentContent::shrunk);
         let result = make_next(
             &mut self.tiles,
             &mut self.collected,
+            &mut self.spent,
             store,
             moment,
             &self.text,
@@ -204,6 +211,7 @@ impl ContentDraft {
             metadata,
             tiles: _,
             collected,
+            spent: _,
             made: _,
             area,
             stage: _,

@@ -1,5 +1,5 @@
 //! The features of a moment, read by steps.
-ghost use Rattle.std.specs.Prelude.{◌≡◌, ◌<◌, ◌≤◌, ◌++◌, All, map, Ok, true, false, IfOk, OnOk, OnErr, option_copied};
+ghost use Rattle.std.specs.Prelude.{◌≡◌, ◌<◌, ◌≤◌, ◌++◌, [], All, map, Ok, true, false, IfOk, OnOk, OnErr, option_copied};
 ghost use Rattle.number_map.specs.Blocks.{Ascends};
 ghost use Rattle.feature_model.specs.declared.limits.TheConstants.{NUMBER_END};
 ghost use Rattle.feature_store.specs.Indexed.{index_entry};
@@ -23,6 +23,11 @@ use std::snapshot::Snapshot;
 
 /// How many numbers a step looks at, of those that have a feature or were changed since the moment.
 pub const STEP_NUMBERS: usize = 256;
+
+/// For how many bytes of texts memory is reserved, 65 MiB. glibc gives a block of more than 32 MiB pages of its own, if its heap has no free block as
+/// large (at its end it has less than 64 MiB): as the text grows they are moved, not copied. A smaller one may be copied at each growth. Pages that
+/// nothing was written to take no memory.
+const RESERVED_BYTES: usize = 68_157_440;
 
 /// The texts and the boxes of the features of a map as of a moment, read by ascending number, by steps between which the map may be edited.
 #[derive(Drop)]
@@ -50,6 +55,16 @@ impl Model for MomentReader {
     ghost invariant = { IsReader };
 }
 
+/// An empty text, with room for `RESERVED_BYTES` bytes, unless that is refused.
+fn reserved_text(alloc: Global) -> Vec<u8>
+    ensures { result.items ≡ [] }
+{
+    match Vec::with_capacity(alloc, RESERVED_BYTES) {
+        Ok(text) => text,
+        Err(_) => Vec::new(alloc),
+    }
+}
+
 /// Appends the text and the box of the feature that a number had, if it had one. If memory is missing, neither is appended.
 fn append_had(
     text: &mut Vec<u8>,
@@ -71,7 +86,8 @@ fn append_had(
 }
 
 impl MomentReader {
-    /// A reader of the map as it is now, which has read nothing. The only error is out of memory.
+    /// A reader of the map as it is now, which has read nothing. It tries to reserve memory for texts, and doesn't need it. The only error is out of
+    /// memory.
     pub fn of(alloc: Global, store: &Store) -> Result<MomentReader, AllocError>
         ensures features { IfOk result (λ r. r.features ≡ store.now.features) }
         ensures start { IfOk result (λ r. r.from ≡ 0) }
@@ -79,7 +95,7 @@ impl MomentReader {
         let boxes = Vec::with_capacity(alloc, store.len())?;
         Ok(MomentReader {
             features: Snapshot::of(store.features()),
-            text: Vec::new(alloc),
+            text: reserved_text(alloc),
             boxes,
             from: 0,
             alloc,

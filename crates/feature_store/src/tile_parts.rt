@@ -28,7 +28,7 @@ use std::mem;
 /// miss the caches, and these misses overlap.
 pub const PART_NUMBERS: usize = 32;
 
-/// The layers of a tile of so many features at most are written in one call, once all are added. Those of a longer one are written by parts.
+/// The layers of a tile of at most this many features are written in one call, once all are added. Those of a longer one are written by parts.
 const SHORT_NUMBERS: usize = 1_024;
 
 /// A tile of a moment in the making.

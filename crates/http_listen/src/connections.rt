@@ -310,8 +310,9 @@ where
 ///
 /// The handler may prepare a reply in steps. In a round each connection that is ready has one turn, and the turn of one whose reply is
 /// being prepared is as many steps, at least one, as begin within the time that all other turns took since the last turn with steps, or within
-/// `Waits::preparing_time` if that is longer, and never more than four times that. Between two rounds new connections are accepted.
-/// Until its reply nothing more is read of such a connection, its peer's time doesn't run, and it isn't ended to make room for others.
+/// `Waits::preparing_time` if that is longer or neither this round nor the one before had such a turn, and never more than four times that.
+/// Between two rounds new connections are accepted. Until its reply nothing more is read of such a connection, its peer's time doesn't run, and it
+/// isn't ended to make room for others.
 ///
 /// Between two requests a connection holds no buffers. Otherwise it has at most `http_requests::MAX_REQUEST` bytes of input, and the reply that
 /// its peer is taking; a buffer takes at most twice as much as it has. Of a content that is read in parts one part is in memory.

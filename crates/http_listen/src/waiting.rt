@@ -165,6 +165,7 @@ impl<S: Talks + OpenStream + Drop> Pool<S> {
         let longest = self.longest(now, accepts);
         let outcome = listener.wait(longest, &mut self.places);
         self.round = self.places.ends(List::Ready).count;
+        self.step_time.begin_round();
         self.accepts = MAX_ACCEPTS;
         match outcome {
             Ok(comes) => {

@@ -14,6 +14,7 @@ use Rattle.sector_disk.specs.Asked.{OnlyReads}
 use Rattle.sector_disk.specs.Disk.{History}
 use Rattle.sector_disk.proofs.AskedLaws.{reads_none}
 use Rattle.feature_store.specs.Store.{FeatureMap}
+use Rattle.published_tiles.specs.Published.{PublishedView}
 use Rattle.tile_routes.specs.Methods.{method_on}
 use Rattle.tile_routes.specs.Paths.{Asked}
 use Rattle.tile_service.specs.Drafted.{DraftedView}
@@ -34,7 +35,7 @@ use Rattle.map_replies.specs.declared.preparing.PreparingReplies.{PreparingRepli
 use Rattle.map_replies.specs.Conditions.{ask_of}
 use Rattle.map_replies.specs.Meanings.{DiskFailed, asked_for, last_outcome}
 use Rattle.map_replies.specs.Preparing.{IsMadeReady, BeginsLate, PreparingReplied, PreparingReads, PreparingStep, Meanwhile}
-use Rattle.map_replies.specs.Preparing.{IsToPublishWhole, GoesToItsEnd, EndsLate, BeginsWhole, StepsWhole, CancelsWhole, GoesOnWhole, Prepares}
+use Rattle.map_replies.specs.Preparing.{IsToPublishWhole, GoesToItsEnd, EndsLate, BeginsWhole, StepsWhole, CancelsWhole, GoesOnWhole, ReadsPart, Prepares}
 use Rattle.map_replies.specs.Preparing.{IsToBegin, TellsMeanwhile, TellsMeanwhileRead, TellsPrepared, is_to_publish, inner_service}
 use Rattle.map_replies.specs.Preparing.{AreMeanwhile, beginning_of, has_begun, is_begun, meanwhile, without_draft}
 use Rattle.map_replies.specs.Tickets.{KeepsOldest, KeepsTickets, oldest_after}
@@ -573,7 +574,9 @@ module _ {D : Type 0} (sectors : D → ℕ) (honest : D → Type 0) (history : D
       let same : now.drafting ≡ before.drafting = ap (λ (s : ServiceView D). s.drafting) is.0.0.same in
       let rests : Rests sectors honest history before now = record {
         read = record {
-          same = is.0.0.same ∙ ap (λ (d : Option DraftedView). record before { disk = now.disk; drafting = d }) (sym same);
+          same = is.0.0.same ∙ ap (λ (d : Option DraftedView). record before { disk = now.disk; drafting = d }) (sym same)
+              ∙ ap (λ (p : PublishedView). record before { disk = now.disk; drafting = now.drafting; published = p })
+              (sym (ap (λ (s : ServiceView D). s.published) is.0.0.same));
           disk = is.0.0.disk;
         };
         up = is.0.0.up;
@@ -618,7 +621,9 @@ module _ {D : Type 0} (sectors : D → ℕ) (honest : D → Type 0) (history : D
       prepared_rests : Rests sectors honest history then there
       prepared_rests = record {
         read = record {
-          same = service_same ∙ ap (λ (d : D). record then { disk = d; drafting = there.drafting }) (sym disk_same);
+          same = service_same ∙ ap (λ (d : D). record then { disk = d; drafting = there.drafting }) (sym disk_same)
+              ∙ ap (λ (p : PublishedView). record then { disk = there.disk; drafting = there.drafting; published = p })
+              (sym (ap (λ (s : ServiceView D). s.published) service_same));
           disk = subst (λ (d : D). OnlyReads sectors honest history then.disk d) (sym disk_same) (reads_none then.disk);
         };
         up = λ stored up is_honest. is.up stored up;
@@ -729,7 +734,7 @@ module _ {D : Type 0} (sectors : D → ℕ) (honest : D → Type 0) (history : D
         let has = begun_left (beginning_of old) is.0 in
         let none : there.drafting ≡ None = still_none then.drafting there.drafting is.3.takes.drafting (begun (Ok has.0) has.1).0 in (
           meanwhile new next None,
-          inr (inr (inr (outcome, is, refl, refl))),
+          inr (inr (inr (inl (outcome, is, refl, refl)))),
           record {
             here = refl;
             goes = goes_on sectors honest history (inner_service first) then there run (cancel outcome ∷ []) goes
@@ -739,11 +744,38 @@ module _ {D : Type 0} (sectors : D → ℕ) (honest : D → Type 0) (history : D
           },
         )
 
+    -- a part of a tile is read
+    told_part : ReadsPart sectors honest history faults old new → ToldPrepared
+    told_part is =
+        let service_same : there ≡ record then { disk = there.disk; published = there.published } =
+        ap (λ (r : MapReplies D). asked_service r) is.same in
+        let same : there.drafting ≡ then.drafting = ap (λ (s : ServiceView D). s.drafting) service_same in
+        let rests : Rests sectors honest history then there = record {
+          read = record {
+            same = service_same
+                ∙ ap (λ (d : Option DraftedView). record then { disk = there.disk; drafting = d; published = there.published }) (sym same);
+            disk = is.disk;
+          };
+          up = is.up;
+        } in (
+          meanwhile new run fixed,
+          inr (inr (inr (inr (is, refl, refl)))),
+          record {
+            here = refl;
+            goes = goes_rest sectors honest history (inner_service first) then there run goes rests;
+            drafts = λ d some. let so_far = drafts d (sym same ∙ some) in
+                (so_far.0, so_far.1, drafts_rest (inner_service first) then there run so_far.0 so_far.2 rests same);
+            begun = λ beginning has. let so_far = begun beginning (sym is.whole ∙ has) in
+                (same ∙ so_far.0, so_far.1, so_far.2, so_far.3);
+          },
+        )
+
     told_prepared : Prepares sectors honest history faults old new → ToldPrepared
     told_prepared (inl is) = told_preparing is is.draft
     told_prepared (inr (inl is)) = told_begins is.0 is.1
     told_prepared (inr (inr (inl is))) = told_steps is.0 is.1
-    told_prepared (inr (inr (inr is))) = told_cancels is.0 is.1
+    told_prepared (inr (inr (inr (inl is)))) = told_cancels is.0 is.1
+    told_prepared (inr (inr (inr (inr is)))) = told_part is
 
   pub prepared_told : (first old : PreparingReplies D) (so : Meanwhile D) (new : PreparingReplies D) → GoesMeanwhile first old so
       → Prepares sectors honest history faults old new

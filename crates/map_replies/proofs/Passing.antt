@@ -25,7 +25,7 @@ module _ {D : Type 0} (sectors : D → ℕ) (honest : D → Type 0) (history : D
 
   pub read_on : (old middle new : ServiceView D) → Read old middle → Read middle new → Read old new
   read_on old middle new first then = record {
-    same = then.same ∙ ap (λ (s : ServiceView D). record s { disk = new.disk; drafting = new.drafting }) first.same;
+    same = then.same ∙ ap (λ (s : ServiceView D). record s { disk = new.disk; drafting = new.drafting; published = new.published }) first.same;
     disk = reads_on first.disk then.disk;
   }
 
@@ -139,7 +139,8 @@ module _ {D : Type 0} (sectors : D → ℕ) (honest : D → Type 0) (history : D
   -- ---- one read more
 
   module _ (first now new : ServiceView D) (events : List Happening) (so : Passes first events now)
-      (same : new ≡ record now { disk = new.disk; drafting = new.drafting }) (disk : OnlyReads sectors honest history now.disk new.disk)
+      (same : new ≡ record now { disk = new.disk; drafting = new.drafting; published = new.published })
+      (disk : OnlyReads sectors honest history now.disk new.disk)
       (still_up : (stored : Stored) → IsUp (sectors now.disk) (history now.disk) stored now → honest new.disk
       → IsUp (sectors new.disk) (history new.disk) stored new) where
     abbrev then_from : ℕ → ServiceView D

@@ -5,6 +5,8 @@ use Rattle.std.proofs.lemmas.Bool.{false≢true}
 use Rattle.std.specs.Option.{is_some, option_map}
 use Rattle.http_requests.specs.Requests.{RequestView}
 use Rattle.http_serve.specs.Reply.{ReplyView}
+use Rattle.sector_bytes.specs.Counts.{NeverFalls}
+use Rattle.sector_disk.specs.Asked.{OnlyReads}
 use Rattle.sector_disk.specs.Disk.{History}
 use Rattle.tile_routes.specs.Methods.{method_on}
 use Rattle.tile_routes.specs.Paths.{Asked, asked_action}
@@ -26,8 +28,9 @@ use Rattle.map_replies.specs.declared.turns.Turns.{Turns}
 use Rattle.map_replies.specs.Conditions.{AskView}
 use Rattle.map_replies.specs.Meanings.{asked_for}
 use Rattle.map_replies.specs.Preparing.{IsReady, IsToBegin, IsToPublishWhole, MayPost, BeginsLate, PreparingStep, asks_to_publish, inner_service}
-use Rattle.map_replies.specs.Preparing.{BeginsWhole, GivesUp, IsMadeReady, Prepares, beginning_of, has_begun, undrafted, undrafted_calls}
+use Rattle.map_replies.specs.Preparing.{BeginsWhole, GivesUp, IsMadeReady, Prepares, ReadsPart, beginning_of, has_begun, undrafted, undrafted_calls}
 use Rattle.map_replies.specs.Sending.{SendsMethod}
+use Rattle.map_replies.specs.Tickets.{KeepsTickets}
 use Rattle.map_replies.specs.State.{access_of, asked_service}
 
 pub none_if : {A : Type 0} (o : Option A) → is_some o ≡ false → o ≡ None
@@ -148,7 +151,7 @@ module _ {D : Type 0} (sectors : D → ℕ) (honest : D → Type 0) (history : D
   WholeStays old new = (beginning_of new ≡ beginning_of old) ⊎ ((beginning_of new ≡ None) × (has_begun old ≡ false))
 
   -- the same replies, with another service
-  abbrev with_service : PreparingReplies D → ServiceView D → MapReplies D
+  abbrev pub with_service : PreparingReplies D → ServiceView D → MapReplies D
   with_service old service = record old.replies { calls = record old.replies.calls { service = service } }
 
   abbrev StaysUp : (old new : PreparingReplies D) → Type 0
@@ -199,7 +202,7 @@ module _ {D : Type 0} (sectors : D → ℕ) (honest : D → Type 0) (history : D
   -- the whole publication that is prepared is given up
   pub given_up : (old new : PreparingReplies D) → GivesUp sectors honest history faults old new → Prepared old new
   given_up old new (none, inl is) = inl (step_nothing old new is.1 (inr (none, is.0)))
-  given_up old new (none, inr is) = inr (inr (inr (is.0, (is.1, none, is.2, is.3))))
+  given_up old new (none, inr is) = inr (inr (inr (inl (is.0, (is.1, none, is.2, is.3)))))
 
   -- the whole publication begins after a step that left nothing to prepare
   pub unchanged_by : (old new : ServiceView D) → IsReady old → new ≡ record old { drafting = new.drafting }
@@ -218,7 +221,40 @@ module _ {D : Type 0} (sectors : D → ℕ) (honest : D → Type 0) (history : D
   pub prepares_at : (old new : PreparingReplies D) (turns : Turns) (is_next : Bool)
       → Prepared (record old { turns = turns; is_next = is_next }) new → Prepared old new
   prepares_at old new turns is_next (inl is) = inl (record { same = is.same; draft = is.draft; whole = is.whole; up = is.up })
-  prepares_at old new turns is_next (inr is) = inr is
+  prepares_at old new turns is_next (inr (inl is)) = inr (inl is)
+  prepares_at old new turns is_next (inr (inr (inl is))) = inr (inr (inl is))
+  prepares_at old new turns is_next (inr (inr (inr (inl is)))) = inr (inr (inr (inl is)))
+  prepares_at old new turns is_next (inr (inr (inr (inr is)))) = inr (inr (inr (inr (record {
+    same = is.same;
+    whole = is.whole;
+    disk = is.disk;
+    never_falls = is.never_falls;
+    untouched = is.untouched;
+    held = is.held;
+    up = is.up;
+  }))))
+
+  -- ---- a tile that is read by parts
+
+  abbrev Part : (old new : PreparingReplies D) → Type 0
+  Part = ReadsPart sectors honest history faults
+
+  -- of the same replies
+  pub part_on : (old new other : PreparingReplies D) → other.replies ≡ new.replies → beginning_of other ≡ beginning_of new → Part old new → Part old other
+  part_on old new other same whole is = record {
+    same = same ∙ is.same ∙ ap (λ (r : MapReplies D). with_service old (record (inner_service old) {
+      disk = (asked_service r).disk;
+      published = (asked_service r).published;
+    })) (sym same);
+    whole = whole ∙ is.whole;
+    disk = subst (λ (r : MapReplies D). OnlyReads sectors honest history (inner_service old).disk (asked_service r).disk) (sym same) is.disk;
+    never_falls = subst (λ (r : MapReplies D). NeverFalls (faults (inner_service old).disk) (faults (asked_service r).disk)) (sym same) is.never_falls;
+    untouched = λ broken. same ∙ is.untouched broken;
+    held = subst (λ (r : MapReplies D). KeepsTickets honest history old.replies.calls r.calls) (sym same) is.held;
+    up = subst (λ (r : MapReplies D). (stored : Stored)
+        → IsUp (sectors (inner_service old).disk) (history (inner_service old).disk) stored (inner_service old) → honest (asked_service r).disk
+        → IsUp (sectors (asked_service r).disk) (history (asked_service r).disk) stored (asked_service r)) (sym same) is.up;
+  }
 
   -- ---- before the answer to a call of a publication
 

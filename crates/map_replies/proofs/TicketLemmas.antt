@@ -45,7 +45,8 @@ module _ {D : Type 0} (sectors : D → ℕ) (honest : D → Type 0) (history : D
   -- ---- a run goes on over a read
 
   module _ (first now new : ServiceView D) (events : List Happening) (so : HasRun sectors honest history first events now)
-      (same : new ≡ record now { disk = new.disk; drafting = new.drafting }) (reads : OnlyReads sectors honest history now.disk new.disk)
+      (same : new ≡ record now { disk = new.disk; drafting = new.drafting; published = new.published })
+      (reads : OnlyReads sectors honest history now.disk new.disk)
       (still_up : (stored : Stored) → IsUp (sectors now.disk) (history now.disk) stored now → honest new.disk
       → IsUp (sectors new.disk) (history new.disk) stored new) where
     trusted_before : IsTrusted sectors honest history first new → IsTrusted sectors honest history first now

@@ -9,9 +9,9 @@ use Rattle.tile_service.specs.Stored.{Stored}
 
 -- over a disk with these sectors, this honesty and this history
 module _ {D : Type 0} (sectors : D → ℕ) (honest : D → Type 0) (history : D → History) where
-  -- Nothing happened to the service but reads of its disk, and steps that prepare a publication.
+  -- Nothing happened to the service but reads of its disk, after which other bytes of the archive may be cached, and steps that prepare a publication.
   pub record WasRead (old new : ServiceView D) : Type 0 where
-    pub same : new ≡ record old { disk = new.disk; drafting = new.drafting }
+    pub same : new ≡ record old { disk = new.disk; drafting = new.drafting; published = new.published }
     pub disk : OnlyReads sectors honest history old.disk new.disk
 
   -- The happenings in order, each from one state of the service to the next: `at k` is the state when the first k calls had returned, and

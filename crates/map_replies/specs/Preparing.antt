@@ -7,6 +7,8 @@ use Rattle.http_requests.specs.Requests.{RequestView}
 use Rattle.http_serve.specs.Reply.{ReplyView}
 use Rattle.http_serve.specs.declared.handlers.RestFault.{RestFault}
 use Rattle.http_serve.specs.declared.handlers.Ticket.{Ticket}
+use Rattle.sector_bytes.specs.Counts.{NeverFalls}
+use Rattle.sector_disk.specs.Asked.{OnlyReads}
 use Rattle.sector_disk.specs.Disk.{History}
 use Rattle.tile_routes.specs.Methods.{method_on}
 use Rattle.tile_routes.specs.Paths.{Asked, asked_action}
@@ -219,11 +221,30 @@ module _ {D : Type 0} (sectors : D → ℕ) (honest : D → Type 0) (history : D
   CancelsWhole old outcome new = (has_begun old ≡ true) × (beginning_of new ≡ None) × (new.replies ≡ record old.replies { calls = new.replies.calls })
       × CancelsBegun sectors honest history faults old.replies.calls outcome new.replies.calls
 
-  -- what is done between replies for a publication that is prepared
+  -- The disk is read for a tile of the archive, before the reply with the tile. Nothing else changes but what is cached of the archive, and tickets
+  -- that are held stay so.
+  pub record ReadsPart (old new : PreparingReplies D) : Type 0 where
+    pub same : new.replies ≡ record old.replies {
+      calls = record old.replies.calls {
+        service = record (inner_service old) {
+          disk = (inner_service new).disk;
+          published = (inner_service new).published;
+        };
+      };
+    }
+    pub whole : beginning_of new ≡ beginning_of old
+    pub disk : OnlyReads sectors honest history (inner_service old).disk (inner_service new).disk
+    pub never_falls : NeverFalls (faults (inner_service old).disk) (faults (inner_service new).disk)
+    pub untouched : (inner_service old).broken ≡ true → new.replies ≡ old.replies
+    pub held : KeepsTickets honest history old.replies.calls new.replies.calls
+    pub up : (stored : Stored) → IsUp (sectors (inner_service old).disk) (history (inner_service old).disk) stored (inner_service old)
+        → honest (inner_service new).disk → IsUp (sectors (inner_service new).disk) (history (inner_service new).disk) stored (inner_service new)
+
+  -- what is done between replies, for a publication that is prepared, or for a tile that is read by parts
   abbrev pub Prepares : PreparingReplies D → PreparingReplies D → Type 0
   Prepares old new = PreparingStep old new ⊎ ((outcome : Result ℕ ServiceFault) × BeginsWhole old outcome new)
       ⊎ ((outcome : Result ℕ ServiceFault) × StepsWhole old outcome new)
-      ⊎ ((outcome : Result (Unit {0}) ServiceFault) × CancelsWhole old outcome new)
+      ⊎ ((outcome : Result (Unit {0}) ServiceFault) × CancelsWhole old outcome new) ⊎ ReadsPart old new
 
 -- ---- a listener
 
@@ -327,6 +348,10 @@ module _ {D : Type 0} (sectors : D → ℕ) (honest : D → Type 0) (history : D
       × CancelsWhole sectors honest history faults old.replies outcome new.replies
       × (new.run ≡ old.run ++ cancel outcome ∷ []) × (new.fixed ≡ None)
 
-  -- what is done between replies for a publication that is prepared
+  -- The disk is read for a tile of the archive: nothing happens.
+  abbrev pub TellsPartRead : Meanwhile D → Meanwhile D → Type 0
+  TellsPartRead old new = ReadsPart sectors honest history faults old.replies new.replies × (new.run ≡ old.run) × (new.fixed ≡ old.fixed)
+
+  -- what is done between replies, for a publication that is prepared, or for a tile that is read by parts
   abbrev pub TellsPrepared : Meanwhile D → Meanwhile D → Type 0
-  TellsPrepared old new = TellsPreparing old new ⊎ TellsBegun old new ⊎ TellsStepped old new ⊎ TellsCancelled old new
+  TellsPrepared old new = TellsPreparing old new ⊎ TellsBegun old new ⊎ TellsStepped old new ⊎ TellsCancelled old new ⊎ TellsPartRead old new

@@ -1,7 +1,7 @@
 //! The replies of a map between which a publication is prepared: its map is fixed as it is asked for, its tiles are made one by one while other
 //! requests are answered, and then it begins. A whole one is written by steps between other replies too. A tile of many features is made by parts
-//! too, before its reply.
-ghost use Rattle.std.specs.Prelude.{◌≡◌, ◌≤◌, true, [], length, vec_capacity, IsTrue, IfSome, None, Some, Ok};
+//! too, before its reply, and a large tile of the archive is read by parts.
+ghost use Rattle.std.specs.Prelude.{◌≡◌, ◌≤◌, true, [], length, vec_capacity, IsTrue, IfErr, IfSome, None, Some, Ok};
 ghost use Rattle.http_serve.specs.Reply.{ReplyView, IsReply, InParts, IsWhole, HasShortWords, head_view, reply_view};
 ghost use Rattle.tile_routes.specs.Methods.{method_on};
 ghost use Rattle.tile_routes.specs.Paths.{asked_action};
@@ -11,7 +11,7 @@ ghost use Rattle.tile_routes.specs.declared.target.Action.TheVariants.{Publish, 
 ghost use Rattle.map_replies.specs.declared.replies.TheConstants.{MAX_TEXT};
 ghost use Rattle.map_replies.specs.Meanings.{asked_for};
 ghost use Rattle.map_replies.specs.Preparing.{asks_to_publish, without_draft, beginning_of, inner_size, BeginsLate, MayPost, IsReady};
-ghost use Rattle.map_replies.specs.Preparing.{PreparingReplied, PreparingSends, Prepares};
+ghost use Rattle.map_replies.specs.Preparing.{PreparingReplied, PreparingSends, Prepares, ReadsPart};
 ghost use Rattle.map_replies.specs.State.{access_of};
 ghost use Rattle.map_replies.specs.Words.{left_reply};
 
@@ -41,13 +41,13 @@ const BEGINNING: &[u8] = b"POST /publish/begin ";
 const WHOLE: &[u8] = b"POST /publish ";
 
 /// The request handler of a listener: the replies of a map, where a publication is prepared between other replies, and so is a tile of many
-/// features.
+/// features, or a large one of the archive.
 #[derive(Drop)]
 pub struct PreparingReplies<D: Sectors + Drop> {
     pub(crate) replies: MapReplies<D>,
     /// What the beginning of the whole publication that is prepared came to, once it was made.
     pub(crate) whole: Option<Result<u64, ServiceFault>>,
-    /// The tile in the making.
+    /// The tile in the making, or being read.
     tiles: LongTiles,
     ready: ReadyTargets,
     /// Which connection's publication is prepared.
@@ -294,29 +294,86 @@ impl<D: Sectors + Drop> PreparingReplies<D> {
         self.prepare_part(connection, at)
     }
 
-    /// The same for a request that begins as that for a tile, or for its head alone, unless nothing has to be made for it.
-    fn prepare_asked(&mut self, connection: u64, asked: &[u8]) -> Preparation
+    /// Reads the next part of a tile of the archive, if it has more than one, and says whether parts are left. Without `begins` the first part isn't
+    /// read.
+    fn read_part(&mut self, at: TileAt, begins: bool) -> Option<bool>
+        ensures { ReadsPart D.sectors D.honest D.history D.faults self.old self.new }
+    {
+        self.replies.calls.service.prepare_published(at, begins)
+    }
+
+    /// What comes after a part of a tile for the request of a connection, where others are left. If another tile is in the making or being read, for
+    /// another connection, it waits for that one.
+    fn after_part(&mut self, connection: u64, at: TileAt, is_other: bool) -> Preparation
         ensures same { self.new.replies ≡ self.old.replies }
         ensures whole { beginning_of self.new ≡ beginning_of self.old }
+    {
+        if is_other && self.tiles.has_to_wait(connection) {
+            return Preparation::Waits;
+        }
+        self.tiles.give(connection, at);
+        Preparation::GoesOn
+    }
+
+    /// What comes before the reply to a request of a connection for a tile of which nothing is left to read or to make.
+    fn end_part(&mut self, connection: u64, at: TileAt) -> Preparation
+        ensures same { self.new.replies ≡ self.old.replies }
+        ensures whole { beginning_of self.new ≡ beginning_of self.old }
+    {
+        self.tiles.end(connection, at);
+        Preparation::Ready
+    }
+
+    /// Reads the next part of a tile of the archive for the request of a connection, if it has more than one. Otherwise nothing has to be read or made,
+    /// which is noted.
+    fn prepare_read(&mut self, connection: u64, at: TileAt, asked: &[u8]) -> Preparation
+        ensures { ReadsPart D.sectors D.honest D.history D.faults self.old self.new }
+    {
+        let is_other = self.tiles.is_other(connection, at);
+        match self.read_part(at, !is_other) {
+            Some(true) => self.after_part(connection, at, is_other),
+            Some(false) => self.end_part(connection, at),
+            None => {
+                let stamp = self.replies.calls.service.tile_stamp();
+                self.ready.note(target_hash(asked), stamp);
+                self.end_part(connection, at)
+            }
+        }
+    }
+
+    /// Makes the next part of a tile for a request that begins as that for the tile, or for its head alone. If nothing of it has to be made, it may
+    /// have to be read: the tile is returned.
+    fn prepare_made(&mut self, connection: u64, asked: &[u8]) -> Result<Preparation, TileAt>
+        ensures same { self.new.replies ≡ self.old.replies }
+        ensures whole { beginning_of self.new ≡ beginning_of self.old }
+        ensures stays { IfErr result (λ _. self.new ≡ self.old) }
     {
         let hash = target_hash(asked);
         let stamp = self.replies.calls.service.tile_stamp();
         if self.ready.has(hash, stamp) {
             self.tiles.leave(connection);
-            return Preparation::Ready;
+            return Ok(Preparation::Ready);
         }
         let Some(at) = asked_tile(asked) else {
-            return Preparation::Ready;
+            return Ok(Preparation::Ready);
         };
         if self.replies.calls.service.tile_in_making() == Some(at) {
-            return self.prepare_tile(connection, at);
+            return Ok(self.prepare_tile(connection, at));
         }
         if self.replies.calls.service.is_made(at) {
-            return self.prepare_tile(connection, at);
+            return Ok(self.prepare_tile(connection, at));
         }
-        self.ready.note(hash, stamp);
-        self.tiles.end(connection, at);
-        Preparation::Ready
+        Err(at)
+    }
+
+    /// Makes or reads the next part of a tile for such a request.
+    fn prepare_asked(&mut self, connection: u64, asked: &[u8]) -> Preparation
+        ensures { Prepares D.sectors D.honest D.history D.faults self.old self.new }
+    {
+        match self.prepare_made(connection, asked) {
+            Ok(preparation) => preparation,
+            Err(at) => self.prepare_read(connection, at, asked),
+        }
     }
 
     /// What comes before the answer to a request that begins as an edit: it may have to wait for a tile.
@@ -332,8 +389,7 @@ impl<D: Sectors + Drop> PreparingReplies<D> {
 
     /// Makes the next part of what a request needs that asks for no publication.
     fn prepare_other(&mut self, connection: u64, asked: &[u8]) -> Preparation
-        ensures same { self.new.replies ≡ self.old.replies }
-        ensures whole { beginning_of self.new ≡ beginning_of self.old }
+        ensures { Prepares D.sectors D.honest D.history D.faults self.old self.new }
     {
         self.is_next = false;
         if !self.replies.calls.service.is_large() {

@@ -2,7 +2,7 @@
 use hilbert_id::TileAt;
 use script_bytes::{Answer, number_in, parted, short};
 
-/// A line: its first word, what stands behind it, and the numbers in that, 0 where there are fewer.
+/// A line: its first word, what follows it, and the numbers in that, 0 where there are fewer.
 #[derive(Clone, Copy)]
 pub(crate) struct Line<'a> {
     pub(crate) word: &'a str,

@@ -1,7 +1,7 @@
 //! Runs a script over a map and its parts, and over bytes of any maker: a line on standard input, its answer on standard output.
 //!
 //! A line `part maps` or `part reads` says whose commands follow; it has no answer, and each part keeps what it works on. A line is a word
-//! and what stands behind it. An empty line and one that begins with `#` are repeated; the answer to an unknown word, and to bytes that
+//! and what follows it. An empty line and one that begins with `#` are repeated; the answer to an unknown word, and to bytes that
 //! can't be made out, is `?` and the line. `<COUNT:TEXT>` in a FEATURE or an INPUT stands for a text that is repeated. Numbers are decimal,
 //! 0 where they are left out. In place of an answer stands a fault. An answer of over 10,000 bytes is told by its first ones, its length and
 //! a digest. What is wanted of each line is in `model/map_stand.py` and `model/read_stand.py`.
@@ -38,7 +38,7 @@
 //! | `tiles` | all tiles with their ids |
 //! | `snapshot`, `restore TEXT` | the snapshot of the map that is read back from the map's snapshot; the map of a snapshot replaces this one |
 //! | `metadata` | its metadata |
-//! | `area FREE` | what a publication writes into an area of so many sectors: lengths of snapshot and archive, sectors, and these |
+//! | `area FREE` | what a publication writes into an area of `FREE` sectors: lengths of snapshot and archive, sectors, and these |
 //!
 //! A map from numbers to numbers (`numbers`: an empty one):
 //!
@@ -47,10 +47,10 @@
 //! | `set N VALUE`, `unset N`, `get N` | the value before, or now |
 //! | `from N` | the first entry with this number or a greater one |
 //! | `fillup COUNT STEP`, `filldown COUNT STEP` | 0, STEP, 2 STEP .. get the values 0, 1, 2 .., in this order or from the last one down |
-//! | `thin COUNT STEP ONE_IN` | how many of such numbers were there and are taken out: all but the second of each so many |
+//! | `thin COUNT STEP ONE_IN` | how many of such numbers were there and are taken out: all but the second of each `ONE_IN` |
 //! | `serve N` | with room made once: whether it was there; its value before it gets 1, then, and as it is taken out |
 //! | `entries` | how many entries there are, and a digest of them |
-//! | `blocks MOST` | whether there are at most so many blocks |
+//! | `blocks MOST` | whether there are at most `MOST` blocks |
 //!
 //! An index of boxes (`boxes`: an empty one), a grid of the newest edits and a cache of tiles (`caches`: empty ones):
 //!
@@ -58,8 +58,8 @@
 //! |---|---|
 //! | `add ID BOX MINZOOM MAXZOOM`, `take ..` | an entry is added, or taken out |
 //! | `query BOX ZOOM` | the numbers of the entries that show there |
-//! | `scatter COUNT ACROSS DOWN`, `gather COUNT ACROSS DOWN ONE_IN` | so many boxes, each so far from the one before; all but one of each so many |
-//! | `boxblocks MOST` | whether there are at most so many blocks |
+//! | `scatter COUNT ACROSS DOWN`, `gather COUNT ACROSS DOWN ONE_IN` | `COUNT` boxes, each `ACROSS` and `DOWN` from the one before; all but each `ONE_IN`th |
+//! | `boxblocks MOST` | whether there are at most `MOST` blocks |
 //! | `mark BOX NUMBER`, `touched Z X Y` | an edit touched a box; the newest edit that can have touched a tile |
 //! | `hold Z X Y NUMBER BYTE`, `held Z X Y NUMBER` | a tile is held with an edit's number; its bytes, if they are held with this number or a later one |
 //!
@@ -81,16 +81,16 @@
 //! | `contents ID,ID.. INPUT`, `looks ID,ID.. INPUT` | the contents of ids in an archive; the same by one look-up that is kept |
 //! | `verify INPUT`, `show INPUT` | the status and the line of `vtserve verify`; what `vtserve show` writes |
 //! | `build ID:HEX ..` | the archive of tiles of these ids and contents |
-//! | `even COUNT HEX`, `evenjudged COUNT HEX` | the archive of so many tiles of even ids with one content; the line of `verify` about it |
-//! | `apart COUNT LENGTH` | the archive of so many tiles of even ids, each with a content of so many bytes of its own |
+//! | `even COUNT HEX`, `evenjudged COUNT HEX` | the archive of `COUNT` tiles of even ids with one content; the line of `verify` about it |
+//! | `apart COUNT LENGTH` | the archive of `COUNT` tiles of even ids, each with a content of `LENGTH` bytes of its own |
 //! | `shape KIND INTEGER ..` | the shape of `points`, `lines`, `polygons` or `unknown` that integers spell |
 //! | `example points`, `example line`, `example ring` | the integers of the standard's example of this shape |
 //! | `nothing` | the integers that are written of no lines, and of no rings |
-//! | `spell N ..` | numbers as they are spelled in a message, one behind the other |
+//! | `spell N ..` | numbers as they are encoded in a message, one after the other |
 //! | `zigzag N`, `unzigzag N` | a signed number as an unsigned one, and back |
 //! | `id Z X Y`, `place ID` | the id of a tile, and the tile of an id |
 //! | `range TEXT`, `rangeof INPUT` | the bytes that the value of a field `range` asks for |
-//! | `digits TEXT`, `written N N` | the number that digits write; two numbers in digits behind texts |
+//! | `digits TEXT`, `written N N` | the number that digits write; two numbers in digits after texts |
 #![tactic(auto)]
 
 mod lines;

@@ -143,7 +143,7 @@ impl Maps {
     }
 }
 
-/// Answers whether there are at most so many blocks.
+/// Answers whether there are at most this many blocks.
 fn blocks(answer: &mut Answer, count: usize, most: u64) {
     if count as u64 <= most {
         return write!(answer, "at most {most} blocks");

@@ -2,7 +2,7 @@
 use Rattle.std.specs.Prelude.{ℕ, ◌+◌, ◌^◌, List, [], ◌++◌, length, drop}
 use Rattle.mvt_layer.specs.declared.field_numbers.TheConstants.{TILE_LAYERS}
 use Rattle.mvt_write.specs.declared.tile_writer.LayerLeft.{LayerLeft}
-use Rattle.mvt_write.specs.declared.tile_writer.LayerLeft.TheVariants.{Over, Pools, Bytes}
+use Rattle.mvt_write.specs.declared.tile_writer.LayerLeft.TheVariants.{Over, Pools, Bytes, Spent}
 use Rattle.mvt_write.specs.declared.tile_writer.TileWriter.TheInside.{Inside}
 use Rattle.mvt_write.specs.Ending.{ending_bytes, ending_left}
 use Rattle.mvt_write.specs.Written.{bytes_field}
@@ -23,13 +23,15 @@ abbrev pub bytes_left : LayerLeft → List ℕ
 bytes_left Over = []
 bytes_left (Pools ending) = bytes_field TILE_LAYERS (ending_bytes ending)
 bytes_left (Bytes rest) = drop rest.done rest.bytes.items
+bytes_left (Spent bytes) = []
 
--- the greatest number of parts that takes: one for each entry of the pools, one for the head of the layer's field, and one for each byte;
--- 2 ^ 66 is more than the bytes of a layer, which are not counted before its pools are written
+-- the greatest number of parts that takes: one for each entry of the pools, one for the head of the layer's field, one for each byte that is added,
+-- and one for each byte that is given back; 2 ^ 66 is more than the last three, which are not counted before the pools are written
 abbrev pub parts_left : LayerLeft → ℕ
 parts_left Over = 0
 parts_left (Pools ending) = 2 ^ 66 + ending_left ending
-parts_left (Bytes rest) = 1 + length (drop rest.done rest.bytes.items)
+parts_left (Bytes rest) = 2 + length (drop rest.done rest.bytes.items) + length rest.bytes.items
+parts_left (Spent bytes) = 1 + length bytes.items
 
 abbrev pub tile_bytes : Inside → TileBytes
 tile_bytes t = record { bytes = t.out.items ++ bytes_left t.layer; left = parts_left t.layer }

@@ -7,6 +7,7 @@ ghost use Rattle.mvt_write.specs.Written.{bytes_field};
 
 use crate::entries::Entries;
 use crate::field::put_end;
+use crate::room::make_room;
 use mvt_layer::field_numbers::{LAYER_KEYS, LAYER_VALUES};
 use std::alloc::AllocError;
 
@@ -90,19 +91,20 @@ impl LayerEnding {
         ensures bytes { OnOk result (ending_bytes self.new ≡ ending_bytes self.old) }
         ensures left { OnOk result (ending_left self.new ≤ ending_left self.old - 1) }
     {
+        make_room(&mut self.bytes, 1, PART_ENTRIES);
         if self.keys.is_over() {
             return self.values.put_part(&mut self.bytes, LAYER_VALUES);
         }
         self.keys.put_part(&mut self.bytes, LAYER_KEYS)
     }
 
-    /// The bytes of the layer, once all entries are written. The only error is out of memory.
-    pub fn finish(self) -> Result<Vec<u8>, AllocError>
+    /// Its bytes, keys and values, once all of these are written. The only error is out of memory.
+    pub fn finish(self) -> Result<(Vec<u8>, Entries, Entries), AllocError>
         requires { ending_left self ≡ 0 }
-        ensures { IfOk result (λ v. v.items ≡ ending_bytes self) }
+        ensures { IfOk result (λ ended. ended.0.items ≡ ending_bytes self) }
     {
         let mut bytes = self.bytes;
         put_end(&mut bytes)?;
-        Ok(bytes)
+        Ok((bytes, self.keys.entries, self.values.entries))
     }
 }

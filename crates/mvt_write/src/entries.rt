@@ -3,7 +3,8 @@
 ghost use Rattle.std.specs.Prelude.{◌≤◌, All, length};
 
 use crate::field::put_bytes;
-use crate::span::Span;
+use crate::room::make_room;
+use crate::span::{SPAN_BYTES, Span};
 use std::alloc::{AllocError, Global};
 
 /// How many entries there is room for at first.
@@ -71,6 +72,8 @@ impl Entries {
         ensures bytes { OnOk result (vec_len self.new.bytes + len ≤ vec_capacity self.new.bytes) }
         ensures spans { OnOk result (vec_len self.new.spans < vec_capacity self.new.spans) }
     {
+        make_room(&mut self.bytes, 1, len);
+        make_room(&mut self.spans, SPAN_BYTES, 1);
         self.bytes.reserve(len)?;
         self.spans.reserve(1)
     }
@@ -112,5 +115,13 @@ impl Entries {
         ensures { OnOk result (out.new.items ≡ out.old.items ++ flat_map (bytes_field number) (entries_of self.now)) }
     {
         self.put_range(out, number, 0, self.len())
+    }
+
+    /// The lists of which they are made, once the entries are of no use any more.
+    pub fn into_lists(self) -> (Vec<u8>, Vec<Span>)
+        ensures bytes { result.0 ≡ self.bytes }
+        ensures spans { result.1 ≡ self.spans }
+    {
+        (self.bytes, self.spans)
     }
 }

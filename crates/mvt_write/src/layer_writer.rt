@@ -14,6 +14,7 @@ ghost use Rattle.mvt_write.specs.Written.{bytes_field, layer_written};
 use crate::ending::LayerEnding;
 use crate::feature::{FeatureHeads, put_message};
 use crate::field::{put_bytes, put_end};
+use crate::room::make_room;
 use crate::spent::Spent;
 use crate::tag_pools::TagPools;
 use crate::tags::put_indices;
@@ -89,6 +90,7 @@ impl LayerWriter {
             → Writes self.new name (fs ++ record { id = id; tags = tags; shape = s } ∷ []) []) }
         ensures fits { IfSome id (λ id. id < 2 ^ 64) }
     {
+        make_room(&mut self.bytes, 1, geometry.len());
         put_message(
             &mut self.bytes,
             &mut self.heads,

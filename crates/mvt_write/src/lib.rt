@@ -9,6 +9,7 @@ mod field;
 mod layer;
 mod layer_writer;
 mod pool;
+mod room;
 mod span;
 mod spent;
 mod tag_pools;

@@ -192,6 +192,8 @@ impl Pool {
         let spent = SpentPool {
             codes: self.codes.into_iter(),
             others: self.others.into_iter(),
+            bytes: Vec::new(self.alloc),
+            spans: Vec::new(self.alloc),
         };
         (self.entries, spent)
     }

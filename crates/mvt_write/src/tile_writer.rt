@@ -7,7 +7,8 @@ ghost use Rattle.mvt_write.specs.Written.{bytes_field, layer_written};
 use crate::ending::LayerEnding;
 use crate::field::put_head;
 use crate::layer_writer::LayerWriter;
-use crate::spent::Spent;
+use crate::room::make_room;
+use crate::spent::{SHRINK_BYTES, Spent, shrink};
 use mvt_layer::field_numbers::TILE_LAYERS;
 use std::alloc::{AllocError, Global};
 use std::marker::Model;
@@ -34,17 +35,20 @@ pub(crate) enum LayerLeft {
     Pools(LayerEnding),
     /// The rest of its bytes. The head of its field is added.
     Bytes(BytesRest),
+    /// Nothing, but these bytes, all of which are added, are given back first.
+    Spent(Vec<u8>),
 }
 
-/// A tile (Mapbox Vector Tile 2.1, 4) to which layers are added by parts. A part writes some thousand keys or values, or copies 64 KiB, and
-/// frees as many entries of the maps in which these were looked up. After an `Err` it is of no more use.
+/// A tile (Mapbox Vector Tile 2.1, 4) to which layers are added by parts. A part writes some thousand keys or values, copies 64 KiB, or gives back
+/// 2 MiB of a layer that is copied. Beside that it frees some thousand entries of the maps in which keys and values were looked up, and, once these
+/// are written, gives back 2 MiB of them. After an `Err` it is of no more use.
 #[derive(Drop)]
 pub struct TileWriter {
     /// The layers that are added, and the first bytes of the one that is being added.
     out: Vec<u8>,
     /// What is left of the layer that is being added.
     layer: LayerLeft,
-    /// The maps in which the entries of that layer's pools were looked up.
+    /// What that layer's pools were made of.
     spent: Option<Spent>,
 }
 
@@ -108,18 +112,22 @@ impl TileWriter {
             self.layer = LayerLeft::Pools(ending);
             return Ok(());
         }
-        let bytes = ending.finish()?;
+        let (bytes, keys, values) = ending.finish()?;
+        if let Some(spent) = &mut self.spent {
+            spent.take_entries(keys, values);
+        }
+        make_room(&mut self.out, 1, bytes.len());
         put_head(&mut self.out, TILE_LAYERS, bytes.len())?;
         self.out.reserve(bytes.len())?;
         self.layer = LayerLeft::Bytes(BytesRest { bytes, done: 0 });
         Ok(())
     }
 
-    /// Adds the next bytes of a layer.
+    /// Adds the next bytes of a layer. If none is left then, the layer is over, unless its bytes are so many that they are given back by parts.
     fn add_bytes(&mut self, rest: BytesRest) -> Result<(), AllocError>
         requires { self.old.left ≡ 0 }
         ensures bytes { OnOk result (self.new.bytes ≡ self.old.bytes ++ drop rest.done rest.bytes.items) }
-        ensures left { OnOk result (self.new.left ≤ length (drop rest.done rest.bytes.items)) }
+        ensures left { OnOk result (self.new.left ≤ 1 + length (drop rest.done rest.bytes.items) + length rest.bytes.items) }
     {
         let BytesRest { bytes, done } = rest;
         let left = &bytes[done..];
@@ -130,8 +138,22 @@ impl TileWriter {
                 bytes,
                 done: done + count,
             });
+        } else if SHRINK_BYTES < bytes.len() {
+            self.layer = LayerLeft::Spent(bytes);
         }
         Ok(())
+    }
+
+    /// Gives back the last `SHRINK_BYTES` bytes of a layer that is added. The layer is over once it has no more than these.
+    fn give_back(&mut self, mut bytes: Vec<u8>)
+        requires { self.old.left ≡ 0 }
+        ensures bytes { self.new.bytes ≡ self.old.bytes }
+        ensures left { self.new.left ≤ length bytes.items }
+    {
+        if SHRINK_BYTES < bytes.len() {
+            shrink(&mut bytes, SHRINK_BYTES);
+            self.layer = LayerLeft::Spent(bytes);
+        }
     }
 
     /// Adds the next part of the layer that was taken last, or nothing once all are added. The only error is out of memory.
@@ -146,6 +168,10 @@ impl TileWriter {
             LayerLeft::Over => Ok(()),
             LayerLeft::Pools(ending) => self.add_pools(ending),
             LayerLeft::Bytes(rest) => self.add_bytes(rest),
+            LayerLeft::Spent(bytes) => {
+                self.give_back(bytes);
+                Ok(())
+            }
         }
     }
 

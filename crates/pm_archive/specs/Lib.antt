@@ -8,3 +8,4 @@ pub mod Reading
 pub mod Sections
 pub mod Shown
 pub mod Source
+pub mod Spans

@@ -6,6 +6,7 @@
 #![tactic(auto)]
 
 mod archive;
+mod content_span;
 mod fault;
 mod leaf;
 mod leaves;
@@ -17,5 +18,6 @@ mod opening;
 mod reading;
 
 pub use archive::Archive;
+pub use content_span::ContentSpan;
 pub use fault::{ArchiveFault, Count, Section};
 pub use lookup::Lookup;

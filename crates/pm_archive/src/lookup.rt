@@ -1,6 +1,6 @@
 //! Look-ups of tiles in an archive whose source is passed to each call.
 
-ghost use Rattle.std.specs.Prelude.{◌≡◌, ℕ, List, [], Option, Err, IfOk, IfErr, MatchResult, option_map};
+ghost use Rattle.std.specs.Prelude.{◌≡◌, ℕ, List, [], ◌≤◌, Option, Err, IfOk, IfErr, IfSome, MatchResult, option_map};
 ghost use Rattle.reader.specs.Reading.{GivesUnless};
 ghost use Rattle.pm_header.specs.declared.header.Header.{Header};
 ghost use Rattle.pm_directory.specs.declared.entry.DirectoryEntry.{DirectoryEntry};
@@ -12,11 +12,13 @@ ghost use Rattle.pm_archive.specs.Entries.{LiesInside};
 ghost use Rattle.pm_archive.specs.Reading.{ArePlaced, OpeningHas};
 ghost use Rattle.pm_archive.specs.Looked.{leading_of, looked_at};
 ghost use Rattle.pm_archive.specs.Lookup.{LookupView, IsLookupOf, AreInside, IsSmall};
+ghost use Rattle.pm_archive.specs.Spans.{end_of_span, span_bytes};
 ghost use Rattle.pm_archive.specs.Answers.{IsOutside, UnlessOutside};
 
+use crate::content_span::ContentSpan;
 use crate::fault::ArchiveFault;
 use crate::leaves::Leaves;
-use crate::looking::content_below;
+use crate::looking::{content_below, span_below};
 use crate::opening::header_and_root;
 use byte_source::Bytes;
 use pm_directory::DirectoryEntry;
@@ -69,6 +71,44 @@ impl Lookup {
             }),
             Err(fault) => Err(fault),
         }
+    }
+
+    /// Where the content of a tile id is, or `None` if no entry has it. Reads those directories on the way to its entry that aren't cached. The
+    /// source has as many bytes as the one that was opened.
+    ///
+    /// # Errors
+    ///
+    /// Those of `tile`. `Memory` only if an entry of the root directory leads to the id and its bytes are inside their section. After an error
+    /// the cache is still that of the source.
+    pub fn find<B: Bytes>(
+        &mut self,
+        source: &mut B,
+        id: u64,
+    ) -> Result<Option<ContentSpan>, ArchiveFault>
+        requires { self.old.count ≡ B.count source.old }
+        ensures source { Keeps B.count B.holds B.unchanged source.old source.new }
+        ensures count { self.new.count ≡ self.old.count }
+        ensures header { self.new.header ≡ self.old.header }
+        ensures root { self.new.root ≡ self.old.root }
+        ensures still { (bytes : List ℕ) → B.holds source.new bytes → IsLookupOf bytes self.old → IsLookupOf bytes self.new }
+        ensures room { IsSmall self.new.leaves }
+        ensures content { (bytes : List ℕ) (content : ℕ → Option (List ℕ)) → B.holds source.new bytes → IsLookupOf bytes self.old
+            → HasContents bytes content → MatchResult result (λ found. option_map (span_bytes bytes) found ≡ content id) IsOutside }
+        ensures first { (bytes : List ℕ) → B.holds source.new bytes → IsLookupOf bytes self.old
+            → GivesUnless IsOutside (option_map (span_bytes bytes)) result (looked_at bytes self.old.header self.old.root id) }
+        ensures inside { IfOk result (λ found. IfSome found (λ span. end_of_span span ≤ self.old.count)) }
+        ensures read { result ≡ Err ArchiveFault.Read → B.failed source.old source.new }
+        ensures memory { result ≡ Err ArchiveFault.Memory → LiesInside self.old.header (leading_of id self.old.root) }
+    {
+        let alloc = *self.root.allocator();
+        span_below(
+            alloc,
+            source,
+            &self.header,
+            &self.root,
+            &mut self.leaves,
+            id,
+        )
     }
 
     /// The content of a tile id, or `None` if no entry has it. Reads the content, and those directories on the way to its entry that

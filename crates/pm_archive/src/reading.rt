@@ -95,7 +95,7 @@ pub(crate) fn lies_in(section: SectionSpan, entry: DirectoryEntry) -> bool
 }
 
 /// The offset in the source of the bytes of an entry of a section.
-fn offset_of<B: Bytes>(
+pub(crate) fn offset_of<B: Bytes>(
     source: &B,
     section: SectionSpan,
     entry: DirectoryEntry,

@@ -1,5 +1,5 @@
 mod Adding
-mod FirstBytes
+mod AheadBytes
 mod Archive
 mod CounterSteps
 mod Counting

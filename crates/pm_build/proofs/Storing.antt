@@ -1,38 +1,34 @@
 -- The bytes of contents as one is added.
-use Rattle.std.proofs.Common.{◌≡◌, ℕ, List, [], ◌∷◌, ◌++◌, length, take, drop, Result, Ok, Err, OnOk, OnErr}
-use Rattle.std.proofs.Common.{refl, sym, ap, subst, ◌∙◌, arith}
+use Rattle.std.proofs.Common.{◌≡◌, ℕ, List, [], ◌∷◌, ◌++◌, length, drop, refl, sym, ap, subst, ◌∙◌, arith}
 use Rattle.std.specs.List.{concat}
-use Rattle.std.proofs.lemmas.List.{take_all, take_at, drop_at}
+use Rattle.std.proofs.lemmas.List.{drop_all, drop_at}
 use Rattle.pm_build.specs.Ahead.{AreStored}
 use Rattle.pm_build.specs.Indexed.{IndexView}
-use Rattle.pm_build.proofs.Pieces.{concat_one_more}
+use Rattle.pm_build.proofs.Pieces.{concat_one_more, first_parts}
 
 -- no contents
 pub none_stored : (v : IndexView) (bytes : List ℕ) → v ≡ record { contents = []; firsts = [] } → AreStored v.contents bytes
 none_stored v bytes none = subst (λ (w : IndexView). AreStored w.contents bytes) (sym none) refl
 
-module _ (v w : IndexView) (from : ℕ) (bytes more content : List ℕ) (at : from ≡ length (concat v.contents))
-    (is : AreStored v.contents bytes) (grown : more ≡ take from bytes ++ content) where
-  whole : more ≡ concat v.contents ++ content
-  whole = grown ∙ ap (λ (n : ℕ). take n bytes ++ content) at ∙ ap (λ (xs : List ℕ). xs ++ content) is
+-- the contents and bytes after them, once these are a content too
+concat_more : (cs new : List (List ℕ)) (bytes part : List ℕ) → bytes ≡ concat cs ++ part → new ≡ cs ++ part ∷ [] → bytes ≡ concat new
+concat_more cs new bytes part is are = is ∙ sym (concat_one_more cs part) ∙ sym (ap (λ (ds : List (List ℕ)). concat ds) are)
 
-  last : drop from more ≡ content
-  last = ap (λ (xs : List ℕ). drop from xs) whole ∙ drop_at (concat v.contents) content from (sym at)
+-- with a content more, which is put after the others
+pub more_stored : (cs new : List (List ℕ)) (from : ℕ) (bytes more content : List ℕ) → bytes ≡ concat cs → from ≡ length bytes → more ≡ bytes ++ content
+    → new ≡ cs ++ drop from more ∷ [] → more ≡ concat new
+more_stored cs new from bytes more content is at grown are =
+    let last : drop from more ≡ content = ap (λ (xs : List ℕ). drop from xs) grown ∙ drop_at bytes content from (sym at) in
+    concat_more cs new more (drop from more)
+    (grown ∙ ap (λ (xs : List ℕ). xs ++ content) is ∙ ap (λ (xs : List ℕ). concat cs ++ xs) (sym last)) are
 
-  with_it : w.contents ≡ v.contents ++ drop from more ∷ [] → AreStored w.contents more
-  with_it are =
-      let joined : concat w.contents ≡ more =
-      ap (λ (ds : List (List ℕ)). concat ds) are ∙ concat_one_more v.contents (drop from more) ∙ ap (λ (xs : List ℕ). concat v.contents ++ xs) last
-      ∙ sym whole in
-      take_all (length (concat w.contents)) more (omega (arith, ap (λ (xs : List ℕ). length xs) joined)) ∙ sym joined
+-- with what is ahead as a content more
+pub ahead_stored : (cs new : List (List ℕ)) (from : ℕ) (bytes : List ℕ) → AreStored cs bytes → from ≡ length (concat cs)
+    → new ≡ cs ++ drop from bytes ∷ [] → bytes ≡ concat new
+ahead_stored cs new from bytes is at are =
+    concat_more cs new bytes (drop from bytes)
+    (first_parts (length (concat cs)) bytes (concat cs) is ∙ ap (λ (n : ℕ). concat cs ++ drop n bytes) (sym at)) are
 
-  without_it : w ≡ v → AreStored w.contents more
-  without_it same =
-      ap (λ (u : IndexView). take (length (concat u.contents)) more) same ∙ ap (λ (xs : List ℕ). take (length (concat v.contents)) xs) whole
-      ∙ take_at (concat v.contents) content (length (concat v.contents)) refl ∙ sym (ap (λ (u : IndexView). concat u.contents) same)
-
-  -- with a content more, if its place could be noted
-  pub more_stored : {T E : Type 0} (r : Result T E) → OnOk r (w.contents ≡ v.contents ++ drop from more ∷ []) → OnErr r (w ≡ v)
-      → AreStored w.contents more
-  more_stored (Ok x) are same = with_it are
-  more_stored (Err e) are same = without_it same
+-- nothing is ahead then
+pub none_ahead : (cs : List (List ℕ)) (bytes : List ℕ) → bytes ≡ concat cs → drop (length (concat cs)) bytes ≡ []
+none_ahead cs bytes is = drop_all (length (concat cs)) bytes (omega (arith, ap (λ (xs : List ℕ). length xs) is))

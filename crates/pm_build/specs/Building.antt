@@ -1,9 +1,15 @@
 -- Tiles that are added one after the other.
-use Rattle.std.specs.Prelude.{◌≡◌, ◌<◌, ◌≤◌, false, List, length, All}
+use Rattle.std.specs.Prelude.{◌≡◌, ◌<◌, ◌≤◌, ℕ, false, List, length, All}
 use Rattle.pm_build.specs.declared.limit.TheConstants.{MAX_ENTRIES}
 use Rattle.pm_build.specs.Tiles.{Tile, IsTile}
 use Rattle.pm_build.specs.Runs.{TileRun, AreLongestRuns}
 use Rattle.pm_build.specs.Joined.{goes_on_last}
+
+-- what contracts see of a builder: the tiles that were added, and the first bytes of the content that is added next, as far as they are put
+-- ahead
+pub record BuilderView : Type 0 where
+  pub tiles : List Tile
+  pub ahead : List ℕ
 
 -- the tile can be added after these: its id is greater than theirs
 abbrev pub CanAdd : List Tile → Tile → Type 0

@@ -3,6 +3,7 @@ use Rattle.std.specs.Prelude.{◌≡◌, ◌≤◌, ℕ, List, length}
 use Rattle.pm_build.specs.declared.builder.ArchiveBuilder.TheInside.{Inside}
 use Rattle.pm_build.specs.declared.limit.TheConstants.{MAX_ENTRIES}
 use Rattle.pm_build.specs.declared.run.Run.{Run}
+use Rattle.pm_build.specs.Building.{BuilderView}
 use Rattle.pm_build.specs.Different.{contents_of}
 use Rattle.pm_build.specs.Firsts.{AreFirsts}
 use Rattle.pm_build.specs.Indexed.{IndexView}
@@ -28,7 +29,10 @@ pub record AreKept (v : IndexView) (runs : List Run) (addressed : ℕ) : Type 0 
 
 -- its tiles
 abbrev pub tiles_kept : Inside → List Tile
-tiles_kept b = tiles_with b.contents b.runs.items
+tiles_kept b = tiles_with b.contents.index b.runs.items
+
+abbrev pub builder_view : Inside → BuilderView
+builder_view b = record { tiles = tiles_kept b; ahead = b.contents.ahead }
 
 abbrev pub IsBuilder : Inside → Type 0
-IsBuilder b = AreKept b.contents b.runs.items b.addressed
+IsBuilder b = AreKept b.contents.index b.runs.items b.addressed

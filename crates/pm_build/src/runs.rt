@@ -34,8 +34,8 @@ pub(crate) fn end_of(runs: &[Run]) -> u64
 
 /// The content of the last run, or no bytes if there is none.
 pub(crate) fn last_content<'a>(runs: &[Run], contents: &'a Contents) -> &'a [u8]
-    requires { ArePlaces contents.now.contents runs.now }
-    ensures { IsLast contents.entry.now.contents runs.now result.now }
+    requires { ArePlaces contents.now.index.contents runs.now }
+    ensures { IsLast contents.entry.now.index.contents runs.now result.now }
 {
     if runs.is_empty() {
         return &[];
@@ -92,14 +92,18 @@ fn begin_run(
 ) -> Result<(), BuildFault>
     requires few { length runs.old.items ≤ MAX_ENTRIES }
     requires short { length content.now < 2 ^ 32 }
-    requires places { ArePlaces contents.old.contents runs.old.items }
+    requires places { ArePlaces contents.old.index.contents runs.old.items }
+    requires ahead { contents.old.ahead ≡ [] }
     ensures begun { OnOk result
-        (run_views contents.new.contents runs.new.items ≡ run_views contents.old.contents runs.old.items ++ run_of (id, content.now) ∷ []) }
-    ensures contents { OnOk result (contents.new.contents ≡ with_content contents.old.contents content.now) }
-    ensures firsts { OnOk result ((ts : List Tile) → AreFirsts ts contents.old → Contains ts (id, content.now) → AreFirsts ts contents.new) }
-    ensures places { OnOk result (ArePlaces contents.new.contents runs.new.items) }
+        (run_views contents.new.index.contents runs.new.items
+        ≡ run_views contents.old.index.contents runs.old.items ++ run_of (id, content.now) ∷ []) }
+    ensures contents { OnOk result (contents.new.index.contents ≡ with_content contents.old.index.contents content.now) }
+    ensures firsts { OnOk result ((ts : List Tile)
+        → AreFirsts ts contents.old.index → Contains ts (id, content.now) → AreFirsts ts contents.new.index) }
+    ensures places { OnOk result (ArePlaces contents.new.index.contents runs.new.items) }
+    ensures ahead { contents.new.ahead ≡ [] }
     ensures unchanged { OnErr result (runs.new.items ≡ runs.old.items) }
-    ensures unchanged_contents { OnErr result (contents.new ≡ contents.old) }
+    ensures unchanged_contents { OnErr result (contents.new.index ≡ contents.old.index) }
     ensures few { length runs.new.items ≤ MAX_ENTRIES }
     ensures many { (result ≡ Err BuildFault.TooManyEntries) ↔ (MAX_ENTRIES ≤ length runs.old.items) }
 {
@@ -120,7 +124,42 @@ fn begin_run(
     Ok(())
 }
 
-/// Adds a tile to the longest runs of the tiles before it.
+/// Adds a run of one tile, whose content is put ahead.
+fn begin_ahead(runs: &mut Vec<Run>, contents: &mut Contents, id: u64) -> Result<(), BuildFault>
+    requires few { length runs.old.items ≤ MAX_ENTRIES }
+    requires short { length contents.old.ahead < 2 ^ 32 }
+    requires places { ArePlaces contents.old.index.contents runs.old.items }
+    ensures begun { OnOk result
+        (run_views contents.new.index.contents runs.new.items
+        ≡ run_views contents.old.index.contents runs.old.items ++ run_of (id, contents.old.ahead) ∷ []) }
+    ensures contents { OnOk result (contents.new.index.contents ≡ with_content contents.old.index.contents contents.old.ahead) }
+    ensures firsts { OnOk result ((ts : List Tile)
+        → AreFirsts ts contents.old.index → Contains ts (id, contents.old.ahead) → AreFirsts ts contents.new.index) }
+    ensures places { OnOk result (ArePlaces contents.new.index.contents runs.new.items) }
+    ensures ahead { OnOk result (contents.new.ahead ≡ []) }
+    ensures unchanged { OnErr result (runs.new.items ≡ runs.old.items) }
+    ensures unchanged_contents { OnErr result (contents.new ≡ contents.old) }
+    ensures few { length runs.new.items ≤ MAX_ENTRIES }
+    ensures many { (result ≡ Err BuildFault.TooManyEntries) ↔ (MAX_ENTRIES ≤ length runs.old.items) }
+{
+    match room_for_run(runs) {
+        Ok(()) => {}
+        Err(fault) => return Err(fault),
+    }
+    let place = match contents.place_ahead(id) {
+        Ok(place) => place,
+        Err(_) => return Err(BuildFault::Memory),
+    };
+    runs.push(Run {
+        first: id,
+        count: 1,
+        place,
+    })
+    .unwrap();
+    Ok(())
+}
+
+/// Adds a tile to the longest runs of the tiles before it. Nothing is put ahead.
 pub(crate) fn add_tile(
     runs: &mut Vec<Run>,
     contents: &mut Contents,
@@ -130,22 +169,61 @@ pub(crate) fn add_tile(
     requires end { last_end runs.old.items < 2 ^ 64 }
     requires few { length runs.old.items ≤ MAX_ENTRIES }
     requires short { length content.now < 2 ^ 32 }
-    requires places { ArePlaces contents.old.contents runs.old.items }
+    requires places { ArePlaces contents.old.index.contents runs.old.items }
+    requires ahead { contents.old.ahead ≡ [] }
     ensures added { OnOk result
-        (run_views contents.new.contents runs.new.items ≡ with_tile (run_views contents.old.contents runs.old.items) (id, content.now)) }
-    ensures contents { OnOk result (contents.new.contents ≡ with_content contents.old.contents content.now) }
-    ensures firsts { OnOk result ((ts : List Tile) → AreFirsts ts contents.old → Contains ts (id, content.now) → AreFirsts ts contents.new) }
-    ensures places { OnOk result (ArePlaces contents.new.contents runs.new.items) }
+        (run_views contents.new.index.contents runs.new.items
+        ≡ with_tile (run_views contents.old.index.contents runs.old.items) (id, content.now)) }
+    ensures contents { OnOk result (contents.new.index.contents ≡ with_content contents.old.index.contents content.now) }
+    ensures firsts { OnOk result ((ts : List Tile)
+        → AreFirsts ts contents.old.index → Contains ts (id, content.now) → AreFirsts ts contents.new.index) }
+    ensures places { OnOk result (ArePlaces contents.new.index.contents runs.new.items) }
+    ensures ahead { contents.new.ahead ≡ [] }
     ensures unchanged { OnErr result (runs.new.items ≡ runs.old.items) }
-    ensures unchanged_contents { OnErr result (contents.new ≡ contents.old) }
+    ensures unchanged_contents { OnErr result (contents.new.index ≡ contents.old.index) }
     ensures few { length runs.new.items ≤ MAX_ENTRIES }
     ensures many { (result ≡ Err BuildFault.TooManyEntries)
-        ↔ (MAX_ENTRIES < length (with_tile (run_views contents.old.contents runs.old.items) (id, content.now))) }
-    ensures memory { result ≡ Err BuildFault.Memory → goes_on_last (run_views contents.old.contents runs.old.items) (id, content.now) ≡ false }
+        ↔ (MAX_ENTRIES < length (with_tile (run_views contents.old.index.contents runs.old.items) (id, content.now))) }
+    ensures memory { result ≡ Err BuildFault.Memory
+        → goes_on_last (run_views contents.old.index.contents runs.old.items) (id, content.now) ≡ false }
 {
     let last = last_content(runs, contents);
     if join_last(runs, last, id, content) {
         return Ok(());
     }
     begin_run(runs, contents, id, content)
+}
+
+/// Adds a tile whose content is put ahead to the longest runs of the tiles before it.
+pub(crate) fn add_ahead(
+    runs: &mut Vec<Run>,
+    contents: &mut Contents,
+    id: u64,
+) -> Result<(), BuildFault>
+    requires end { last_end runs.old.items < 2 ^ 64 }
+    requires few { length runs.old.items ≤ MAX_ENTRIES }
+    requires short { length contents.old.ahead < 2 ^ 32 }
+    requires places { ArePlaces contents.old.index.contents runs.old.items }
+    ensures added { OnOk result
+        (run_views contents.new.index.contents runs.new.items
+        ≡ with_tile (run_views contents.old.index.contents runs.old.items) (id, contents.old.ahead)) }
+    ensures contents { OnOk result (contents.new.index.contents ≡ with_content contents.old.index.contents contents.old.ahead) }
+    ensures firsts { OnOk result ((ts : List Tile)
+        → AreFirsts ts contents.old.index → Contains ts (id, contents.old.ahead) → AreFirsts ts contents.new.index) }
+    ensures places { OnOk result (ArePlaces contents.new.index.contents runs.new.items) }
+    ensures ahead { OnOk result (contents.new.ahead ≡ []) }
+    ensures unchanged { OnErr result (runs.new.items ≡ runs.old.items) }
+    ensures unchanged_contents { OnErr result (contents.new ≡ contents.old) }
+    ensures few { length runs.new.items ≤ MAX_ENTRIES }
+    ensures many { (result ≡ Err BuildFault.TooManyEntries)
+        ↔ (MAX_ENTRIES < length (with_tile (run_views contents.old.index.contents runs.old.items) (id, contents.old.ahead))) }
+    ensures memory { result ≡ Err BuildFault.Memory
+        → goes_on_last (run_views contents.old.index.contents runs.old.items) (id, contents.old.ahead) ≡ false }
+{
+    let last = last_content(runs, contents);
+    if join_last(runs, last, id, contents.ahead()) {
+        contents.drop_ahead();
+        return Ok(());
+    }
+    begin_ahead(runs, contents, id)
 }

@@ -36,6 +36,7 @@ use Rattle.sector_disk.specs.Disk.{History, seen}
 use Rattle.sector_bytes.specs.Bytes.{StandsIn}
 use Rattle.sector_bytes.specs.Source.{SourceView, AreItsBytes}
 use Rattle.published_tiles.specs.Opened.{OpenedView, IsOpenedOf, IsOpenedUpTo}
+use Rattle.published_tiles.specs.Reading.{ReadingView, IsReadingOf, IsReadingUpTo, StaysOrNone}
 use Rattle.published_tiles.specs.Published.{PublishedView, ArePublished}
 use Rattle.published_tiles.specs.declared.place.ArchivePlace.{ArchivePlace}
 
@@ -74,10 +75,37 @@ opened_up_to : (o : Option OpenedView) (place next : ArchivePlace) → IsOpenedU
 opened_up_to None place next le later = tt
 opened_up_to (Some o) place next le later = omega (arith, le, later)
 
--- So the cached look-up is valid for any later archive: it doesn't belong to it.
+-- nor do the first bytes of a content
+
+reading_next : (o : Option ReadingView) (place next : ArchivePlace) (bytes : List ℕ) → IsReadingUpTo place.generation o
+    → place.generation < next.generation → IsReadingOf next bytes o
+reading_next None place next bytes le later = tt
+reading_next (Some o) place next bytes le later = λ same.
+    let is = ap (λ (p : ArchivePlace). p.generation) same in absurd (omega (arith, le, later, is))
+
+reading_up_to : (o : Option ReadingView) (place next : ArchivePlace) → IsReadingUpTo place.generation o → place.generation < next.generation
+    → IsReadingUpTo next.generation o
+reading_up_to None place next le later = tt
+reading_up_to (Some o) place next le later = omega (arith, le, later)
+
+-- what stays, or isn't kept, is still of the archive
+
+pub reading_stays : (old new : Option ReadingView) (place : ArchivePlace) (bytes : List ℕ) → StaysOrNone old new → IsReadingOf place bytes old
+    → IsReadingOf place bytes new
+reading_stays old new place bytes (inl same) is = subst (λ (o : Option ReadingView). IsReadingOf place bytes o) (sym same) is
+reading_stays old new place bytes (inr none) is = subst (λ (o : Option ReadingView). IsReadingOf place bytes o) (sym none) tt
+
+pub reading_stays_up_to : (old new : Option ReadingView) (generation : ℕ) → StaysOrNone old new → IsReadingUpTo generation old
+    → IsReadingUpTo generation new
+reading_stays_up_to old new generation (inl same) is = subst (λ (o : Option ReadingView). IsReadingUpTo generation o) (sym same) is
+reading_stays_up_to old new generation (inr none) is = subst (λ (o : Option ReadingView). IsReadingUpTo generation o) (sym none) tt
+
+-- So what is cached is valid for any later archive: it doesn't belong to it.
 pub published_next : (t : PublishedView) (place next : ArchivePlace) (bytes last : List ℕ) → ArePublished t place bytes
     → place.generation < next.generation → ArePublished t next last
 published_next t place next bytes last are later = record {
   opened = opened_next t.opened place next last are.up_to later;
   up_to = opened_up_to t.opened place next are.up_to later;
+  reading = reading_next t.reading place next last are.reading_up_to later;
+  reading_up_to = reading_up_to t.reading place next are.reading_up_to later;
 }

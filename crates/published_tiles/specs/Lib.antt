@@ -1,2 +1,3 @@
 pub mod Opened
 pub mod Published
+pub mod Reading

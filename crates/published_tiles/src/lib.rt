@@ -4,6 +4,8 @@
 mod opened;
 mod place;
 mod published_tiles;
+mod reading;
+mod tile_reading;
 
 pub use place::ArchivePlace;
 pub use published_tiles::PublishedTiles;

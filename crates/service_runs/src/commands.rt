@@ -6,7 +6,7 @@ use std::str::FromStr;
 /// In the place of how many numbers a command has: any, or another text.
 pub(crate) const ANY: usize = usize::MAX;
 
-/// What a line of this word and so many numbers asks for. Each row has a word, how many numbers stand behind it, and what it asks for then.
+/// What a line of this word and this count of numbers asks for. Each row has a word, how many numbers follow it, and what it asks for then.
 pub(crate) fn asked<T: Copy>(
     rows: &[(&'static str, usize, T)],
     word: &str,

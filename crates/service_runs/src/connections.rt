@@ -8,7 +8,7 @@
 //! | `zeros N` | makes a disk of N sectors of zeros, which isn't opened |
 //! | `sector AT BYTE` | closes the disk, and writes this byte and zeros into a sector of it |
 //! | `again` | opens the disk again |
-//! | `again from N`, `again lost N`, `again made N` | the same, and lets calls of the disk fail, counted behind the opening: |
+//! | `again from N`, `again lost N`, `again made N` | the same, and lets calls of the disk fail, counted from the opening on: |
 //! | | each from the N-th on, the N-th before it is made, the N-th after |
 //! | `admin`, `admin from N` and so on | as `again`, and serves the paths under `/admin/` too |
 //! | `tags N`, `tags` | what is opened from now on has entity tags, of which those of tiles begin with N; it has none |
@@ -17,7 +17,7 @@
 //! | `writer` | it takes all bytes again |
 //! | `turns N`, `turns` | from now on a connection makes N reads at most; as many as the program lets it |
 //! | `ask SIZES TEXT` | serves a connection of these bytes, whose input then ends |
-//! | `wait SIZES TEXT` | the same, but a read behind these bytes fails, as where a connection stays open and is given up |
+//! | `wait SIZES TEXT` | the same, but a read after these bytes fails, as where a connection stays open and is given up |
 //! | `peer AT`, `peer AT QUICK RATE` | a peer of the next listener connects after AT milliseconds, takes QUICK bytes at once, and RATE more in each |
 //! | | tenth of a second; without these all |
 //! | `sends AT TEXT`, `ends AT`, `floods AT` | it sends these bytes then, ends its side, or sends bytes without end |
@@ -160,7 +160,7 @@ enum Asks {
     Serve,
 }
 
-/// The words of lines, with how many numbers stand behind them and what they ask for.
+/// The words of lines, with how many numbers follow them and what they ask for.
 static LINES: [(&str, usize, Asks); 23] = [
     ("tags", 0, Asks::NoTags),
     ("tags", 1, Asks::Tags),

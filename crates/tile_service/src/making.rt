@@ -1,7 +1,11 @@
-//! Tiles that are made by parts, between which other calls are made.
-ghost use Rattle.std.specs.Prelude.{◌≡◌, ℕ, length, nat_lt};
+//! Tiles that are made or read by parts, between which other calls are made.
+ghost use Rattle.std.specs.Prelude.{◌≡◌, ℕ, None, length, nat_lt, true, false, IsTrue};
+ghost use Rattle.sector_bytes.specs.Counts.{NeverFalls};
+ghost use Rattle.sector_disk.specs.Asked.{OnlyReads};
 ghost use Rattle.tile_cache.specs.Touched.{IsNewestOf};
 ghost use Rattle.tile_service.specs.Making.{is_made};
+ghost use Rattle.tile_service.specs.Service.{IsUp};
+ghost use Rattle.tile_service.specs.Stored.{Stored};
 
 use crate::service::Service;
 use hilbert_id::TileAt;
@@ -65,5 +69,52 @@ impl<D: Sectors + Drop> Service<D> {
             Ok(parts_left) => parts_left,
             Err(AllocError) => false,
         }
+    }
+
+    /// Whether `tile` would read the tile from the archive.
+    fn is_read(&self, at: TileAt) -> bool
+        ensures { IsTrue result → self.now.broken ≡ false }
+    {
+        if self.broken {
+            return false;
+        }
+        let newest = self.map.newest(at);
+        if newest > self.journal.edits {
+            return false;
+        }
+        !self.map.has(at, newest, true)
+    }
+
+    /// Reads the next part of a tile of the last published archive, if it has more than one, and says whether parts are left. Without
+    /// `begins` the first part isn't read.
+    fn archived_part(&mut self, at: TileAt, begins: bool) -> Option<bool>
+        ensures same { self.new ≡ record self.old { disk = self.new.disk; published = self.new.published } }
+        ensures disk { OnlyReads D.sectors D.honest D.history self.old.disk self.new.disk }
+        ensures never_falls { NeverFalls (D.faults self.old.disk) (D.faults self.new.disk) }
+        ensures up { (stored : Stored) → IsUp (D.sectors self.old.disk) (D.history self.old.disk) stored self.old → D.honest self.new.disk
+            → IsUp (D.sectors self.new.disk) (D.history self.new.disk) stored self.new }
+    {
+        let archive = self.archive();
+        match self.published.prepare(&mut self.disk, archive, at, begins) {
+            Ok(parts_left) => parts_left,
+            Err(_) => None,
+        }
+    }
+
+    /// Reads the next part of a tile that `tile` would read from the archive: `tile` then reads those that are left. It says whether parts are
+    /// left. It is `None` for a tile of one part or none, for one that isn't read from the archive, and if the read fails. What was read of another
+    /// tile is dropped. Without `begins` the first part isn't read, so that nothing is dropped.
+    pub fn prepare_published(&mut self, at: TileAt, begins: bool) -> Option<bool>
+        ensures same { self.new ≡ record self.old { disk = self.new.disk; published = self.new.published } }
+        ensures disk { OnlyReads D.sectors D.honest D.history self.old.disk self.new.disk }
+        ensures never_falls { NeverFalls (D.faults self.old.disk) (D.faults self.new.disk) }
+        ensures untouched { self.old.broken ≡ true → (result ≡ None) × (self.new ≡ self.old) }
+        ensures up { (stored : Stored) → IsUp (D.sectors self.old.disk) (D.history self.old.disk) stored self.old → D.honest self.new.disk
+            → IsUp (D.sectors self.new.disk) (D.history self.new.disk) stored self.new }
+    {
+        if !self.is_read(at) {
+            return None;
+        }
+        self.archived_part(at, begins)
     }
 }

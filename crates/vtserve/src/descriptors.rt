@@ -8,7 +8,7 @@ use libc::{RLIMIT_NOFILE, getrlimit};
 /// How many descriptors are left for everything else: the standard streams, the disk file, the listener and what is opened for a moment.
 const RESERVE: u64 = 16;
 
-/// How many connections may be open if so many descriptors may be: at least one.
+/// How many connections may be open within a limit of descriptors: at least one.
 fn connections_within(descriptors: u64) -> usize
     ensures { result ≡ max 1 (min (descriptors - 16) 16384) }
 {

@@ -30,7 +30,7 @@ pub(crate) fn open_regular(
     }
 }
 
-/// An open file of so many bytes, for reading it in sectors: the last one is filled up with zeros.
+/// An open file and its length in bytes, for reading it in sectors: the last one is filled up with zeros.
 #[derive(Drop)]
 pub(crate) struct ReadFile {
     pub(crate) file: File,

@@ -33,7 +33,7 @@ fn tell_content(answer: &mut Answer, store: &Store, metadata: &[u8], free: u64) 
     }
 }
 
-/// The content for an area of so many sectors.
+/// The content for an area of this size in sectors.
 pub(crate) fn area(answer: &mut Answer, store: &Store, free: u64) {
     match metadata_text(answer.alloc(), store) {
         Ok(metadata) => tell_content(answer, store, metadata.as_bytes(), free),

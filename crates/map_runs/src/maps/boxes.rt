@@ -80,7 +80,7 @@ fn query(answer: &mut Answer, index: &BoxIndex, numbers: [u64; 8]) {
     answer.show_made(&index.query(answer.alloc(), &bounds_of(x0, x1, y0, y1), byte(zoom)));
 }
 
-/// Adds so many entries.
+/// Adds a number of entries.
 fn scatter(answer: &mut Answer, index: &mut BoxIndex, [count, across, down, ..]: [u64; 8]) {
     for place in 0..short(count) {
         if index.room().is_err() {
@@ -91,7 +91,7 @@ fn scatter(answer: &mut Answer, index: &mut BoxIndex, [count, across, down, ..]:
     answer.say("added");
 }
 
-/// Takes out so many of such entries but one in so many: how many were there.
+/// Takes out a count of such entries, but one in a number of them: how many were there.
 fn gather(answer: &mut Answer, index: &mut BoxIndex, numbers: [u64; 8]) {
     let [count, across, down, one_in, ..] = numbers;
     let mut taken = 0u64;
@@ -104,7 +104,7 @@ fn gather(answer: &mut Answer, index: &mut BoxIndex, numbers: [u64; 8]) {
     write!(answer, "{taken} taken");
 }
 
-/// Whether there are at most so many blocks, by what an index prints of itself: no contract counts them.
+/// Whether there are at most this many blocks, by what an index prints of itself: no contract counts them.
 fn index_blocks(answer: &mut Answer, index: &BoxIndex, most: u64) {
     answer.show(&index);
     let count = match answer.text().split_once(", spare: ") {

@@ -157,7 +157,7 @@ fn answer_value(answer: &mut Answer, map: &mut CachedMap, asks: Asks, number: u6
     }
 }
 
-/// Answers a line about a text of JSON, in which `<COUNT:TEXT>` stands for that text so many times.
+/// Answers a line about a text of JSON, in which `<COUNT:TEXT>` means that text `COUNT` times.
 fn answer_json(answer: &mut Answer, map: &mut CachedMap, asks: Asks, number: u64, json: &str) {
     let Some(text) = answer.granted(expanded(answer.alloc(), json)) else {
         return;
@@ -168,7 +168,7 @@ fn answer_json(answer: &mut Answer, map: &mut CachedMap, asks: Asks, number: u64
     }
 }
 
-/// Answers a line about JSON, which stands behind a number in some, or about the texts of edits.
+/// Answers a line about JSON, which follows a number in some, or about the texts of edits.
 pub(crate) fn answer(answer: &mut Answer, map: &mut CachedMap, asks: Asks, line: &Line<'_>) {
     let number = line.numbers[0];
     match asks {

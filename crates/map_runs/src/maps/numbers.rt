@@ -64,7 +64,7 @@ fn fill(answer: &mut Answer, map: &mut NumberMap<u64>, is_up: bool, count: u64, 
     answer.say("filled");
 }
 
-/// Takes out so many of such numbers but one in so many: how many were there.
+/// Takes out a count of such numbers, but one in a number of them: how many were there.
 fn thin(answer: &mut Answer, map: &mut NumberMap<u64>, [count, step, one_in, ..]: [u64; 8]) {
     let mut taken = 0u64;
     for index in 0..count {

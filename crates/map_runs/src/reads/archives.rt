@@ -40,7 +40,7 @@ fn list_entries(answer: &mut Answer, listed: Result<Vec<DirectoryEntry>, Archive
     }
 }
 
-/// The content of an id behind those of others.
+/// The content of an id after those of others.
 fn list_content(answer: &mut Answer, found: Result<Option<Vec<u8>>, ArchiveFault>) {
     answer.item();
     answer.push('"');

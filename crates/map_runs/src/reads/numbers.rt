@@ -49,7 +49,7 @@ fn nothing(answer: &mut Answer) {
     answer.show_made(&encode_rings(answer.alloc(), &[]));
 }
 
-/// Numbers as they are spelled one behind the other.
+/// Numbers as they are encoded one after the other.
 fn spell(answer: &mut Answer, rest: &str) {
     let mut out = Vec::new(answer.alloc());
     for word in rest.split_whitespace() {
@@ -93,7 +93,7 @@ fn digits(answer: &mut Answer, text: &str) {
     }
 }
 
-/// Two numbers in digits behind texts.
+/// Two numbers in digits after texts.
 fn written(answer: &mut Answer, first: u64, second: u64) {
     let Ok(mut out) = Vec::with_capacity(answer.alloc(), 64) else {
         return answer.refuse();

@@ -9,10 +9,10 @@ use sector_disk::FailingCalls;
 #[derive(Clone, Copy)]
 pub(crate) struct Line<'a> {
     pub(crate) text: &'a str,
-    /// The first word, and what stands behind it.
+    /// The first word, and what follows it.
     pub(crate) word: &'a str,
     pub(crate) rest: &'a str,
-    /// How many numbers stand behind it: none, one, or two where that is something else.
+    /// How many numbers follow it: none, one, or two where that is something else.
     pub(crate) count: usize,
     /// The number if it is one, and otherwise 0.
     pub(crate) number: u64,
@@ -58,7 +58,7 @@ pub(crate) const NONE: Failing = Failing {
 };
 
 impl Failing {
-    /// The same, counted on behind so many calls.
+    /// The same, counted on after a number of calls.
     pub(crate) fn behind(self, calls: u64) -> FailingCalls {
         self.fails.at(calls.saturating_add(self.number))
     }

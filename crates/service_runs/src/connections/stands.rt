@@ -60,7 +60,7 @@ fn replace(stand: &mut Stand, next: Stand) {
     mem::replace(stand, next).end();
 }
 
-/// Opens this disk in the place of what was there, served with these settings, so that these calls behind its opening fail.
+/// Opens this disk in the place of what was there, served with these settings, so that these calls after its opening fail.
 fn open(
     alloc: Global,
     stand: &mut Stand,
@@ -90,7 +90,7 @@ fn open(
     }
 }
 
-/// Opens the disk, served with these settings, so that these calls behind its opening fail.
+/// Opens the disk, served with these settings, so that these calls after its opening fail.
 fn open_again(
     alloc: Global,
     stand: &mut Stand,
@@ -119,7 +119,7 @@ fn zeros(alloc: Global, stand: &mut Stand, sectors: u64, answer: &mut Answer) {
     answer.say("closed");
 }
 
-/// A disk of so many sectors that holds the empty map.
+/// A disk of this size in sectors that holds the empty map.
 fn fresh_disk(alloc: Global, sectors: u64) -> Result<MemoryDisk, StoreFault> {
     let settings = Settings {
         access: Access::Map,
@@ -131,7 +131,7 @@ fn fresh_disk(alloc: Global, sectors: u64) -> Result<MemoryDisk, StoreFault> {
     }
 }
 
-/// Makes a disk of so many sectors that holds the empty map, and opens it.
+/// Makes a disk of this size in sectors that holds the empty map, and opens it.
 fn begin(alloc: Global, stand: &mut Stand, sectors: u64, settings: Settings, answer: &mut Answer) {
     clear(alloc, stand, 1, answer);
     match fresh_disk(alloc, sectors) {
@@ -140,7 +140,7 @@ fn begin(alloc: Global, stand: &mut Stand, sectors: u64, settings: Settings, ans
     }
 }
 
-/// Makes a disk of so many sectors that holds the empty map in the first version of the format, and opens it.
+/// Makes a disk of this size in sectors that holds the empty map in the first version of the format, and opens it.
 fn begin_first(
     alloc: Global,
     stand: &mut Stand,
@@ -167,14 +167,14 @@ fn upgrade(alloc: Global, stand: &mut Stand, answer: &mut Answer) {
     }
 }
 
-/// Writes a sector of zeros behind this byte, if the disk has it.
+/// Writes a sector of zeros after this byte, if the disk has it.
 fn write(disk: &mut MemoryDisk, at: u64, first: u8) -> bool {
     let mut sector = [0; SECTOR_BYTES];
     sector[0] = first;
     at < disk.count() && disk.write(at, &sector).is_ok()
 }
 
-/// Closes the disk, and writes a sector of zeros behind a byte, as a text says.
+/// Closes the disk, and writes a sector of zeros after a byte, as a text says.
 fn overwrite(alloc: Global, stand: &mut Stand, text: &str, answer: &mut Answer) {
     let Some((at, first)) = pair_in::<u64, u8>(text, ' ') else {
         return answer.reject();

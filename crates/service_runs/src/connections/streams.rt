@@ -7,7 +7,7 @@ pub(crate) struct Pieces<'a> {
     pub(crate) rest: &'a [u8],
     /// The most bytes that a read gives.
     pub(crate) size: usize,
-    /// Whether the input is open behind these bytes.
+    /// Whether the input is open after these bytes.
     pub(crate) open: bool,
     /// How many reads failed.
     pub(crate) failed: usize,

@@ -12,11 +12,11 @@ const FRONT: usize = 300;
 enum Spelling {
     /// Nothing that was begun.
     Plain,
-    /// What stands behind a backslash.
+    /// What follows a backslash.
     Escape,
     /// The first digit of a byte.
     High,
-    /// The second one, behind the first.
+    /// The second one, after the first.
     Low(u8),
     /// What spells no bytes.
     Fault,
@@ -63,7 +63,7 @@ fn add_plain(bytes: &mut Vec<u8>, text: &str, answer: &mut Answer) -> bool {
     matches!(spelling, Spelling::Plain)
 }
 
-/// Adds what stands behind the beginning of a repetition: `COUNT(TEXT)`, and a text without repetitions.
+/// Adds what follows the beginning of a repetition: `COUNT(TEXT)`, and a text without repetitions.
 fn add_repetition(bytes: &mut Vec<u8>, text: &str, answer: &mut Answer) -> bool {
     let Some((count, behind)) = text.split_once('(') else {
         return false;

@@ -41,7 +41,7 @@ fn read(service: &mut Served, at: u64, into: &mut [u8], answer: &mut Answer) -> 
     }
 }
 
-/// Room for so many bytes of the archive.
+/// Room for this many bytes of the archive.
 fn room_for(alloc: Global, count: u64) -> Result<Vec<u8>, AllocError> {
     vec![in alloc; 0u8; count.min(MAX_READ) as usize]
 }

@@ -8,7 +8,7 @@ use script_bytes::{Answer, spelled_briefly};
 use sector_disk::Sectors;
 use std::alloc::Global;
 
-/// Copies an archive to a writer with room for so many bytes. Tells the outcome, and the bytes that were written.
+/// Copies an archive to a writer with room for a number of bytes. Tells the outcome, and the bytes that were written.
 fn copy<D: Sectors>(
     alloc: Global,
     disk: &mut D,

@@ -33,7 +33,7 @@ fn end_polygon(alloc: Global, parts: &mut Parts, answer: &mut Answer) {
     answer.note(parts.polygons.push(rings));
 }
 
-/// A zoom, and what stands behind it.
+/// A zoom, and what follows it.
 pub(crate) fn zoom_in(text: &str) -> Option<(u8, &str)> {
     let (zoom, rest) = text.split_once(' ')?;
     Some((zoom.parse::<u8>().ok()?, rest))

@@ -23,7 +23,7 @@ keep-requires-clause-can c =
     let t : Tile = (c.args.tile.0, c.args.tile.1.items) in
     let collected = c.args.collected.now in
     let added = kept_added m c.args.metadata.now c.args.area t.0 collected c.requires.collected c.in-None.is in
-    rw c.deref.ensures.value (can_add m t.0 collected.kept t added (next_of_last m c.args.tiles.now.from t c.requires.last) c.requires.last.short)
+    rw c.deref.ensures.value (can_add m t.0 collected.kept.tiles t added (next_of_last m c.args.tiles.now.from t c.requires.last) c.requires.last.short)
 
 pub returns-in-Some-clause-collected : goal.returns-in-Some-clause-collected
 returns-in-Some-clause-collected c =
@@ -43,8 +43,8 @@ returns-in-Some-clause-collected c =
     (still_beyond m metadata area counted c.count_tile.new.counter t beyond h.0))
     (both_ok _ _ c.count_tile.result c.count_tile.ensures.added c.count_tile.ensures.few)
 
-pub returns-in-None-clause-collected : goal.returns-in-None-clause-collected
-returns-in-None-clause-collected c =
+pub returns-in-Ok-clause-collected : goal.returns-in-Ok-clause-collected
+returns-in-Ok-clause-collected c =
     let m = c.args.tiles.now.features in
     let from = c.args.tiles.now.from in
     let metadata = c.args.metadata.now in
@@ -53,9 +53,6 @@ returns-in-None-clause-collected c =
     let collected = c.args.collected.now in
     let last = c.requires.last in
     let added = kept_added m metadata area t.0 collected c.requires.collected c.in-None.is in
-    let r = c.keep.result in
-    let is = c.keep.ensures in
-    on_ok_weaker r
-    (λ h. going_on m metadata area t.0 from collected.kept t c.keep.new.self added (next_of_last m from t last) last.short last.last
-    (rw c.deref.ensures.value at h.0.0) h.0.1 (h.1.0 m c.requires.snapshot) (h.1.1 m c.requires.snapshot))
-    (both_ok _ _ r (both_ok _ _ r is.added is.few) (both_ok _ _ r is.within is.beyond))
+    let is = c.in-Ok.ensures in
+    going_on m metadata area t.0 from collected.kept.tiles t c.keep.new.self added (next_of_last m from t last) last.short last.last
+    (rw c.deref.ensures.value at is.added) is.few (is.within m c.requires.snapshot) (is.beyond m c.requires.snapshot)

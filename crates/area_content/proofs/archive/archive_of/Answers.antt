@@ -14,10 +14,10 @@ pub returns-then-is_empty-clause-bounded : goal.returns-then-is_empty-clause-bou
 returns-then-is_empty-clause-bounded c =
     let contents = c.new-then-is_empty.result.items in
     let empty : c.new.result.items ++ contents ≡ [] = ap (λ (bs : List ℕ). bs ++ contents) c.new.ensures.items ∙ c.new-then-is_empty.ensures.items in
-    none_bounded c.args.builder c.args.metadata.now _ (c.is_empty.ensures.0 c.if-is_empty.true) empty
+    none_bounded c.args.builder.tiles c.args.metadata.now _ (c.is_empty.ensures.0 c.if-is_empty.true) empty
 
 pub returns-clause-of_tiles : goal.returns-clause-of_tiles
-returns-clause-of_tiles c = archive_built c.finish.result c.args.builder c.args.metadata.now c.finish.ensures.header c.finish.ensures.archive
+returns-clause-of_tiles c = archive_built c.finish.result c.args.builder.tiles c.args.metadata.now c.finish.ensures.header c.finish.ensures.archive
 
 pub same-builder : goal.same-builder
 same-builder c = refl

@@ -1,5 +1,8 @@
-use Rattle.std.proofs.Common.{Ok, ap}
-use Rattle.area_content.proofs.Steps.{all_made, last_made, none_waited, none_waits, one_waits, passed, same_collected}
+use Rattle.std.proofs.Common.{Ok, ap, sym, refl, List, length, Option, ◌∙◌}
+use Rattle.pm_build.specs.Building.{BuilderView}
+use Rattle.pm_build.specs.Tiles.{Tile}
+use Rattle.area_content.specs.Waiting.{parts_of}
+use Rattle.area_content.proofs.Steps.{all_made, begins_to_wait, last_made, none_put, none_waited, none_waits, one_waits, passed, same_collected}
 use Rattle.area_content.proofs.archive.make_next.Goals as goal
 
 pub returns-in-Ok-Part-clause-going : goal.returns-in-Ok-Part-clause-going
@@ -14,6 +17,7 @@ returns-in-Ok-Part-clause-going c =
     let on = c.in-Ok-Part.ensures.part (ap Ok c.in-Ok-Part.field-0-is) in
     let new = c.next_short.new.tiles.from in
     none_waits m metadata area new _ (passed m metadata area from _ are new on.0 on.1) c.take.ensures.after
+    (none_put m metadata area from old c.requires.going c.take.result c.take.ensures.value c.in_default.not-Some)
 
 pub returns-in-Ok-Over-clause-made : goal.returns-in-Ok-Over-clause-made
 returns-in-Ok-Over-clause-made c same =
@@ -48,10 +52,15 @@ returns-then-len-ge-LARGE_TILE_BYTES-clause-going c =
     let now = c.take.new.self in
     let are = none_waited m metadata area from old c.requires.going c.take.result now c.take.ensures.value c.in_default.not-Some in
     let before = passed m metadata area from _ are tile.0 next.0.here next.0.between in
-    let same = same_collected m metadata area tile.0 _ c.let_wait.new.self c.let_wait.ensures.kept c.let_wait.ensures.counted before in
+    let kept = c.let_wait.ensures.kept in
+    let same = same_collected m metadata area tile.0 _ c.let_wait.new.self (ap (λ (v : BuilderView). v.tiles) kept) c.let_wait.ensures.counted before in
     let new = c.next_short.new.tiles.from in
+    let last = last_made m from new (tile.0, tile.1.items) next.0 next.1 next.2 in
     one_waits m metadata area new c.let_wait.new.self _ c.let_wait.ensures.waiting same
-    (last_made m from new (tile.0, tile.1.items) next.0 next.1 next.2)
+    (begins_to_wait m new c.let_wait.new.self.counted _ last refl
+    (ap (λ (o : Option (List Tile)). parts_of o (length tile.1.items)) (sym c.let_wait.ensures.counted)))
+    (ap (λ (v : BuilderView). v.ahead) kept
+    ∙ none_put m metadata area from old c.requires.going c.take.result c.take.ensures.value c.in_default.not-Some)
 
 pub add_tile-requires-2-clause-collected : goal.add_tile-requires-2-clause-collected
 add_tile-requires-2-clause-collected c =

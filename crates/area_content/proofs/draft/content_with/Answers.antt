@@ -14,7 +14,7 @@ pub returns-clause-built : goal.returns-clause-built
 returns-clause-built c m is_map all short =
     let metadata = c.args.metadata.now in
     let built = subst (λ r. IfOk r (λ a. IsBuiltFor m metadata (archive_bytes a))) c.in-Ok.is
-    (all_built m metadata c.archive_of.result c.args.builder is_map all short c.archive_of.ensures.of_tiles c.archive_of.ensures.bounded) in
+    (all_built m metadata c.archive_of.result c.args.builder.tiles is_map all short c.archive_of.ensures.of_tiles c.archive_of.ensures.bounded) in
     let archive = subst (λ (bs : List ℕ). IsBuiltFor m metadata bs) (sym c.of.ensures.archive) built in
     IfOk-weaker c.within.result _ _
     (λ (v : ContentView) is. subst (λ (w : ContentView). IsBuiltFor m metadata w.archive) (sym is.0) archive) c.within.ensures.fits
@@ -23,6 +23,6 @@ pub returns-clause-fault : goal.returns-clause-fault
 returns-clause-fault c m is_map text all short =
     let metadata = c.args.metadata.now in
     let built = subst (λ r. IfOk r (λ a. IsBuiltFor m metadata (archive_bytes a))) c.in-Ok.is
-    (all_built m metadata c.archive_of.result c.args.builder is_map all short c.archive_of.ensures.of_tiles c.archive_of.ensures.bounded) in
+    (all_built m metadata c.archive_of.result c.args.builder.tiles is_map all short c.archive_of.ensures.of_tiles c.archive_of.ensures.bounded) in
     c.within.ensures.full m metadata (c.of.ensures.snapshot ∙ text)
     (subst (λ (bs : List ℕ). IsBuiltFor m metadata bs) (sym c.of.ensures.archive) built)

@@ -18,17 +18,17 @@ restored : (n : ℕ) (new items : List Run) → new ≡ items → length items �
 restored n new items same size =
     ap (λ (xs : List Run). take n (xs ++ drop (length xs) items)) same ∙ take_at items (drop (length items) items) n size
 
-joins : (c : Then-join_last) → goes_on_last (run_views c.args.contents.now.contents c.args.runs.now.items) (c.args.id, c.args.content.now) ≡ true
+joins : (c : Then-join_last) → goes_on_last (run_views c.args.contents.now.index.contents c.args.runs.now.items) (c.args.id, c.args.content.now) ≡ true
 joins c =
-    let cs = c.args.contents.now.contents in
+    let cs = c.args.contents.now.index.contents in
     let t : Tile = (c.args.id, c.args.content.now) in
     let value = c.deref_mut.ensures.value in
     let last = subst (λ (rs : List Run). IsLast cs rs c.last_content-last.result.now) (c.deref.ensures.value ∙ sym value) c.last_content-last.ensures in
     ap (λ (rs : List Run). goes_on_last (run_views cs rs) t) (sym value) ∙ sym (c.if-join_last.ensures.joins cs last)
 
-begins : (c : After-begin_run) → goes_on_last (run_views c.args.contents.now.contents c.args.runs.now.items) (c.args.id, c.args.content.now) ≡ false
+begins : (c : After-begin_run) → goes_on_last (run_views c.args.contents.now.index.contents c.args.runs.now.items) (c.args.id, c.args.content.now) ≡ false
 begins c =
-    let cs = c.args.contents.now.contents in
+    let cs = c.args.contents.now.index.contents in
     let t : Tile = (c.args.id, c.args.content.now) in
     let value = c.deref_mut.ensures.value in
     let last = subst (λ (rs : List Run). IsLast cs rs c.last_content-last.result.now) (c.deref.ensures.value ∙ sym value) c.last_content-last.ensures in
@@ -36,11 +36,11 @@ begins c =
 
 pub returns-then-join_last-clause-contents : goal.returns-then-join_last-clause-contents
 returns-then-join_last-clause-contents c =
-    joined_there c.args.contents.now.contents c.args.runs.now.items (c.args.id, c.args.content.now) c.requires.places (joins c)
+    joined_there c.args.contents.now.index.contents c.args.runs.now.items (c.args.id, c.args.content.now) c.requires.places (joins c)
 
 pub returns-then-join_last-clause-added : goal.returns-then-join_last-clause-added
 returns-then-join_last-clause-added c =
-    let cs = c.args.contents.now.contents in
+    let cs = c.args.contents.now.index.contents in
     let new = c.join_last.new.runs in
     let items = c.args.runs.now.items in
     let value = c.deref_mut.ensures.value in
@@ -51,7 +51,7 @@ returns-then-join_last-clause-added c =
 
 pub returns-then-join_last-clause-places : goal.returns-then-join_last-clause-places
 returns-then-join_last-clause-places c =
-    let cs = c.args.contents.now.contents in
+    let cs = c.args.contents.now.index.contents in
     let new = c.join_last.new.runs in
     let value = c.deref_mut.ensures.value in
     let size : length new ≡ c.args.runs.now.len =
@@ -68,7 +68,7 @@ returns-then-join_last-clause-few c =
 
 pub returns-then-join_last-clause-many : goal.returns-then-join_last-clause-many
 returns-then-join_last-clause-many c =
-    let few = few_on c.args.contents.now.contents c.args.runs.now.items (c.args.id, c.args.content.now) 131072 (joins c) c.requires.few in (
+    let few = few_on c.args.contents.now.index.contents c.args.runs.now.items (c.args.id, c.args.content.now) 131072 (joins c) c.requires.few in (
       λ bad. absurd (cc),
       λ more. absurd (omega (arith, few, more)),
     )
@@ -84,7 +84,7 @@ pub begin_run-requires-clause-places : goal.begin_run-requires-clause-places
 begin_run-requires-clause-places c =
     let items = c.args.runs.now.items in
     let same = c.if-join_last.ensures.unchanged ∙ c.deref_mut.ensures.value in
-    subst (λ (rs : List Run). ArePlaces c.args.contents.now.contents rs)
+    subst (λ (rs : List Run). ArePlaces c.args.contents.now.index.contents rs)
     (sym (restored c.args.runs.now.len c.join_last.new.runs items same (omega (arith, c.args.runs.now.ok)))) c.requires.places
 
 pub returns-clause-unchanged : goal.returns-clause-unchanged
@@ -96,7 +96,7 @@ returns-clause-unchanged c =
 
 pub returns-clause-added : goal.returns-clause-added
 returns-clause-added c =
-    let cs = c.args.contents.now.contents in
+    let cs = c.args.contents.now.index.contents in
     let items = c.args.runs.now.items in
     let t : Tile = (c.args.id, c.args.content.now) in
     let same = c.if-join_last.ensures.unchanged ∙ c.deref_mut.ensures.value in
@@ -111,7 +111,7 @@ returns-clause-many c =
     let same = c.if-join_last.ensures.unchanged ∙ c.deref_mut.ensures.value in
     let stays = restored c.args.runs.now.len c.join_last.new.runs items same (omega (arith, c.args.runs.now.ok)) in
     let size = ap (λ (rs : List Run). length rs) stays in
-    let count = count_off c.args.contents.now.contents items (c.args.id, c.args.content.now) (begins c) in (
+    let count = count_off c.args.contents.now.index.contents items (c.args.id, c.args.content.now) (begins c) in (
       λ told. omega (arith, size, count, c.begin_run.ensures.many.0 told),
       λ more. c.begin_run.ensures.many.1 (omega (arith, size, count, more)),
     )

@@ -12,4 +12,4 @@ pub returns : goal.returns
 returns c =
     let runs = c.args.runs.now in
     let more : 0 < length runs = grind (arith, nat_tests, c.is_empty.ensures, c.if-is_empty.false) in
-    last_from_at c.args.contents.now.contents runs (length runs - 1) none c.at.result.now (omega (arith, more)) (sym c.at.ensures)
+    last_from_at c.args.contents.now.index.contents runs (length runs - 1) none c.at.result.now (omega (arith, more)) (sym c.at.ensures)

@@ -11,7 +11,7 @@ use std::time::Duration;
 /// How many connections may be open.
 const MAX_OPEN: usize = 256;
 
-/// How so many accepts end.
+/// How a number of accepts end.
 #[derive(Clone, Copy)]
 pub(super) struct Accepts {
     pub(super) count: usize,
@@ -106,7 +106,7 @@ impl<'a> Listener<'a> {
         if any { None } else { Some(next) }
     }
 
-    /// The error of this accept, before which so many were tried.
+    /// The error of this accept, by how many were tried before it.
     fn error(&self, tried: usize) -> i32 {
         let mut left = tried;
         for Accepts { count, error } in self.accepts {

@@ -12,7 +12,7 @@ invariant_of-result c =
     let same = ap (λ (v : MapView Stored). entries_data v.entries) c.of.ensures ∙ c.features.ensures.map in
     record {
       is_map = subst IsMap (sym same) c.len.ensures.map;
-      text = c.new.ensures.items ∙ no_text m;
+      text = c.reserved_text.ensures ∙ no_text m;
       boxes = c.in_ok-boxes.ensures.items ∙ ap (map index_entry) (sym (none_below m));
       within = omega arith;
     }
