@@ -1,6 +1,8 @@
 //! The fields of a layer, in one pass over its bytes.
 
-ghost use Rattle.reader.specs.Reading.{Gives};
+ghost use Rattle.std.specs.Prelude.{ℕ, List};
+ghost use Rattle.reader.specs.Reading.{Gives, Read};
+ghost use Rattle.mvt_layer.specs.declared.fault.TileFault.{TileFault};
 ghost use Rattle.std.specs.Option.{option_map};
 ghost use Rattle.pb_wire.specs.Items.{item_view};
 ghost use Rattle.mvt_layer.specs.Tile.{bytes_of};
@@ -25,28 +27,59 @@ pub(crate) struct LayerFields<'a> {
     pub(crate) version: Result<Option<u64>, TileFault>,
 }
 
+/// What the first fields say. The parts that they have of features, keys and values are in three lists.
+#[derive(Clone, Copy)]
+struct SoFar<'a> {
+    name: Result<Option<&'a [u8]>, TileFault>,
+    features: Result<(), TileFault>,
+    keys: Result<(), TileFault>,
+    values: Result<(), TileFault>,
+    extent: Result<Option<u64>, TileFault>,
+    version: Result<Option<u64>, TileFault>,
+}
+
 /// What they say after one item more.
-fn with_item<'a>(before: LayerFields<'a>, item: FieldItem<'a>) -> LayerFields<'a>
+fn with_item<'a>(
+    before: SoFar<'a>,
+    features: &mut Vec<&'a [u8]>,
+    keys: &mut Vec<&'a [u8]>,
+    values: &mut Vec<&'a [u8]>,
+    item: FieldItem<'a>,
+) -> SoFar<'a>
     ensures name { Gives TileFault.Memory (option_map (λ b. b.now)) result.name
         (onward (option_map (λ b. b.now)) before.entry.name (λ last. after LAYER_NAME bytes_after last (item_view item.entry))) }
-    ensures features { Gives TileFault.Memory (λ v. bytes_of v.items) result.features
-        (onward (λ v. bytes_of v.items) before.entry.features (λ parts. after LAYER_FEATURES parts_after parts (item_view item.entry))) }
-    ensures keys { Gives TileFault.Memory (λ v. bytes_of v.items) result.keys
-        (onward (λ v. bytes_of v.items) before.entry.keys (λ parts. after LAYER_KEYS parts_after parts (item_view item.entry))) }
-    ensures values { Gives TileFault.Memory (λ v. bytes_of v.items) result.values
-        (onward (λ v. bytes_of v.items) before.entry.values (λ parts. after LAYER_VALUES parts_after parts (item_view item.entry))) }
+    ensures features { Gives TileFault.Memory (λ _. bytes_of features.new.items) result.features
+        (onward (λ _. bytes_of features.old.items) before.entry.features (λ parts. after LAYER_FEATURES parts_after parts (item_view item.entry))) }
+    ensures keys { Gives TileFault.Memory (λ _. bytes_of keys.new.items) result.keys
+        (onward (λ _. bytes_of keys.old.items) before.entry.keys (λ parts. after LAYER_KEYS parts_after parts (item_view item.entry))) }
+    ensures values { Gives TileFault.Memory (λ _. bytes_of values.new.items) result.values
+        (onward (λ _. bytes_of values.old.items) before.entry.values (λ parts. after LAYER_VALUES parts_after parts (item_view item.entry))) }
     ensures extent { Gives TileFault.Memory (λ n. n) result.extent
         (onward (λ n. n) before.entry.extent (λ n. after LAYER_EXTENT number_after n (item_view item.entry))) }
     ensures version { Gives TileFault.Memory (λ n. n) result.version
         (onward (λ n. n) before.entry.version (λ n. after LAYER_VERSION number_after n (item_view item.entry))) }
 {
-    LayerFields {
+    SoFar {
         name: bytes_then(LAYER_NAME, before.name, item),
-        features: parts_then(LAYER_FEATURES, before.features, item),
-        keys: parts_then(LAYER_KEYS, before.keys, item),
-        values: parts_then(LAYER_VALUES, before.values, item),
+        features: parts_then(LAYER_FEATURES, before.features, features, item),
+        keys: parts_then(LAYER_KEYS, before.keys, keys, item),
+        values: parts_then(LAYER_VALUES, before.values, values, item),
         extent: number_then(LAYER_EXTENT, before.extent, item),
         version: number_then(LAYER_VERSION, before.version, item),
+    }
+}
+
+/// The parts, if there was no fault.
+fn all_parts<'a>(
+    read: Result<(), TileFault>,
+    parts: Vec<&'a [u8]>,
+) -> Result<Vec<&'a [u8]>, TileFault>
+    ensures { (whole : Read TileFault (List (List ℕ))) → Gives TileFault.Memory (λ _. bytes_of parts.entry.items) read whole
+        → Gives TileFault.Memory (λ v. bytes_of v.items) result whole }
+{
+    match read {
+        Ok(()) => Ok(parts),
+        Err(fault) => Err(fault),
     }
 }
 
@@ -59,16 +92,26 @@ pub(crate) fn layer_fields<'a>(alloc: Global, bytes: &'a [u8]) -> LayerFields<'a
     ensures extent { Gives TileFault.Memory (λ n. n) result.extent (last_number_in LAYER_EXTENT bytes.entry.now) }
     ensures version { Gives TileFault.Memory (λ n. n) result.version (last_number_in LAYER_VERSION bytes.entry.now) }
 {
-    let mut fields = LayerFields {
+    let mut features = Vec::new(alloc);
+    let mut keys = Vec::new(alloc);
+    let mut values = Vec::new(alloc);
+    let mut fields = SoFar {
         name: Ok(None),
-        features: Ok(Vec::new(alloc)),
-        keys: Ok(Vec::new(alloc)),
-        values: Ok(Vec::new(alloc)),
+        features: Ok(()),
+        keys: Ok(()),
+        values: Ok(()),
         extent: Ok(None),
         version: Ok(None),
     };
     for item in Fields::new(bytes) {
-        fields = with_item(fields, item);
+        fields = with_item(fields, &mut features, &mut keys, &mut values, item);
     }
-    fields
+    LayerFields {
+        name: fields.name,
+        features: all_parts(fields.features, features),
+        keys: all_parts(fields.keys, keys),
+        values: all_parts(fields.values, values),
+        extent: fields.extent,
+        version: fields.version,
+    }
 }

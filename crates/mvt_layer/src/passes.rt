@@ -74,6 +74,27 @@ pub(crate) fn bytes_then<'a>(
     bytes_behind(number, before?, item)
 }
 
+/// One item more of the parts of a field.
+fn add_part<'a>(
+    number: u32,
+    parts: &mut Vec<&'a [u8]>,
+    item: FieldItem<'a>,
+) -> Result<(), TileFault>
+    ensures { Finds TileFault.Memory (λ _. bytes_of parts.new.items) result (after number parts_after (bytes_of parts.old.items) (item_view item.entry)) }
+{
+    match item {
+        Err(_) => Err(TileFault::Wire),
+        Ok(field) if field.number != number => Ok(()),
+        Ok(field) => match field.value {
+            FieldValue::Bytes(part) => {
+                parts.push(part)?;
+                Ok(())
+            }
+            _ => Err(TileFault::Kind),
+        },
+    }
+}
+
 /// The parts of a field, after one item more.
 fn parts_behind<'a>(
     number: u32,
@@ -83,29 +104,22 @@ fn parts_behind<'a>(
     ensures { Finds TileFault.Memory (λ v. bytes_of v.items) result (after number parts_after (bytes_of before.entry.items) (item_view item.entry)) }
 {
     let mut parts = before;
-    match item {
-        Err(_) => Err(TileFault::Wire),
-        Ok(field) if field.number != number => Ok(parts),
-        Ok(field) => match field.value {
-            FieldValue::Bytes(part) => {
-                parts.push(part)?;
-                Ok(parts)
-            }
-            _ => Err(TileFault::Kind),
-        },
-    }
+    add_part(number, &mut parts, item)?;
+    Ok(parts)
 }
 
-/// The parts of a field that may come many times, after one item more.
+/// The parts of a field that may come many times, after one item more, where there was no fault before.
 pub(crate) fn parts_then<'a>(
     number: u32,
-    before: Result<Vec<&'a [u8]>, TileFault>,
+    before: Result<(), TileFault>,
+    parts: &mut Vec<&'a [u8]>,
     item: FieldItem<'a>,
-) -> Result<Vec<&'a [u8]>, TileFault>
-    ensures { Gives TileFault.Memory (λ v. bytes_of v.items) result
-        (onward (λ v. bytes_of v.items) before.entry (λ parts. after number parts_after parts (item_view item.entry))) }
+) -> Result<(), TileFault>
+    ensures { Gives TileFault.Memory (λ _. bytes_of parts.new.items) result
+        (onward (λ _. bytes_of parts.old.items) before (λ parts. after number parts_after parts (item_view item.entry))) }
 {
-    parts_behind(number, before?, item)
+    before?;
+    add_part(number, parts, item)
 }
 
 /// The parts of a field that may come many times.
