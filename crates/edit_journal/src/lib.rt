@@ -7,6 +7,7 @@ mod fault;
 mod head;
 mod journal;
 mod listing;
+mod numbers;
 mod records;
 mod recovering;
 mod releasing;
@@ -16,6 +17,7 @@ pub use encoding::part_sector;
 pub use fault::JournalFault;
 pub use head::{Head, head_in, head_version};
 pub use journal::{Journal, JournalPosition};
+pub use numbers::is_next;
 pub use records::Record;
 pub use sizes::{
     BODY_KIND, FIRST_RECORD_VERSION, FRONT_BYTES, HEAD_KIND, LAST_RECORD_VERSION, MAX_RECORD_BYTES,

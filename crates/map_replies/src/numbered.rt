@@ -1,5 +1,5 @@
 //! Edits that are made only if they get a number.
-ghost use Rattle.std.specs.Prelude.{◌≡◌, ◌≤◌, ◌+◌, ◌↔◌, [], map, vec_capacity, IsTrue, IfOk};
+ghost use Rattle.std.specs.Prelude.{◌≡◌, ◌≤◌, [], map, vec_capacity, IfOk};
 ghost use Rattle.http_serve.specs.Reply.{reply_view, IsWhole};
 ghost use Rattle.feature_model.specs.Data.{change_data};
 ghost use Rattle.tile_service.specs.Service.{status_of};
@@ -12,16 +12,10 @@ use crate::bodies::changes_in;
 use crate::calls::Calls;
 use crate::fault::RequestFault;
 use crate::replies;
+use edit_journal::is_next;
 use feature_model::Change;
 use http_serve::Reply;
 use sector_disk::Sectors;
-
-/// Whether the edit after the last one has this number.
-fn is_next(last: u64, number: u64) -> bool
-    ensures { IsTrue result ↔ (number ≡ last + 1) }
-{
-    number > last && number - last == 1
-}
 
 impl<D: Sectors + Drop> Calls<D> {
     /// Makes changes as one edit if that gets the number. It doesn't allocate for the reply.
