@@ -26,6 +26,7 @@ use feature_store::{Moment, PART_NUMBERS, Prepared, Store, TileInHand};
 use hilbert_id::TileAt;
 use std::alloc::{AllocError, Global};
 use std::marker::Model;
+use std::mem;
 use std::rc::RcSlice;
 use tile_cache::{CachedTile, Origin, TileCache, TouchGrid};
 
@@ -132,6 +133,9 @@ fn keep_shared(kept: &mut TileCache, at: TileAt, origin: Origin, number: u64, by
     }
 }
 
+/// Lets a tile in the making go, if there is one. How its parts go is proved here alone, and not in each owner.
+fn let_go(_hand: Option<TileInHand>) {}
+
 /// The bytes of a tile in the making, with all parts that are left.
 fn finish_tile(store: &Store, hand: TileInHand) -> Result<Option<Vec<u8>>, AllocError>
     requires { hand.features ≡ store.now.features }
@@ -155,7 +159,9 @@ fn is_left_after(store: &Store, hand: TileInHand, parts: usize) -> Result<bool, 
         }
         hand = store.add_part(hand)?;
     }
-    Ok(!hand.is_whole())
+    let is_left = !hand.is_whole();
+    let_go(Some(hand));
+    Ok(is_left)
 }
 
 impl CachedMap {
@@ -281,7 +287,7 @@ impl CachedMap {
         ensures as_of { IsMomentOf moment.old self.old.features → IsMomentOf moment.new self.new.features }
     {
         let _count = self.store.len();
-        self.hand = None;
+        let_go(self.hand.take());
         make_each(&mut self.store, &mut self.touched, moment, changes, number);
         self.last = number;
     }
@@ -311,7 +317,7 @@ impl CachedMap {
         ensures as_of { IsMomentOf moment.old self.old.features → IsMomentOf moment.new self.new.features }
     {
         let _count = self.store.len();
-        self.hand = None;
+        let_go(self.hand.take());
         let bounds = self.store.remove_keeping(id, moment);
         mark_some(&mut self.touched, bounds, number);
         self.last = number;
@@ -354,7 +360,7 @@ impl CachedMap {
         match self.hand.take() {
             Some(hand) if hand.at() == at => Some(hand),
             other => {
-                self.hand = other;
+                let_go(mem::replace(&mut self.hand, other));
                 None
             }
         }
@@ -383,7 +389,7 @@ impl CachedMap {
         }
         let hand = self.next_part(at)?;
         let is_whole = hand.is_whole();
-        self.hand = Some(hand);
+        let_go(self.hand.replace(hand));
         Ok(!is_whole)
     }
 
@@ -404,6 +410,7 @@ impl CachedMap {
         }
         let hand = self.store.begin_tile(at)?;
         if hand.is_listing() {
+            let_go(Some(hand));
             return Ok(true);
         }
         is_left_after(&self.store, hand, count / PART_NUMBERS)

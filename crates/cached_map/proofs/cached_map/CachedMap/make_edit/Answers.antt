@@ -29,7 +29,7 @@ edited c = edited_by (before c) (after c) (map prepared_data c.args.changes.item
 pub invariant_of-self : goal.invariant_of-self
 invariant_of-self c =
     let at = (goal.at.invariant_of-self c).After-make_each in
-    record { cut = still_kept (before at) (after at) _ (edited at) Cut c.self.inside.kept c.self.invariant.cut; hand = tt }
+    record { cut = still_kept (before at) (after at) _ (edited at) Cut c.self.inside.kept c.self.invariant.cut; hand = rw c.take.ensures.after tt }
 
 pub returns-clause-since : goal.returns-clause-since
 returns-clause-since c =

@@ -32,7 +32,7 @@ pub invariant_of-self : goal.invariant_of-self
 invariant_of-self c =
     let at = (goal.at.invariant_of-self c).After-mark_some in
     let kept = still_kept (before at) (after at) (removal (before at) (after at) c.args.id) (edited at) Cut c.self.inside.kept c.self.invariant.cut in
-    record { cut = kept; hand = tt }
+    record { cut = kept; hand = rw c.take.ensures.after tt }
 
 pub returns-clause-since : goal.returns-clause-since
 returns-clause-since c =
