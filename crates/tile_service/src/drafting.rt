@@ -11,6 +11,7 @@ ghost use Rattle.tile_service.specs.Stored.{Stored};
 ghost use Rattle.tile_service.specs.declared.fault.ServiceFault.TheVariants.{Broken, Busy, Idle, Memory};
 
 use crate::fault::ServiceFault;
+use crate::letting_go::{let_go, let_stage_go, refused};
 use crate::publishing::{Publication, to_service_fault};
 use crate::reading::MapReading;
 use crate::service::Service;
@@ -126,13 +127,13 @@ fn with_next_part(content: ContentDraft, store: &Store, moment: &Moment) -> Draf
     ensures { IsStage content.area moment.now.features result }
 {
     if moment.is_lost() {
-        return DraftStage::Refused(ServiceFault::Memory);
+        return refused(content, ServiceFault::Memory);
     }
     let mut content = content;
     match content.step(store, moment) {
         Ok(true) => DraftStage::Going(content),
         Ok(false) => finished(content),
-        Err(fault) => DraftStage::Refused(to_service_fault(fault)),
+        Err(fault) => refused(content, to_service_fault(fault)),
     }
 }
 
@@ -143,14 +144,14 @@ fn with_all_tiles(content: ContentDraft, store: &Store, moment: &Moment) -> Draf
     ensures { IsStage content.area moment.now.features result }
 {
     if moment.is_lost() {
-        return DraftStage::Refused(ServiceFault::Memory);
+        return refused(content, ServiceFault::Memory);
     }
     let mut content = content;
     loop {
         match content.step(store, moment) {
             Ok(true) => {}
             Ok(false) => return finished(content),
-            Err(fault) => return DraftStage::Refused(to_service_fault(fault)),
+            Err(fault) => return refused(content, to_service_fault(fault)),
         }
     }
 }
@@ -180,7 +181,7 @@ fn next_stage(stage: DraftStage, store: &Store, moment: &Option<Moment>) -> Draf
         },
         DraftStage::Going(content) => match moment {
             Some(moment) => with_next_part(content, store, moment),
-            None => DraftStage::Refused(ServiceFault::Memory),
+            None => refused(content, ServiceFault::Memory),
         },
         DraftStage::Found(content) => DraftStage::Found(content),
         DraftStage::Refused(fault) => DraftStage::Refused(fault),
@@ -200,7 +201,7 @@ fn last_stage(stage: DraftStage, store: &Store, moment: &Option<Moment>) -> Draf
         },
         DraftStage::Going(content) => match moment {
             Some(moment) => with_all_tiles(content, store, moment),
-            None => DraftStage::Refused(ServiceFault::Memory),
+            None => refused(content, ServiceFault::Memory),
         },
         DraftStage::Found(content) => DraftStage::Found(content),
         DraftStage::Refused(fault) => DraftStage::Refused(fault),
@@ -295,8 +296,9 @@ impl<D: Sectors + Drop> Service<D> {
         ensures up { (stored : Stored) → IsUp (D.sectors self.old.disk) (D.history self.old.disk) stored self.old
             → IsUp (D.sectors self.new.disk) (D.history self.new.disk) stored self.new }
     {
-        self.draft = None;
-        self.moment = None;
+        let draft = self.draft.take();
+        let moment = self.moment.take();
+        let_go(draft, moment);
     }
 
     /// Prepares a publication by a step, between which edits go on: the first call fixes the map of this moment, and reads nothing of it. Each
@@ -362,15 +364,20 @@ impl<D: Sectors + Drop> Service<D> {
         let draft = self.draft.take();
         let moment = self.moment.take();
         if self.broken {
+            let_go(draft, moment);
             return Err(ServiceFault::Broken);
         }
         if self.publication.is_some() {
+            let_go(draft, moment);
             return Err(ServiceFault::Busy);
         }
         let Some(draft) = draft else {
+            let_go(draft, moment);
             return Err(ServiceFault::Idle);
         };
-        match last_stage(draft.stage, self.map.store(), &moment) {
+        let stage = last_stage(draft.stage, self.map.store(), &moment);
+        let_go(None, moment);
+        match stage {
             DraftStage::Found(content) => {
                 let left = content.sectors() + 1;
                 self.publication = Some(Publication {
@@ -383,7 +390,10 @@ impl<D: Sectors + Drop> Service<D> {
                 Ok(left)
             }
             DraftStage::Refused(fault) => Err(fault),
-            DraftStage::Reading(_) | DraftStage::Going(_) => Err(ServiceFault::Memory),
+            unmade => {
+                let_stage_go(unmade);
+                Err(ServiceFault::Memory)
+            }
         }
     }
 }

@@ -3,6 +3,7 @@ ghost use Rattle.std.specs.Prelude.{◌≡◌};
 ghost use Rattle.generations.specs.Sectors.{IsVersion};
 
 use crate::drafting::Draft;
+use crate::letting_go::let_go;
 use crate::publishing::Publication;
 use area_content::SpentContent;
 use cached_map::CachedMap;
@@ -82,12 +83,13 @@ impl<D: Sectors + Drop> Service<D> {
             metadata: _,
             root: _,
             publication: _,
-            draft: _,
-            moment: _,
+            draft,
+            moment,
             spent: _,
             published: _,
             broken: _,
         } = self;
+        let_go(draft, moment);
         disk
     }
 }

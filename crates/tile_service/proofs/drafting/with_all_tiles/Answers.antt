@@ -7,8 +7,8 @@ pub returns-in-Err : goal.returns-in-Err
 returns-in-Err c =
     let inv = c.loop-content.invariant in
     let content = c.args.content in
-    told_of c.args.moment.now.features content.area content.metadata c.in-Err.fault c.to_service_fault.result c.to_service_fault.ensures
+    rw c.refused-in-Err.ensures (told_of c.args.moment.now.features content.area content.metadata c.in-Err.fault c.to_service_fault.result c.to_service_fault.ensures
     c.requires.making.metadata
     (subst (λ m. IsContentFault m content.metadata content.area c.in-Err.fault) (inv.features ∙ c.requires.making.map_is)
     (subst (λ (t : List ℕ). IsContentFault c.loop-content.content.features t content.area c.in-Err.fault) inv.metadata
-    (subst (λ (n : ℕ). IsContentFault c.loop-content.content.features c.loop-content.content.metadata n c.in-Err.fault) inv.area c.in-Err.ensures.fault)))
+    (subst (λ (n : ℕ). IsContentFault c.loop-content.content.features c.loop-content.content.metadata n c.in-Err.fault) inv.area c.in-Err.ensures.fault))))

@@ -6,6 +6,6 @@ use Rattle.tile_service.proofs.drafting.with_next_part.Goals as goal
 pub returns-in-Err : goal.returns-in-Err
 returns-in-Err c =
     let content = c.args.content in
-    told_of c.args.moment.now.features content.area content.metadata c.in-Err.fault c.to_service_fault.result c.to_service_fault.ensures
+    rw c.refused-in-Err.ensures (told_of c.args.moment.now.features content.area content.metadata c.in-Err.fault c.to_service_fault.result c.to_service_fault.ensures
     c.requires.making.metadata
-    (subst (λ m. IsContentFault m content.metadata content.area c.in-Err.fault) c.requires.making.map_is c.in-Err.ensures.fault)
+    (subst (λ m. IsContentFault m content.metadata content.area c.in-Err.fault) c.requires.making.map_is c.in-Err.ensures.fault))

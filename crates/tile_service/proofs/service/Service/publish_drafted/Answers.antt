@@ -19,8 +19,8 @@ returns-in-Refused-clause-up g c = rw (← c.self.view_is)
     (λ stored up. up_gone _ _ stored _ up (drafted_by c.take-moment.new.self c.take-draft.new.self)
     (gone_drafting c.take-moment.new.self c.take-draft.new.self c.take-draft.ensures.after))
 
-pub returns-clause-up : goal.returns-clause-up
-returns-clause-up g c = rw (← c.self.view_is)
+pub returns-in_default-stage-clause-up : goal.returns-in_default-stage-clause-up
+returns-in_default-stage-clause-up g c = rw (← c.self.view_is)
     (λ stored up. up_gone _ _ stored _ up (drafted_by c.take-moment.new.self c.take-draft.new.self)
     (gone_drafting c.take-moment.new.self c.take-draft.new.self c.take-draft.ensures.after))
 
@@ -29,7 +29,7 @@ invariant_of-self-in-Found g c =
     let is = sym c.take-draft.ensures.value ∙ c.in-Some.is in
     let found : IsContentOf (area_sectors c.self.inside.layout.sectors) (map_then (moment_map c.self.inside.moment)) c.in-Found.content =
     subst (IsStage (area_sectors c.self.inside.layout.sectors) (map_then (moment_map c.self.inside.moment))) c.in-Found.is
-    (stage_reached c.in-Some.draft c.take-moment.result c.last_stage.result is c.take-moment.ensures.value c.last_stage.ensures c.self.invariant) in
+    (stage_reached c.in-Some.draft c.take-moment.result c.last_stage-stage.result is c.take-moment.ensures.value c.last_stage-stage.ensures c.self.invariant) in
     let there = draft_there c.in-Some.draft is c.self.invariant in
     service_undrafted
     (Some (record { content = c.in-Found.content; start = c.in-Some.draft.start; places = c.in-Some.draft.places; written = 0 }))
@@ -42,7 +42,7 @@ returns-in-Found-clause-begins g c = rw (← c.self.view_is) (λ unbroken none.
     let is = sym c.take-draft.ensures.value ∙ c.in-Some.is in
     let found : IsContentOf (area_sectors c.self.inside.layout.sectors) (map_then (moment_map c.self.inside.moment)) c.in-Found.content =
     subst (IsStage (area_sectors c.self.inside.layout.sectors) (map_then (moment_map c.self.inside.moment))) c.in-Found.is
-    (stage_reached c.in-Some.draft c.take-moment.result c.last_stage.result is c.take-moment.ensures.value c.last_stage.ensures c.self.invariant) in
+    (stage_reached c.in-Some.draft c.take-moment.result c.last_stage-stage.result is c.take-moment.ensures.value c.last_stage-stage.ensures c.self.invariant) in
     let p : PublicationView =
     record { content = c.in-Found.content; start = c.in-Some.draft.start; places = c.in-Some.draft.places; written = 0 } in
     subst (λ (o : Option DraftedView). IfSome o (λ d. BeginsDrafted c.self.inside.layout.sectors d (Ok (c.sectors-left.result + 1)) (Some p)))
@@ -53,7 +53,7 @@ returns-in-Found-clause-up g c = rw (← c.self.view_is) (λ stored up.
     let is = sym c.take-draft.ensures.value ∙ c.in-Some.is in
     let found : IsContentOf (area_sectors c.self.inside.layout.sectors) (map_then (moment_map c.self.inside.moment)) c.in-Found.content =
     subst (IsStage (area_sectors c.self.inside.layout.sectors) (map_then (moment_map c.self.inside.moment))) c.in-Found.is
-    (stage_reached c.in-Some.draft c.take-moment.result c.last_stage.result is c.take-moment.ensures.value c.last_stage.ensures c.self.invariant) in
+    (stage_reached c.in-Some.draft c.take-moment.result c.last_stage-stage.result is c.take-moment.ensures.value c.last_stage-stage.ensures c.self.invariant) in
     let service : ServiceView g.row.D.Denot = service_view c.self.inside in
     let there = draft_there c.in-Some.draft is c.self.invariant in
     let d : DraftedView = record {
@@ -72,7 +72,7 @@ returns-in-Refused-clause-begins g c = rw (← c.self.view_is) (λ unbroken none
     let is = sym c.take-draft.ensures.value ∙ c.in-Some.is in
     let missing : HasNoContent (map_then (moment_map c.self.inside.moment)) (area_sectors c.self.inside.layout.sectors) c.in-Refused.fault =
     subst (IsStage (area_sectors c.self.inside.layout.sectors) (map_then (moment_map c.self.inside.moment))) c.in-Refused.is
-    (stage_reached c.in-Some.draft c.take-moment.result c.last_stage.result is c.take-moment.ensures.value c.last_stage.ensures c.self.invariant) in
+    (stage_reached c.in-Some.draft c.take-moment.result c.last_stage-stage.result is c.take-moment.ensures.value c.last_stage-stage.ensures c.self.invariant) in
     subst (λ (o : Option DraftedView). IfSome o (λ d.
     BeginsDrafted c.self.inside.layout.sectors d (Err c.in-Refused.fault) c.self.inside.publication))
     (sym (ap (drafted_by c.self.inside.moment) is)) (none, missing))
