@@ -22,6 +22,9 @@ function about(feature) {
     return text;
 }
 
+// A text as HTML: Leaflet takes the names of layers as such.
+const asHtml = text => Object.assign(document.createElement("span"), { textContent: text }).innerHTML;
+
 // How a feature is drawn, by the rule that is of it.
 function drawn(feature) {
     const rule = style.rules[style.placeOf(feature.layer, feature.properties)] ?? {};
@@ -39,7 +42,7 @@ const loaded = await Promise.all(collections.map(async collection => ({ collecti
 const place = ({ features: [first] }) => first ? style.placeOf(first.layer, first.properties) : -1;
 const layers = loaded.sort((one, other) => place(one) - place(other)).map(({ collection, features }) => {
     const layer = L.geoJSON(features, { style: drawn, pointToLayer: (_, at) => L.circleMarker(at, { radius: 5 }) });
-    control.addOverlay(layer.bindPopup(clicked => about(clicked.feature)), collection.title);
+    control.addOverlay(layer.bindPopup(clicked => about(clicked.feature)), asHtml(collection.title));
     return layer;
 });
 map.fitBounds(L.featureGroup(layers).getBounds());

@@ -81,7 +81,7 @@ class Standby(Leader):
         here = self.edit(self.at) if self.at else None
         there = leader.edit(self.at) if here else None
         if there and encoded(here) != encoded(there):
-            raise Stopped(f"edit {self.at:,} of {self.address} isn't that of {leader.address}: it was edited by somebody else. {ANEW.capitalize()}")
+            raise Stopped(f"edit {self.at:,} of {self.address} isn't that of {leader.address}: it was edited by somebody else. {ANEW[0].upper()}{ANEW[1:]}")
 
     def take(self, edits):
         """Makes edits, the first of which is the one after the last. If the number of its next edit is another one, it has to begin again."""

@@ -3,6 +3,11 @@
 ZOOMS = ("minzoom", "maxzoom")
 
 
+def shown(name):
+    """A name that somebody has sent, as a terminal may have it."""
+    return name if name.isprintable() else repr(name)
+
+
 def said_of(feature):
     """The tags of a feature, and its layer and zooms beside them."""
     return {**feature["tags"], **{f"({name})": feature[name] for name in ("layer", *ZOOMS)}}
@@ -13,7 +18,7 @@ def told_change(before, after):
     if after is None or before is None:
         return "deleted" if after is None else "put anew"
     old, new = said_of(before), said_of(after)
-    parts = [f"{name}: {old.get(name)!r} -> {new.get(name)!r}" for name in sorted({*old, *new}) if old.get(name) != new.get(name)]
+    parts = [f"{shown(name)}: {old.get(name)!r} -> {new.get(name)!r}" for name in sorted({*old, *new}) if old.get(name) != new.get(name)]
     return ", ".join(parts + (["its shape"] if before["geometry"] != after["geometry"] else [])) or "nothing"
 
 
@@ -22,11 +27,11 @@ def told_difference(one, other):
     if one is None or other is None:
         return "it isn't on the map" if one is None else "it isn't in the file"
     old, new = said_of(one), said_of(other)
-    parts = [f"{name}: {old.get(name)!r} on the map, {new.get(name)!r} in the file" for name in sorted({*old, *new}) if old.get(name) != new.get(name)]
+    parts = [f"{shown(name)}: {old.get(name)!r} on the map, {new.get(name)!r} in the file" for name in sorted({*old, *new}) if old.get(name) != new.get(name)]
     return ", ".join(parts + (["its shape"] if one["geometry"] != other["geometry"] else [])) or "the shapes of its pieces"
 
 
 def named(number, feature, text=None):
     """The layer and the id of a feature, the text that its file has as its id, and its name if it has one."""
     parts = [part for part in (text, feature["tags"].get("name")) if isinstance(part, str)]
-    return f"{feature['layer']} {number}" + (f" ({', '.join(repr(part) for part in dict.fromkeys(parts))})" if parts else "")
+    return f"{shown(feature['layer'])} {number}" + (f" ({', '.join(repr(part) for part in dict.fromkeys(parts))})" if parts else "")

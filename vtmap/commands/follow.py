@@ -115,7 +115,7 @@ class Follower:
             self.sink.miss(self.leader, behind.published)
             return
         if self.words.anew is None:
-            raise Stopped(f"it has edits up to {behind.number - 1:,}, and {behind}. {ANEW.capitalize()}, and give --anew next time; `vtmap publish --pause 5` "
+            raise Stopped(f"it has edits up to {behind.number - 1:,}, and {behind}. {ANEW[0].upper()}{ANEW[1:]}, and give --anew next time; `vtmap publish --pause 5` "
                           "waits for who follows")
         say(f"{self.sink.address} has edits up to {behind.number - 1:,}, and {behind}: --anew begins it anew")
         self.sink.close()

@@ -7,7 +7,7 @@ from datetime import date, datetime
 from ..faults import Refused
 from ..files.edit_log import lines_of
 from ..files.proxy_log import Senders
-from .differences import named, told_change
+from .differences import named, shown, told_change
 from .ids import ranges, told_ranges
 
 ABOUT = {"log": """Tells who changed what on the map, and when.
@@ -117,11 +117,6 @@ def lines(edit):
     return [f"{time}  {edit.number}  {person}  {told(change)}" for change in edit.changes]
 
 
-def shown(person):
-    """A name that somebody has sent, as a terminal may have it."""
-    return person if person.isprintable() else repr(person)
-
-
 def missing(row):
     """The line of edits that the log doesn't have."""
     time = datetime.fromisoformat(row["time"]).astimezone().strftime("%Y-%m-%d %H:%M:%S")
@@ -133,7 +128,7 @@ def names_of(words, edit, change):
     return {
         "person": lambda: shown(edit.person),
         "day": lambda: edit.time.date().isoformat(),
-        "layer": lambda: (layers_of(change) or [NOBODY])[0],
+        "layer": lambda: shown((layers_of(change) or [NOBODY])[0]),
         "feature": lambda: named(id_of(change), feature_of(change)) if feature_of(change) else f"{id_of(change)}",
     }[words.count]()
 

@@ -9,7 +9,7 @@ from ..client.followers import NUMBER, Log
 from ..client.refusals import STATUSES, WORDS, told
 from ..ending import regular, replaced
 from ..faults import Fault, NoAnswer
-from ..limits import SECTOR
+from ..limits import MOST_ENTRIES, SECTOR
 
 DAY = 24 * 3600
 SOON, NOW, UNKNOWN = 1, 2, 3
@@ -23,12 +23,13 @@ It prints a line for each thing to do, and with nothing to do one line. It ends 
 soon, 2 if something doesn't work any more (no server, a failed disk, a full journal, a refused publication), and 3 if that isn't known: as
 monitors such as Nagios expect, and cron mails what is printed.
 
-It always sees a full journal, an area that is nearly full or that the next publication may not fit, a publication that was left under way, a
-failed disk, and a server that doesn't answer. --state FILE keeps what was seen, for the next look: whether the journal fills before the next
-publication. --record FILE is what `vtmap publish --record` keeps: whether the last publication was refused, and when it was. --backups FOLDER
-is where vtserve-backup.service saves the map (map-2026-11-29.jsonl): whether the newest backup is older than --backup-hours. --standby URL is
-a server that `vtmap follow` keeps as this one, and --log FILE a log that it writes: whether they lack edits. --metrics FILE is written for
-Prometheus, by the textfile collector of node_exporter."""}
+It always sees a full journal, an area that is nearly full or that the next publication may not fit, an archive that has nearly as many
+entries as one may have, a publication that was left under way, a failed disk, and a server that doesn't answer. --state FILE keeps what was
+seen, for the next look: whether the journal fills before the next publication. --record FILE is what `vtmap publish --record` keeps:
+whether the last publication was refused, and when it was. --backups FOLDER is where vtserve-backup.service saves the map
+(map-2026-11-29.jsonl): whether the newest backup is older than --backup-hours. --standby URL is a server that `vtmap follow` keeps as this
+one, and --log FILE a log that it writes: whether they lack edits. --metrics FILE is written for Prometheus, by the textfile collector of
+node_exporter."""}
 # How docs/vtserve-backup.service names its files. A backup that isn't finished has another name.
 BACKUP = "map-*.jsonl"
 # Edits of less than this share of the journal say nothing of how fast it fills.
@@ -50,6 +51,7 @@ METRICS = [
     ("publication_left_sectors", "gauge", "What is left of the publication under way, 0 if none is."),
     ("features", "gauge", "The features of the map."),
     ("archive_bytes", "gauge", "The length of the published archive."),
+    ("archive_entries", "gauge", "The entries of the published archive, of at most 131,072."),
     ("journal_used_sectors", "gauge", "The sectors of the journal that are used."),
     ("journal_sectors", "gauge", "The sectors of the journal."),
     ("area_used_sectors", "gauge", "The sectors of an area that the last publication takes."),
@@ -130,6 +132,25 @@ def fullness(status, most):
     elif area["used"] * 100 >= area["sectors"] * most and stale * 100 >= cells * MUCH:
         yield SOON, (f"the next publication may not fit: the last one takes {area['used']:,} of the {area['sectors']:,} sectors of an area, and edits "
                      f"since have touched {stale:,} of {cells:,} cells. Publish now, and {LARGER}")
+
+
+def entries(status, client):
+    """The entries of the published archive, by its header; None where it has no archive, or can't be asked for it."""
+    if not status["archive"]:
+        return None
+    try:
+        code, header = client.ask("GET", "/map.pmtiles", fields={"Range": "bytes=0-126"})
+    except NoAnswer:
+        return None
+    return int.from_bytes(header[80:88], "little") if code == 206 and len(header) == 127 else None
+
+
+def many_tiles(status, most):
+    """Whether the archive has nearly as many entries as one may have."""
+    used = status.get("entries")
+    if used is not None and used * 100 >= MOST_ENTRIES * most:
+        yield SOON, (f"the archive has {used:,} entries, and may have {MOST_ENTRIES:,}: beyond that no publication is made (TooManyTiles), and once the "
+                     "journal is full no edit. End features at a smaller zoom, or take a part of them to a map of its own")
 
 
 def left(status, client, wait):
@@ -253,7 +274,8 @@ def metrics(path, status, result):
             "area_next_sectors": next_area(status),
             "area_sectors": area["sectors"],
         }
-        values |= {name: status[member] for name, member in [("stale_cells", "stale"), ("cells", "cells")] if member in status}
+        others = [("stale_cells", "stale"), ("cells", "cells"), ("archive_entries", "entries")]
+        values |= {name: status[member] for name, member in others if status.get(member) is not None}
     replace(path, "".join(
         f"# HELP vtserve_{name} {text}\n# TYPE vtserve_{name} {kind}\nvtserve_{name} {values[name]}\n"
         for name, kind, text in METRICS if name in values
@@ -266,7 +288,8 @@ def tasks(words, client, now):
     found += backed_up(words.backups, now, words.backup_hours) if words.backups else []
     try:
         status = status_of(client)
-        found += [*fullness(status, words.at), *left(status, client, words.wait)]
+        status["entries"] = entries(status, client)
+        found += [*fullness(status, words.at), *many_tiles(status, words.at), *left(status, client, words.wait)]
         found += speed(status, words.state, now, words.every) if words.state else []
         found += behind(words.standby, status, words.wait)
         found += behind_in_logs(words.log, status, words.wait)

@@ -102,5 +102,5 @@ def fids_in(element):
 
 def number_and_version(fid):
     """The number of a feature and the version of it that an id names; None if it is no id of the gateway."""
-    found = re.fullmatch(r".*\.([0-9]{1,19})\.([0-9a-f]{16})(-[0-9]+)?", fid, re.DOTALL)
+    found = re.fullmatch(r"""[^\s<>&"']+\.([0-9]{1,19})\.([0-9a-f]{16})(-[0-9]+)?""", fid)
     return found and (int(found[1]), found[2])

@@ -85,20 +85,41 @@ def value_test(name, element, literals):
     if name == "PropertyIsBetween" and len(literals) == 2:
         return lambda value: value is not None and compared(operator.ge, value, literals[0]) and compared(operator.le, value, literals[1])
     if name == "PropertyIsLike" and len(literals) == 1:
-        like = re.compile(pattern(element, literals[0]), re.DOTALL | (re.IGNORECASE if element.get("matchCase") == "false" else 0))
-        return lambda value: value is not None and bool(like.fullmatch(str(value)))
+        parts = parts_of_like(element, literals[0])
+        return lambda value: value is not None and is_like(parts, str(value))
     if name in COMPARED and len(literals) == 1:
         return lambda value: value is not None and compared(COMPARED[name], value, literals[0])
     return None
 
 
-def pattern(element, literal):
-    """The regular expression of a PropertyIsLike."""
-    marks = {element.get("wildCard"): ".*", element.get("singleChar"): "."}
-    escape, made, parts = element.get("escapeChar", element.get("escape")), "", iter(literal)
+def parts_of_like(element, literal):
+    """What a PropertyIsLike has between its wildcards: the length and the regular expression of each part. One expression with wildcards would take
+    longer by a power of the text's length with each of them."""
+    wild, single = element.get("wildCard"), element.get("singleChar")
+    escape, made, parts = element.get("escapeChar", element.get("escape")), [[]], iter(literal)
     for part in parts:
-        made += re.escape(next(parts, "")) if part == escape else marks.get(part, re.escape(part))
-    return made
+        if part == wild:
+            made.append([])
+        else:
+            made[-1] += ["."] if part == single else [re.escape(one) for one in (next(parts, "") if part == escape else part)]
+    case = re.IGNORECASE if element.get("matchCase") == "false" else 0
+    return [(len(part), re.compile("".join(part), re.DOTALL | case)) for part in made]
+
+
+def is_like(parts, text):
+    """Whether a text has these parts in their order: the first one at its beginning, the last one at its end."""
+    (at, first), *others = parts
+    if not others:
+        return bool(first.fullmatch(text))
+    *middle, (length, last) = others
+    if not first.match(text):
+        return False
+    for _, part in middle:
+        found = part.search(text, at)
+        if not found:
+            return False
+        at = found.end()
+    return at + length <= len(text) and bool(last.fullmatch(text, len(text) - length))
 
 
 def compared(how, value, literal):

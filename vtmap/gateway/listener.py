@@ -15,6 +15,8 @@ from .ogc_texts import JSON
 
 WFS, OGC = "/wfs", "/ogc"
 XML, TEXT = "text/xml; charset=utf-8", "text/plain; charset=utf-8"
+# The types of a Transaction.
+KINDS_OF_XML = ("text/xml", "application/xml", "application/gml+xml")
 HERE = "127.0.0.1"
 # The names by which a client, or the proxy in front, reaches this. A web page could rebind its own name to this address, and edit the map.
 HOSTS = re.compile(r"(127\.0\.0\.1|localhost|\[::1\])(:[0-9]+)?", re.IGNORECASE)
@@ -70,8 +72,9 @@ class Handler(BaseHTTPRequestHandler):
         body = self.rfile.read(int(length))
         if not self.is_for_here():
             return
-        # A web page can make a browser post text or a form to any server, but for XML of another origin the browser asks first.
-        if session is None or "xml" not in self.headers.get("content-type", "").lower():
+        # A web page can make a browser post text or a form to any server, also with a parameter that has "xml" in it. For XML of another origin the
+        # browser asks first.
+        if session is None or self.headers.get_content_type() not in KINDS_OF_XML:
             self.reply(404 if session is None else 415, b"NotFound" if session is None else b"text/xml is needed", TEXT)
             return
         person = self.headers.get("x-forwarded-user") or self.headers.get("x-real-ip") or self.client_address[0]

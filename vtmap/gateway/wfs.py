@@ -86,10 +86,16 @@ class Wfs:
             self.look(is_saving=True)
             session, mark = self.sessions.get(name), hashlib.sha256(body).hexdigest()
             counts, added = {"Insert": len(session.added), "Update": 0, "Delete": 0}, session.added
-            # If the reply to it was lost, the GIS sends the same again: its new features are made once.
-            if session.mark != mark:
+            # If the reply to it was lost, the GIS sends the same again: its new features are made once, as long as they are on the map.
+            if session.mark != mark or not all(self.is_there(session, fid) for fid in session.added):
                 counts, added = self.save(name, session, actions_of(root), mark, person)
             return wfs_texts.transacted(root.get("version", wfs_texts.V1.name), counts, added)
+
+    def is_there(self, session, fid):
+        """Whether the map has a feature as it was added under this id."""
+        number, version = session.held(fid)
+        view = self.live.views.get(number)
+        return view is not None and view.version == version
 
     def save(self, name, session, actions, mark, person):
         """Makes a Transaction. Returns its counts and the ids of new features."""

@@ -117,7 +117,7 @@ def feature(version, table, view, fid):
     key = version.name, table.form
     if view.written[0] != key:
         view.written = key, inside(version, table, view)
-    return f'<v:{table.name} gml:id="{fid}">{view.written[1]}</v:{table.name}>'
+    return f'<v:{table.name} gml:id="{said(fid)}">{view.written[1]}</v:{table.name}>'
 
 
 def inside(version, table, view):
