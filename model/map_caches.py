@@ -56,14 +56,19 @@ FINE = [
     (12, 2048, 5), (12, 2047, 5), (12, 2046, 0), (12, 2050, 0), (12, 2053, 0), (12, 2052, 5),
     (8, 128, 5), (8, 127, 5), (8, 126, 0), (8, 130, 0), (8, 137, 0), (8, 136, 5), (5, 16, 5), (5, 18, 0), (0, 0, 5),
 ]
+# The same of the grid of wide maps. At zoom 12 the column 2052 is 32 of the finest cells from the point, which the wide level tells apart, and 2080
+# is 256 of them from it, which the second level does; 2176 is 1,024 of them from it, which no level does that is repeated, and with its margin in
+# the point's cell of the first one. A tile of zoom 10 touches 34 columns of the wide level, and one of zoom 9 too many.
+WIDE = [*((zoom, at, newest) for zoom, at, newest in FINE if (zoom, at) != (12, 2052)),
+        (12, 2052, 0), (12, 2080, 0), (12, 2176, 5), (12, 2177, 0), (10, 512, 5), (10, 511, 5), (10, 510, 0), (10, 513, 0), (9, 256, 5), (9, 255, 5)]
 
 
 def grid_lines():
     yield "# The newest edit that can reach a tile: columns, or rows, that an edit touched, and a tile's column, or row."
     for first, last, z, at, is_reached in REACHES:
         newest = "7" if is_reached else "0"
-        yield from ["caches", f"mark {first} {last} 0 {LAST} 7", (f"touched {z} {at} 0", newest)]
-        yield from ["caches", f"mark 0 {LAST} {first} {last} 7", (f"touched {z} 0 {at}", newest)]
+        yield from ["caches", f"mark {first} {last} 0 {LAST} 7", (f"touched {z} {at} 0", newest), (f"wide {z} {at} 0", newest)]
+        yield from ["caches", f"mark 0 {LAST} {first} {last} 7", (f"touched {z} 0 {at}", newest), (f"wide {z} 0 {at}", newest)]
     yield "# The greatest number stays."
     yield "caches"
     for across, number, place, newest in [
@@ -73,14 +78,16 @@ def grid_lines():
     yield "# A point in one cell of each level: tiles beside it are reached by their margins, others aren't, at each zoom by the finest level that it fits."
     point = 2**31 + 2**16
     yield from ["caches", f"mark {point} {point} {point} {point} 5"]
-    for zoom, at, newest in FINE:
-        for place in [f"{zoom} {at} {point >> 32 - zoom}", f"{zoom} {point >> 32 - zoom} {at}"]:
-            yield f"touched {place}", str(newest)
+    for word, tiles in [("touched", FINE), ("wide", WIDE)]:
+        for zoom, at, newest in tiles:
+            for place in [f"{zoom} {at} {point >> 32 - zoom}", f"{zoom} {point >> 32 - zoom} {at}"]:
+                yield f"{word} {place}", str(newest)
     yield "# A box as wide as the world touches each cell."
-    yield from [f"mark 0 {LAST} 0 {LAST} 7", ("touched 15 0 0", "7"), ("touched 19 524287 9", "7"), ("touched 8 137 3", "7")]
+    yield from [f"mark 0 {LAST} 0 {LAST} 7", ("touched 15 0 0", "7"), ("touched 19 524287 9", "7"), ("touched 8 137 3", "7"), ("wide 15 0 0", "7"),
+                ("wide 19 524287 9", "7"), ("wide 10 3 700", "7"), ("wide 8 137 3", "7")]
     yield "# Without a mark the number is 0."
     yield from ["caches", ("touched 0 0 0", "0"), ("touched 16 65535 65535", "0"), ("touched 19 524287 524287", "0"), ("touched 20 0 0", "0"),
-                ("touched 2 4 0", "no tile")]
+                ("touched 2 4 0", "no tile"), ("wide 0 0 0", "0"), ("wide 16 65535 65535", "0"), ("wide 20 0 0", "0"), ("wide 2 4 0", "no tile")]
 
 
 def cache_lines():

@@ -125,8 +125,10 @@ ALONE = {
 # ---- the newest edits of the world's cells, and tiles that are kept
 
 
-# The bits of a coordinate that a cell has: a level for each, in which cells that are 32 columns or rows apart share a number.
-CELL_BITS = (27, 22, 17)
+# Of each level the bits of a coordinate that a cell has, after how many columns or rows cells share a number, and how many of them
+# the box of a tile touches at most, or the level isn't asked: the first one always is.
+LEVELS = ((27, 32, 32), (22, 32, 32), (17, 32, 32))
+WIDE_LEVELS = (*LEVELS, (17, 256, 40))
 
 
 def axis_shown(z, at):
@@ -141,25 +143,28 @@ def axis_shown(z, at):
 class Grid:
     """The number of the newest edit of each of 32 by 32 cells of the world, and of each of finer cells."""
 
-    def __init__(self):
-        self.cells = {}
+    def __init__(self, levels):
+        self.levels, self.cells = levels, {}
 
-    def places(self, bits, across, down):
+    def places(self, level, across, down):
         """The places of the cells that a box touches, each once."""
-        columns, rows = ({cell % 32 for cell in range(first >> bits, (last >> bits) + 1)} for first, last in (across, down))
-        return {(bits, column, row) for column in columns for row in rows}
+        bits, side, _ = level
+        columns, rows = ({cell % side for cell in range(first >> bits, min(last >> bits, (first >> bits) + side - 1) + 1)}
+                         for first, last in (across, down))
+        return {(level, column, row) for column in columns for row in rows}
 
     def mark(self, across, down, number):
         if across[0] <= across[1] and down[0] <= down[1]:
-            for bits in CELL_BITS:
-                for place in self.places(bits, across, down):
+            for level in self.levels:
+                for place in self.places(level, across, down):
                     self.cells[place] = max(number, self.cells.get(place, 0))
 
     def newest(self, z, x, y):
-        """The least of what the levels say: of the first one, and of each that is wider than the tile."""
+        """The least of what the levels say: of the first one, and of each of whose cells the tile touches few."""
         box = axis_shown(z, x), axis_shown(z, y)
-        looked = [bits for bits in CELL_BITS if bits == 27 or all((last >> bits) - (first >> bits) < 32 for first, last in box)]
-        return min(max(self.cells.get(place, 0) for place in self.places(bits, *box)) for bits in looked)
+        looked = [(bits, side, most) for bits, side, most in self.levels
+                  if bits == 27 or all((last >> bits) - (first >> bits) < most for first, last in box)]
+        return min(max(self.cells.get(place, 0) for place in self.places(level, *box)) for level in looked)
 
 
 class Cache:
@@ -194,7 +199,7 @@ def squares(across, down):
 class Map:
     def __init__(self, last, held=None):
         self.last, self.held = last, held or {}
-        self.grid, self.cache = Grid(), Cache()
+        self.grid, self.cache = Grid(WIDE_LEVELS), Cache()
         # The numbers of the features whose bounding box touches a square.
         self.numbers = defaultdict(set)
         for number, feature in self.held.items():
@@ -423,10 +428,11 @@ class Boxes:
 
 class Caches:
     def __init__(self):
-        self.grid, self.cache = Grid(), Cache()
+        self.grid, self.wide_grid, self.cache = Grid(LEVELS), Grid(WIDE_LEVELS), Cache()
 
     def mark(self, x0, x1, y0, y1, number, *_):
-        self.grid.mark((x0, x1), (y0, y1), number)
+        for grid in (self.grid, self.wide_grid):
+            grid.mark((x0, x1), (y0, y1), number)
         return "marked"
 
     def hold(self, z, x, y, number, first, *_):
@@ -440,7 +446,10 @@ class Caches:
     def touched(self, z, x, y, *_):
         return str(self.grid.newest(z, x, y))
 
-    LINES = {"mark": mark, "hold": hold, "held": held, "touched": touched}
+    def wide(self, z, x, y, *_):
+        return str(self.wide_grid.newest(z, x, y))
+
+    LINES = {"mark": mark, "hold": hold, "held": held, "touched": touched, "wide": wide}
 
 
 class Stand:
@@ -468,7 +477,7 @@ class Stand:
         if word in Map.LINES:
             return Map.LINES[word](self.map, rest)
         numbers = numbers_in(rest)
-        if word in Map.PLACES or word in ("hold", "held", "touched"):
+        if word in Map.PLACES or word in ("hold", "held", "touched", "wide"):
             if not is_tile(*numbers[:3]):
                 return "no tile"
         if word in Map.PLACES:

@@ -203,15 +203,16 @@ def tags_of_tiles(script):
 
 
 def numbers_of_tiles(script):
-    script.say("The number of a tile is that of the newest edit in its cells, of the smallest that it fits: cells of three sizes, 32 in a row.")
+    script.say("The number of a tile is that of the newest edit in its cells, of the smallest that it fits: cells of three sizes, 32 in a row, and of the last 256 too.")
     script.disk(4096)
     bits = (27, 22, 17)
     for bit in bits:
         cell = 2**bit
         script.ask(put(1, tiles.feature({"points": [[0, 0]]})), put(2, tiles.feature({"points": [[cell, 0], [0, cell]]})))
         script.ask(put(3, tiles.feature({"points": [[33 * cell % (WORLD + 1), 0]]})), put(4, tiles.feature({"lines": [[[5 * cell, 0], [36 * cell % (WORLD + 1), cell]]]})))
-        for zoom in (0, 5, 31 - bit, min(19, 33 - bit), min(19, 36 - bit), 19):
-            script.ask(*(tile_at(zoom, number % 2**zoom, 0, method="HEAD") for number in (0, 1, 2, 7, 8, 9, 32, 33, 2**zoom - 1)))
+        script.ask(put(5, tiles.feature({"points": [[257 * cell % (WORLD + 1), 0]]})))
+        for zoom in (0, 5, 9, 10, 31 - bit, min(19, 33 - bit), min(19, 36 - bit), 19):
+            script.ask(*(tile_at(zoom, number % 2**zoom, 0, method="HEAD") for number in (0, 1, 2, 7, 8, 9, 32, 33, 64, 128, 129, 257, 2**zoom - 1)))
         script.ask(request("DELETE", "/features/4"), *(tile_at(zoom, 0, 0, method="HEAD") for zoom in range(0, 20, 3)))
 
 

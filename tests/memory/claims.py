@@ -13,6 +13,8 @@ from archives import DirectoryEntry, Maker, changed, directory, judged
 from wire import part, varint
 
 MOST = 262144
+# The one block of a service that is larger: the numbers of the cells of its map, 8 bytes each, 3 levels of 32 by 32 and one of 256 by 256.
+GRID = 8 * (3 * 32**2 + 256**2)
 MAX_ENTRIES = b"\xff\xff\xff\xff\x0f"
 FAR = 2**63 - 1
 # A point's geometry that claims 2^29 - 1 moves, a layer, a key and a list of tags that claim 2^63 - 1 bytes.
@@ -85,7 +87,7 @@ def tried(program, shim, folder):
     for name, command, held, expected in cases():
         with open(path, "wb") as file:
             file.write(held)
-        for more in ({}, {"LD_PRELOAD": shim, "FAIL_OVER": str(MOST)}):
+        for more in ({}, {"LD_PRELOAD": shim, "FAIL_OVER": str(MOST), "FAIL_BUT": str(GRID)}):
             done = subprocess.run([program, command, path], input=b"", capture_output=True, timeout=60, env=more)
             outcome = done.returncode, done.stdout, done.stderr
             count += 1

@@ -1,5 +1,5 @@
-// Refuses the allocation whose number FAIL_AT gives, counted from 1, and those of more than FAIL_OVER bytes. Writes the number of allocations that
-// were made into the file FAIL_COUNT at the end. Loaded before the C library.
+// Refuses the allocation whose number FAIL_AT gives, counted from 1, and those of more than FAIL_OVER bytes but for those of exactly FAIL_BUT. Writes
+// the number of allocations that were made into the file FAIL_COUNT at the end. Loaded before the C library.
 #define _GNU_SOURCE
 #include <dlfcn.h>
 #include <errno.h>
@@ -11,9 +11,10 @@
 static long count = 0;
 
 static int refused(size_t size) {
-    const char *at = getenv("FAIL_AT"), *over = getenv("FAIL_OVER");
+    const char *at = getenv("FAIL_AT"), *over = getenv("FAIL_OVER"), *but = getenv("FAIL_BUT");
     count += 1;
-    return (at != NULL && count == atol(at)) || (over != NULL && size > (size_t)atol(over));
+    if (at != NULL && count == atol(at)) return 1;
+    return over != NULL && size > (size_t)atol(over) && (but == NULL || size != (size_t)atol(but));
 }
 
 __attribute__((destructor)) static void tell(void) {

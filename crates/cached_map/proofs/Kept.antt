@@ -14,6 +14,7 @@ use Rattle.tile_cache.specs.Touched.{Mark, Reaches, Touches, Remembers, IsNewest
 use Rattle.tile_cache.specs.declared.cached_tiles.Origin.{Origin}
 use Rattle.tile_cache.specs.declared.cached_tiles.Origin.TheVariants.{Cut, Read}
 use Rattle.tile_cache.specs.declared.cached_tiles.TileKey.{TileKey}
+use Rattle.tile_cache.specs.declared.touch_grid.TheConstants.{WIDE_LEVELS}
 use Rattle.tile_cache.proofs.Marks.{marked_more, newest_of, reached_at_most}
 use Rattle.tile_cache.proofs.Numbers.{newest_once}
 use Rattle.tile_cache.proofs.Places.{place_is}
@@ -183,7 +184,7 @@ read_kept m cells last number old new z x y bytes was kept earlier content befor
     }) kept
   where
     low : All (λ (k : Mark). Reaches k.0 z x y → k.1 ≤ last) earlier.marks
-    low = reached_at_most cells earlier.marks 0 z x y last (omega arith)
+    low = reached_at_most WIDE_LEVELS cells earlier.marks 0 z x y last (omega arith)
         (λ column row has. at_most before.marks (cell_at cells 0 column row) last before.numbers (before.remembers.only (place_in 0 column row)))
         earlier.remembers
 
@@ -199,7 +200,7 @@ untouched_behind marks z x y newest n is le =
 pub fresh_same : (cells : List ℕ) (old new : CacheView) (z x y m n : ℕ) (reads : Bool) (found : Option (List ℕ)) → KeepsSame old new
     → IsNewestOf cells z x y m → IsNewestOf cells z x y n → found ≡ fresh m reads (kept_at new z x y) → found ≡ fresh n reads (kept_at old z x y)
 fresh_same cells old new z x y m n reads found same of_m of_n is =
-    is ∙ ap (λ k. fresh k reads (kept_at new z x y)) (newest_once cells (shown_box z x y) m n of_m of_n) ∙ ap (fresh n reads) (same.tiles z x y)
+    is ∙ ap (λ k. fresh k reads (kept_at new z x y)) (newest_once WIDE_LEVELS cells (shown_box z x y) m n of_m of_n) ∙ ap (fresh n reads) (same.tiles z x y)
 
 module _ (z x y newest : ℕ) where
   -- an earlier map whose number isn't below it has the same layers
@@ -222,7 +223,7 @@ known_now origin m cells last kept are =
 pub known_layers : (m : FeatureMap) (cells : List ℕ) (last n newest : ℕ) (was : FeatureMap) (z x y : ℕ) → WasMap m cells last n was
     → IsNewestOf cells z x y newest → newest ≤ n → layers m z x y ≡ layers was z x y
 known_layers m cells last n newest was z x y known is le =
-    same_since z x y newest m cells last n was (λ marks remembers. newest_of cells marks z x y newest is remembers) known le
+    same_since z x y newest m cells last n was (λ marks remembers. newest_of WIDE_LEVELS cells marks z x y newest is remembers) known le
 
 -- ---- what is found
 

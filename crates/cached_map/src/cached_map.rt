@@ -28,13 +28,13 @@ use std::alloc::{AllocError, Global};
 use std::marker::Model;
 use std::mem;
 use std::rc::RcSlice;
-use tile_cache::{CachedTile, Origin, TileCache, TouchGrid};
+use tile_cache::{CachedTile, Origin, TileCache, WideGrid};
 
 /// A map, the newest edit of each cell of the world, and a cache of tiles.
 #[derive(Drop)]
 pub struct CachedMap {
     store: Store,
-    touched: TouchGrid,
+    touched: WideGrid,
     kept: TileCache,
     last: u64,
     /// The tile in the making, of the map as it is.
@@ -54,7 +54,7 @@ impl Model for CachedMap {
 }
 
 /// Notes that an edit of this number touches a box, if there is one.
-fn mark_some(touched: &mut TouchGrid, bounds: Option<WorldBox>, number: u64)
+fn mark_some(touched: &mut WideGrid, bounds: Option<WorldBox>, number: u64)
     ensures remembers { (marks : List Mark) → Remembers touched.old marks → Remembers touched.new (with_box bounds number marks) }
     ensures stays { (marks : List Mark) (first : List ℕ) → StaysElsewhere marks first touched.old
         → StaysElsewhere (with_box bounds number marks) first touched.new }
@@ -67,7 +67,7 @@ fn mark_some(touched: &mut TouchGrid, bounds: Option<WorldBox>, number: u64)
 /// Makes a change by an edit of this number, and marks what it touches. A moment that is still asked for keeps what it replaces.
 fn make_one(
     store: &mut Store,
-    touched: &mut TouchGrid,
+    touched: &mut WideGrid,
     moment: &mut Option<Moment>,
     change: Prepared,
     number: u64,
@@ -99,7 +99,7 @@ fn make_one(
 /// Makes changes by an edit of this number, from the first to the last, and marks what they touch.
 fn make_each(
     store: &mut Store,
-    touched: &mut TouchGrid,
+    touched: &mut WideGrid,
     moment: &mut Option<Moment>,
     changes: Vec<Prepared>,
     number: u64,
@@ -176,9 +176,10 @@ impl CachedMap {
         ensures reads { IfOk result (λ m. AreReadRight m.features m.touched m.last m.kept) }
     {
         let kept = TileCache::new(alloc)?;
+        let touched = WideGrid::new(alloc)?;
         Ok(CachedMap {
             store,
-            touched: TouchGrid::new(),
+            touched,
             kept,
             last,
             hand: None,

@@ -52,7 +52,7 @@
 //! | `entries` | how many entries there are, and a digest of them |
 //! | `blocks MOST` | whether there are at most `MOST` blocks |
 //!
-//! An index of boxes (`boxes`: an empty one), a grid of the newest edits and a cache of tiles (`caches`: empty ones):
+//! An index of boxes (`boxes`: an empty one), the grids of the newest edits and a cache of tiles (`caches`: empty ones):
 //!
 //! | Line | Answer |
 //! |---|---|
@@ -61,6 +61,7 @@
 //! | `scatter COUNT ACROSS DOWN`, `gather COUNT ACROSS DOWN ONE_IN` | `COUNT` boxes, each `ACROSS` and `DOWN` from the one before; all but each `ONE_IN`th |
 //! | `boxblocks MOST` | whether there are at most `MOST` blocks |
 //! | `mark BOX NUMBER`, `touched Z X Y` | an edit touched a box; the newest edit that can have touched a tile |
+//! | `wide Z X Y` | the same by the grid of wide maps |
 //! | `hold Z X Y NUMBER BYTE`, `held Z X Y NUMBER` | a tile is held with an edit's number; its bytes, if they are held with this number or a later one |
 //!
 //! # `part reads`

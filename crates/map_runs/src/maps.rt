@@ -38,7 +38,7 @@ enum Asks {
 }
 
 /// The words that lines begin with.
-static WORDS: [(&str, Asks); 47] = [
+static WORDS: [(&str, Asks); 48] = [
     ("map", Asks::Anew(Anew::Map)),
     ("numbers", Asks::Anew(Anew::Numbers)),
     ("boxes", Asks::Anew(Anew::Boxes)),
@@ -84,6 +84,7 @@ static WORDS: [(&str, Asks); 47] = [
     ("boxblocks", Asks::Boxes(boxes::Asks::Blocks)),
     ("mark", Asks::Caches(caches::Asks::Mark)),
     ("touched", Asks::Caches(caches::Asks::Touched)),
+    ("wide", Asks::Caches(caches::Asks::Wide)),
     ("hold", Asks::Caches(caches::Asks::Hold)),
     ("held", Asks::Caches(caches::Asks::Held)),
 ];

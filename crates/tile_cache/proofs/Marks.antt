@@ -11,9 +11,10 @@ use Rattle.feature_model.specs.declared.feature.WorldBox.{WorldBox}
 use Rattle.tile_cutter.specs.declared.coordinates.TheConstants.{EXTENT, MARGIN, WORLD_ZOOM}
 use Rattle.tile_cutter.specs.WorldBox.{tile_box, first_shown, last_shown}
 use Rattle.tile_cache.specs.declared.touch_grid.Cells.{Cells}
-use Rattle.tile_cache.specs.declared.touch_grid.TheConstants.{LEVELS, CELL_BITS}
-use Rattle.tile_cache.specs.Cells.{place_in, cell_at, cell_of, cells_of, HasCell, RisesTo, StaysBut, IsOfBox, HasWhole, IsZeroOrCell, IsGreatestIn, IsLookedAt}
-use Rattle.tile_cache.specs.Touched.{Mark, IsOrdered, Reaches, Touches, TouchesPlace, IsZeroOrMarked, Remembers, StaysElsewhere, IsNewest, IsNewestOf}
+use Rattle.tile_cache.specs.declared.touch_grid.TheConstants.{WIDE_LEVELS, CELL_BITS}
+use Rattle.tile_cache.specs.Cells.{place_in, cell_at, cell_of, cells_of, HasCell, RisesTo, StaysBut, IsOfBox, HasWhole, IsZeroOrCell, IsGreatestIn}
+use Rattle.tile_cache.specs.Cells.{IsLookedAt, IsNewestIn}
+use Rattle.tile_cache.specs.Touched.{Mark, IsOrdered, Reaches, Touches, TouchesPlace, IsZeroOrMarked, RemembersIn, StaysElsewhere, IsNewest, IsNewestOf}
 use Rattle.tile_cache.specs.Touched.{shown_box, world, IsClear}
 
 either : {P Q R : Type 0} → (P → R) → (Q → R) → P ⊎ Q → R
@@ -22,8 +23,8 @@ either f g (inr q) = g q
 
 -- ---- a mark more
 
-pub remembers_none : (cells : List ℕ) → ((at : ℕ) → get_or cells at 0 ≡ 0) → Remembers cells []
-remembers_none cells none = record {
+pub remembers_none : (levels : ℕ) (cells : List ℕ) → ((at : ℕ) → get_or cells at 0 ≡ 0) → RemembersIn levels cells []
+remembers_none levels cells none = record {
   reached = λ level column row is. All-nil (λ (m : Mark). Touches m.0 level column row → m.1 ≤ cell_at cells level column row);
   only = λ at. inl (none at);
 }
@@ -40,10 +41,10 @@ marked_more m marks n (inr is) = inr (Contains-append_right (m.1 ∷ []) (map (�
 marked_here : (m : Mark) (marks : List Mark) → IsZeroOrMarked (m ∷ marks) m.1
 marked_here m marks = inr (0, omega arith, refl)
 
-pub remembers_more : (old new : List ℕ) (m : Mark) (marks : List Mark) → RisesTo m.1 old new
-    → ((level column row : ℕ) → level < LEVELS → Touches m.0 level column row → m.1 ≤ cell_at new level column row)
-    → Remembers old marks → Remembers new (m ∷ marks)
-remembers_more old new m marks r here before = record {
+pub remembers_more : (levels : ℕ) (old new : List ℕ) (m : Mark) (marks : List Mark) → RisesTo m.1 old new
+    → ((level column row : ℕ) → level < levels → Touches m.0 level column row → m.1 ≤ cell_at new level column row)
+    → RemembersIn levels old marks → RemembersIn levels new (m ∷ marks)
+remembers_more levels old new m marks r here before = record {
   reached = λ level column row is.
       let on : List ℕ → Mark → Type 0 = λ cells k. Touches k.0 level column row → k.1 ≤ cell_at cells level column row in
       All-cons (on new) m marks (here level column row is)
@@ -126,10 +127,10 @@ module _ (level : ℕ) where
 -- ---- the greatest number of the cells of a tile
 
 -- the number of each mark that reaches the tile is at most that of a cell of a level that the tile's box touches
-pub reached_at_most : (cells : List ℕ) (marks : List Mark) (level zoom column row n : ℕ) → level < LEVELS
+pub reached_at_most : (levels : ℕ) (cells : List ℕ) (marks : List Mark) (level zoom column row n : ℕ) → level < levels
     → ((across down : ℕ) → HasCell (cells_of level (shown_box zoom column row)) across down → cell_at cells level across down ≤ n)
-    → Remembers cells marks → All (λ (m : Mark). Reaches m.0 zoom column row → m.1 ≤ n) marks
-reached_at_most cells marks level zoom column row n is most remembers = each marks (λ across down. remembers.reached level across down is)
+    → RemembersIn levels cells marks → All (λ (m : Mark). Reaches m.0 zoom column row → m.1 ≤ n) marks
+reached_at_most levels cells marks level zoom column row n is most remembers = each marks (λ across down. remembers.reached level across down is)
   where
     whole : WorldBox
     whole = shown_box zoom column row
@@ -145,11 +146,11 @@ reached_at_most cells marks level zoom column row n is most remembers = each mar
         omega (arith, below, most cell.0 cell.1 cell.3))
         (each ms (λ across down. All-tail (on across down) m ms (all across down)))
 
-pub newest_of : (cells : List ℕ) (marks : List Mark) (zoom column row n : ℕ) → IsNewestOf cells zoom column row n → Remembers cells marks
-    → IsNewest marks zoom column row n
-newest_of cells marks zoom column row n newest remembers = record {
-  reached = reached_at_most cells marks level zoom column row n newest.found.1.is newest.found.2.reached remembers;
-  only = only newest.found.2.found;
+pub newest_of : (levels : ℕ) (cells : List ℕ) (marks : List Mark) (zoom column row n : ℕ) → IsNewestIn levels cells (shown_box zoom column row) n
+    → RemembersIn levels cells marks → IsNewest marks zoom column row n
+newest_of levels cells marks zoom column row n newest remembers = record {
+  reached = reached_at_most levels cells marks level zoom column row n newest.found.1 newest.found.3.reached remembers;
+  only = only newest.found.3.found;
 }
   where
     level : ℕ
@@ -176,14 +177,19 @@ greatest_same old new level n range same is = record {
 pub newest_stays : (marks : List Mark) (old new : List ℕ) (zoom column row n : ℕ) → StaysElsewhere marks old new → IsClear marks zoom column row
     → IsNewestOf old zoom column row n → IsNewestOf new zoom column row n
 newest_stays marks old new zoom column row n stays clear is = record {
-  least = λ level m looked of_m.
-      is.least level m looked (greatest_same new old level m (cells_of level b) (λ across down has. sym (same level looked across down has)) of_m);
-  found = (is.found.0, is.found.1, greatest_same old new is.found.0 n (cells_of is.found.0 b) (same is.found.0 is.found.1) is.found.2);
+  least = λ level m lt looked of_m.
+      is.least level m lt looked (greatest_same new old level m (cells_of level b) (λ across down has. sym (same level lt looked across down has)) of_m);
+  found = (
+    is.found.0,
+    is.found.1,
+    is.found.2,
+    greatest_same old new is.found.0 n (cells_of is.found.0 b) (same is.found.0 is.found.1 is.found.2) is.found.3,
+  );
 }
   where
     b : WorldBox
     b = shown_box zoom column row
 
-    same : (level : ℕ) → IsLookedAt level b → (across down : ℕ) → HasCell (cells_of level b) across down
+    same : (level : ℕ) → level < WIDE_LEVELS → IsLookedAt level b → (across down : ℕ) → HasCell (cells_of level b) across down
         → cell_at new level across down ≡ cell_at old level across down
-    same level looked across down has = stays (place_in level across down) (clear level across down looked has)
+    same level lt looked across down has = stays (place_in level across down) (clear level across down lt looked has)

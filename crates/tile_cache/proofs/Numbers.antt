@@ -1,13 +1,13 @@
 -- Numbers that rise, and the greatest of some.
-use Rattle.std.proofs.Common.{◌≡◌, ℕ, ◌+◌, ◌-◌, ◌*◌, ◌%◌, ◌<◌, ◌≤◌, ◌⊎◌, List, length, min, max, refl, sym, ap, subst, ◌∙◌, inl, inr, arith}
-use Rattle.std.proofs.Math.ListN.{get_or, set}
-use Rattle.std.proofs.lemmas.List.{get_or-set_same, get_or-set_other, length-set}
-use Rattle.std.proofs.lemmas.Bool.{cases_eq, cases_lt}
+use Rattle.std.proofs.Common.{◌≡◌, ℕ, ◌+◌, ◌-◌, ◌*◌, ◌%◌, ◌<◌, ◌≤◌, ◌⊎◌, true, false, List, length, min, max, refl, sym, ap, subst, ◌∙◌, inl, inr, arith}
+use Rattle.std.specs.Prelude.{Bool, nat_lt, if◌then◌else◌}
+use Rattle.std.proofs.Math.ListN.{get_or}
+use Rattle.std.proofs.lemmas.Bool.{cases_lt, ltb-true, ltb-false}
 use Rattle.tile_cache.specs.declared.touch_grid.Cells.{Cells}
 use Rattle.feature_model.specs.declared.feature.WorldBox.{WorldBox}
-use Rattle.tile_cache.specs.declared.touch_grid.TheConstants.{SIDE, LEVEL_CELLS, LEVELS}
-use Rattle.tile_cache.specs.Cells.{place_in, cell_at, cells_of, HasCell, IsNarrow, RisesTo, IsZeroOrOneOf, IsZeroOrCell, IsGreatestIn}
-use Rattle.tile_cache.specs.Cells.{IsLookedAt, IsNewestIn, StaysBut}
+use Rattle.tile_cache.specs.declared.touch_grid.TheConstants.{SIDE, WIDE_SIDE, LEVEL_CELLS, LEVELS, CELLS, WIDE_LEVELS, WIDE_CELLS}
+use Rattle.tile_cache.specs.Cells.{place_in, side_of, level_end, HasLevels, cell_at, cells_of, HasCell, IsNarrow, RisesTo, IsZeroOrOneOf, IsZeroOrCell, IsGreatestIn}
+use Rattle.tile_cache.specs.Cells.{IsNewestIn, StaysBut}
 
 either : {P Q R : Type 0} → (P → R) → (Q → R) → P ⊎ Q → R
 either f g (inl p) = f p
@@ -38,36 +38,48 @@ stays_again Raised xs ys zs r s at out = s at out ∙ r at out
 pub stays_wider : (P Q : ℕ → Type 0) (xs ys : List ℕ) → ((at : ℕ) → P at → Q at) → StaysBut P xs ys → StaysBut Q xs ys
 stays_wider P Q xs ys more r at out = r at (λ p. out (more at p))
 
--- of cells that share a number one is among the first SIDE
-pub wrapped : (first last n : ℕ) → first ≤ n → n ≤ last → (k : ℕ) × (first ≤ k) × (k < min last (first + (SIDE - 1)) + 1) × (k % SIDE ≡ n % SIDE)
-wrapped first last n low high = (first + (n - first) % 32, omega arith, omega (arith, low, high), omega (arith, low))
+-- a level has one of two sides
+side_is : (level : ℕ) → (side_of level ≡ 32) ⊎ (side_of level ≡ 256)
+side_is level = go (nat_lt level LEVELS)
+  where
+    go : (b : Bool) → ((if b then SIDE else WIDE_SIDE) ≡ 32) ⊎ ((if b then SIDE else WIDE_SIDE) ≡ 256)
+    go true = inl refl
+    go false = inr refl
 
-same_column : (cells : List ℕ) (level row j k : ℕ) → j % SIDE ≡ k % SIDE → cell_at cells level j row ≡ cell_at cells level k row
-same_column cells level row j k same = ap (λ m. get_or cells (LEVEL_CELLS * level + SIDE * (row % SIDE) + m) 0) same
+-- of cells that share a number one is among the first of them, as many as the level has columns
+pub wrapped : (side first last n : ℕ) → (side ≡ 32) ⊎ (side ≡ 256) → first ≤ n → n ≤ last
+    → (k : ℕ) × (first ≤ k) × (k < min last (first + (side - 1)) + 1) × (k % side ≡ n % side)
+wrapped side first last n (inl is) low high =
+    rw is (first + (n - first) % 32, omega arith, omega (arith, low, high), omega (arith, low))
+wrapped side first last n (inr is) low high =
+    rw is (first + (n - first) % 256, omega arith, omega (arith, low, high), omega (arith, low))
 
-same_row : (cells : List ℕ) (level column j k : ℕ) → j % SIDE ≡ k % SIDE → cell_at cells level column j ≡ cell_at cells level column k
-same_row cells level column j k same = ap (λ m. get_or cells (LEVEL_CELLS * level + SIDE * m + column % SIDE) 0) same
+same_column : (cells : List ℕ) (level row j k : ℕ) → j % side_of level ≡ k % side_of level → cell_at cells level j row ≡ cell_at cells level k row
+same_column cells level row j k same = ap (λ m. get_or cells (LEVEL_CELLS * level + side_of level * (row % side_of level) + m) 0) same
+
+same_row : (cells : List ℕ) (level column j k : ℕ) → j % side_of level ≡ k % side_of level → cell_at cells level column j ≡ cell_at cells level column k
+same_row cells level column j k same = ap (λ m. get_or cells (LEVEL_CELLS * level + side_of level * m + column % side_of level) 0) same
 
 module _ (number : ℕ) (level : ℕ) (range : Cells) where
   -- the rows of cells up to the one raised last
   pub raised_rows : (at : ℕ) (xs ys : List ℕ) → RisesTo number xs ys
-      → ((k : ℕ) → range.left ≤ k → k < min range.right (range.left + (SIDE - 1)) + 1 → number ≤ cell_at ys level k at)
+      → ((k : ℕ) → range.left ≤ k → k < min range.right (range.left + (side_of level - 1)) + 1 → number ≤ cell_at ys level k at)
       → ((column row : ℕ) → HasCell range column row → row < at → number ≤ cell_at xs level column row)
       → (column row : ℕ) → HasCell range column row → row < at + 1 → number ≤ cell_at ys level column row
   raised_rows at xs ys r here before column row has lt =
       either (λ (less : row < at). omega (arith, before column row has less, r.rises (place_in level column row)))
       (λ (not_less : at ≤ row).
       let same : at ≡ row = omega (arith, lt, not_less) in
-      let near = wrapped range.left range.right column has.left has.right in
+      let near = wrapped (side_of level) range.left range.right column (side_is level) has.left has.right in
       omega (arith, subst (λ i. number ≤ cell_at ys level near.0 i) same (here near.0 near.1 near.2), same_column ys level row near.0 column near.3))
       (cases_lt row at)
 
-  -- all rows, once the first SIDE are
-  pub raised_all : (at : ℕ) (ys : List ℕ) → min range.bottom (range.top + (SIDE - 1)) + 1 ≤ at
+  -- all rows, once as many are as the level has
+  pub raised_all : (at : ℕ) (ys : List ℕ) → min range.bottom (range.top + (side_of level - 1)) + 1 ≤ at
       → ((column row : ℕ) → HasCell range column row → row < at → number ≤ cell_at ys level column row)
       → (column row : ℕ) → HasCell range column row → number ≤ cell_at ys level column row
   raised_all at ys end before column row has =
-      let near = wrapped range.top range.bottom row has.top has.bottom in
+      let near = wrapped (side_of level) range.top range.bottom row (side_is level) has.top has.bottom in
       let raised = before column near.0
       (record { left = has.left; right = has.right; top = near.1; bottom = omega (arith, near.2) }) (omega (arith, near.2, end)) in
       omega (arith, raised, same_row ys level column near.0 row near.3)
@@ -122,46 +134,79 @@ greatest_below cells level range a b of_a of_b = elim (of_a.found) [
 min_is : (m n : ℕ) → (min m n ≡ m) ⊎ (min m n ≡ n)
 min_is m n = either (λ (lt : m < n). inl (omega (arith, lt))) (λ (le : n ≤ m). inr (omega (arith, le))) (cases_lt m n)
 
--- the levels below this one are looked at
-pub record IsNewestBelow (cells : List ℕ) (b : WorldBox) (below n : ℕ) : Type 0 where
-  pub least : (level m : ℕ) → level < below → IsLookedAt level b → IsGreatestIn cells level (cells_of level b) m → n ≤ m
-  pub found : (level : ℕ) × IsLookedAt level b × IsGreatestIn cells level (cells_of level b) n
-
 module _ (cells : List ℕ) (b : WorldBox) where
+  -- the first level
+  pub newest_first : (n : ℕ) → IsGreatestIn cells 0 (cells_of 0 b) n → IsNewestIn 1 cells b n
+  newest_first n of_n = record {
+    least = λ level m within looked of_m. let same : level ≡ 0 = omega (arith, within) in
+        greatest_below cells 0 (cells_of 0 b) n m of_n (subst (λ l. IsGreatestIn cells l (cells_of l b) m) same of_m);
+    found = (0, omega arith, inl refl, of_n);
+  }
+
   -- a level more, which is looked at
-  pub newest_more : (at n m : ℕ) → at < LEVELS → IsNarrow (cells_of at b) → IsGreatestIn cells at (cells_of at b) m → IsNewestBelow cells b at n
-      → IsNewestBelow cells b (at + 1) (min m n)
-  newest_more at n m lt narrow of_m before = record {
+  pub newest_more : (at n m : ℕ) → IsNarrow at (cells_of at b) → IsGreatestIn cells at (cells_of at b) m → IsNewestIn at cells b n
+      → IsNewestIn (at + 1) cells b (min m n)
+  newest_more at n m narrow of_m before = record {
     least = λ level k within looked of_k. either (λ (less : level < at). omega (arith, before.least level k less looked of_k))
         (λ (not_less : at ≤ level).
         let same : level ≡ at = omega (arith, within, not_less) in
         omega (arith, greatest_below cells at (cells_of at b) m k of_m (subst (λ l. IsGreatestIn cells l (cells_of l b) k) same of_k)))
         (cases_lt level at);
     found = either
-        (λ (is : min m n ≡ m). (at, record { is = lt; narrow = inr narrow }, subst (IsGreatestIn cells at (cells_of at b)) (sym is) of_m))
-        (λ (is : min m n ≡ n). (before.found.0, before.found.1, subst (IsGreatestIn cells before.found.0 (cells_of before.found.0 b)) (sym is) before.found.2))
+        (λ (is : min m n ≡ m). (at, omega arith, inr narrow, subst (IsGreatestIn cells at (cells_of at b)) (sym is) of_m))
+        (λ (is : min m n ≡ n). (
+          before.found.0,
+          omega (arith, before.found.1),
+          before.found.2,
+          subst (IsGreatestIn cells before.found.0 (cells_of before.found.0 b)) (sym is) before.found.3,
+        ))
         (min_is m n);
   }
 
   -- one that isn't
-  pub newest_same : (at n : ℕ) → 0 < at → ¬ IsNarrow (cells_of at b) → IsNewestBelow cells b at n → IsNewestBelow cells b (at + 1) n
+  pub newest_same : (at n : ℕ) → 0 < at → ¬ IsNarrow at (cells_of at b) → IsNewestIn at cells b n → IsNewestIn (at + 1) cells b n
   newest_same at n later wide before = record {
     least = λ level k within looked of_k. either (λ (less : level < at). before.least level k less looked of_k)
         (λ (not_less : at ≤ level).
         let same : level ≡ at = omega (arith, within, not_less) in
         either (λ (first : level ≡ 0). absurd (omega (arith, first, same, later)))
-        (λ (narrow : IsNarrow (cells_of level b)). absurd (wide (subst (λ l. IsNarrow (cells_of l b)) same narrow))) looked.narrow)
+        (λ (narrow : IsNarrow level (cells_of level b)). absurd (wide (subst (λ l. IsNarrow l (cells_of l b)) same narrow))) looked)
         (cases_lt level at);
-    found = before.found;
+    found = (before.found.0, omega (arith, before.found.1), before.found.2, before.found.3);
   }
 
-  pub newest_all : (at n : ℕ) → LEVELS ≤ at → IsNewestBelow cells b at n → IsNewestIn cells b n
-  newest_all at n all below = record {
-    least = λ level m looked of_m. below.least level m (omega (arith, looked.is, all)) looked of_m;
-    found = below.found;
-  }
+  pub newest_all : (levels at n : ℕ) → at ≤ levels → levels ≤ at → IsNewestIn at cells b n → IsNewestIn levels cells b n
+  newest_all levels at n most all is = let same : at ≡ levels = omega (arith, most, all) in subst (λ l. IsNewestIn l cells b n) same is
 
 -- cells have one newest number of a box
-pub newest_once : (cells : List ℕ) (b : WorldBox) (m n : ℕ) → IsNewestIn cells b m → IsNewestIn cells b n → m ≡ n
-newest_once cells b m n of_m of_n =
-    omega (arith, of_m.least of_n.found.0 n of_n.found.1 of_n.found.2, of_n.least of_m.found.0 m of_m.found.1 of_m.found.2)
+pub newest_once : (levels : ℕ) (cells : List ℕ) (b : WorldBox) (m n : ℕ) → IsNewestIn levels cells b m → IsNewestIn levels cells b n → m ≡ n
+newest_once levels cells b m n of_m of_n = omega (
+  arith,
+  of_m.least of_n.found.0 n of_n.found.1 of_n.found.2 of_n.found.3,
+  of_n.least of_m.found.0 m of_m.found.1 of_m.found.2 of_m.found.3,
+)
+
+-- ---- how many cells there are
+
+ends : (level : ℕ) → (level_end level ≡ LEVEL_CELLS * (level + 1)) × (level < LEVELS) ⊎ (level_end level ≡ WIDE_CELLS) × (LEVELS ≤ level)
+ends level = go (nat_lt level LEVELS) refl
+  where
+    go : (b : Bool) → nat_lt level LEVELS ≡ b
+        → ((if b then LEVEL_CELLS * (level + 1) else WIDE_CELLS) ≡ LEVEL_CELLS * (level + 1)) × (level < LEVELS)
+        ⊎ ((if b then LEVEL_CELLS * (level + 1) else WIDE_CELLS) ≡ WIDE_CELLS) × (LEVELS ≤ level)
+    go true is = inl (refl, ltb-true level LEVELS is)
+    go false is = inr (refl, ltb-false level LEVELS is)
+
+-- a touch grid has its levels
+pub has_levels : (cells : List ℕ) → length cells ≡ CELLS → HasLevels LEVELS cells
+has_levels cells is level lt = elim (ends level) [
+  | inl low ↦ omega (arith, low.0, low.1, is)
+  | inr high ↦ absurd (omega (arith, high.1, lt))
+]
+
+-- so has one with the wide level
+pub has_wide_levels : (cells : List ℕ) → length cells ≡ WIDE_CELLS → HasLevels WIDE_LEVELS cells
+has_wide_levels cells is level lt = elim (ends level) [
+  | inl low ↦ omega (arith, low.0, low.1, is)
+  | inr high ↦ omega (arith, high.0, is)
+]

@@ -1,12 +1,28 @@
--- The cells of each level: 32 in a row, and 32 rows of them.
-use Rattle.std.specs.Prelude.{◌≡◌, ℕ, ◌+◌, ◌*◌, ◌/◌, ◌%◌, ◌^◌, ◌<◌, ◌≤◌, ◌⊎◌, List, length, slice_index, slice_range, count_by, nat_lt}
+-- The cells of each level: 32 in a row, and 32 rows of them; of the wide one, the last, 256 and 256.
+use Rattle.std.specs.Prelude.{◌≡◌, ℕ, ◌+◌, ◌*◌, ◌/◌, ◌%◌, ◌^◌, ◌<◌, ◌≤◌, ◌⊎◌, List, length, slice_index, slice_range, count_by, nat_lt, if◌then◌else◌}
 use Rattle.feature_model.specs.declared.feature.WorldBox.{WorldBox}
-use Rattle.tile_cache.specs.declared.touch_grid.TheConstants.{SIDE, LEVEL_CELLS, LEVELS, CELLS, FINEST, CELL_BITS}
+use Rattle.tile_cache.specs.declared.touch_grid.TheConstants.{SIDE, WIDE_SIDE, WIDE_MOST, LEVEL_CELLS, LEVELS, WIDE_LEVELS, CELLS, WIDE_CELLS, FINEST, CELL_BITS}
 use Rattle.tile_cache.specs.declared.touch_grid.Cells.{Cells}
 
--- the place of the number of a cell, by its level, its column and its row: cells SIDE columns or rows apart share one
+-- how many columns of cells with numbers of their own a level has, and rows
+abbrev pub side_of : ℕ → ℕ
+side_of level = if nat_lt level LEVELS then SIDE else WIDE_SIDE
+
+-- a level is looked at for boxes that touch at most so many columns and rows of its cells
+abbrev pub most_of : ℕ → ℕ
+most_of level = if nat_lt level LEVELS then SIDE else WIDE_MOST
+
+-- the place of the number of a cell, by its level, its column and its row: cells as many columns or rows apart as the level has share one
 abbrev pub place_in : ℕ → ℕ → ℕ → ℕ
-place_in level column row = LEVEL_CELLS * level + SIDE * (row % SIDE) + column % SIDE
+place_in level column row = LEVEL_CELLS * level + side_of level * (row % side_of level) + column % side_of level
+
+-- the place after that of the last number of a level
+abbrev pub level_end : ℕ → ℕ
+level_end level = if nat_lt level LEVELS then LEVEL_CELLS * (level + 1) else WIDE_CELLS
+
+-- there are numbers for all cells of so many levels
+abbrev pub HasLevels : (levels : ℕ) → List ℕ → Type 0
+HasLevels levels cells = (level : ℕ) → level < levels → level_end level ≤ length cells
 
 -- the number of a cell
 abbrev pub cell_at : List ℕ → ℕ → ℕ → ℕ → ℕ
@@ -34,10 +50,10 @@ pub record IsNear (range : Cells) : Type 0 where
   pub top : range.top < 2 ^ 32
   pub bottom : range.bottom < 2 ^ 32
 
--- no two of the cells share a number
-pub record IsNarrow (range : Cells) : Type 0 where
-  pub across : range.right < range.left + SIDE
-  pub down : range.bottom < range.top + SIDE
+-- the cells are so few that their level is looked at: no two of them share a number
+pub record IsNarrow (level : ℕ) (range : Cells) : Type 0 where
+  pub across : range.right < range.left + most_of level
+  pub down : range.bottom < range.top + most_of level
 
 -- no number falls, and each that changes becomes this one
 pub record RisesTo (number : ℕ) (old new : List ℕ) : Type 0 where
@@ -55,7 +71,7 @@ IsOfCells level range at = (column : ℕ) × (row : ℕ) × HasCell range column
 
 -- the place of the number of a cell that a box of the world touches, on one of the levels
 abbrev pub IsOfBox : WorldBox → ℕ → Type 0
-IsOfBox b at = (level : ℕ) × (level < LEVELS) × IsOfCells level (cells_of level b) at
+IsOfBox b at = (level : ℕ) × (level < WIDE_LEVELS) × IsOfCells level (cells_of level b) at
 
 -- the numbers at all other places are unchanged
 abbrev pub StaysBut : (Raised : ℕ → Type 0) → (old new : List ℕ) → Type 0
@@ -75,17 +91,16 @@ pub record IsGreatestIn (cells : List ℕ) (level : ℕ) (range : Cells) (n : �
   pub reached : (column row : ℕ) → HasCell range column row → cell_at cells level column row ≤ n
   pub found : IsZeroOrCell cells level range n
 
--- a level is looked at for a box: the first one, and each where no two of the cells that the box touches share a number
-pub record IsLookedAt (level : ℕ) (b : WorldBox) : Type 0 where
-  pub is : level < LEVELS
-  pub narrow : (level ≡ 0) ⊎ IsNarrow (cells_of level b)
+-- a level is looked at for a box: the first one, and each of which the box touches few cells
+abbrev pub IsLookedAt : (level : ℕ) → WorldBox → Type 0
+IsLookedAt level b = (level ≡ 0) ⊎ IsNarrow level (cells_of level b)
 
--- of the levels that are looked at, the least of the greatest numbers of the cells that a box touches
-pub record IsNewestIn (cells : List ℕ) (b : WorldBox) (n : ℕ) : Type 0 where
-  pub least : (level m : ℕ) → IsLookedAt level b → IsGreatestIn cells level (cells_of level b) m → n ≤ m
-  pub found : (level : ℕ) × IsLookedAt level b × IsGreatestIn cells level (cells_of level b) n
+-- of those of so many levels that are looked at, the least of the greatest numbers of the cells that a box touches
+pub record IsNewestIn (levels : ℕ) (cells : List ℕ) (b : WorldBox) (n : ℕ) : Type 0 where
+  pub least : (level m : ℕ) → level < levels → IsLookedAt level b → IsGreatestIn cells level (cells_of level b) m → n ≤ m
+  pub found : (level : ℕ) × (level < levels) × IsLookedAt level b × IsGreatestIn cells level (cells_of level b) n
 
--- how many numbers of the finest level are above this one: how many of its cells an edit after this one has touched
+-- how many numbers of the finest level of 32 by 32 are above this one: how many of its cells an edit after this one has touched
 abbrev pub stale_cells : List ℕ → (number : ℕ) → ℕ
 stale_cells cells number = count_by (nat_lt number) (slice_range cells FINEST CELLS)
 

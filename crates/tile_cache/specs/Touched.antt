@@ -3,7 +3,7 @@ use Rattle.std.specs.Prelude.{◌≡◌, ℕ, ◌^◌, ◌-◌, ◌<◌, ◌≤�
 use Rattle.feature_model.specs.declared.feature.WorldBox.{WorldBox}
 use Rattle.tile_cutter.specs.WorldBox.{tile_box, Meets}
 use Rattle.feature_model.specs.declared.limits.TheConstants.{MAX_ZOOM}
-use Rattle.tile_cache.specs.declared.touch_grid.TheConstants.{LEVELS}
+use Rattle.tile_cache.specs.declared.touch_grid.TheConstants.{WIDE_LEVELS}
 use Rattle.tile_cache.specs.Cells.{place_in, cell_at, cells_of, HasCell, IsOfBox, IsLookedAt, IsNewestIn}
 
 -- an edit that was noted: the box that it touched, and its number
@@ -37,10 +37,14 @@ StaysElsewhere marks old new = (at : ℕ) → All (λ m. ¬ TouchesPlace m.0 at)
 abbrev pub IsZeroOrMarked : List Mark → ℕ → Type 0
 IsZeroOrMarked marks n = (n ≡ 0) ⊎ Contains (map (λ m. m.1) marks) n
 
--- cells have at least the number of each mark that touches them, and only numbers of marks
-pub record Remembers (cells : List ℕ) (marks : List Mark) : Type 0 where
-  pub reached : (level column row : ℕ) → level < LEVELS → All (λ m. Touches m.0 level column row → m.1 ≤ cell_at cells level column row) marks
+-- cells of so many levels have at least the number of each mark that touches them, and only numbers of marks
+pub record RemembersIn (levels : ℕ) (cells : List ℕ) (marks : List Mark) : Type 0 where
+  pub reached : (level column row : ℕ) → level < levels → All (λ m. Touches m.0 level column row → m.1 ≤ cell_at cells level column row) marks
   pub only : (at : ℕ) → IsZeroOrMarked marks (slice_index cells at)
+
+-- the same with the wide level
+abbrev pub Remembers : List ℕ → List Mark → Type 0
+Remembers = RemembersIn WIDE_LEVELS
 
 -- a number is at least that of each mark that can reach the tile, and 0 or the number of a mark
 pub record IsNewest (marks : List Mark) (zoom column row n : ℕ) : Type 0 where
@@ -57,11 +61,12 @@ shown_box zoom column row = if nat_le zoom MAX_ZOOM then tile_box zoom column ro
 
 -- the newest edit of the cells that the box of a tile touches, of the level where it is the least
 abbrev pub IsNewestOf : List ℕ → (zoom column row : ℕ) → ℕ → Type 0
-IsNewestOf cells zoom column row = IsNewestIn cells (shown_box zoom column row)
+IsNewestOf cells zoom column row = IsNewestIn WIDE_LEVELS cells (shown_box zoom column row)
 
 -- No marked box touches a cell of the box of a tile, or one that shares its number with such a cell, on the levels that are looked at for
 -- the tile.
 abbrev pub IsClear : List Mark → (zoom column row : ℕ) → Type 0
 IsClear marks zoom column row =
-    (level across down : ℕ) → IsLookedAt level (shown_box zoom column row) → HasCell (cells_of level (shown_box zoom column row)) across down
+    (level across down : ℕ) → level < WIDE_LEVELS → IsLookedAt level (shown_box zoom column row)
+    → HasCell (cells_of level (shown_box zoom column row)) across down
     → All (λ m. ¬ TouchesPlace m.0 (place_in level across down)) marks

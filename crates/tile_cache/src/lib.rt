@@ -5,8 +5,10 @@
 
 mod cached_tiles;
 mod touch_grid;
+mod wide_grid;
 
 pub use cached_tiles::{
     CachedTile, MAX_CACHED_BYTES, MAX_CACHED_TILES, MAX_TILE_BYTES, Origin, TileCache, TileKey,
 };
-pub use touch_grid::{LEVEL_CELLS, TouchGrid};
+pub use touch_grid::{LEVEL_CELLS, TouchGrid, WIDE_LEVELS};
+pub use wide_grid::WideGrid;

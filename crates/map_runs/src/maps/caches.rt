@@ -5,21 +5,23 @@ use hilbert_id::TileAt;
 use script_bytes::Answer;
 use std::alloc::{AllocError, Global};
 use std::rc::RcSlice;
-use tile_cache::{CachedTile, Origin, TileCache, TouchGrid};
+use tile_cache::{CachedTile, Origin, TileCache, TouchGrid, WideGrid};
 
 /// What a line over these asks for.
 #[derive(Clone, Copy)]
 pub(crate) enum Asks {
     Mark,
     Touched,
+    Wide,
     Hold,
     Held,
 }
 
-/// A grid of cells, and a cache of tiles.
+/// Grids of cells, and a cache of tiles.
 #[derive(Drop)]
 pub(crate) struct Caches {
     grid: TouchGrid,
+    wide: WideGrid,
     cache: TileCache,
 }
 
@@ -27,6 +29,7 @@ impl Caches {
     pub(crate) fn new(alloc: Global) -> Result<Caches, AllocError> {
         Ok(Caches {
             grid: TouchGrid::new(),
+            wide: WideGrid::new(alloc)?,
             cache: TileCache::new(alloc)?,
         })
     }
@@ -34,7 +37,9 @@ impl Caches {
     /// Notes that an edit touched a box.
     fn mark(&mut self, answer: &mut Answer, numbers: [u64; 8]) {
         let [x0, x1, y0, y1, number, ..] = numbers;
-        self.grid.mark(&bounds_of(x0, x1, y0, y1), number);
+        let bounds = bounds_of(x0, x1, y0, y1);
+        self.grid.mark(&bounds, number);
+        self.wide.mark(&bounds, number);
         answer.say("marked");
     }
 
@@ -75,6 +80,7 @@ impl Caches {
         match asks {
             Asks::Hold => self.hold(answer, at, fourth, fifth),
             Asks::Held => self.held(answer, at, fourth),
+            Asks::Wide => answer.tell(&self.wide.newest(at)),
             _ => answer.tell(&self.grid.newest(at)),
         }
     }

@@ -1,4 +1,4 @@
-use Rattle.std.proofs.Common.{ℕ, ◌≤◌, subst}
+use Rattle.std.proofs.Common.{ℕ, ◌≤◌, subst, arith}
 use Rattle.tile_cache.specs.declared.touch_grid.Cells.{Cells}
 use Rattle.tile_cache.specs.Cells.{cell_at, cells_of, HasCell, StaysBut, IsOfCells, IsOfBox}
 use Rattle.tile_cache.proofs.Numbers.{rises_again, raised_levels, stays_again, stays_wider}
@@ -19,6 +19,6 @@ loop-level-preserved c =
           (subst (λ (r : Cells). (column row : ℕ) → HasCell r column row → number ≤ cell_at after level column row) cells_are done.raised)
           c.loop-level.invariant.raised;
       stays = stays_again (IsOfBox bounds) c.args.cells.now before after c.loop-level.invariant.stays
-          (stays_wider (IsOfCells level (cells_of level bounds)) (IsOfBox bounds) before after (λ at one. (level, c.loop-level-test.true, one))
+          (stays_wider (IsOfCells level (cells_of level bounds)) (IsOfBox bounds) before after (λ at one. (level, omega (arith, c.loop-level-test.true, c.requires.levels), one))
           (subst (λ (r : Cells). StaysBut (IsOfCells level r) before after) cells_are done.stays));
     }

@@ -1,3 +1,4 @@
+use Rattle.tile_cache.specs.declared.touch_grid.TheConstants.{LEVELS}
 use Rattle.tile_cache.proofs.Marks.{newest_of}
 use Rattle.tile_cache.proofs.touch_grid.TouchGrid.newest.Goals as goal
 
@@ -5,6 +6,6 @@ pub returns : goal.returns
 returns c =
     let of_shown = rw c.shown_by.ensures at c.newest_of.ensures in
     let of_cells = rw c.self.view_is at of_shown in record {
-      marked = λ marks before. newest_of c.args.self.now marks c.args.at.z c.args.at.x c.args.at.y c.newest_of.result of_cells before;
+      marked = λ marks before. newest_of LEVELS c.args.self.now marks c.args.at.z c.args.at.x c.args.at.y c.newest_of.result of_cells before;
       of_cells = of_cells;
     }
