@@ -38,7 +38,8 @@ acts_of_other number other (deed ∷ deeds) acts n =
     (acts_of_other number other deeds acts n)
 
 module _ {S : Type 0} (replies : S → RequestView → ReplyView → S → Type 0)
-    (reads : S → Ticket → (offset count : ℕ) → Result (List ℕ) RestFault → S → Type 0) (ticket_of : S → Ticket) (prepares : S → S → Type 0) where
+    (reads : S → Ticket → (offset count : ℕ) → Result (List ℕ) RestFault → S → Type 0) (ticket_of : S → Ticket)
+    (prepares : S → (connection : ℕ) → RequestView → S → Type 0) where
   -- Deeds, and then other ones.
   pub runs_both : (old middle new : S) (front back : List Deed) → Runs replies reads ticket_of prepares old front middle
       → Runs replies reads ticket_of prepares middle back new → Runs replies reads ticket_of prepares old (front ++ back) new

@@ -6,6 +6,7 @@ use Rattle.std.specs.Prelude.{◌⊎◌, filter, Some}
 use Rattle.http_serve.specs.declared.handlers.RestFault.{RestFault}
 use Rattle.http_serve.specs.declared.handlers.Ticket.{Ticket}
 use Rattle.http_requests.specs.Requests.{RequestView}
+use Rattle.http_serve.specs.Connections.{PreparesNext}
 use Rattle.http_serve.specs.Reply.{ReplyView}
 use Rattle.http_listen.specs.Connections.{Stretch, Event, at_stretch, at_part, at_preparation, is_first, Happens, Serves, NextStretch, NextAnswer, NextPart}
 use Rattle.http_listen.specs.Connections.{IsOverKnown, AreOverKnown, AreSteps, begun}
@@ -16,7 +17,7 @@ known_both [] back known then = then
 known_both (event ∷ front) back known then = (known.0, known_both front back known.1 then)
 
 module _ {S : Type 0} (replies : S → RequestView → ReplyView → S → Type 0)
-    (reads : S → Ticket → (offset count : ℕ) → Result (List ℕ) RestFault → S → Type 0) (prepares : S → S → Type 0) where
+    (reads : S → Ticket → (offset count : ℕ) → Result (List ℕ) RestFault → S → Type 0) (prepares : S → (connection : ℕ) → RequestView → S → Type 0) where
   -- Events, and then other events, are both lists in one.
   pub serves_both : (old : S) (front back : List Event) (middle new : S)
       → Serves replies reads prepares old front middle → Serves replies reads prepares middle back new
@@ -71,24 +72,26 @@ module _ {S : Type 0} (replies : S → RequestView → ReplyView → S → Type 
       (next_serves (at_part then.0 then.1 then.2 then.3) count old middle new tt before then.4)
 
   -- One more step of the preparation of a reply.
-  serves_preparation : (count : ℕ) (old middle new : S) → ServesCount count old middle → prepares middle new → ServesCount count old new
-  serves_preparation count old middle new before then = subst (λ n. ServesCount n old new) (add-zero count)
-      (next_serves at_preparation count old middle new tt before then)
+  serves_preparation : (connection : ℕ) (asked : List ℕ) (count : ℕ) (old middle new : S) → ServesCount count old middle
+      → PreparesNext prepares connection asked middle new → ServesCount count old new
+  serves_preparation connection asked count old middle new before then = subst (λ n. ServesCount n old new) (add-zero count)
+      (next_serves (at_preparation connection asked) count old middle new tt before then)
 
   -- Several of these.
-  serves_steps : (steps count : ℕ) (old middle new : S) → ServesCount count old middle → AreSteps prepares steps middle new → ServesCount count old new
-  serves_steps zero count old middle new before same = subst (λ (s : S). ServesCount count old s) (sym same) before
-  serves_steps (suc more) count old middle new before then =
-      serves_steps more count old then.0 new (serves_preparation count old middle then.0 before then.1) then.2
+  serves_steps : (connection : ℕ) (asked : List ℕ) (steps count : ℕ) (old middle new : S) → ServesCount count old middle
+      → AreSteps (PreparesNext prepares connection asked) steps middle new → ServesCount count old new
+  serves_steps connection asked zero count old middle new before same = subst (λ (s : S). ServesCount count old s) (sym same) before
+  serves_steps connection asked (suc more) count old middle new before then =
+      serves_steps connection asked more count old then.0 new (serves_preparation connection asked count old middle then.0 before then.1) then.2
 
   -- Several of these, and perhaps one more stretch.
   pub serves_answer : (count : ℕ) (old middle new : S) → ServesCount count old middle → NextAnswer replies prepares middle new
       → ServesCount count old new
-  serves_answer count old middle new before then = answered then.3
+  serves_answer count old middle new before then = answered then.5
     where
-      stepped : ServesCount count old then.1
-      stepped = serves_steps then.0 count old middle then.1 before then.2
+      stepped : ServesCount count old then.3
+      stepped = serves_steps then.0 then.1 then.2 count old middle then.3 before then.4
 
-      answered : (new ≡ then.1) ⊎ NextStretch replies then.1 new → ServesCount count old new
+      answered : (new ≡ then.3) ⊎ NextStretch replies then.3 new → ServesCount count old new
       answered (inl same) = subst (λ (s : S). ServesCount count old s) (sym same) stepped
-      answered (inr stretch) = serves_again count old then.1 new stepped stretch
+      answered (inr stretch) = serves_again count old then.3 new stepped stretch

@@ -27,7 +27,7 @@ asked_both [] back = refl
 asked_both (answered bytes replies result ticket ∷ front) back =
     ap (λ l. bytes ++ l) (asked_both front back) ∙ sym (append_assoc bytes (asked front) (asked back))
 asked_both (fetched ticket offset count outcome ∷ front) back = asked_both front back
-asked_both (prepared ∷ front) back = asked_both front back
+asked_both (prepared bytes ∷ front) back = asked_both front back
 
 pub replied_both : (front back : List Act) → replied (front ++ back) ≡ replied front ++ replied back
 replied_both [] back = refl
@@ -36,7 +36,7 @@ replied_both (answered bytes replies result ticket ∷ front) back =
 replied_both (fetched ticket offset count (Err fault) ∷ front) back = replied_both front back
 replied_both (fetched ticket offset count (Ok bytes) ∷ front) back =
     ap (λ l. bytes ++ l) (replied_both front back) ∙ sym (append_assoc bytes (replied front) (replied back))
-replied_both (prepared ∷ front) back = replied_both front back
+replied_both (prepared bytes ∷ front) back = replied_both front back
 
 pub follows_both : (before between after : Option Unsent) (front back : List Act) → Follows before front between → Follows between back after
     → Follows before (front ++ back) after
@@ -156,10 +156,10 @@ module _ {S : Type 0} (told : S → Option Told) where
       (moves_none (told old.stream) old.connection.output)))
       (record { input = s.input; number = s.number; drops = s.drops }) s.unsent
 
-  -- First a step of the preparation of a reply was made.
-  pub steps_prepared : (old new : Peer S) (acts : List Act) (whole : Type 0) → old.state.unsent ≡ None → Steps told old acts whole new
-      → Steps told old (prepared ∷ acts) whole new
-  steps_prepared old new acts whole none s = record {
+  -- First a step of the making of the reply to some bytes was made.
+  pub steps_prepared : (bytes : List ℕ) (old new : Peer S) (acts : List Act) (whole : Type 0) → old.state.unsent ≡ None → Steps told old acts whole new
+      → Steps told old (prepared bytes ∷ acts) whole new
+  steps_prepared bytes old new acts whole none s = record {
     number = s.number;
     drops = s.drops;
     given = s.given;
@@ -174,11 +174,11 @@ module _ {S : Type 0} (told : S → Option Told) where
   }
 
   -- First several of these were made.
-  pub steps_before : (steps : ℕ) (old new : Peer S) (acts : List Act) (whole : Type 0) → old.state.unsent ≡ None → Steps told old acts whole new
-      → Steps told old (prepared_first steps acts) whole new
-  steps_before zero old new acts whole none s = s
-  steps_before (suc more) old new acts whole none s =
-      steps_prepared old new (prepared_first more acts) whole none (steps_before more old new acts whole none s)
+  pub steps_before : (bytes : List ℕ) (steps : ℕ) (old new : Peer S) (acts : List Act) (whole : Type 0) → old.state.unsent ≡ None → Steps told old acts whole new
+      → Steps told old (prepared_first bytes steps acts) whole new
+  steps_before bytes zero old new acts whole none s = s
+  steps_before bytes (suc more) old new acts whole none s =
+      steps_prepared bytes old new (prepared_first bytes more acts) whole none (steps_before bytes more old new acts whole none s)
 
   -- What was read is the end of the input.
   pub steps_read : (old new : Peer S) (result : Next) (whole : Type 0) → (whole → GoesOn result) → IsRead told old result new → Steps told old [] whole new

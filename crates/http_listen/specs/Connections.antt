@@ -9,7 +9,7 @@ use Rattle.http_serve.specs.declared.handlers.Ticket.{Ticket}
 use Rattle.http_requests.specs.declared.frames.Next.{Next}
 use Rattle.http_requests.specs.declared.frames.Next.TheVariants.{Whole, Refused, More}
 use Rattle.http_requests.specs.Requests.{RequestView}
-use Rattle.http_serve.specs.Connections.{once_replied}
+use Rattle.http_serve.specs.Connections.{PreparesNext, once_replied}
 use Rattle.http_serve.specs.Reply.{ReplyView}
 use Rattle.http_serve.specs.Served.{AnswersNext}
 use Rattle.http_serve.specs.Told.{IsServed, IsServedInPart}
@@ -30,14 +30,14 @@ pub data Event : Type 0 where
   at_stretch : Stretch → Event
   -- a read of the rest of a content that a stretch left: its ticket, an offset, how many bytes from there on, and these, or why they couldn't be read
   at_part : Ticket → (offset count : ℕ) → Result (List ℕ) RestFault → Event
-  -- a step of the preparation of a reply
-  at_preparation : Event
+  -- a step of the making of the reply to these bytes of a connection
+  at_preparation : (connection : ℕ) → (asked : List ℕ) → Event
 
 -- it is the first stretch of a connection
 abbrev pub is_first : Event → Bool
 is_first (at_stretch s) = s.first
 is_first (at_part ticket offset count outcome) = false
-is_first at_preparation = false
+is_first (at_preparation connection asked) = false
 
 -- how many connections these events are of: the number of first stretches
 abbrev pub begun : List Event → ℕ
@@ -47,7 +47,7 @@ begun events = length (filter is_first events)
 abbrev pub IsOverKnown : Event → Type 0
 IsOverKnown (at_stretch s) = IsSome s.left
 IsOverKnown (at_part ticket offset count outcome) = ⊤
-IsOverKnown at_preparation = ⊤
+IsOverKnown (at_preparation connection asked) = ⊤
 
 -- so it is of each of these
 abbrev pub AreOverKnown : List Event → Type 0
@@ -82,16 +82,17 @@ IsNoRequest (Whole frame) = ⊥
 IsNoRequest (Refused rejection) = ⊤
 IsNoRequest (More missing) = ⊤
 
--- this many steps of the preparation of a reply, one after the other, lead from a state to the next
+-- this many steps, one after the other, lead from a state to the next
 abbrev pub AreSteps : {S : Type 0} (prepares : S → S → Type 0) → ℕ → S → S → Type 0
 AreSteps prepares zero old new = new ≡ old
 AreSteps {S} prepares (suc more) old new = (middle : S) × prepares old middle × AreSteps prepares more middle new
 
 -- the same, and replies
-module _ {S : Type 0} (replies : S → RequestView → ReplyView → S → Type 0) (prepares : S → S → Type 0) where
-  -- steps lead from a state to the next, and then perhaps a stretch, which answers
+module _ {S : Type 0} (replies : S → RequestView → ReplyView → S → Type 0) (prepares : S → (connection : ℕ) → RequestView → S → Type 0) where
+  -- steps of the making of the reply to some bytes of a connection lead from a state to the next, and then perhaps a stretch, which answers
   abbrev pub NextAnswer : S → S → Type 0
-  NextAnswer old new = (steps : ℕ) × (middle : S) × AreSteps prepares steps old middle × ((new ≡ middle) ⊎ NextStretch replies middle new)
+  NextAnswer old new = (connection : ℕ) × (asked : List ℕ) × (steps : ℕ) × (middle : S)
+      × AreSteps (PreparesNext prepares connection asked) steps old middle × ((new ≡ middle) ⊎ NextStretch replies middle new)
 
 -- reads of a content by its ticket
 module _ {S : Type 0} (reads : S → Ticket → (offset count : ℕ) → Result (List ℕ) RestFault → S → Type 0) where
@@ -101,12 +102,12 @@ module _ {S : Type 0} (reads : S → Ticket → (offset count : ℕ) → Result 
       × reads old ticket offset count outcome new
 
 module _ {S : Type 0} (replies : S → RequestView → ReplyView → S → Type 0)
-    (reads : S → Ticket → (offset count : ℕ) → Result (List ℕ) RestFault → S → Type 0) (prepares : S → S → Type 0) where
+    (reads : S → Ticket → (offset count : ℕ) → Result (List ℕ) RestFault → S → Type 0) (prepares : S → (connection : ℕ) → RequestView → S → Type 0) where
   -- an event leads from a state to the next
   abbrev pub Happens : S → Event → S → Type 0
   Happens old (at_stretch s) new = CameTo replies s.result old s new
   Happens old (at_part ticket offset count outcome) new = reads old ticket offset count outcome new
-  Happens old at_preparation new = prepares old new
+  Happens old (at_preparation connection asked) new = PreparesNext prepares connection asked old new
 
   -- the replies, reads and preparations of these events, in order, lead from the old state to the new one
   abbrev pub Serves : S → List Event → S → Type 0

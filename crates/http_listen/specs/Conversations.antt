@@ -14,7 +14,7 @@ use Rattle.http_listen.specs.declared.peers.Peer.{Peer}
 use Rattle.http_listen.specs.declared.rests.Unsent.{Unsent}
 use Rattle.http_listen.specs.declared.turns.Next.{Next}
 use Rattle.http_listen.specs.declared.turns.Next.TheVariants.{Asks, Reads, Rests, Closes}
-use Rattle.http_serve.specs.Connections.{IsAsked}
+use Rattle.http_serve.specs.Connections.{IsAsked, PreparesNext}
 use Rattle.http_listen.specs.Asked.{IsOneOrNone}
 use Rattle.http_listen.specs.Connections.{CameTo}
 use Rattle.http_listen.specs.NoMemory.{no_memory}
@@ -27,8 +27,8 @@ pub data Act : Type 0 where
   answered : (asked replies : List ℕ) → Result Answer AllocError → Ticket → Act
   -- this many bytes of a content that a reply left were read by its ticket, from an offset on, or couldn't be
   fetched : Ticket → (offset count : ℕ) → Result (List ℕ) RestFault → Act
-  -- a step was made of the preparation of its next reply
-  prepared : Act
+  -- a step was made of the making of the reply to these bytes, which are to be answered next
+  prepared : (asked : List ℕ) → Act
 
 -- the bytes that were read of a content, none if they couldn't be
 abbrev pub fetched_bytes : Result (List ℕ) RestFault → List ℕ
@@ -40,21 +40,21 @@ abbrev pub asked : List Act → List ℕ
 asked [] = []
 asked (answered bytes replies result ticket ∷ acts) = bytes ++ asked acts
 asked (fetched ticket offset count outcome ∷ acts) = asked acts
-asked (prepared ∷ acts) = asked acts
+asked (prepared bytes ∷ acts) = asked acts
 
 -- the replies to them, with what was read of their contents later
 abbrev pub replied : List Act → List ℕ
 replied [] = []
 replied (answered bytes replies result ticket ∷ acts) = replies ++ replied acts
 replied (fetched ticket offset count outcome ∷ acts) = fetched_bytes outcome ++ replied acts
-replied (prepared ∷ acts) = replied acts
+replied (prepared bytes ∷ acts) = replied acts
 
 -- after an act a connection ends so: with the word for why a part couldn't be read, if it couldn't
 abbrev pub IsEndedBy : Act → Option (Result Served EndFault) → Type 0
 IsEndedBy (answered bytes replies result ticket) ending = ⊤
 IsEndedBy (fetched ticket offset count (Ok bytes)) ending = ⊤
 IsEndedBy (fetched ticket offset count (Err cause)) ending = ending ≡ Some (Err (cut_by cause))
-IsEndedBy prepared ending = ⊤
+IsEndedBy (prepared bytes) ending = ⊤
 
 -- what is left of a content once these bytes of it were read
 abbrev pub IsLeft : Unsent → Result (List ℕ) RestFault → Option Unsent → Type 0
@@ -69,7 +69,7 @@ IsNext before (answered bytes replies result ticket) after = (before ≡ None) �
 IsNext before (fetched ticket offset count outcome) after =
     (unsent : Unsent) × (before ≡ Some unsent) × (ticket ≡ unsent.ticket) × (offset ≡ unsent.at) × (count ≤ unsent.end - unsent.at)
     × IsLeft unsent outcome after
-IsNext before prepared after = (before ≡ None) × (after ≡ None)
+IsNext before (prepared bytes) after = (before ≡ None) × (after ≡ None)
 
 -- so is each of these
 abbrev pub Follows : Option Unsent → List Act → Option Unsent → Type 0
@@ -96,12 +96,13 @@ module _ {S : Type 0} (replies : S → RequestView → ReplyView → S → Type 
 
 -- the same handler, with its reads, tickets and preparations
 module _ {S : Type 0} (replies : S → RequestView → ReplyView → S → Type 0)
-    (reads : S → Ticket → (offset count : ℕ) → Result (List ℕ) RestFault → S → Type 0) (ticket_of : S → Ticket) (prepares : S → S → Type 0) where
-  -- An act leads from a state to the next. What is answered is one request, or bytes that begin with none.
-  abbrev pub Does : S → Act → S → Type 0
-  Does old (answered bytes out result ticket) new = Answers replies old bytes out result new × (ticket ≡ ticket_of new) × IsOneOrNone bytes
-  Does old (fetched ticket offset count outcome) new = reads old ticket offset count outcome new
-  Does old prepared new = prepares old new
+    (reads : S → Ticket → (offset count : ℕ) → Result (List ℕ) RestFault → S → Type 0) (ticket_of : S → Ticket)
+    (prepares : S → (connection : ℕ) → RequestView → S → Type 0) where
+  -- An act of the connection of this number leads from a state to the next. What is answered is one request, or bytes that begin with none.
+  abbrev pub Does : S → (number : ℕ) → Act → S → Type 0
+  Does old number (answered bytes out result ticket) new = Answers replies old bytes out result new × (ticket ≡ ticket_of new) × IsOneOrNone bytes
+  Does old number (fetched ticket offset count outcome) new = reads old ticket offset count outcome new
+  Does old number (prepared bytes) new = PreparesNext prepares number bytes old new
 
 -- what streams told
 module _ {S : Type 0} (told : S → Option Told) where
@@ -219,11 +220,12 @@ deeds_of number (act ∷ acts) = record { number = number; act = act } ∷ deeds
 
 -- a handler
 module _ {S : Type 0} (replies : S → RequestView → ReplyView → S → Type 0)
-    (reads : S → Ticket → (offset count : ℕ) → Result (List ℕ) RestFault → S → Type 0) (ticket_of : S → Ticket) (prepares : S → S → Type 0) where
+    (reads : S → Ticket → (offset count : ℕ) → Result (List ℕ) RestFault → S → Type 0) (ticket_of : S → Ticket)
+    (prepares : S → (connection : ℕ) → RequestView → S → Type 0) where
   -- All that was done, in this order, leads from a state to the next.
   abbrev pub Runs : S → List Deed → S → Type 0
   Runs old [] new = new ≡ old
-  Runs old (deed ∷ deeds) new = (middle : S) × Does replies reads ticket_of prepares old deed.act middle × Runs middle deeds new
+  Runs old (deed ∷ deeds) new = (middle : S) × Does replies reads ticket_of prepares old deed.number deed.act middle × Runs middle deeds new
 
 -- no two connections have one number
 abbrev pub AreApart : {S : Type 0} → (ℕ → Option (Peer S)) → Type 0

@@ -1,7 +1,9 @@
 //! The connections of a listener.
 ghost use Rattle.std.specs.Prelude.{◌≡◌, ◌<◌, ◌≤◌, ◌∷◌, [], ℕ, Result, List, None, Some, take, drop, OnOk, OnErr};
 ghost use Rattle.http_listen.specs.Rests.{rest_after};
-ghost use Rattle.http_serve.specs.Connections.{IsAsked, IsFound};
+ghost use Rattle.http_requests.specs.Frame.{IsNext};
+ghost use Rattle.http_requests.specs.declared.frames.Next.TheVariants.{Whole};
+ghost use Rattle.http_serve.specs.Connections.{IsAsked, IsFound, PreparesNext};
 ghost use Rattle.http_listen.specs.Conversations.{Act, Deed, Answers, Does, IsEndedBy, Runs, Stands, Steps, deeds_of};
 ghost use Rattle.http_listen.specs.Orders.{AreInOrder};
 ghost use Rattle.http_listen.specs.Goes.{Acts, AreOver};
@@ -15,8 +17,8 @@ use crate::rests::{Unsent, add_part, once_sent};
 use crate::step_time::StepTime;
 use crate::talks::Talks;
 use crate::waits::Waits;
-use http_requests::{FieldSpans, Next};
-use http_serve::{Answer, Asked, Downloads, NOTHING_ASKED, Preparation, Prepares};
+use http_requests::{FieldSpans, Frame, Next};
+use http_serve::{Answer, Asked, Connection, Downloads, NOTHING_ASKED, Preparation, Prepares};
 use std::alloc::{AllocError, Global};
 use std::net::OpenStream;
 use std::time::{Clock, Duration};
@@ -80,7 +82,7 @@ where
     requires fresh { peer.connection.input ≡ [] }
     requires sent { peer.connection.output ≡ [] }
     ensures comes { NextStretch H.replies handler.old handler.new }
-    ensures acted { (act : Act) × Does H.replies H.reads H.ticket_of H.prepares handler.old act handler.new
+    ensures acted { (act : Act) × Does H.replies H.reads H.ticket_of H.prepares handler.old peer.state.number act handler.new
         × Acts S.told (W.marks log.old) (peer_at pool.old.places) peer (act ∷ []) (W.marks log.new) (peer_at pool.new.places) }
 {
     pool.spare.refill();
@@ -114,7 +116,7 @@ where
     requires asked { IsAsked peer.old.connection.input peer.old.state.ended pool.old.fields asked }
     ensures comes { NextStretch H.replies handler.old handler.new }
     ensures places { pool.new.places ≡ pool.old.places }
-    ensures acts { (act : Act) × Does H.replies H.reads H.ticket_of H.prepares handler.old act handler.new
+    ensures acts { (act : Act) × Does H.replies H.reads H.ticket_of H.prepares handler.old peer.old.state.number act handler.new
         × Steps S.told peer.old (act ∷ []) (result.ending ≡ None) peer.new }
 {
     pool.spare.refill();
@@ -141,20 +143,23 @@ where
     Acted { now, ending: None }
 }
 
-/// Makes steps of the preparation of the reply to these bytes of a connection, one at least, until they have taken as long since `start` as a turn
-/// may or one has to wait for other connections. It is true while steps may be left.
+/// Makes steps of the making of the reply to the request at `frame` in the input of the connection of a number, one at least, until they have taken as
+/// long since `start` as a turn may or one has to wait for other connections. It is true while steps may be left.
 fn prepare_for<H: Prepares, C: Clock>(
     clock: &C,
     start: Duration,
     step_time: StepTime,
     number: u64,
-    asked: &[u8],
+    connection: &Connection,
+    fields: &FieldSpans,
+    frame: &Frame,
     handler: &mut H,
 ) -> bool
-    ensures { (steps : ℕ) × AreSteps H.prepares steps handler.old handler.new }
+    requires found { IsNext connection.now.input fields.now (Whole frame.now) }
+    ensures { (steps : ℕ) × AreSteps (PreparesNext H.prepares number (take frame.now.body.end connection.now.input)) steps handler.old handler.new }
 {
     'steps: for _step in 0..MAX_STEPS {
-        match handler.prepare(number, asked) {
+        match connection.prepare(handler, number, fields, frame) {
             Preparation::Ready => return false,
             Preparation::Waits => return true,
             Preparation::GoesOn => {}
@@ -172,15 +177,19 @@ fn prepare_found<H: Prepares, C: Clock>(
     start: Duration,
     step_time: StepTime,
     number: u64,
-    found: Next,
-    asked: &[u8],
+    connection: &Connection,
+    fields: &FieldSpans,
+    asked: Asked,
     handler: &mut H,
 ) -> bool
-    ensures steps { (steps : ℕ) × AreSteps H.prepares steps handler.old handler.new }
-    ensures none { IsNoRequest found → handler.new ≡ handler.old }
+    requires found { IsFound connection.now.input fields.now asked }
+    ensures steps { (steps : ℕ) × AreSteps (PreparesNext H.prepares number (take asked.end connection.now.input)) steps handler.old handler.new }
+    ensures none { IsNoRequest asked.found → handler.new ≡ handler.old }
 {
-    match found {
-        Next::Whole(_) => prepare_for(clock, start, step_time, number, asked, handler),
+    match asked.found {
+        Next::Whole(frame) => prepare_for(
+            clock, start, step_time, number, connection, fields, &frame, handler,
+        ),
         Next::Refused(_) => false,
         Next::More(_) => false,
     }
@@ -213,8 +222,9 @@ where
         start,
         pool.step_time,
         peer.state.number,
-        asked.found,
-        peer.connection.front(asked.end),
+        &peer.connection,
+        &pool.fields,
+        asked,
         handler,
     ) {
         return put_off(clock, start, pool, peer);
@@ -264,7 +274,7 @@ where
     ensures reads { NextPart H.reads handler.old handler.new }
     ensures places { pool.new.places ≡ pool.old.places }
     // If the part can't be read, the connection ends with the word for why.
-    ensures acts { (act : Act) × Does H.replies H.reads H.ticket_of H.prepares handler.old act handler.new
+    ensures acts { (act : Act) × Does H.replies H.reads H.ticket_of H.prepares handler.old peer.old.state.number act handler.new
         × Steps S.told peer.old (act ∷ []) (result.ending ≡ None) peer.new × IsEndedBy act result.ending }
 {
     let start = time_of(clock);
@@ -291,7 +301,7 @@ where
     requires sent { peer.value.connection.output ≡ [] }
     requires rest { peer.value.state.unsent ≡ Some unsent }
     ensures reads { NextPart H.reads handler.old handler.new }
-    ensures acted { (act : Act) × Does H.replies H.reads H.ticket_of H.prepares handler.old act handler.new
+    ensures acted { (act : Act) × Does H.replies H.reads H.ticket_of H.prepares handler.old peer.value.state.number act handler.new
         × Acts S.told (W.marks log.old) (peer_at pool.old.places) peer.value (act ∷ []) (W.marks log.new) (peer_at pool.new.places) }
 {
     let Acted { now, ending } = read_part(clock, pool, &mut peer, unsent, handler);

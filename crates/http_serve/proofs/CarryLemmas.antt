@@ -60,7 +60,7 @@ reply_count-append requests others ending =
 
 -- ---- a request in a frame
 
-framed_view : (input : List ℕ) (spans : List HeaderSpan) (frame : Frame) (request : Request) → IsFrameOf input spans frame request
+pub framed_view : (input : List ℕ) (spans : List HeaderSpan) (frame : Frame) (request : Request) → IsFrameOf input spans frame request
     → request_view_at input spans frame ≡ request_view request
 framed_view input spans frame request is = λ i. record {
   method = is.method i;

@@ -6,7 +6,7 @@ use Rattle.http_requests.specs.declared.frames.Next.TheVariants.{Whole, Refused,
 use Rattle.http_requests.specs.declared.frames.Missing.{Missing}
 use Rattle.http_requests.specs.Frame.{IsNext, IsMissing}
 use Rattle.http_requests.specs.declared.frames.Frame.{Frame}
-use Rattle.http_requests.specs.Requests.{RequestView, request_view_at, is_head}
+use Rattle.http_requests.specs.Requests.{Request, IsRequest, RequestView, request_view, request_view_at, is_head}
 use Rattle.httparse.specs.Spans.{span_bytes}
 use Rattle.http_serve.specs.Reply.{ReplyView, head_of, reply_head, reply_bytes, has_no_content}
 use Rattle.http_serve.specs.declared.answers.Rest.{Rest}
@@ -83,3 +83,10 @@ once_replied close = record { requests = 1; end = cond close ends.Asked ends.Clo
 -- what an answer to a request comes to whose reply has this rest
 abbrev pub answered : (close : Bool) → Option Rest → Answer
 answered close rest = record { served = once_replied close; rest = rest }
+
+-- steps of the making of replies
+module _ {S : Type 0} (prepares : S → (connection : ℕ) → RequestView → S → Type 0) where
+  -- A step was made of the making of the reply to these bytes of a connection: they are one whole request.
+  abbrev pub PreparesNext : (connection : ℕ) → (asked : List ℕ) → S → S → Type 0
+  PreparesNext connection asked old new =
+      (request : Request) × IsRequest asked request [] × prepares old connection (request_view request) new

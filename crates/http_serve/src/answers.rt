@@ -10,7 +10,7 @@ ghost use Rattle.http_serve.specs.declared.replies.TheConstants.{MAX_REPLY_HEAD}
 
 use crate::outputs::Output;
 use crate::refusals::refusal_reply;
-use crate::{Content, Handler, Reply, Request};
+use crate::{Content, Handler, Preparation, Prepares, Reply, Request};
 use http_requests::{FieldSpans, Fields, Frame, Rejection, is_head, path_of};
 
 /// What of a reply's content isn't to be sent yet: it has `length` bytes, and these are those from the byte `from` on.
@@ -48,6 +48,42 @@ fn rest_of(reply: &Reply, bare: bool) -> Option<Rest>
     }
 }
 
+/// The request at `frame` in `bytes`, whose header fields are at these spans.
+fn request_at<'a>(bytes: &'a [u8], fields: &'a FieldSpans, frame: &Frame) -> Request<'a>
+    requires method { IsWithin (length bytes.now) frame.now.method }
+    requires target { IsWithin (length bytes.now) frame.now.target }
+    requires body { IsWithin (length bytes.now) frame.now.body }
+    requires fields { All (IsHeaderWithin (length bytes.now)) (take frame.now.fields fields.now) }
+    requires few { frame.now.fields ≤ length fields.now }
+    ensures { result ≡ request_view_at bytes.now fields.now frame.now }
+{
+    Request {
+        method: frame.method.of(bytes),
+        path: path_of(frame.target.of(bytes)),
+        fields: Fields::new(bytes, &fields[..frame.fields]),
+        body: frame.body.of(bytes),
+        close: frame.close,
+    }
+}
+
+/// Has a handler make the next step of the making of the reply to the request at `frame` in `bytes`, whose header fields are at these spans.
+pub(crate) fn prepare_at<H: Prepares>(
+    handler: &mut H,
+    connection: u64,
+    bytes: &[u8],
+    fields: &FieldSpans,
+    frame: &Frame,
+) -> Preparation
+    requires method { IsWithin (length bytes.now) frame.now.method }
+    requires target { IsWithin (length bytes.now) frame.now.target }
+    requires body { IsWithin (length bytes.now) frame.now.body }
+    requires fields { All (IsHeaderWithin (length bytes.now)) (take frame.now.fields fields.now) }
+    requires few { frame.now.fields ≤ length fields.now }
+    ensures { H.prepares handler.old connection (request_view_at bytes.now fields.now frame.now) handler.new }
+{
+    handler.prepare(connection, &request_at(bytes, fields, frame))
+}
+
 /// Asks a handler for the reply to the request at `frame` in `bytes`, whose header fields are at these spans.
 fn ask<H: Handler>(handler: &mut H, bytes: &[u8], fields: &FieldSpans, frame: &Frame) -> Reply
     requires method { IsWithin (length bytes.now) frame.now.method }
@@ -60,14 +96,7 @@ fn ask<H: Handler>(handler: &mut H, bytes: &[u8], fields: &FieldSpans, frame: &F
         × (H.size handler.new ≡ length reply.content)) }
     ensures writable { HasShortWords (head_view result) }
 {
-    let request = Request {
-        method: frame.method.of(bytes),
-        path: path_of(frame.target.of(bytes)),
-        fields: Fields::new(bytes, &fields[..frame.fields]),
-        body: frame.body.of(bytes),
-        close: frame.close,
-    };
-    handler.answer(&request)
+    handler.answer(&request_at(bytes, fields, frame))
 }
 
 /// Puts the reply to the request at `frame` in `bytes` into the output, and returns the rest of its content.

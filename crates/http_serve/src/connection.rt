@@ -6,16 +6,16 @@ ghost use Rattle.http_requests.specs.Frame.{IsNext};
 ghost use Rattle.http_serve.specs.Buffers.{buffer_size};
 ghost use Rattle.http_requests.specs.Requests.{has_head_method};
 ghost use Rattle.http_requests.specs.declared.frames.Next.TheVariants.{Whole};
-ghost use Rattle.http_serve.specs.Connections.{IsAsked, IsFound, IsNextPiece, NeedsMore, Replied, answered, found_end};
+ghost use Rattle.http_serve.specs.Connections.{IsAsked, IsFound, IsNextPiece, NeedsMore, PreparesNext, Replied, answered, found_end};
 ghost use Rattle.http_serve.specs.Found.{ServesFound};
 ghost use Rattle.http_serve.specs.Reply.{refusal_bytes};
 ghost use Rattle.http_serve.specs.Steps.{IsFinished};
 
-use crate::answers::{Rest, refuse_in, reply_in};
+use crate::answers::{Rest, prepare_at, refuse_in, reply_in};
 use crate::inputs::{Asked, Input, READ_SPACE};
 use crate::outputs::{Output, Spare};
 use crate::replies::REPLY_SPACE;
-use crate::{Downloads, Handler, RestFault, Ticket};
+use crate::{Downloads, Handler, Preparation, Prepares, RestFault, Ticket};
 use http_requests::{FieldSpans, Frame, Next, Rejection};
 use std::alloc::{AllocError, Global};
 use std::fmt;
@@ -201,6 +201,13 @@ impl Connection {
         self.input.find(ended, fields)
     }
 
+    /// The bytes of the input.
+    fn bytes(&self) -> &[u8]
+        ensures { result.now ≡ self.now.input }
+    {
+        self.input.bytes()
+    }
+
     /// The first `count` bytes of the input, or all if there are fewer.
     pub fn front(&self, count: usize) -> &[u8]
         ensures { result.now ≡ take count self.now.input }
@@ -218,6 +225,22 @@ impl Connection {
             return;
         }
         self.output.begin_with(spare);
+    }
+
+    /// Has a handler make the next step of the making of the reply to the request that was found at the front of the input, whose header fields are at
+    /// these spans. The connection has this number.
+    pub fn prepare<H: Prepares>(
+        &self,
+        handler: &mut H,
+        number: u64,
+        fields: &FieldSpans,
+        frame: &Frame,
+    ) -> Preparation
+        requires found { IsNext self.now.input fields.now (Whole frame.now) }
+        // It is one whole request.
+        ensures { PreparesNext H.prepares number (take frame.now.body.end self.now.input) handler.old handler.new }
+    {
+        prepare_at(handler, number, self.bytes(), fields, frame)
     }
 
     /// Answers what was found at the front of the input, whose header fields are at these spans, as `serve_with` answers an input of these bytes

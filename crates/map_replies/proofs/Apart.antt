@@ -27,7 +27,7 @@ use Rattle.map_replies.specs.Bodies.{CheckedEdit}
 use Rattle.map_replies.specs.Meanings.{MeansBody, MeansIf, MeansEdit, MeansChecked, MeansNumbered, MeansPart, MeansJudged, MeansArchive, MeansTile}
 use Rattle.map_replies.specs.Meanings.{MeansPage, MeansList, MeansOnFeature, MeansView, MeansAction, MeansAllowed, MeansMethod, UnlessRefused, looks}
 use Rattle.map_replies.specs.Pages.{Entry, looks_from}
-use Rattle.map_replies.specs.Preparing.{asks_to_publish, AreMeanwhile, IsMeanwhile}
+use Rattle.map_replies.specs.Preparing.{asks_to_publish, calls_publication, AreMeanwhile, IsMeanwhile}
 use Rattle.map_replies.specs.declared.conditions.Needed.{Needed}
 use Rattle.map_replies.specs.declared.conditions.Needed.TheVariants.{Free}
 use Rattle.map_replies.specs.declared.conditions.Judged.{Judged}
@@ -198,7 +198,7 @@ unless_apart false IsMeant each reply happenings is = each reply happenings is
 
 -- whatever the method
 pub method_apart : (failed : Type 0) (old new : Status) (asked : Asked) (method : Result Method RouteFault) (ask : AskView) (body : List ℕ)
-    → asks_to_publish asked ≡ false → (reply : ReplyView) (happenings : List Happening)
+    → calls_publication asked method ≡ false → (reply : ReplyView) (happenings : List Happening)
     → MeansMethod failed old new asked method ask body reply happenings → AreApart happenings
 method_apart failed old new asked (Ok method) ask body other reply happenings is =
     unless_apart (refuses (needed ask) method) (MeansAllowed failed old new asked method ask body) (allowed_apart failed old new asked method ask body other)

@@ -36,7 +36,8 @@ use Rattle.map_replies.specs.Conditions.{ask_of}
 use Rattle.map_replies.specs.Meanings.{DiskFailed, asked_for, last_outcome}
 use Rattle.map_replies.specs.Preparing.{IsMadeReady, BeginsLate, PreparingReplied, PreparingReads, PreparingStep, Meanwhile}
 use Rattle.map_replies.specs.Preparing.{IsToPublishWhole, GoesToItsEnd, EndsLate, BeginsWhole, StepsWhole, CancelsWhole, GoesOnWhole, ReadsPart, Prepares}
-use Rattle.map_replies.specs.Preparing.{IsToBegin, TellsMeanwhile, TellsMeanwhileRead, TellsPrepared, is_to_publish, inner_service}
+use Rattle.map_replies.specs.Preparing.{IsToBegin, TellsMeanwhile, TellsMeanwhileRead, TellsPrepared, TellsPreparedFor, PreparesFor, is_to_publish}
+use Rattle.map_replies.specs.Preparing.{inner_service}
 use Rattle.map_replies.specs.Preparing.{AreMeanwhile, beginning_of, has_begun, is_begun, meanwhile, without_draft}
 use Rattle.map_replies.specs.Tickets.{KeepsOldest, KeepsTickets, oldest_after}
 use Rattle.map_replies.specs.Words.{left_reply, published_reply}
@@ -46,6 +47,7 @@ use Rattle.map_replies.proofs.Apart.{AreApart, apart_meanwhile, apart_on, method
 use Rattle.map_replies.proofs.Goes.{Goes, Rests, rests_none, rests_undrafted, goes_all, goes_on, goes_rest, draft_after, all_beside}
 use Rattle.map_replies.proofs.LateBeginnings.{late_begun, late_refused}
 use Rattle.map_replies.proofs.OldestLemmas.{breaks_in_rest, published_by_reply, unbroken_before_rest}
+use Rattle.map_replies.proofs.ReadyLemmas.{step_nothing}
 use Rattle.map_replies.proofs.TicketLemmas.{held_unasked}
 
 -- what there is, or else this
@@ -777,10 +779,19 @@ module _ {D : Type 0} (sectors : D → ℕ) (honest : D → Type 0) (history : D
     told_prepared (inr (inr (inr (inl is)))) = told_cancels is.0 is.1
     told_prepared (inr (inr (inr (inr is)))) = told_part is
 
-  pub prepared_told : (first old : PreparingReplies D) (so : Meanwhile D) (new : PreparingReplies D) → GoesMeanwhile first old so
-      → Prepares sectors honest history faults old new
-      → (next : Meanwhile D) × TellsPrepared sectors honest history faults so next × GoesMeanwhile first new next
-  prepared_told first old so new along is =
+    -- for a request of a connection
+    told_for : (connection : ℕ) (request : RequestView) → PreparesFor sectors honest history faults old connection request new
+        → (next : Meanwhile D) × TellsPreparedFor sectors honest history faults (meanwhile old run fixed) connection request next × GoesMeanwhile first new next
+    told_for connection request (inl is) = let told = told_prepared is.1 in (told.0, (told.1, inl is.0), told.2)
+    told_for connection request (inr (other, inl is)) =
+        let step = step_nothing sectors honest history faults old new is.0 (inl is.1) in
+        let told = told_preparing step step.draft in (told.0, (told.1, inr (refl, refl)), told.2)
+    told_for connection request (inr (other, inr is)) = let told = told_part is in (told.0, (told.1, inr (refl, refl)), told.2)
+
+  pub prepared_told : (first old : PreparingReplies D) (so : Meanwhile D) (connection : ℕ) (request : RequestView) (new : PreparingReplies D)
+      → GoesMeanwhile first old so → PreparesFor sectors honest history faults old connection request new
+      → (next : Meanwhile D) × TellsPreparedFor sectors honest history faults so connection request next × GoesMeanwhile first new next
+  prepared_told first old so connection request new along is =
       of_here first old so
-      (λ (m : Meanwhile D). (next : Meanwhile D) × TellsPrepared sectors honest history faults m next × GoesMeanwhile first new next)
-      along (told_prepared first old new so.run so.fixed along.goes along.drafts along.begun is)
+      (λ (m : Meanwhile D). (next : Meanwhile D) × TellsPreparedFor sectors honest history faults m connection request next × GoesMeanwhile first new next)
+      along (told_for first old new so.run so.fixed along.goes along.drafts along.begun connection request is)

@@ -27,8 +27,8 @@ use Rattle.map_replies.specs.declared.service.MapReplies.{MapReplies}
 use Rattle.map_replies.specs.declared.turns.Turns.{Turns}
 use Rattle.map_replies.specs.Conditions.{AskView}
 use Rattle.map_replies.specs.Meanings.{asked_for}
-use Rattle.map_replies.specs.Preparing.{IsReady, IsToBegin, IsToPublishWhole, MayPost, BeginsLate, PreparingStep, asks_to_publish, inner_service}
-use Rattle.map_replies.specs.Preparing.{BeginsWhole, GivesUp, IsMadeReady, Prepares, ReadsPart, beginning_of, has_begun, undrafted, undrafted_calls}
+use Rattle.map_replies.specs.Preparing.{IsReady, IsToBegin, IsToPublishWhole, MayPost, BeginsLate, PreparingStep, asks_to_publish, calls_publication, inner_service}
+use Rattle.map_replies.specs.Preparing.{BeginsWhole, GivesUp, IsMadeReady, Prepares, PreparesTile, ReadsPart, beginning_of, has_begun, undrafted, undrafted_calls}
 use Rattle.map_replies.specs.Sending.{SendsMethod}
 use Rattle.map_replies.specs.Tickets.{KeepsTickets}
 use Rattle.map_replies.specs.State.{access_of, asked_service}
@@ -100,6 +100,11 @@ module _ {D : Type 0} where
     may,
   )
 
+-- A request that calls one asks for it.
+pub calls_asks : (asked : Asked) (method : Result Method RouteFault) → calls_publication asked method ≡ true → asks_to_publish asked ≡ true
+calls_asks asked (Ok method) is = is
+calls_asks asked (Err fault) is = absurd (false≢true is)
+
 module _ {D : Type 0} (sectors : D → ℕ) (honest : D → Type 0) (history : D → History) (faults : D → ℕ) where
   -- none is answered with the archive
   pub sends_nothing : (asked target : Asked) (method : Result Method RouteFault) (ask : AskView) (old : ServiceView D) (sending : Sending)
@@ -158,7 +163,7 @@ module _ {D : Type 0} (sectors : D → ℕ) (honest : D → Type 0) (history : D
   StaysUp old new = (stored : Stored) → IsUp (sectors (inner_service old).disk) (history (inner_service old).disk) stored (inner_service old)
       → IsUp (sectors (inner_service new).disk) (history (inner_service new).disk) stored (inner_service new)
 
-  step_nothing : (old new : PreparingReplies D) → new.replies ≡ old.replies → WholeStays old new → Step old new
+  pub step_nothing : (old new : PreparingReplies D) → new.replies ≡ old.replies → WholeStays old new → Step old new
   step_nothing old new same whole = record {
     same = same ∙ ap (λ (o : Option DraftedView). with_service old (record (inner_service old) { drafting = o }))
         (sym (ap (λ (r : MapReplies D). (asked_service r).drafting) same));
@@ -234,10 +239,24 @@ module _ {D : Type 0} (sectors : D → ℕ) (honest : D → Type 0) (history : D
     up = is.up;
   }))))
 
-  -- ---- a tile that is read by parts
+  -- ---- a tile that is made or read by parts
 
   abbrev Part : (old new : PreparingReplies D) → Type 0
   Part = ReadsPart sectors honest history faults
+
+  -- for whichever request comes next
+  pub tile_at : (old new : PreparingReplies D) (is_next : Bool) → PreparesTile sectors honest history faults (record old { is_next = is_next }) new
+      → PreparesTile sectors honest history faults old new
+  tile_at old new is_next (inl is) = inl is
+  tile_at old new is_next (inr is) = inr (record {
+    same = is.same;
+    whole = is.whole;
+    disk = is.disk;
+    never_falls = is.never_falls;
+    untouched = is.untouched;
+    held = is.held;
+    up = is.up;
+  })
 
   -- of the same replies
   pub part_on : (old new other : PreparingReplies D) → other.replies ≡ new.replies → beginning_of other ≡ beginning_of new → Part old new → Part old other

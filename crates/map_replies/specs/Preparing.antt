@@ -12,6 +12,8 @@ use Rattle.sector_disk.specs.Asked.{OnlyReads}
 use Rattle.sector_disk.specs.Disk.{History}
 use Rattle.tile_routes.specs.Methods.{method_on}
 use Rattle.tile_routes.specs.Paths.{Asked, asked_action}
+use Rattle.tile_routes.specs.declared.fault.RouteFault.{RouteFault}
+use Rattle.tile_routes.specs.declared.method.Method.{Method}
 use Rattle.tile_routes.specs.declared.method.Method.TheVariants.{Post}
 use Rattle.tile_routes.specs.declared.target.Action.TheVariants.{Publish, PublishBegin, PublishStep, PublishCancel}
 use Rattle.tile_service.specs.Drafted.{DraftedView}
@@ -44,9 +46,15 @@ asks_to_publish (asked_action PublishStep) = true
 asks_to_publish (asked_action PublishCancel) = true
 asks_to_publish asked = false
 
+-- so it does by a method, or by one that the path refuses, which asks for nothing
+abbrev pub calls_publication : Asked → Result Method RouteFault → Bool
+calls_publication asked (Ok method) = asks_to_publish asked
+calls_publication asked (Err fault) = false
+
 -- the same of a request to these replies
 abbrev pub is_to_publish : {D : Type 0} → MapReplies D → RequestView → Bool
-is_to_publish replies request = asks_to_publish (asked_for (access_of replies) request)
+is_to_publish replies request =
+    calls_publication (asked_for (access_of replies) request) (method_on request.method (asked_for (access_of replies) request))
 
 -- its conditions, if replies have entity tags, don't refuse what it posts
 abbrev pub MayPost : {D : Type 0} → MapReplies D → RequestView → Type 0
@@ -246,6 +254,16 @@ module _ {D : Type 0} (sectors : D → ℕ) (honest : D → Type 0) (history : D
       ⊎ ((outcome : Result ℕ ServiceFault) × StepsWhole old outcome new)
       ⊎ ((outcome : Result (Unit {0}) ServiceFault) × CancelsWhole old outcome new) ⊎ ReadsPart old new
 
+  -- for a request that asks for no call of a publication: a tile that is made changes nothing that a reply shows
+  abbrev pub PreparesTile : PreparingReplies D → PreparingReplies D → Type 0
+  PreparesTile old new = ((new.replies ≡ old.replies) × (beginning_of new ≡ beginning_of old)) ⊎ ReadsPart old new
+
+  -- the same for a request of a connection
+  abbrev pub PreparesFor : PreparingReplies D → (connection : ℕ) → RequestView → PreparingReplies D → Type 0
+  PreparesFor old connection request new =
+      ((is_to_publish old.replies request ≡ true) × Prepares old new)
+      ⊎ ((is_to_publish old.replies request ≡ false) × PreparesTile old new)
+
 -- ---- a listener
 
 -- The request handler of a listener, what has happened to its service so far, and how many of these happenings came before the map of the
@@ -355,3 +373,8 @@ module _ {D : Type 0} (sectors : D → ℕ) (honest : D → Type 0) (history : D
   -- what is done between replies, for a publication that is prepared, or for a tile that is read by parts
   abbrev pub TellsPrepared : Meanwhile D → Meanwhile D → Type 0
   TellsPrepared old new = TellsPreparing old new ⊎ TellsBegun old new ⊎ TellsStepped old new ⊎ TellsCancelled old new ⊎ TellsPartRead old new
+
+  -- The same for a request of a connection: only for one that asks for a call of a publication the map of one is fixed, or a step of one made.
+  abbrev pub TellsPreparedFor : Meanwhile D → (connection : ℕ) → RequestView → Meanwhile D → Type 0
+  TellsPreparedFor old connection request new = TellsPrepared old new
+      × ((is_to_publish old.replies.replies request ≡ true) ⊎ ((new.run ≡ old.run) × (new.fixed ≡ old.fixed)))

@@ -1,21 +1,7 @@
 //! Which tile is made by parts before the reply to its request, and for which connection.
 use crate::turns::Turns;
 use hilbert_id::TileAt;
-use http_requests::path_of;
-use tile_routes::{Target, requested_tile};
-
-/// The first bytes of a request for a tile, and of one for its head alone. The path begins with the slash.
-const TILE: &[u8] = b"GET /map/";
-
-const HEAD_OF_TILE: &[u8] = b"HEAD /map/";
-
-/// What requests begin with that edit the map.
-const EDITS: [&[u8]; 4] = [
-    b"PUT /features/",
-    b"DELETE /features/",
-    b"POST /edits",
-    b"POST /admin/edits",
-];
+use tile_routes::{Action, Method, Target};
 
 /// How many times a tile is begun for a request while edits go on: an edit drops what is made. It is begun once more while they wait.
 const MAX_TRIES: u32 = 4;
@@ -23,99 +9,69 @@ const MAX_TRIES: u32 = 4;
 /// How many tiles are known to be long.
 const MAX_KNOWN: usize = 8;
 
-/// How many targets are known of which nothing has to be made.
+/// How many tiles are known of which nothing has to be made.
 const READY_PLACES: usize = 64;
 
-/// What a hash begins with, and the factor of each byte.
-const FIRST_HASH: u64 = 0xcbf2_9ce4_8422_2325;
-
-const HASH_FACTOR: u64 = 0x0000_0100_0000_01b3;
-
-/// The bytes up to the first space.
-fn first_word(bytes: &[u8]) -> &[u8] {
-    match bytes.iter().position(|byte| *byte == b' ') {
-        Some(end) => bytes.get(..end).unwrap_or(bytes),
-        None => bytes,
+/// The tile that a request asks for, or its head alone.
+pub(crate) fn asked_tile(target: Target, method: &[u8]) -> Option<TileAt> {
+    let Target::Tile(at, _) = target else {
+        return None;
+    };
+    match target.method(method) {
+        Ok(Method::Get | Method::Head) => Some(at),
+        Ok(Method::Post | Method::Put | Method::Delete) | Err(_) => None,
     }
 }
 
-/// Whether these bytes of a request begin as those for a tile.
-pub(crate) fn is_for_tile(asked: &[u8]) -> bool {
-    asked.starts_with(TILE) || asked.starts_with(HEAD_OF_TILE)
-}
-
-/// How many bytes are before the path of a request for a tile that begins so: the method and a space.
-fn before_path(asked: &[u8]) -> usize {
-    if asked.starts_with(HEAD_OF_TILE) {
-        5
-    } else {
-        4
+/// Whether a request asks for an edit.
+pub(crate) fn is_for_edit(target: Target, method: &[u8]) -> bool {
+    match target.method(method) {
+        Ok(Method::Put | Method::Delete) => true,
+        Ok(Method::Post) => matches!(
+            target,
+            Target::Action(Action::Edits | Action::CheckedEdits) | Target::EditsAt(_)
+        ),
+        Ok(Method::Get | Method::Head) | Err(_) => false,
     }
 }
 
-/// Whether these bytes of a request begin as those for an edit.
-pub(crate) fn is_for_edit(asked: &[u8]) -> bool {
-    for edit in EDITS {
-        if asked.starts_with(edit) {
-            return true;
-        }
-    }
-    false
-}
-
-/// The tile for which a request that begins so asks, if its target is a path, maybe with a query.
-pub(crate) fn asked_tile(asked: &[u8]) -> Option<TileAt> {
-    let target = first_word(asked.get(before_path(asked)..)?);
-    match requested_tile(path_of(target)) {
-        Target::Tile(at, _) => Some(at),
-        _ => None,
-    }
-}
-
-/// A hash of the target of a request that begins so (FNV-1a).
-pub(crate) fn target_hash(asked: &[u8]) -> u64 {
-    let mut hash = FIRST_HASH;
-    for byte in asked.get(before_path(asked)..).unwrap_or(asked) {
-        if *byte == b' ' {
-            break;
-        }
-        hash = (hash ^ u64::from(*byte)).wrapping_mul(HASH_FACTOR);
-    }
-    hash
-}
-
-/// A target of which nothing has to be made: its hash, and the stamp of the tiles then.
+/// A tile of which nothing has to be made, and the stamp of the tiles then.
 #[derive(Clone, Copy)]
 struct Ready {
-    hash: u64,
+    at: TileAt,
     stamp: u64,
 }
 
-/// Targets of which nothing had to be made when they were asked for last: to know that costs less than to look.
+/// Tiles of which nothing had to be made when they were asked for last: to know that costs less than to look.
 #[derive(Clone, Copy)]
-pub(crate) struct ReadyTargets {
+pub(crate) struct ReadyTiles {
     places: [Option<Ready>; READY_PLACES],
 }
 
-impl ReadyTargets {
+/// A hash of a tile.
+fn tile_hash(at: TileAt) -> u64 {
+    u64::from(at.x) ^ (u64::from(at.y) << 3) ^ u64::from(at.z)
+}
+
+impl ReadyTiles {
     /// Nothing is known.
-    pub(crate) fn new() -> ReadyTargets {
-        ReadyTargets {
+    pub(crate) fn new() -> ReadyTiles {
+        ReadyTiles {
             places: [None; READY_PLACES],
         }
     }
 
-    /// Whether nothing has to be made of a target, and no tile was made or changed since that was found.
-    pub(crate) fn has(&self, hash: u64, stamp: u64) -> bool {
-        match self.places[(hash % READY_PLACES as u64) as usize] {
-            Some(ready) => ready.hash == hash && ready.stamp == stamp,
+    /// Whether nothing has to be made of a tile, and no tile was made or changed since that was found.
+    pub(crate) fn has(&self, at: TileAt, stamp: u64) -> bool {
+        match self.places[(tile_hash(at) % READY_PLACES as u64) as usize] {
+            Some(ready) => ready.at == at && ready.stamp == stamp,
             None => false,
         }
     }
 
-    /// Notes that nothing has to be made of a target.
-    pub(crate) fn note(&mut self, hash: u64, stamp: u64) {
-        self.places[(hash % READY_PLACES as u64) as usize] = Some(Ready { hash, stamp });
+    /// Notes that nothing has to be made of a tile.
+    pub(crate) fn note(&mut self, at: TileAt, stamp: u64) {
+        self.places[(tile_hash(at) % READY_PLACES as u64) as usize] = Some(Ready { at, stamp });
     }
 }
 

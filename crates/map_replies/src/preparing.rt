@@ -10,15 +10,13 @@ ghost use Rattle.tile_routes.specs.declared.method.Method.TheVariants.{Post};
 ghost use Rattle.tile_routes.specs.declared.target.Action.TheVariants.{Publish, PublishBegin};
 ghost use Rattle.map_replies.specs.declared.replies.TheConstants.{MAX_TEXT};
 ghost use Rattle.map_replies.specs.Meanings.{asked_for};
-ghost use Rattle.map_replies.specs.Preparing.{asks_to_publish, without_draft, beginning_of, inner_size, BeginsLate, MayPost, IsReady};
-ghost use Rattle.map_replies.specs.Preparing.{PreparingReplied, PreparingSends, Prepares, ReadsPart};
+ghost use Rattle.map_replies.specs.Preparing.{asks_to_publish, calls_publication, without_draft, beginning_of, inner_size, BeginsLate, MayPost, IsReady};
+ghost use Rattle.map_replies.specs.Preparing.{PreparingReplied, PreparingSends, Prepares, PreparesTile, ReadsPart};
 ghost use Rattle.map_replies.specs.State.{access_of};
 ghost use Rattle.map_replies.specs.Words.{left_reply};
 
 use crate::calls::Calls;
-use crate::long_tiles::{
-    LongTiles, ReadyTargets, asked_tile, is_for_edit, is_for_tile, target_hash,
-};
+use crate::long_tiles::{LongTiles, ReadyTiles, asked_tile, is_for_edit};
 use crate::replies;
 use crate::service::MapReplies;
 use crate::turns::Turns;
@@ -31,15 +29,6 @@ use std::alloc::AllocError;
 use tile_routes::{Action, Method, Target};
 use tile_service::ServiceFault;
 
-/// The first bytes of a request for any call of a publication.
-const PUBLISHING: &[u8] = b"POST /publish";
-
-/// The first bytes of a request for the beginning of a publication.
-const BEGINNING: &[u8] = b"POST /publish/begin ";
-
-/// The first bytes of a request for a whole publication.
-const WHOLE: &[u8] = b"POST /publish ";
-
 /// The request handler of a listener: the replies of a map, where a publication is prepared between other replies, and so is a tile of many
 /// features, or a large one of the archive.
 #[derive(Drop)]
@@ -49,15 +38,15 @@ pub struct PreparingReplies<D: Sectors + Drop> {
     pub(crate) whole: Option<Result<u64, ServiceFault>>,
     /// The tile in the making, or being read.
     tiles: LongTiles,
-    ready: ReadyTargets,
+    ready: ReadyTiles,
     /// Which connection's publication is prepared.
     turns: Turns,
     /// Whether the request that comes next is the one for which it is prepared.
     is_next: bool,
 }
 
-/// Whether a call of a publication is asked for.
-fn is_to_publish(target: Target) -> bool
+/// Whether this is a call of a publication.
+fn is_publishing(target: Target) -> bool
     ensures { result ≡ asks_to_publish (asked_of target) }
 {
     match target {
@@ -75,6 +64,23 @@ fn is_to_publish(target: Target) -> bool
         | Target::View(_)
         | Target::Nothing => false,
     }
+}
+
+/// Whether a call of a publication is asked for, by a method that its path allows.
+fn is_call(target: Target, method: &[u8]) -> bool
+    ensures { result ≡ calls_publication (asked_of target) (method_on method.now (asked_of target)) }
+{
+    match target.method(method) {
+        Ok(_) => is_publishing(target),
+        Err(_) => false,
+    }
+}
+
+/// The same of a request.
+fn is_to_publish(target: Target, request: &Request<'_>) -> bool
+    ensures { result ≡ calls_publication (asked_of target) (method_on request.now.method (asked_of target)) }
+{
+    is_call(target, request.method)
 }
 
 /// Whether the beginning of a publication by steps is asked for.
@@ -103,9 +109,9 @@ fn is_to_publish_whole(target: Target, method: &[u8]) -> bool
     }
 }
 
-/// Whether a request that begins with these bytes is answered once its publication is prepared.
-fn is_prepared(asked: &[u8]) -> bool {
-    asked.starts_with(BEGINNING) || asked.starts_with(WHOLE)
+/// Whether a request is answered once its publication is prepared.
+fn is_prepared(target: Target, method: &[u8]) -> bool {
+    is_to_begin(target, method) || is_to_publish_whole(target, method)
 }
 
 /// What a preparation came to by a step, after which tiles may be left.
@@ -154,7 +160,7 @@ impl<D: Sectors + Drop> PreparingReplies<D> {
             replies,
             whole: None,
             tiles: LongTiles::new(),
-            ready: ReadyTargets::new(),
+            ready: ReadyTiles::new(),
             turns: Turns::new(),
             is_next: false,
         }
@@ -236,14 +242,14 @@ impl<D: Sectors + Drop> PreparingReplies<D> {
         self.prepare_beginning()
     }
 
-    /// Makes a step for a request that begins as one for a call of a publication.
-    fn prepare_call(&mut self, connection: u64, asked: &[u8]) -> Preparation
+    /// Makes a step for a request for a call of a publication.
+    fn prepare_call(&mut self, connection: u64, target: Target, method: &[u8]) -> Preparation
         ensures { Prepares D.sectors D.honest D.history D.faults self.old self.new }
     {
-        self.is_next = is_prepared(asked);
+        self.is_next = is_prepared(target, method);
         match self.waits_for_another(connection) {
             Some(preparation) => preparation,
-            None => self.prepare_own(connection, asked.starts_with(WHOLE)),
+            None => self.prepare_own(connection, is_to_publish_whole(target, method)),
         }
     }
 
@@ -326,7 +332,7 @@ impl<D: Sectors + Drop> PreparingReplies<D> {
 
     /// Reads the next part of a tile of the archive for the request of a connection, if it has more than one. Otherwise nothing has to be read or made,
     /// which is noted.
-    fn prepare_read(&mut self, connection: u64, at: TileAt, asked: &[u8]) -> Preparation
+    fn prepare_read(&mut self, connection: u64, at: TileAt) -> Preparation
         ensures { ReadsPart D.sectors D.honest D.history D.faults self.old self.new }
     {
         let is_other = self.tiles.is_other(connection, at);
@@ -335,48 +341,44 @@ impl<D: Sectors + Drop> PreparingReplies<D> {
             Some(false) => self.end_part(connection, at),
             None => {
                 let stamp = self.replies.calls.service.tile_stamp();
-                self.ready.note(target_hash(asked), stamp);
+                self.ready.note(at, stamp);
                 self.end_part(connection, at)
             }
         }
     }
 
-    /// Makes the next part of a tile for a request that begins as that for the tile, or for its head alone. If nothing of it has to be made, it may
-    /// have to be read: the tile is returned.
-    fn prepare_made(&mut self, connection: u64, asked: &[u8]) -> Result<Preparation, TileAt>
+    /// Makes the next part of a tile for a request for the tile, or for its head alone. If nothing of it has to be made, it may have to be read: nothing
+    /// is returned.
+    fn prepare_made(&mut self, connection: u64, at: TileAt) -> Option<Preparation>
         ensures same { self.new.replies ≡ self.old.replies }
         ensures whole { beginning_of self.new ≡ beginning_of self.old }
-        ensures stays { IfErr result (λ _. self.new ≡ self.old) }
+        ensures stays { result ≡ None → self.new ≡ self.old }
     {
-        let hash = target_hash(asked);
         let stamp = self.replies.calls.service.tile_stamp();
-        if self.ready.has(hash, stamp) {
+        if self.ready.has(at, stamp) {
             self.tiles.leave(connection);
-            return Ok(Preparation::Ready);
+            return Some(Preparation::Ready);
         }
-        let Some(at) = asked_tile(asked) else {
-            return Ok(Preparation::Ready);
-        };
         if self.replies.calls.service.tile_in_making() == Some(at) {
-            return Ok(self.prepare_tile(connection, at));
+            return Some(self.prepare_tile(connection, at));
         }
         if self.replies.calls.service.is_made(at) {
-            return Ok(self.prepare_tile(connection, at));
+            return Some(self.prepare_tile(connection, at));
         }
-        Err(at)
+        None
     }
 
     /// Makes or reads the next part of a tile for such a request.
-    fn prepare_asked(&mut self, connection: u64, asked: &[u8]) -> Preparation
-        ensures { Prepares D.sectors D.honest D.history D.faults self.old self.new }
+    fn prepare_asked(&mut self, connection: u64, at: TileAt) -> Preparation
+        ensures { PreparesTile D.sectors D.honest D.history D.faults self.old self.new }
     {
-        match self.prepare_made(connection, asked) {
-            Ok(preparation) => preparation,
-            Err(at) => self.prepare_read(connection, at, asked),
+        match self.prepare_made(connection, at) {
+            Some(preparation) => preparation,
+            None => self.prepare_read(connection, at),
         }
     }
 
-    /// What comes before the answer to a request that begins as an edit: it may have to wait for a tile.
+    /// What comes before the answer to an edit: it may have to wait for a tile.
     fn prepare_edit(&mut self, connection: u64) -> Preparation
         ensures same { self.new.replies ≡ self.old.replies }
         ensures whole { beginning_of self.new ≡ beginning_of self.old }
@@ -388,18 +390,18 @@ impl<D: Sectors + Drop> PreparingReplies<D> {
     }
 
     /// Makes the next part of what a request needs that asks for no publication.
-    fn prepare_other(&mut self, connection: u64, asked: &[u8]) -> Preparation
-        ensures { Prepares D.sectors D.honest D.history D.faults self.old self.new }
+    fn prepare_other(&mut self, connection: u64, target: Target, method: &[u8]) -> Preparation
+        ensures { PreparesTile D.sectors D.honest D.history D.faults self.old self.new }
     {
         self.is_next = false;
         if !self.replies.calls.service.is_large() {
             self.tiles.forget();
             return Preparation::Ready;
         }
-        if is_for_tile(asked) {
-            return self.prepare_asked(connection, asked);
+        if let Some(at) = asked_tile(target, method) {
+            return self.prepare_asked(connection, at);
         }
-        if is_for_edit(asked) {
+        if is_for_edit(target, method) {
             return self.prepare_edit(connection);
         }
         Preparation::Ready
@@ -543,7 +545,7 @@ impl<D: Sectors + Drop> Handler for PreparingReplies<D> {
 
     fn answer(&mut self, request: &Request<'_>) -> Reply {
         let target = self.replies.target(request);
-        if is_to_publish(target) {
+        if is_to_publish(target, request) {
             self.answer_publishing(target, request)
         } else {
             self.replies.answer_at(target, request)
@@ -572,12 +574,15 @@ impl<D: Sectors + Drop> Downloads for PreparingReplies<D> {
 }
 
 impl<D: Sectors + Drop> Prepares for PreparingReplies<D> {
-    ghost prepares = { Prepares D.sectors D.honest D.history D.faults };
+    ghost use Rattle.map_replies.specs.Preparing.{PreparesFor};
 
-    fn prepare(&mut self, connection: u64, asked: &[u8]) -> Preparation {
-        if asked.starts_with(PUBLISHING) {
-            return self.prepare_call(connection, asked);
+    ghost prepares = { PreparesFor D.sectors D.honest D.history D.faults };
+
+    fn prepare(&mut self, connection: u64, request: &Request<'_>) -> Preparation {
+        let target = self.replies.target(request);
+        if is_to_publish(target, request) {
+            return self.prepare_call(connection, target, request.method);
         }
-        self.prepare_other(connection, asked)
+        self.prepare_other(connection, target, request.method)
     }
 }

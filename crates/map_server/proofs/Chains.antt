@@ -13,9 +13,9 @@ use Rattle.map_replies.proofs.Goes.{passes_goes}
 use Rattle.map_replies.proofs.Meanwhiles.{GoesMeanwhile, goes_from, replied, read_told, prepared_told}
 use Rattle.map_replies.proofs.Passing.{Passes, passes_none, takes_between}
 use Rattle.map_replies.specs.Moments.{TakesBetweenReads}
-use Rattle.map_replies.specs.Preparing.{PreparingReplied, PreparingReads, Prepares, Meanwhile, meanwhile}
+use Rattle.map_replies.specs.Preparing.{PreparingReplied, PreparingReads, PreparesFor, Meanwhile, meanwhile}
 use Rattle.map_replies.specs.Preparing.{inner_service, inner_ticket, without_draft}
-use Rattle.map_replies.specs.Preparing.{TellsMeanwhile, TellsMeanwhileRead, TellsPrepared}
+use Rattle.map_replies.specs.Preparing.{TellsMeanwhile, TellsMeanwhileRead, TellsPreparedFor}
 use Rattle.map_replies.specs.declared.preparing.PreparingReplies.{PreparingReplies}
 use Rattle.sector_disk.specs.Disk.{History}
 use Rattle.tile_service.proofs.Runs.Callers.{takes_run}
@@ -26,11 +26,11 @@ module _ {D : Type 0} (sectors : D → ℕ) (honest : D → Type 0) (history : D
   -- the events that a service answers, and those that report what happens to it
   abbrev pub ServiceServes : PreparingReplies D → List Event → PreparingReplies D → Type 0
   ServiceServes = Serves (PreparingReplied sectors honest history faults)
-      (PreparingReads sectors honest history faults) (Prepares sectors honest history faults)
+      (PreparingReads sectors honest history faults) (PreparesFor sectors honest history faults)
 
   abbrev pub TellsAll : Meanwhile D → List Event → Meanwhile D → Type 0
   TellsAll = Serves (TellsMeanwhile sectors honest history faults)
-      (TellsMeanwhileRead sectors honest history faults) (TellsPrepared sectors honest history faults)
+      (TellsMeanwhileRead sectors honest history faults) (TellsPreparedFor sectors honest history faults)
 
   -- since a first state
   module _ (first : PreparingReplies D) where
@@ -62,13 +62,15 @@ module _ {D : Type 0} (sectors : D → ℕ) (honest : D → Type 0) (history : D
     -- one event more
     event_along : (event : Event) (old new : PreparingReplies D) (before : Meanwhile D) → Along old before
         → Happens (PreparingReplied sectors honest history faults)
-        (PreparingReads sectors honest history faults) (Prepares sectors honest history faults) old event new
+        (PreparingReads sectors honest history faults) (PreparesFor sectors honest history faults) old event new
         → (after : Meanwhile D) × Happens (TellsMeanwhile sectors honest history faults)
-        (TellsMeanwhileRead sectors honest history faults) (TellsPrepared sectors honest history faults) before event after × Along new after
+        (TellsMeanwhileRead sectors honest history faults) (TellsPreparedFor sectors honest history faults) before event after × Along new after
     event_along (at_stretch s) old new before so is = came_along s.result s old new before so is
     event_along (at_part ticket offset count outcome) old new before so is =
         read_told sectors honest history faults first old before ticket offset count outcome new so is
-    event_along at_preparation old new before so is = prepared_told sectors honest history faults first old before new so is
+    event_along (at_preparation connection asked) old new before so is =
+        let told = prepared_told sectors honest history faults first old before connection _ new so is.2 in
+        (told.0, (is.0, is.1, told.1), told.2)
 
     all_along : (served : List Event) (old new : PreparingReplies D) (before : Meanwhile D) → Along old before
         → ServiceServes old served new → (after : Meanwhile D) × TellsAll before served after × Along new after
@@ -100,7 +102,7 @@ module _ {D : Type 0} (sectors : D → ℕ) (honest : D → Type 0) (history : D
   -- what was done for connections of a service
   abbrev pub ServiceRuns : PreparingReplies D → List Deed → PreparingReplies D → Type 0
   ServiceRuns = Runs (PreparingReplied sectors honest history faults)
-      (PreparingReads sectors honest history faults) inner_ticket (Prepares sectors honest history faults)
+      (PreparingReads sectors honest history faults) inner_ticket (PreparesFor sectors honest history faults)
 
   -- It reports one run of the service.
   pub deeds_run : (old : PreparingReplies D) (deeds : List Deed) (new : PreparingReplies D) → ServiceRuns (without_draft old) deeds new
@@ -110,6 +112,6 @@ module _ {D : Type 0} (sectors : D → ℕ) (honest : D → Type 0) (history : D
       × TakesBetweenReads sectors honest history (inner_service old) run (inner_service new)
   deeds_run old deeds new is =
       let all = deeds_serve (PreparingReplied sectors honest history faults)
-      (PreparingReads sectors honest history faults) inner_ticket (Prepares sectors honest history faults) deeds (without_draft old) new is in
+      (PreparingReads sectors honest history faults) inner_ticket (PreparesFor sectors honest history faults) deeds (without_draft old) new is in
       let told = stretches_run old all.0 new all.1 in
       (all.0, all.2, told.0, told.1, told.2, told.3, told.4)

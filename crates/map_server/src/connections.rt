@@ -6,7 +6,7 @@ ghost use Rattle.http_listen.specs.Deeds.{AreEventsOf};
 ghost use Rattle.http_listen.specs.Goes.{AreOver};
 ghost use Rattle.http_listen.specs.Orders.{AreInOrder};
 ghost use Rattle.map_replies.specs.Moments.{TakesBetweenReads};
-ghost use Rattle.map_replies.specs.Preparing.{TellsMeanwhile, TellsMeanwhileRead, TellsPrepared};
+ghost use Rattle.map_replies.specs.Preparing.{TellsMeanwhile, TellsMeanwhileRead, TellsPreparedFor};
 ghost use Rattle.map_replies.specs.Preparing.{inner_service, meanwhile, without_draft};
 ghost use Rattle.tile_service.specs.Machine.{Happening};
 ghost use Rattle.tile_service.specs.Runs.{TakesRun};
@@ -44,13 +44,13 @@ where
     // The bytes of each stretch are known.
     ensures all { OnOk result ((served : List Event) × (begun served ≡ connections) × AreOverKnown served × (run : List Happening)
         × (fixed : Option ℕ) × Serves (TellsMeanwhile D.sectors D.honest D.history D.faults)
-        (TellsMeanwhileRead D.sectors D.honest D.history D.faults) (TellsPrepared D.sectors D.honest D.history D.faults)
+        (TellsMeanwhileRead D.sectors D.honest D.history D.faults) (TellsPreparedFor D.sectors D.honest D.history D.faults)
         (meanwhile (without_draft service.old) [] None) served (meanwhile service.new run fixed)
         × TakesRun D.sectors D.honest D.history (inner_service service.old) run (inner_service service.new)
         × TakesBetweenReads D.sectors D.honest D.history (inner_service service.old) run (inner_service service.new)) }
     ensures fewer { OnErr result ((served : List Event) × (begun served < connections) × AreOverKnown served × (run : List Happening)
         × (fixed : Option ℕ) × Serves (TellsMeanwhile D.sectors D.honest D.history D.faults)
-        (TellsMeanwhileRead D.sectors D.honest D.history D.faults) (TellsPrepared D.sectors D.honest D.history D.faults)
+        (TellsMeanwhileRead D.sectors D.honest D.history D.faults) (TellsPreparedFor D.sectors D.honest D.history D.faults)
         (meanwhile (without_draft service.old) [] None) served (meanwhile service.new run fixed)
         × TakesRun D.sectors D.honest D.history (inner_service service.old) run (inner_service service.new)
         × TakesBetweenReads D.sectors D.honest D.history (inner_service service.old) run (inner_service service.new)) }
@@ -60,7 +60,7 @@ where
     // service.
     ensures named { (deeds : List Deed) × (served : List Event) × AreEventsOf deeds served × (run : List Happening) × (fixed : Option ℕ)
         × Serves (TellsMeanwhile D.sectors D.honest D.history D.faults)
-        (TellsMeanwhileRead D.sectors D.honest D.history D.faults) (TellsPrepared D.sectors D.honest D.history D.faults)
+        (TellsMeanwhileRead D.sectors D.honest D.history D.faults) (TellsPreparedFor D.sectors D.honest D.history D.faults)
         (meanwhile (without_draft service.old) [] None) served (meanwhile service.new run fixed)
         × TakesRun D.sectors D.honest D.history (inner_service service.old) run (inner_service service.new)
         × TakesBetweenReads D.sectors D.honest D.history (inner_service service.old) run (inner_service service.new)

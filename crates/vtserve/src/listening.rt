@@ -1,7 +1,7 @@
 //! The connections of a port.
 ghost use Rattle.std.specs.Prelude.{◌≡◌, ◌≤◌, ℕ, List, [], Option, None, IfSome, OnOk};
 ghost use Rattle.http_listen.specs.Connections.{AreOverKnown, Event, Serves, begun};
-ghost use Rattle.map_replies.specs.Preparing.{TellsMeanwhile, TellsMeanwhileRead, TellsPrepared};
+ghost use Rattle.map_replies.specs.Preparing.{TellsMeanwhile, TellsMeanwhileRead, TellsPreparedFor};
 ghost use Rattle.map_replies.specs.Preparing.{inner_service, meanwhile, without_draft};
 ghost use Rattle.tile_service.specs.Machine.{Happening};
 ghost use Rattle.tile_service.specs.Runs.{TakesRun};
@@ -85,7 +85,7 @@ fn serve_log<D: Sectors + Drop, W: Write>(
 ) -> Result<(), CommandFault>
     ensures all { OnOk result ((served : List Event) × (begun served ≡ asked.connections) × AreOverKnown served × (run : List Happening)
         × (fixed : Option ℕ) × Serves (TellsMeanwhile D.sectors D.honest D.history D.faults)
-        (TellsMeanwhileRead D.sectors D.honest D.history D.faults) (TellsPrepared D.sectors D.honest D.history D.faults)
+        (TellsMeanwhileRead D.sectors D.honest D.history D.faults) (TellsPreparedFor D.sectors D.honest D.history D.faults)
         (meanwhile (without_draft service.old) [] None) served (meanwhile service.new run fixed)
         × TakesRun D.sectors D.honest D.history (inner_service service.old) run (inner_service service.new)) }
 {
@@ -128,7 +128,7 @@ pub(crate) fn serve_connections<D: Sectors + Drop>(
 ) -> Result<(), CommandFault>
     ensures all { OnOk result ((served : List Event) × (begun served ≡ asked.connections) × AreOverKnown served × (run : List Happening)
         × (fixed : Option ℕ) × Serves (TellsMeanwhile D.sectors D.honest D.history D.faults)
-        (TellsMeanwhileRead D.sectors D.honest D.history D.faults) (TellsPrepared D.sectors D.honest D.history D.faults)
+        (TellsMeanwhileRead D.sectors D.honest D.history D.faults) (TellsPreparedFor D.sectors D.honest D.history D.faults)
         (meanwhile (without_draft service.old) [] None) served (meanwhile service.new run fixed)
         × TakesRun D.sectors D.honest D.history (inner_service service.old) run (inner_service service.new)) }
 {

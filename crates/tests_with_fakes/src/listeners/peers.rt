@@ -175,14 +175,14 @@ impl Downloads for Counter<'_> {
 }
 
 impl Prepares for Counter<'_> {
-    ghost prepares = { λ _ _. Unit {0} };
+    ghost prepares = { λ _ _ _ _. Unit {0} };
 
-    fn prepare(&mut self, _connection: u64, asked: &[u8]) -> Preparation {
-        if asked.starts_with(b"PUT".as_slice()) && !self.has_waited {
+    fn prepare(&mut self, _connection: u64, request: &Request<'_>) -> Preparation {
+        if request.method == b"PUT".as_slice() && !self.has_waited {
             self.has_waited = true;
             return Preparation::Waits;
         }
-        if self.answers > 1 || !asked.starts_with(b"POST".as_slice()) {
+        if self.answers > 1 || request.method != b"POST".as_slice() {
             return Preparation::Ready;
         }
         self.answers = 1;
