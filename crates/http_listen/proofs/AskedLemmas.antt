@@ -11,9 +11,9 @@ use Rattle.http_requests.specs.Frame.{IsNext}
 use Rattle.http_requests.specs.Requests.{IsRequest, IsRefused}
 use Rattle.http_requests.proofs.HeadLemmas.{empty_missing, missing_now, refused_none}
 use Rattle.http_requests.proofs.ReadingLemmas.{request_alone}
-use Rattle.http_serve.specs.Connections.{IsFound, found_end}
-use Rattle.http_serve.specs.declared.inputs.Asked.{Asked}
-use Rattle.http_serve.specs.declared.inputs.TheConstants.{NOTHING_ASKED}
+use Rattle.http_requests.specs.Inputs.{IsFound, found_end}
+use Rattle.http_requests.specs.declared.inputs.Asked.{Asked}
+use Rattle.http_requests.specs.declared.inputs.TheConstants.{NOTHING_ASKED}
 use Rattle.http_listen.specs.Asked.{HasNoRequest, IsOneOrNone}
 
 none_refused : (input : List ℕ) (head : Option RequestHead) (refusal : Refusal) → IsRefused input head refusal → HasNoRequest (take (length input) input)

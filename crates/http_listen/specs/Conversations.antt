@@ -14,7 +14,8 @@ use Rattle.http_listen.specs.declared.peers.Peer.{Peer}
 use Rattle.http_listen.specs.declared.rests.Unsent.{Unsent}
 use Rattle.http_listen.specs.declared.turns.Next.{Next}
 use Rattle.http_listen.specs.declared.turns.Next.TheVariants.{Asks, Reads, Rests, Closes}
-use Rattle.http_serve.specs.Connections.{IsAsked, PreparesNext}
+use Rattle.http_requests.specs.Inputs.{IsAsked}
+use Rattle.http_serve.specs.Connections.{PreparesNext}
 use Rattle.http_listen.specs.Asked.{IsOneOrNone}
 use Rattle.http_listen.specs.Connections.{CameTo}
 use Rattle.http_listen.specs.NoMemory.{no_memory}

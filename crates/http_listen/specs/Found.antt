@@ -2,7 +2,7 @@
 use Rattle.std.specs.Prelude.{◌≡◌, List, [], None, Some, ⊤}
 use Rattle.httparse.specs.declared.spans.HeaderSpan.{HeaderSpan}
 use Rattle.http_listen.specs.declared.pool.Found.{Found}
-use Rattle.http_serve.specs.Connections.{IsAsked}
+use Rattle.http_requests.specs.Inputs.{IsAsked}
 use Rattle.http_listen.specs.declared.pool.Found.TheVariants.{New, Asks, Reads, Nothing, Over}
 
 -- Nothing waits to be sent of a connection whose bytes are to be answered, and no content is left of its last reply; they are a whole request,

@@ -2,8 +2,9 @@
 ghost use Rattle.std.specs.Prelude.{◌≡◌, ◌<◌, ◌≤◌, ◌∷◌, [], ℕ, Result, List, None, Some, take, drop, OnOk, OnErr};
 ghost use Rattle.http_listen.specs.Rests.{rest_after};
 ghost use Rattle.http_requests.specs.Frame.{IsNext};
+ghost use Rattle.http_requests.specs.Inputs.{IsAsked, IsFound};
 ghost use Rattle.http_requests.specs.declared.frames.Next.TheVariants.{Whole};
-ghost use Rattle.http_serve.specs.Connections.{IsAsked, IsFound, PreparesNext};
+ghost use Rattle.http_serve.specs.Connections.{PreparesNext};
 ghost use Rattle.http_listen.specs.Conversations.{Act, Deed, Answers, Does, IsEndedBy, Runs, Stands, Steps, deeds_of};
 ghost use Rattle.http_listen.specs.Orders.{AreInOrder};
 ghost use Rattle.http_listen.specs.Goes.{Acts, AreOver};

@@ -5,6 +5,7 @@ mod conditions;
 mod fields;
 mod frames;
 mod headers;
+mod inputs;
 mod lines;
 mod positions;
 mod refusals;
@@ -14,5 +15,6 @@ pub use frames::{
     FieldSpans, Frame, MAX_REQUEST, Missing, NO_BYTES, NO_FIELDS, Next, is_head, path_of,
 };
 pub use headers::Fields;
+pub use inputs::{Asked, Input, NOTHING_ASKED, ReadFault};
 pub use refusals::{NO_HEAD, Refusal, Rejection};
 pub use searches::{START, Search, find_next};

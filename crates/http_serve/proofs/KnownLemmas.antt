@@ -26,11 +26,6 @@ pub Consumes_none : (u : Option (List ℕ)) → Consumes u u []
 Consumes_none None = tt
 Consumes_none (Some xs) = refl
 
-pub Consumes-kept : (u v : Option (List ℕ)) → Keeps u v → Consumes u v []
-Consumes-kept None v x = tt
-Consumes-kept (Some xs) None x = absurd x
-Consumes-kept (Some xs) (Some ys) x = sym x
-
 pub Appends-kept : (u v w : Option (List ℕ)) (a : List ℕ) → Appends u v a → Keeps v w → Appends u w a
 Appends-kept None v w a x y = tt
 Appends-kept (Some xs) None w a x y = absurd x

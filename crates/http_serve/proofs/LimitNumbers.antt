@@ -1,8 +1,7 @@
 -- The limits of a connection, as numbers.
 use Rattle.std.proofs.Common.{◌≡◌, refl}
-use Rattle.http_serve.specs.declared.connection.TheConstants.{MAX_READS}
+use Rattle.http_serve.specs.declared.connection.TheConstants.{MAX_READS, READ_SPACE}
 use Rattle.http_serve.specs.declared.handlers.TheConstants.{PART_SIZE}
-use Rattle.http_serve.specs.declared.inputs.TheConstants.{READ_SPACE}
 use Rattle.http_serve.specs.declared.replies.TheConstants.{MAX_REPLY_HEAD, MAX_WORD, REPLY_SPACE}
 use Rattle.http_serve.specs.declared.tags.TheConstants.{MAX_TAG}
 

@@ -10,7 +10,7 @@ buffer_size = 2 * MAX_REQUEST
 pub record BuffersView : Type 0 where
   pub allocated : Bool
 
--- the bytes that wait in one, and how many it has memory for
+-- the bytes that wait in one to be sent, and how many it has memory for
 pub record BufferView : Type 0 where
   pub waiting : List ℕ
   pub capacity : ℕ

@@ -1,10 +1,6 @@
 -- A connection as its bytes: those that were read and not answered, and those that wait to be sent.
-use Rattle.std.specs.Prelude.{◌≡◌, ◌<◌, ℕ, Bool, false, List, [], ◌++◌, ◌||◌, length, take, IsTrue, Option, None, Some, IfSome, Result, Ok, Err, cond, ⊤}
+use Rattle.std.specs.Prelude.{◌≡◌, ◌<◌, ℕ, Bool, false, List, [], ◌++◌, ◌||◌, length, take, Option, None, Some, IfSome, cond}
 use Rattle.httparse.specs.declared.spans.HeaderSpan.{HeaderSpan}
-use Rattle.http_requests.specs.declared.frames.Next.{Next}
-use Rattle.http_requests.specs.declared.frames.Next.TheVariants.{Whole, Refused, More}
-use Rattle.http_requests.specs.declared.frames.Missing.{Missing}
-use Rattle.http_requests.specs.Frame.{IsNext, IsMissing}
 use Rattle.http_requests.specs.declared.frames.Frame.{Frame}
 use Rattle.http_requests.specs.Requests.{Request, IsRequest, RequestView, request_view, request_view_at, is_head}
 use Rattle.httparse.specs.Spans.{span_bytes}
@@ -13,41 +9,12 @@ use Rattle.http_serve.specs.declared.answers.Rest.{Rest}
 use Rattle.http_serve.specs.declared.connection.Answer.{Answer}
 use Rattle.http_serve.specs.declared.connection.End.TheVariants as ends
 use Rattle.http_serve.specs.declared.connection.Served.{Served}
-use Rattle.http_serve.specs.declared.inputs.Asked.{Asked}
 
 -- both, and whether its buffers are reserved and kept
 pub record ConnectionView : Type 0 where
   pub input : List ℕ
   pub output : List ℕ
   pub reserved : Bool
-
--- ---- what is answered
-
--- where what was found ends: a request, or else the input
-abbrev pub found_end : (input : List ℕ) → Next → ℕ
-found_end input (Whole frame) = frame.body.end
-found_end input (Refused rejection) = length input
-found_end input (More missing) = length input
-
--- the input begins with this, and there it ends; the header fields of a request are at these spans
-abbrev pub IsFound : (input : List ℕ) → (fields : List HeaderSpan) → Asked → Type 0
-IsFound input fields asked = IsNext input fields asked.found × (asked.end ≡ found_end input asked.found)
-
--- it may be answered: it is a request, or bytes that begin with none, whatever follows, or nothing follows
-abbrev pub MayAnswer : (ended : Bool) → Next → Type 0
-MayAnswer ended (Whole frame) = ⊤
-MayAnswer ended (Refused rejection) = ⊤
-MayAnswer ended (More missing) = IsTrue ended
-
--- so it is of what is answered
-abbrev pub IsAsked : (input : List ℕ) → (ended : Bool) → (fields : List HeaderSpan) → Asked → Type 0
-IsAsked input ended fields asked = IsFound input fields asked × MayAnswer ended asked.found
-
--- the input begins with no whole request, but may with more bytes behind it
-abbrev pub NeedsMore : (input : List ℕ) → Type 0
-NeedsMore input = (missing : Missing) × IsMissing input missing.rejection missing.until
-
--- ---- what is sent
 
 -- a piece is the first bytes that wait to be sent: some, if any do
 pub record IsNextPiece (piece output : List ℕ) : Type 0 where

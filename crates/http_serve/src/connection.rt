@@ -1,29 +1,35 @@
 //! A connection as steps over bytes: it makes no call of the system.
-ghost use Rattle.std.specs.Prelude.{◌≡◌, ◌≤◌, ◌<◌, ◌+◌, ◌++◌, [], ℕ, Option, true, false, None, Some, Ok, Err, length, take, drop, IfOk, IfErr};
+ghost use Rattle.std.specs.Io.KnownBytes.{Consumes, IsAtEnd};
+ghost use Rattle.std.specs.Prelude.{◌≡◌, ◌≤◌, ◌<◌, ◌+◌, ◌++◌, [], ℕ, List, Option, true, false, None, Some, Ok, Err, length, take, drop, IfOk, IfErr};
 ghost use Rattle.std.specs.Prelude.{IfSome, IsOk, IsTrue, OnOk, OnErr};
 ghost use Rattle.httparse.specs.Grammar.{RequestHead};
 ghost use Rattle.http_requests.specs.Frame.{IsNext};
+ghost use Rattle.http_requests.specs.Inputs.{IsAsked, IsFound, NeedsMore, found_end};
 ghost use Rattle.http_serve.specs.Buffers.{buffer_size};
 ghost use Rattle.http_requests.specs.Requests.{has_head_method};
 ghost use Rattle.http_requests.specs.declared.frames.Next.TheVariants.{Whole};
-ghost use Rattle.http_serve.specs.Connections.{IsAsked, IsFound, IsNextPiece, NeedsMore, PreparesNext, Replied, answered, found_end};
+ghost use Rattle.http_serve.specs.Connections.{IsNextPiece, PreparesNext, Replied, answered};
 ghost use Rattle.http_serve.specs.Found.{ServesFound};
 ghost use Rattle.http_serve.specs.Reply.{refusal_bytes};
 ghost use Rattle.http_serve.specs.Steps.{IsFinished};
 
 use crate::answers::{Rest, prepare_at, refuse_in, reply_in};
-use crate::inputs::{Asked, Input, READ_SPACE};
 use crate::outputs::{Output, Spare};
 use crate::replies::REPLY_SPACE;
 use crate::{Downloads, Handler, Preparation, Prepares, RestFault, Ticket};
-use http_requests::{FieldSpans, Frame, Next, Rejection};
+use http_requests::{Asked, FieldSpans, Frame, Input, MAX_REQUEST, Next, ReadFault, Rejection};
 use std::alloc::{AllocError, Global};
 use std::fmt;
+use std::io::Read;
 use std::marker::Model;
 use thiserror::Error;
 
 /// The maximum number of reads per connection.
 pub const MAX_READS: u64 = 4_294_967_296;
+
+/// The size of the buffer of a connection that is served alone, in bytes. If it is used up and less than one request waits, more bytes were
+/// answered than wait, so moving the waiting bytes to its front costs less than reading the others did.
+pub const READ_SPACE: usize = 2 * MAX_REQUEST;
 
 /// How a connection ended.
 #[derive(Clone, Copy, Debug, PartialEq, Eq)]
@@ -189,6 +195,29 @@ impl Connection {
         ensures succeeds { IsTrue self.old.reserved → length self.old.input + length more.now ≤ buffer_size → IsOk result }
     {
         self.input.add(more)
+    }
+
+    /// Makes one read into a piece, and adds its bytes to the input. Returns how many were read: 0 only at the end of what the reader has.
+    ///
+    /// # Errors
+    ///
+    /// The read failed. The input is the same then.
+    pub(crate) fn read_from<R: Read>(
+        &mut self,
+        reader: &mut R,
+        piece: &mut [u8],
+    ) -> Result<usize, ReadFault>
+        requires some { 0 < length piece.old }
+        requires reserved { IsTrue self.old.reserved }
+        requires fits { length self.old.input + length piece.old ≤ buffer_size }
+        ensures ok { IfOk result (λ n. (more : List ℕ) × Consumes (R.remaining reader.old) (R.remaining reader.new) more
+            × (self.new.input ≡ self.old.input ++ more) × (n ≡ length more) × (n ≡ 0 → IsAtEnd (R.remaining reader.new))) }
+        ensures few { IfOk result (λ n. n ≤ length piece.old) }
+        ensures err { OnErr result (Consumes (R.remaining reader.old) (R.remaining reader.new) [] × (self.new.input ≡ self.old.input)) }
+        ensures same { self.new ≡ record self.old { input = self.new.input } }
+        ensures length { length piece.new ≡ length piece.old }
+    {
+        self.input.read_from(reader, piece)
     }
 
     /// What is to be answered now, if `ended` says whether more bytes come: a request, whose header fields are at the first `fields`, bytes that

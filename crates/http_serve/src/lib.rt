@@ -5,7 +5,6 @@ mod answers;
 mod connection;
 mod contents;
 mod handlers;
-mod inputs;
 mod outputs;
 mod refusals;
 mod replies;
@@ -15,13 +14,12 @@ mod tags;
 mod writes;
 
 pub use answers::Rest;
-pub use connection::{Answer, Connection, End, MAX_READS, ServeFault, Served};
+pub use connection::{Answer, Connection, End, MAX_READS, READ_SPACE, ServeFault, Served};
 pub use handlers::{
     ContentFault, Downloads, Handler, PART_SIZE, Preparation, Prepares, Request, RestFault, Ticket,
 };
-pub use http_requests::Fields;
+pub use http_requests::{Asked, Fields, NOTHING_ASKED};
 pub use http_values::Status;
-pub use inputs::{Asked, NOTHING_ASKED, READ_SPACE};
 pub use outputs::Spare;
 pub use replies::{Content, ContentRange, EntityTag, MAX_WORD, Reply, Tag, WeakTag};
 pub use serving::serve_with;

@@ -4,15 +4,11 @@ ghost use Rattle.std.specs.Io.KnownBytes.{Consumes, IsAtEnd};
 ghost use Rattle.http_serve.specs.Buffers.{buffer_size};
 ghost use Rattle.http_requests.specs.declared.frames.TheConstants.{MAX_REQUEST};
 
-use crate::Connection;
-use crate::inputs::READ_SPACE;
+use crate::connection::{Connection, READ_SPACE};
+use http_requests::ReadFault;
 use std::alloc::{AllocError, Global};
 use std::io::Read;
 use std::marker::Model;
-
-/// A read failed.
-#[derive(Clone, Copy)]
-pub(crate) struct ReadFault;
 
 /// A connection whose memory is reserved, and the buffer for a read or a part of a content.
 #[derive(Drop)]
@@ -21,33 +17,6 @@ pub(crate) struct Session {
     pub(crate) piece: Vec<u8>,
     ghost reserved: { IsTrue connection.reserved },
     ghost space: { vec_len piece ≡ buffer_size },
-}
-
-/// Makes one read into a piece, and adds its bytes to the input of a connection.
-fn read_piece<R: Read>(
-    reader: &mut R,
-    piece: &mut [u8],
-    connection: &mut Connection,
-) -> Result<usize, ReadFault>
-    requires some { 0 < length piece.old }
-    requires reserved { IsTrue connection.old.reserved }
-    requires fits { length connection.old.input + length piece.old ≤ buffer_size }
-    ensures ok { IfOk result (λ n. (more : List ℕ) × Consumes (R.remaining reader.old) (R.remaining reader.new) more
-        × (connection.new.input ≡ connection.old.input ++ more) × (n ≡ length more) × (n ≡ 0 → IsAtEnd (R.remaining reader.new))) }
-    ensures few { IfOk result (λ n. n ≤ length piece.old) }
-    ensures err { OnErr result (Consumes (R.remaining reader.old) (R.remaining reader.new) []
-        × (connection.new.input ≡ connection.old.input)) }
-    ensures output { connection.new.output ≡ connection.old.output }
-    ensures reserved { connection.new.reserved ≡ connection.old.reserved }
-    ensures length { length piece.new ≡ length piece.old }
-{
-    match reader.read(piece) {
-        Ok(count) => {
-            connection.receive(&piece[..count]).unwrap();
-            Ok(count)
-        }
-        Err(_) => Err(ReadFault),
-    }
 }
 
 /// Makes one read and adds its bytes to the input of a connection, of which as many bytes wait then at most as the buffer has.
@@ -69,7 +38,7 @@ fn read_more<R: Read>(
     ensures len { vec_len buffer.new ≡ vec_len buffer.old }
 {
     let space = READ_SPACE - connection.input_len();
-    read_piece(reader, &mut buffer[..space], connection)
+    connection.read_from(reader, &mut buffer[..space])
 }
 
 impl Session {

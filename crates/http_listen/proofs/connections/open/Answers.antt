@@ -2,7 +2,7 @@ use Rattle.std.proofs.Common.{[], ◌∷◌, refl, ap, take}
 use Rattle.std.specs.Prelude.{is_some, ⊤}
 use Rattle.http_listen.specs.declared.peers.State.{State}
 use Rattle.http_listen.specs.Conversations.{answered}
-use Rattle.http_serve.specs.declared.inputs.TheConstants.{NOTHING_ASKED}
+use Rattle.http_requests.specs.declared.inputs.TheConstants.{NOTHING_ASKED}
 use Rattle.http_listen.proofs.AskedLemmas.{asked_one, nothing_asked}
 use Rattle.http_listen.proofs.PoolLemmas.{acts_then}
 use Rattle.http_listen.proofs.StepLemmas.{steps_answered}

@@ -1,5 +1,6 @@
 use Rattle.std.proofs.Common.{[], List, ℕ, Some, ap, sym, subst, take}
-use Rattle.http_serve.specs.Connections.{ConnectionView, found_end}
+use Rattle.http_requests.specs.Inputs.{found_end}
+use Rattle.http_serve.specs.Connections.{ConnectionView}
 use Rattle.http_serve.specs.Found.{ServesFound}
 use Rattle.http_serve.proofs.connection.Connection.answer.Goals as goal
 

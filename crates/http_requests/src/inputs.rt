@@ -1,15 +1,18 @@
 //! The bytes of a connection that were read and not answered.
-ghost use Rattle.std.specs.Prelude.{◌≡◌, ◌≤◌, ◌+◌, ◌++◌, [], None, length, take, drop, vec_len, vec_capacity, IfOk, IfSome, IsOk, OnErr};
+ghost use Rattle.std.specs.Prelude.{◌≡◌, ◌≤◌, ◌<◌, ◌+◌, ◌++◌, ℕ, List, [], None, length, take, drop, vec_len, vec_capacity, IfOk, IfSome, IsOk, OnErr};
+ghost use Rattle.std.specs.Io.KnownBytes.{Consumes, IsAtEnd};
 ghost use Rattle.http_requests.specs.Frame.{IsNext};
-ghost use Rattle.http_serve.specs.Connections.{IsAsked, NeedsMore};
+ghost use Rattle.http_requests.specs.Inputs.{IsAsked, NeedsMore};
 
-use http_requests::{FieldSpans, MAX_REQUEST, NO_BYTES, Next, START, Search, find_next};
+use crate::frames::{FieldSpans, NO_BYTES, Next};
+use crate::searches::{START, Search, find_next};
 use std::alloc::{AllocError, Global};
+use std::io::Read;
 use std::marker::Model;
 
-/// The size of the buffer of a connection that is served alone, in bytes. If it is used up and less than one request waits, more bytes were
-/// answered than wait, so moving the waiting bytes to its front costs less than reading the others did.
-pub const READ_SPACE: usize = 2 * MAX_REQUEST;
+/// A read failed.
+#[derive(Clone, Copy)]
+pub struct ReadFault;
 
 /// What is to be answered of an input: what it begins with, and where that ends. If it is no request, that is where the input does.
 #[derive(Clone, Copy)]
@@ -26,7 +29,7 @@ pub const NOTHING_ASKED: Asked = Asked {
 
 /// Bytes that wait to be answered, and what is known of them.
 #[derive(Drop)]
-pub(crate) struct Input {
+pub struct Input {
     alloc: Global,
     bytes: Vec<u8>,
     /// How many of them were answered.
@@ -37,9 +40,9 @@ pub(crate) struct Input {
 impl Model for Input {
     ghost use Rattle.std.specs.Prelude.{◌≤◌, drop, vec_len, vec_capacity};
     ghost use Rattle.http_requests.specs.Search.{IsKnown};
-    ghost use Rattle.http_serve.specs.Buffers.{BufferView};
+    ghost use Rattle.http_requests.specs.Inputs.{InputView};
 
-    ghost Value = { BufferView };
+    ghost Value = { InputView };
 
     ghost view = { λ i. record { waiting = drop i.start i.bytes.items; capacity = vec_capacity i.bytes } };
 
@@ -62,7 +65,7 @@ fn drop_first(bytes: &mut Vec<u8>, count: usize)
 
 impl Input {
     /// No bytes, and no memory.
-    pub(crate) fn new(alloc: Global) -> Self
+    pub fn new(alloc: Global) -> Self
         ensures { result.waiting ≡ [] }
     {
         Input {
@@ -74,7 +77,11 @@ impl Input {
     }
 
     /// No bytes, and memory for this many.
-    pub(crate) fn with_capacity(alloc: Global, capacity: usize) -> Result<Self, AllocError>
+    ///
+    /// # Errors
+    ///
+    /// There is no memory for them.
+    pub fn with_capacity(alloc: Global, capacity: usize) -> Result<Self, AllocError>
         ensures waiting { IfOk result (λ input. input.waiting ≡ []) }
         ensures capacity { IfOk result (λ input. capacity ≤ input.capacity) }
     {
@@ -88,29 +95,33 @@ impl Input {
     }
 
     /// How many bytes wait.
-    pub(crate) fn len(&self) -> usize
+    pub fn len(&self) -> usize
         ensures { result ≡ length self.now.waiting }
     {
         self.bytes.len() - self.start
     }
 
     /// All bytes.
-    pub(crate) fn bytes(&self) -> &[u8]
+    pub fn bytes(&self) -> &[u8]
         ensures { result.now ≡ self.now.waiting }
     {
         &self.bytes[self.start..]
     }
 
     /// The first `count` bytes, or all if there are fewer.
-    pub(crate) fn front(&self, count: usize) -> &[u8]
+    pub fn front(&self, count: usize) -> &[u8]
         ensures { result.now ≡ take count self.now.waiting }
     {
         let bytes = self.bytes();
         &bytes[..count.min(bytes.len())]
     }
 
-    /// Adds the bytes of a read. If memory runs out, none are added.
-    pub(crate) fn add(&mut self, more: &[u8]) -> Result<(), AllocError>
+    /// Adds the bytes of a read.
+    ///
+    /// # Errors
+    ///
+    /// Memory for them ran out, and none are added.
+    pub fn add(&mut self, more: &[u8]) -> Result<(), AllocError>
         ensures ok { IfOk result (λ _. self.new.waiting ≡ self.old.waiting ++ more.now) }
         ensures err { OnErr result (self.new.waiting ≡ self.old.waiting) }
         ensures capacity { self.old.capacity ≤ self.new.capacity }
@@ -121,8 +132,38 @@ impl Input {
         self.bytes.extend_from_slice(more)
     }
 
+    /// Makes one read into a piece, and adds its bytes, for which there is memory. Returns how many were read: 0 only at the end of what the reader
+    /// has.
+    ///
+    /// # Errors
+    ///
+    /// The read failed. The waiting bytes are the same then.
+    pub fn read_from<R: Read>(
+        &mut self,
+        reader: &mut R,
+        piece: &mut [u8],
+    ) -> Result<usize, ReadFault>
+        requires some { 0 < length piece.old }
+        requires fits { length self.old.waiting + length piece.old ≤ self.old.capacity }
+        ensures ok { IfOk result (λ n. (more : List ℕ) × Consumes (R.remaining reader.old) (R.remaining reader.new) more
+            × (self.new.waiting ≡ self.old.waiting ++ more) × (n ≡ length more) × (n ≡ 0 → IsAtEnd (R.remaining reader.new))) }
+        ensures few { IfOk result (λ n. n ≤ length piece.old) }
+        ensures err { OnErr result (Consumes (R.remaining reader.old) (R.remaining reader.new) []
+            × (self.new.waiting ≡ self.old.waiting)) }
+        ensures capacity { self.old.capacity ≤ self.new.capacity }
+        ensures length { length piece.new ≡ length piece.old }
+    {
+        match reader.read(piece) {
+            Ok(count) => {
+                self.add(&piece[..count]).unwrap();
+                Ok(count)
+            }
+            Err(_) => Err(ReadFault),
+        }
+    }
+
     /// What the bytes begin with. If it is a request, its header fields are at the first `fields`.
-    pub(crate) fn next(&mut self, fields: &mut FieldSpans) -> Next
+    pub fn next(&mut self, fields: &mut FieldSpans) -> Next
         ensures next { IsNext self.old.waiting fields.new result }
         ensures same { self.new ≡ self.old }
     {
@@ -131,7 +172,7 @@ impl Input {
 
     /// What is to be answered now, if `ended` says whether more bytes come: a request, whose header fields are at the first `fields`, bytes that
     /// are none, whatever follows, or all bytes, if nothing follows.
-    pub(crate) fn find(&mut self, ended: bool, fields: &mut FieldSpans) -> Option<Asked>
+    pub fn find(&mut self, ended: bool, fields: &mut FieldSpans) -> Option<Asked>
         ensures asked { IfSome result (IsAsked self.old.waiting ended fields.new) }
         ensures more { result ≡ None → NeedsMore self.old.waiting }
         ensures same { self.new ≡ self.old }
@@ -146,7 +187,7 @@ impl Input {
     }
 
     /// Drops the first `count` bytes, or all if there are fewer. Their memory is kept.
-    pub(crate) fn drop_front(&mut self, count: usize)
+    pub fn drop_front(&mut self, count: usize)
         ensures waiting { self.new.waiting ≡ drop count self.old.waiting }
         ensures capacity { self.new.capacity ≡ self.old.capacity }
     {
@@ -160,7 +201,7 @@ impl Input {
     }
 
     /// Drops all bytes, and their memory.
-    pub(crate) fn free(&mut self)
+    pub fn free(&mut self)
         ensures { self.new.waiting ≡ [] }
     {
         self.bytes = Vec::new(self.alloc);
