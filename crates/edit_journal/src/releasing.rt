@@ -23,6 +23,16 @@ impl Journal {
         }
     }
 
+    /// Begins a publication of the edits so far: where the next record begins, and how many places are in use. No place is freed before `release`:
+    /// until the publication is live, an opening reads the records from all of them.
+    pub fn begin(&mut self) -> (JournalPosition, u64)
+        ensures same { self.new ≡ self.old }
+        ensures start { (result.0.place ≡ (self.old.place + self.old.used) % self.old.places) × (result.0.edits ≡ self.old.last) }
+        ensures places { result.1 ≡ self.old.used }
+    {
+        (self.next(), self.used)
+    }
+
     /// Frees the places of the first records in use: of all that come before a start that `next` gave since the first of them was
     /// written. Nothing is written: the disk has the records until they are overwritten.
     pub fn release(&mut self, start: JournalPosition)
