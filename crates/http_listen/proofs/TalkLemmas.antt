@@ -62,3 +62,11 @@ pub moves_piece : (a b : Option Told) (piece behind w : List ℕ) (n : ℕ) → 
 moves_piece a b piece behind w n is few grows =
     let same : take n piece ≡ take n w = sym (take-append-le n piece behind few) ∙ sym (ap (take n) is) in
     moves_sent a b w n (subst (λ (l : List ℕ). Grows a [] l b) same grows)
+
+-- The same of a write of the first bytes of a piece's front.
+pub moves_front : (a b : Option Told) (piece behind w : List ℕ) (size n : ℕ) → w ≡ piece ++ behind → n ≤ length (take size piece)
+    → Grows a [] (take n (take size piece)) b → Moves a w [] [] b (drop n w)
+moves_front a b piece behind w size n is few grows =
+    let whole : piece ++ behind ≡ take size piece ++ (drop size piece ++ behind) =
+    ap (λ l. l ++ behind) (sym (take-append-drop size piece)) ∙ append_assoc (take size piece) (drop size piece) behind in
+    moves_piece a b (take size piece) (drop size piece ++ behind) w n (is ∙ whole) few grows

@@ -30,7 +30,7 @@ pub data Event : Type 0 where
   at_stretch : Stretch → Event
   -- a read of the rest of a content that a stretch left: its ticket, an offset, how many bytes from there on, and these, or why they couldn't be read
   at_part : Ticket → (offset count : ℕ) → Result (List ℕ) RestFault → Event
-  -- a step of the making of the reply to these bytes of a connection
+  -- a step of the preparation of the reply to these bytes of a connection
   at_preparation : (connection : ℕ) → (asked : List ℕ) → Event
 
 -- it is the first stretch of a connection
@@ -89,7 +89,7 @@ AreSteps {S} prepares (suc more) old new = (middle : S) × prepares old middle �
 
 -- the same, and replies
 module _ {S : Type 0} (replies : S → RequestView → ReplyView → S → Type 0) (prepares : S → (connection : ℕ) → RequestView → S → Type 0) where
-  -- steps of the making of the reply to some bytes of a connection lead from a state to the next, and then perhaps a stretch, which answers
+  -- steps of the preparation of the reply to some bytes of a connection lead from a state to the next, and then perhaps a stretch, which answers
   abbrev pub NextAnswer : S → S → Type 0
   NextAnswer old new = (connection : ℕ) × (asked : List ℕ) × (steps : ℕ) × (middle : S)
       × AreSteps (PreparesNext prepares connection asked) steps old middle × ((new ≡ middle) ⊎ NextStretch replies middle new)

@@ -28,7 +28,7 @@ pub data Act : Type 0 where
   answered : (asked replies : List ℕ) → Result Answer AllocError → Ticket → Act
   -- this many bytes of a content that a reply left were read by its ticket, from an offset on, or couldn't be
   fetched : Ticket → (offset count : ℕ) → Result (List ℕ) RestFault → Act
-  -- a step was made of the making of the reply to these bytes, which are to be answered next
+  -- a step of the preparation of the reply to these bytes was made, which are to be answered next
   prepared : (asked : List ℕ) → Act
 
 -- the bytes that were read of a content, none if they couldn't be

@@ -4,8 +4,8 @@ use Rattle.http_listen.specs.Asked.{IsOneOrNone}
 use Rattle.http_listen.specs.Connections.{Event, at_stretch, at_part, at_preparation}
 use Rattle.http_listen.specs.Conversations.{Act, answered, fetched, prepared, Deed}
 
--- It is the event of an act of the connection of this number: a stretch over the bytes that were answered, which are one request, or begin with none, and after it a writer that held
--- nothing holds the replies; or that read or step.
+-- It is the event of an act of the connection of this number: a stretch over the bytes that were answered, which are one request, or begin with
+-- none, and after it a writer that held nothing holds the replies; or that read or step.
 abbrev pub IsEventOf : (number : ℕ) → Act → Event → Type 0
 IsEventOf number (answered bytes out result ticket) (at_stretch s) =
     (s.result ≡ result) × (s.left ≡ Some bytes) × (s.held ≡ Some []) × (s.holds ≡ Some out) × IsOneOrNone bytes

@@ -1,5 +1,5 @@
 //! Connections between two of their turns.
-ghost use Rattle.std.specs.Prelude.{◌≡◌, ◌∷◌, true, false, [], None, IsSome, MatchResult, take, OnOk};
+ghost use Rattle.std.specs.Prelude.{◌≡◌, ◌≤◌, ◌<◌, ◌+◌, ◌∷◌, true, false, [], None, IsSome, IfOk, MatchResult, length, take, OnOk};
 ghost use Rattle.std.specs.Io.{WritesAtMost};
 ghost use Rattle.std.specs.Io.KnownBytes.{Appends};
 ghost use Rattle.http_listen.specs.Conversations.{Beside, Ends, IsEnded, IsRead, IsSearched, Stands, Steps};
@@ -32,6 +32,9 @@ const MAX_DROPPED: usize = 16_777_216;
 
 /// The maximum size of one read in bytes.
 pub(crate) const PIECE: usize = 8_192;
+
+/// The maximum size in bytes of what is written to one peer in a turn. The system may take megabytes at once, for whose copies all others would wait.
+const MAX_WRITE: usize = 131_072;
 
 /// How many seconds a connection has waited at least before it is closed for another one.
 const LEAST_WAIT_SECONDS: u64 = 1;
@@ -225,6 +228,17 @@ impl<S> Peer<S> {
     {
         self.state.searches = true;
         self.state.since = now;
+    }
+
+    /// Bytes were written that its peer takes in one turn. If more wait, it waits for its peer like those whose streams are full: its stream is watched
+    /// anew, and so it is reported again if it takes more already.
+    fn end_share(&mut self)
+        ensures { Stands self.old self.new }
+    {
+        if self.connection.has_output() && self.state.ready.writes {
+            self.state.ready.writes = false;
+            self.state.watched = None;
+        }
     }
 
     /// The first bytes of its input were answered in a stretch that came to this.
@@ -437,27 +451,39 @@ impl<S: Talks> Peer<S> {
     }
 }
 
+/// How many bytes may still be given to a peer in its turn, after a write of `size` bytes, of which it took `count`: if it took fewer, none.
+fn left_to_give(most: usize, size: usize, count: usize) -> usize
+    requires { count ≤ most }
+    ensures most { count + result ≤ most }
+    ensures short { count < size → result ≡ 0 }
+{
+    if count < size { 0 } else { most - count }
+}
+
 impl<S: Talks> Peer<S> {
-    /// Makes one write of the next bytes that wait, and another one if a signal interrupts it. Whether the peer took all of them.
-    fn send_piece(&mut self, now: Duration) -> Result<bool, EndFault>
+    /// Makes one write of the next bytes that wait, at most this many, and another one if a signal interrupts it. Returns how many may follow them in
+    /// this turn: none if the peer didn't take all that were given to it.
+    fn send_piece(&mut self, now: Duration, most: usize) -> Result<usize, EndFault>
         ensures moves { Moves (S.told self.old.stream) self.old.connection.output [] [] (S.told self.new.stream) self.new.connection.output }
         ensures beside { Beside self.old self.new }
         ensures unsent { self.new.state.unsent ≡ self.old.state.unsent }
+        ensures most { length self.old.connection.output ≤ length self.new.connection.output + most }
+        ensures left { IfOk result (λ left. length self.old.connection.output + left ≤ length self.new.connection.output + most) }
     {
         let piece = self.connection.piece();
-        let size = piece.len();
-        match send_again(&mut self.stream, piece) {
+        let size = piece.len().min(most);
+        match send_again(&mut self.stream, &piece[..size]) {
             Ok(0) => Err(EndFault::Write { requests: 0 }),
             Ok(count) => {
                 self.connection.took(count);
                 self.pace = self.pace_at(now).sent(count);
                 self.state.since = now;
                 self.state.ready.writes = count >= size;
-                Ok(count >= size)
+                Ok(left_to_give(most, size, count))
             }
             Err(e) if is_passing(&e) => {
                 self.state.ready.writes = e.kind() != ErrorKind::WouldBlock;
-                Ok(false)
+                Ok(0)
             }
             Err(_) => Err(EndFault::Write { requests: 0 }),
         }
@@ -468,10 +494,14 @@ impl<S: Talks> Peer<S> {
         ensures moves { Moves (S.told self.old.stream) self.old.connection.output [] [] (S.told self.new.stream) self.new.connection.output }
         ensures beside { Beside self.old self.new }
         ensures unsent { self.new.state.unsent ≡ self.old.state.unsent }
+        // No peer takes more in a turn, however much waits for it.
+        ensures most { length self.old.connection.output ≤ length self.new.connection.output + MAX_WRITE }
     {
-        if self.send_piece(now)? && self.connection.has_output() {
-            self.send_piece(now)?;
+        let left = self.send_piece(now, MAX_WRITE)?;
+        if left > 0 && self.connection.has_output() {
+            self.send_piece(now, left)?;
         }
+        self.end_share();
         Ok(())
     }
 }

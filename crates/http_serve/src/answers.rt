@@ -66,7 +66,7 @@ fn request_at<'a>(bytes: &'a [u8], fields: &'a FieldSpans, frame: &Frame) -> Req
     }
 }
 
-/// Has a handler make the next step of the making of the reply to the request at `frame` in `bytes`, whose header fields are at these spans.
+/// Has a handler make the next step of the preparation of the reply to the request at `frame` in `bytes`, whose header fields are at these spans.
 pub(crate) fn prepare_at<H: Prepares>(
     handler: &mut H,
     connection: u64,

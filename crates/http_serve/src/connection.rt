@@ -256,8 +256,8 @@ impl Connection {
         self.output.begin_with(spare);
     }
 
-    /// Has a handler make the next step of the making of the reply to the request that was found at the front of the input, whose header fields are at
-    /// these spans. The connection has this number.
+    /// Has a handler make the next step of the preparation of the reply to the request that was found at the front of the input, whose header fields
+    /// are at these spans. The connection has this number.
     pub fn prepare<H: Prepares>(
         &self,
         handler: &mut H,

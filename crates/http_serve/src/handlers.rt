@@ -127,7 +127,7 @@ pub trait Downloads: Handler {
         ensures length { length part.new ≡ length part.old };
 }
 
-/// What a step of the making of a reply came to.
+/// What a step of the preparation of a reply came to.
 #[derive(Clone, Copy, Debug)]
 pub enum Preparation {
     /// The request is to be answered.
@@ -138,13 +138,13 @@ pub enum Preparation {
     Waits,
 }
 
-/// A handler that may make a reply in steps, between which other requests are answered: a long reply is a job of its connection. It begins with the
-/// first step for a request, and ends with the answer to it.
+/// A handler that may prepare a reply in steps, between which other requests are answered. A preparation is that of one request of one connection: it
+/// begins with the first step for it, and ends with the answer to it.
 pub trait Prepares: Downloads {
-    /// In the first state a step was made of the making of the reply to a request of a connection, and the second state follows.
+    /// In the first state a step of the preparation of the reply to a request of a connection was made, and the second state follows.
     ghost prepares: { Self → (connection : ℕ) → RequestView → Self → Type 0 };
 
-    /// Makes the next step of the making of the reply to a request, which is to be answered next on the connection of this number. After `GoesOn` it
+    /// Makes the next step of the preparation of the reply to a request, which is to be answered next on the connection of this number. After `GoesOn` it
     /// may be asked again in the same turn of the connection, after `Waits` only in a later one. Connections that it is asked for have their turns one
     /// after the other; one that ends isn't asked for again.
     fn prepare(&mut self, connection: u64, request: &Request<'_>) -> Preparation
