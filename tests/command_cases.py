@@ -145,13 +145,13 @@ def asked(at, calls, words, requests):
 
 
 class Serving:
-    """A process that serves so many connections of a port."""
+    """A process that serves so many connections of a port, under these words of another command."""
 
-    def __init__(self, disk, connections, *more):
+    def __init__(self, disk, connections, *more, under=()):
         with socket.socket() as free:
             free.bind(("127.0.0.1", 0))
             self.port = free.getsockname()[1]
-        words = [PROGRAM, "serve", disk, "--port", str(self.port), "--connections", str(connections), *more]
+        words = [*under, PROGRAM, "serve", disk, "--port", str(self.port), "--connections", str(connections), *more]
         self.child = subprocess.Popen(words, stdout=subprocess.PIPE, stderr=subprocess.PIPE)
         self.line = self.child.stdout.readline()
 

@@ -12,6 +12,7 @@ import os
 import sys
 import tempfile
 
+from begun_requests import begun_requests
 from command_archives import large_files, lengths, reads_that_fail, shows
 from command_cases import Cases, published
 from command_copies import appears
@@ -51,6 +52,7 @@ def main():
         stopped_upgrades(cases, folder)
         serves(cases, folder)
         slow_peers(cases, folder)
+        begun_requests(cases, folder)
         deaf_peers(cases, folder)
         words(cases, folder, disk)
         told_more(cases, folder, published(folder, "told")[0])

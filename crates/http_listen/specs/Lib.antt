@@ -14,3 +14,4 @@ pub mod Places
 pub mod Rests
 pub mod Stays
 pub mod Talks
+pub mod Ways

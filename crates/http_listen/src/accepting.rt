@@ -1,9 +1,11 @@
 //! New connections, and what makes room for them.
-ghost use Rattle.std.specs.Prelude.{◌≡◌, None};
+ghost use Rattle.std.specs.Prelude.{◌≡◌, IsTrue, IfSome, IsSome, None};
 ghost use Rattle.http_listen.specs.Found.{IsReady};
 ghost use Rattle.http_listen.specs.Goes.{Goes, hand_of};
 ghost use Rattle.http_listen.specs.Places.{peer_at};
+ghost use Rattle.http_listen.specs.Ways.{MayGiveWay};
 
+use crate::deadlines::LOOK_NANOSECONDS;
 use crate::logs::Logs;
 use crate::peers::GivenUp;
 use crate::places::List;
@@ -26,20 +28,78 @@ fn next_stream<L: Waits>(came: &mut Option<L::Stream>, listener: &L) -> io::Resu
     }
 }
 
-impl<S: Talks + OpenStream + Drop> Pool<S> {
-    /// The connection that is closed for one that comes: one that has ended, or else the one that has waited longest for a request, if it
-    /// has waited for a second and has sent nothing.
-    fn giving_way(&self, now: Duration) -> Option<usize> {
-        if let Some(key) = self.places.ends(List::Ended).first {
-            return Some(key);
+/// Which connection is closed for one that comes, if one may be, and how many were looked at before that may not.
+#[derive(Clone, Copy)]
+struct GivingWay {
+    key: Option<usize>,
+    passed: usize,
+}
+
+impl GivingWay {
+    /// How long it is until the next look: a look at many connections that may not be closed isn't repeated at once.
+    fn pause(self) -> Duration {
+        let passed = self.passed as u64;
+        let pause = Duration::from_nanos(passed.saturating_mul(LOOK_NANOSECONDS));
+        match self.key {
+            Some(_) => pause,
+            None => pause.max(Duration::from_millis(QUEUE_MILLISECONDS)),
         }
-        let key = self.places.ends(List::Idle).first?;
+    }
+}
+
+impl<S> Pool<S> {
+    /// Whether the connection at a key may be closed for one that comes.
+    fn gives_way(&self, key: usize, now: Duration) -> bool
+        ensures { IsTrue result → IfSome (peer_at self.now.places key) MayGiveWay }
+    {
         match self.places.get(key) {
-            Some(peer) if peer.may_give_way(now) => Some(key),
-            _ => None,
+            Some(peer) => peer.may_give_way(now),
+            None => false,
         }
     }
 
+    /// The first connection of a list that may be closed for one that comes, among this many from its beginning.
+    fn first_giving_way(&self, list: List, most: usize, now: Duration) -> GivingWay
+        ensures { IfSome result.key (λ key. IfSome (peer_at self.now.places key) MayGiveWay) }
+    {
+        let mut next = self.places.ends(list).first;
+        'looks: for passed in 0..most {
+            let Some(key) = next else {
+                return GivingWay { key: None, passed };
+            };
+            if self.gives_way(key, now) {
+                return GivingWay {
+                    key: Some(key),
+                    passed,
+                };
+            }
+            next = self.places.after(key);
+        }
+        GivingWay {
+            key: None,
+            passed: most,
+        }
+    }
+
+    /// The connection that is closed for one that comes: one that has ended, or else the one that has waited longest for the first bytes of a request, if
+    /// that is a second, or else the one that has waited longest for its peer of those that have begun a request ten seconds ago.
+    fn giving_way(&self, now: Duration) -> GivingWay
+        ensures { IfSome result.key (λ key. IfSome (peer_at self.now.places key) MayGiveWay) }
+    {
+        let ended = self.first_giving_way(List::Ended, 1, now);
+        if ended.key.is_some() {
+            return ended;
+        }
+        let idle = self.first_giving_way(List::Idle, 1, now);
+        if idle.key.is_some() {
+            return idle;
+        }
+        let most = self.places.ends(List::Busy).count;
+        self.first_giving_way(List::Busy, most, now)
+    }
+}
+
+impl<S: Talks + OpenStream + Drop> Pool<S> {
     /// Closes a connection for one that has come, if one may be closed. Otherwise the new one waits until `crowded`.
     fn give_way<L: Waits<Stream = S>, W: Logs<S>>(
         &mut self,
@@ -54,9 +114,10 @@ impl<S: Talks + OpenStream + Drop> Pool<S> {
         if listener.wait(Duration::ZERO, &mut self.places).is_err() {
             return;
         }
-        if let Some(key) = self.giving_way(now) {
+        let giving = self.giving_way(now);
+        self.crowded = now.saturating_add(giving.pause());
+        if let Some(key) = giving.key {
             self.end_at(now, key, GivenUp::Late, log);
-            self.crowded = now;
         }
     }
 

@@ -144,7 +144,7 @@ where
     Acted { now, ending: None }
 }
 
-/// Makes steps of the making of the reply to the request at `frame` in the input of the connection of a number, one at least, until they have taken as
+/// Makes steps of the preparation of the reply to the request at `frame` in the input of the connection of a number, one at least, until they have taken as
 /// long since `start` as a turn may or one has to wait for other connections. It is true while steps may be left.
 fn prepare_for<H: Prepares, C: Clock>(
     clock: &C,
@@ -313,7 +313,7 @@ where
 /// counts the connections from 1 as they are accepted, R the requests whose replies were sent whole, and END is `closed`, `asked`,
 /// `refused` or `turns`, or at a fault `memory`, `read`, `write`, `device` or `gone`.
 ///
-/// No peer is waited for. A turn of a connection is one read or one write, which returns at once. As soon as a whole request was read, or
+/// No peer is waited for. A turn of a connection is one read, or a write of at most 128 KiB, which returns at once. As soon as a whole request was read, or
 /// bytes that are none, they are answered in a stretch of the connection, as `http_serve::Connection::answer` does. The replies are kept
 /// in memory and sent as the peer takes them. The rest of a content is read part by part, 64 KiB each, once the peer has taken what comes
 /// before; other requests are answered between two parts. While replies wait, or the rest of one, no further request of the connection is
@@ -336,8 +336,10 @@ where
 ///
 /// At most `Waits::max_open` connections are open, and never more than `MAX_OPEN`. At that limit, or when one can't be accepted for
 /// want of descriptors or memory, room is made for it: a connection that has ended is closed, or else the one that waits longest for a
-/// request is ended and logged as `closed`, if it has waited for a second and has sent nothing. If there is none, the new one waits, and is
-/// served once it can be. At the limit none is ended before another one was accepted.
+/// request is ended and logged as `closed`, if it has waited for a second and has sent nothing. If there is none, one that has begun a request
+/// ten seconds ago, which isn't whole, is closed and logged as `read`: of these the one that has waited longest for its peer. No connection is
+/// ended so while something waits to be sent to its peer, or while its request is being answered or prepared. If there is none, the new one
+/// waits, and is served once it can be. At the limit none is ended before another one was accepted.
 ///
 /// A connection makes at most `Waits::max_reads` reads that return bytes. If it has, and bytes come, it ends with `turns`.
 ///

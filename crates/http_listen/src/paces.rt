@@ -1,5 +1,5 @@
 //! How much time a peer has.
-ghost use Rattle.std.specs.Prelude.{◌≡◌, ◌≢◌, ◌↔◌, if◌then◌else◌, IsTrue};
+ghost use Rattle.std.specs.Prelude.{◌≡◌, ◌≢◌, ◌≤◌, ◌+◌, ◌*◌, ◌↔◌, if◌then◌else◌, IsTrue};
 ghost use Rattle.http_listen.specs.Paces.{begun, less_time, earned};
 ghost use Rattle.http_listen.specs.declared.paces.Stage.TheVariants.{Idle, Request, Reply};
 
@@ -105,6 +105,16 @@ impl Pace {
             left: left.min(u128::from(WAIT_SECONDS * SECOND)) as u64,
             spare: (unpaid % u128::from(BYTES_A_SECOND)) as u64,
             ..self
+        }
+    }
+
+    /// Whether a request was begun this many nanoseconds ago or earlier, and isn't whole.
+    pub(crate) fn has_begun(self, nanoseconds: u64) -> bool
+        ensures { IsTrue result → (self.stage ≡ Request) × (self.left + nanoseconds ≤ WAIT_SECONDS * SECOND) }
+    {
+        match self.stage {
+            Stage::Request => self.left.saturating_add(nanoseconds) <= WAIT_SECONDS * SECOND,
+            Stage::Idle | Stage::Reply => false,
         }
     }
 

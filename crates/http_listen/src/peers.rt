@@ -1,5 +1,5 @@
 //! Connections between two of their turns.
-ghost use Rattle.std.specs.Prelude.{◌≡◌, ◌≤◌, ◌<◌, ◌+◌, ◌∷◌, true, false, [], None, IsSome, IfOk, MatchResult, length, take, OnOk};
+ghost use Rattle.std.specs.Prelude.{◌≡◌, ◌≤◌, ◌<◌, ◌+◌, ◌∷◌, true, false, [], None, IsSome, IsTrue, IfOk, MatchResult, length, take, OnOk};
 ghost use Rattle.std.specs.Io.{WritesAtMost};
 ghost use Rattle.std.specs.Io.KnownBytes.{Appends};
 ghost use Rattle.http_listen.specs.Conversations.{Beside, Ends, IsEnded, IsRead, IsSearched, Stands, Steps};
@@ -7,6 +7,7 @@ ghost use Rattle.http_listen.specs.Goes.{Closes};
 ghost use Rattle.http_listen.specs.Lines.{line_of};
 ghost use Rattle.http_listen.specs.Marks.{Adds, at_closing};
 ghost use Rattle.http_listen.specs.Talks.{Grows, Moves};
+ghost use Rattle.http_listen.specs.Ways.{MayGiveWay};
 
 use crate::ends::EndFault;
 use crate::logs::Logs;
@@ -36,8 +37,11 @@ pub(crate) const PIECE: usize = 8_192;
 /// The maximum size in bytes of what is written to one peer in a turn. The system may take megabytes at once, for whose copies all others would wait.
 const MAX_WRITE: usize = 131_072;
 
-/// How many seconds a connection has waited at least before it is closed for another one.
+/// How many seconds a connection has waited at least before it is closed for another one, if it waits for the first bytes of a request.
 const LEAST_WAIT_SECONDS: u64 = 1;
+
+/// How many seconds a peer has at least for a request that it has begun, before its connection is closed for another one.
+const LEAST_REQUEST_SECONDS: u64 = 10;
 
 /// What a connection came to on which nothing was answered.
 const NOTHING: Result<Served, EndFault> = Ok(Served {
@@ -185,10 +189,25 @@ impl<S> Peer<S> {
         nanoseconds_of(self.state.since).saturating_add(left)
     }
 
-    /// Whether it has waited long enough to be closed for another connection.
-    pub(crate) fn may_give_way(&self, now: Duration) -> bool {
+    /// Whether it has waited long enough for a request, or for the rest of one, to be closed for another connection.
+    fn has_waited(&self, now: Duration) -> bool {
+        if self.connection.input_len() > 0 {
+            return self
+                .pace_at(now)
+                .has_begun(LEAST_REQUEST_SECONDS * 1_000_000_000);
+        }
         let passed = now.saturating_sub(self.state.since);
         passed >= Duration::from_secs(LEAST_WAIT_SECONDS)
+    }
+
+    /// Whether it may be closed for another connection: it has ended, or it has waited long enough for a request, or for the rest of one.
+    pub(crate) fn may_give_way(&self, now: Duration) -> bool
+        ensures { IsTrue result → MayGiveWay self.now }
+    {
+        if self.state.drops.is_some() {
+            return true;
+        }
+        !self.sends() && !self.state.searches && self.has_waited(now)
     }
 
     /// What it comes to if its peer is waited for no longer.

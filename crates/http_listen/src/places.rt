@@ -1,5 +1,5 @@
 //! The places of open connections: which may have their turn, and which may be closed for others.
-ghost use Rattle.std.specs.Prelude.{◌≡◌, ◌≢◌, ◌≤◌, ℕ, None, IsSome, IfOk, IfErr, OnErr};
+ghost use Rattle.std.specs.Prelude.{◌≡◌, ◌≢◌, ◌≤◌, ℕ, None, Some, IsSome, IfOk, IfErr, OnErr, MatchOption};
 ghost use Rattle.http_listen.specs.Conversations.{Puts};
 ghost use Rattle.http_listen.specs.Stays.{AllStand};
 ghost use Rattle.http_listen.specs.Places.{peer_at, taken_out, next_key, KeepsAll, Reports};
@@ -92,7 +92,9 @@ impl<S> Places<S> {
     }
 
     /// The connection at a key.
-    pub(crate) fn get(&self, key: usize) -> Option<&Peer<S>> {
+    pub(crate) fn get(&self, key: usize) -> Option<&Peer<S>>
+        ensures { MatchOption result (peer_at self.now key ≡ None) (λ peer. peer_at self.now key ≡ Some peer.now) }
+    {
         match self.places.get(key) {
             Some(place) => Some(&*place.peer),
             None => None,
@@ -107,6 +109,14 @@ impl<S> Places<S> {
             List::Idle => self.idle,
             List::Busy => self.busy,
             List::Ended => self.ended,
+        }
+    }
+
+    /// The connection that comes after the one at a key in its list.
+    pub(crate) fn after(&self, key: usize) -> Option<usize> {
+        match self.places.get(key) {
+            Some(place) => place.after,
+            None => None,
         }
     }
 
