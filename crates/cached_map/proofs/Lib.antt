@@ -1,3 +1,4 @@
 pub mod Edits
 pub mod Kept
+pub mod SeenFeatures
 pub mod Unreached

@@ -2,5 +2,6 @@
 #![tactic(auto)]
 
 mod cached_map;
+mod comparing;
 
 pub use cached_map::CachedMap;
