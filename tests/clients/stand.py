@@ -167,7 +167,7 @@ class Nginx:
         with open(os.path.join(TOP, "docs", "nginx.conf"), encoding="utf-8") as file:
             kept = file.read()
         used = kept.replace("server 127.0.0.1:8080;", f"server 127.0.0.1:{server.port};").replace("listen 8000", f"listen 127.0.0.1:{self.port}")
-        used = used.replace("listen [::]:8000", f"listen [::1]:{self.port}")
+        used = used.replace("listen [::]:8000", f"listen [::1]:{self.port}").replace("127.0.0.1:8001;", f"127.0.0.1:{free_port()};")
         for before, after in changes:
             used = used.replace(before, after)
         file = os.path.join(self.folder, "used.conf")
