@@ -34,6 +34,7 @@ from lost_replies import lost_replies
 from meanwhile import meanwhile
 from ogc import ogc
 from operation import operation
+from outsiders import outsiders
 from page_tools import page_tools
 from pages import page
 from refusals import refused_features, refused_requests
@@ -107,6 +108,7 @@ def main():
         "disk-full": disk_full,
         "kills": kills,
         "nginx": in_front,
+        "outsiders": outsiders,
         "units": units,
     }
     words = sys.argv[2:]

@@ -1,6 +1,7 @@
 """What the parts of tests/clients/run.py share: a server, nginx in front of it, curl, and the cases that were seen."""
 import json
 import os
+import shutil
 import signal
 import socket
 import struct
@@ -157,11 +158,16 @@ def refusal(status, word, closes=False, more=()):
 
 
 class Nginx:
-    """nginx with the kept configuration, but for its ports and further changes, in front of a server."""
+    """nginx with the kept configuration, but for its ports and further changes, in front of a server. `unit`: the umask and the user of the workers,
+    whose group its folder has then, and nobody else may enter it."""
 
-    def __init__(self, program, folder, server, changes=()):
+    def __init__(self, program, folder, server, changes=(), unit=None):
         self.folder = os.path.join(folder, "nginx")
         os.mkdir(self.folder)
+        mask, user = unit or (-1, None)
+        if user:
+            shutil.chown(self.folder, group=user)
+            os.chmod(self.folder, 0o750)
         self.port = free_port()
         self.url = f"http://127.0.0.1:{self.port}"
         with open(os.path.join(TOP, "docs", "nginx.conf"), encoding="utf-8") as file:
@@ -173,8 +179,8 @@ class Nginx:
         file = os.path.join(self.folder, "used.conf")
         with open(file, "w", encoding="utf-8") as made:
             made.write(used)
-        words = [program, "-p", self.folder, "-c", file, "-g", "daemon off;"]
-        self.child = subprocess.Popen(words, stdout=subprocess.DEVNULL, stderr=subprocess.PIPE)
+        words = [program, "-p", self.folder, "-c", file, "-g", "daemon off;" + (f" user {user};" if user else "")]
+        self.child = subprocess.Popen(words, stdout=subprocess.DEVNULL, stderr=subprocess.PIPE, umask=mask)
         for _ in range(100):
             with socket.socket() as probe:
                 if probe.connect_ex(("127.0.0.1", self.port)) == 0:
