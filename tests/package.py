@@ -27,7 +27,9 @@ UNITS = "/usr/lib/systemd/system"
 FEATURE = '{"layer":"p","minzoom":0,"maxzoom":2,"geometry":{"points":[[0,0]]},"tags":{}}'
 LOG = "/var/lib/vtserve-log/edits.jsonl"
 # What this script uses of a Debian, and the package doesn't bring.
-WITH = "curl,nginx-light,systemd,procps"
+WITH = "curl,logrotate,nginx-light,systemd,procps"
+# What other accounts of the machine don't read, once the units have run.
+PRIVATE = ["/var/lib/vtserve/map.disk", "/var/backups/vtserve/*", "/var/lib/vtserve-log/*", "/var/lib/vtserve-wfs/*", "/var/lib/vtserve-nginx/*.log"]
 PAGE = {"": "text/html", "page.js": "text/javascript", "page.css": "text/css", "style.json": "application/json"}
 
 
@@ -73,7 +75,7 @@ def installed(cases, root, package):
     done("apt-get", "update", root=root)
     cases.show("apt install of the package", ran("apt-get", "install", "-y", "/srv/vtserve.deb", root=root)[0], 0)
     owners = done("stat", "-c", "%U:%G %a %n", "/var/lib/vtserve", "/var/backups/vtserve", root=root).splitlines()
-    cases.show("the folders and their owner", owners, ["vtserve:vtserve 755 /var/lib/vtserve", "vtserve:vtserve 750 /var/backups/vtserve"])
+    cases.show("the folders and their owner", owners, ["vtserve:vtserve 750 /var/lib/vtserve", "vtserve:vtserve 750 /var/backups/vtserve"])
     cases.show("the user can't log in", done("getent", "passwd", "vtserve", root=root).split(":")[5:], ["/var/lib/vtserve", "/usr/sbin/nologin\n"])
     cases.show("no unit is enabled", ran("find", "/etc/systemd/system", "-name", "*vtserve*", root=root), (0, ""))
     cases.show("nothing runs as the user", ran("pgrep", "-u", "vtserve", root=root), (1, ""))
@@ -112,12 +114,20 @@ def pages(cases, name):
         cases.show(f"{name}: the page's /pages/{path}", (found[0], found[1].rstrip(";"), int(found[-1]) > 200), ("200", kind, True))
 
 
+def lines_of(unit, folder=UNITS):
+    """What a unit sets."""
+    with open(os.path.join(folder, unit), encoding="utf-8") as file:
+        return dict(line.split("=", 1) for line in file.read().replace("\\\n", " ").splitlines() if "=" in line and line[0] != "#")
+
+
 def command_of(unit):
-    """The words of a unit's ExecStart, with the user that it runs as."""
-    with open(os.path.join(UNITS, unit), encoding="utf-8") as file:
-        lines = dict(line.split("=", 1) for line in file.read().replace("\\\n", " ").splitlines() if "=" in line and line[0] != "#")
+    """The words of a unit's ExecStart, with its umask and the user that it runs as. Makes the folder that systemd makes for it."""
+    lines = lines_of(unit)
     words = shlex.split(lines["ExecStart"].replace("$$", "$").replace("%%", "%"))
-    return ["runuser", "-u", lines["User"], "--", *words] if "User" in lines else words
+    user = lines.get("User", "root")
+    if "StateDirectory" in lines:
+        done("install", "-d", "-o", user, "-g", user, "-m", lines.get("StateDirectoryMode", "755"), "/var/lib/" + lines["StateDirectory"])
+    return ["sh", "-c", 'umask "$1"; shift; exec "$@"', "sh", lines.get("UMask", "022"), *(["runuser", "-u", user, "--"] if user != "root" else []), *words]
 
 
 def units(cases):
@@ -126,17 +136,15 @@ def units(cases):
     server = subprocess.Popen(command_of("vtserve.service"), stdout=subprocess.PIPE, stderr=subprocess.DEVNULL, text=True)
     cases.show("vtserve.service: its command", server.stdout.readline(), "serving on 127.0.0.1:8080\n")
     done("install", "-m", "644", "/usr/share/vtserve/nginx.conf", "/etc/vtserve/nginx.conf")
-    os.mkdir("/var/lib/vtserve-nginx")
+    done("install", "-d", "-g", "www-data", "-m", "750", "/var/lib/vtserve-nginx")
     os.symlink("/usr/share/vtserve/web", "/var/lib/vtserve-nginx/pages")
     cases.show("vtserve-nginx.service: its command", ran(*command_of("vtserve-nginx.service")), (0, ""))
     pages(cases, "vtserve-nginx.service")
-    done("install", "-d", "-o", "vtserve", "/var/lib/vtserve-watch")
     survey = ("vtmap", "import", "/usr/share/doc/vtserve/examples/survey.geojson", "--layer", "survey", "--url", "http://127.0.0.1:8000")
     cases.show("vtmap import, through nginx", ran(*survey)[1].splitlines()[-1], "5 taken, 1 refused")
     for unit, wanted in (("vtserve-publish", "published"), ("vtserve-backup", "5 features saved"), ("vtserve-watch", "5 features")):
         status, text = ran(*command_of(unit + ".service"))
         cases.show(f"{unit}.service: its command", (status, wanted in text or text), (0, True))
-    done("install", "-d", "-o", "vtserve", "/var/lib/vtserve-log")
     with subprocess.Popen(command_of("vtserve-log.service"), stdout=subprocess.DEVNULL, stderr=subprocess.DEVNULL) as log:
         end = time.monotonic() + 20
         while not os.path.exists(LOG) and time.monotonic() < end:
@@ -144,12 +152,46 @@ def units(cases):
             time.sleep(1)
         cases.show("vtserve-log.service: its command logs an edit", os.path.exists(LOG), True)
         log.terminate()
-    done("install", "-d", "-o", "vtserve", "-m", "700", "/var/lib/vtserve-wfs")
     with subprocess.Popen(command_of("vtserve-wfs.service"), stdout=subprocess.DEVNULL, stderr=subprocess.DEVNULL) as gateway:
         asked = ("curl", "-s", "-o", "/dev/null", "-w", "%{http_code}", "--retry", "10", "--retry-all-errors", "-f", "http://127.0.0.1:8000/ogc/")
         cases.show("vtserve-wfs.service: its command, through nginx", ran(*asked), (0, "200"))
         gateway.terminate()
+    private(cases)
     return server
+
+
+def private(cases):
+    """What other accounts read of what the units have written: also once nginx's logs were rotated."""
+    done("logrotate", "--force", "/etc/logrotate.d/vtserve")
+    time.sleep(1)
+    done("curl", "-s", "-f", "-X", "PUT", "--data", FEATURE, "http://127.0.0.1:8000/features/901")
+    time.sleep(1)
+    found = [path for pattern in PRIVATE for path in glob.glob(pattern)]
+    cases.show("each kind of what is private is there", all(glob.glob(pattern) for pattern in PRIVATE), True)
+    cases.show("another account reads none of it", [path for path in found if ran("runuser", "-u", "nobody", "--", "cat", path)[0] == 0], [])
+    words = ("runuser", "-u", "www-data", "--", "cat", "/var/lib/vtserve/map.disk")
+    cases.show("nor do nginx's workers read the map", ran(*words)[0] == 0, False)
+    cases.show("nginx goes on in the new logs", os.path.getsize("/var/lib/vtserve-nginx/edits.log") > 0, True)
+
+
+def restarted(cases, root):
+    """A new version restarts each service of its programs that runs, by a stand-in for systemctl."""
+    real, log = os.path.join(root, "usr", "bin", "systemctl"), os.path.join(root, "srv", "systemctl.log")
+    os.makedirs(os.path.join(root, "run", "systemd", "system"))
+    os.rename(real, real + ".real")
+    with open(real, "w", encoding="utf-8") as file:
+        file.write('#!/bin/sh\necho "$@" >> /srv/systemctl.log\n')
+    os.chmod(real, 0o755)
+    done("apt-get", "install", "-y", "--reinstall", "/srv/vtserve.deb", root=root)
+    os.rename(real + ".real", real)
+    os.rmdir(os.path.join(root, "run", "systemd", "system"))
+    with open(log, encoding="utf-8") as file:
+        asked = [line.split() for line in file]
+    services = [os.path.basename(path) for path in glob.glob(f"{root}{UNITS}/vtserve*.service")]
+    ours = [name for name in services if any(program in lines_of(name, root + UNITS)["ExecStart"] for program in ("/vtserve ", "/vtmap "))]
+    kept = sorted(name for name in ours if lines_of(name, root + UNITS).get("Type") != "oneshot")
+    cases.show("a new version restarts each service that runs", sorted(name for word, *given in asked if word == "try-restart" for name in given), kept)
+    cases.show("and starts none", [words for words in asked if words[0] not in ("daemon-reload", "try-restart")], [])
 
 
 def purged(cases, root):
@@ -160,11 +202,14 @@ def purged(cases, root):
     wanted = os.path.getsize(style)
     done("apt-get", "install", "-y", "--reinstall", "/srv/vtserve.deb", root=root)
     cases.show("another installation keeps the style that was changed", os.path.getsize(style), wanted)
+    restarted(cases, root)
     status, text = ran("apt-get", "purge", "-y", "vtserve", root=root)
     left = "vtserve: left are /var/lib/vtserve /var/backups/vtserve /var/lib/vtserve-log /var/lib/vtserve-wfs, and the user"
     cases.show("a purge says that it leaves maps, backups and the log of edits", (status, left in text or text), (0, True))
-    kept = [os.path.exists(root + path) for path in ("/var/lib/vtserve/map.disk", "/var/lib/vtserve-log/edits.jsonl")]
-    cases.show("and they are there", (kept, ran("getent", "passwd", "vtserve", root=root)[0]), ([True, True], 0))
+    cases.show("and nginx's logs", "vtserve: left is /var/lib/vtserve-nginx, whose logs" in text or text, True)
+    paths = ("/var/lib/vtserve/map.disk", "/var/lib/vtserve-log/edits.jsonl", "/var/lib/vtserve-nginx/edits.log", "/var/lib/vtserve-nginx/cache")
+    kept = [os.path.exists(root + path) for path in paths]
+    cases.show("and they are there", (kept, ran("getent", "passwd", "vtserve", root=root)[0]), ([True, True, True, False], 0))
     done("apt-get", "install", "-y", "/srv/vtserve.deb", root=root)
     folders = "/var/lib/vtserve/* /var/backups/vtserve/* /var/lib/vtserve-*"
     done("sh", "-c", f"rm -rf /srv/* {folders} /etc/vtserve/nginx.conf", root=root)

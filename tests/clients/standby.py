@@ -2,6 +2,7 @@
 lost and the map is published. A standby has each edit under the same number, and its features byte for byte."""
 import atexit
 import http.client
+import itertools
 import json
 import os
 import random
@@ -417,10 +418,106 @@ def long_follow(cases, folder):
     shutil.rmtree(place)
 
 
+def of_bytes(length):
+    """A feature whose JSON, as short as it can be, has so many bytes."""
+    one = {"layer": "p", "minzoom": 0, "maxzoom": 0, "geometry": {"points": [[4000000000 + at, 4000000000] for at in range(2700)]}, "tags": {}}
+    one["tags"] = {f"k{at}": "" for at in range(10, 40)}
+    missing = length - len(short(one))
+    for name in one["tags"]:
+        one["tags"][name] = "x" * min(missing, 1000)
+        missing -= len(one["tags"][name])
+    return one
+
+
+def short(value):
+    """JSON without a byte too many."""
+    return json.dumps(value, separators=(",", ":"), sort_keys=True)
+
+
+def large(cases, folder):
+    """A PUT takes 65,536 bytes of JSON; `{"changes":[{"feature":..,"put":N}]}` around it is 33 bytes and the digits of N longer, which no batch takes."""
+    with Server(folder, "large", 65536) as leader, Server(folder, copied(leader, folder, "large_standby")) as standby:
+        for number, length in [(2, 65502), (2, 65503), (3, 65536), (2 ** 63 - 1, 65536)]:
+            reply = curl(f"{leader.url}/features/{number}", "-X", "PUT", body=short(of_bytes(length)))
+            cases.show(f"standby: a PUT of {length:,} bytes", reply[0], "HTTP/1.1 200 OK")
+        curl(leader.url + "/features/4", "-X", "PUT", body=feature())
+        code, lines = once(leader.url, "--to", standby.url)
+        seen = code, known(standby)["edits"], features(standby) == features(leader)
+        cases.show("standby: each is made at the standby, and what comes after it", seen if seen[0] == 0 else (seen, lines), (0, 5, True))
+        curl(leader.url + "/features/5", "-X", "PUT", body=short(of_bytes(65536)))
+        curl(leader.url + "/features/6", "-X", "DELETE")
+        curl(leader.url + "/features/5", "-X", "DELETE")
+
+        def meddles(method, _):
+            if method == "PUT":
+                curl(standby.url + "/features/99", "-X", "PUT", body=feature())
+
+        with Between(standby, before=meddles) as between:
+            code, lines = once(leader.url, "--to", between.url)
+        cases.show("standby: somebody else's edit just before one is found", (code, "was edited by somebody else" in lines[-1]), (1, True))
+    with Server(folder, "large_lost", 65536) as leader, Server(folder, copied(leader, folder, "large_lost_standby")) as standby:
+        curl(leader.url + "/features/1", "-X", "PUT", body=short(of_bytes(65536)))
+        curl(leader.url + "/features/2", "-X", "PUT", body=feature())
+        lost = []
+
+        def loses(method, _):
+            if method != "PUT" or lost:
+                return False
+            lost.append(method)
+            return True
+
+        with Between(standby, loses=loses) as between:
+            child = follow(leader.url, "--to", between.url, "--every", "0.05")
+            has_all = waited(lambda: known(standby)["edits"] == 2, 30)
+            child.terminate()
+            child.communicate()
+        cases.show("standby: a large one whose reply is lost is made once", (lost, has_all, features(standby) == features(leader)), (["PUT"], True, True))
+
+
+def histories(cases, folder):
+    """A leader that is put back from an older copy, and edited: it is another map, also where no edit is listed by both."""
+    versions = itertools.count(1)
+
+    def put(server, number, **tags):
+        curl(f"{server.url}/features/{number}", "-X", "PUT", body=feature(tags=tags or {"v": next(versions)}))
+
+    with Server(folder, "history", 4096) as leader:
+        put(leader, 1), put(leader, 2)
+        old = copied(leader, folder, "history_old")
+        put(leader, 3)
+        name = copied(leader, folder, "history_standby")
+        put(leader, 2), put(leader, 4)
+        with Server(folder, name) as standby:
+            code, _ = once(leader.url, "--to", standby.url)
+            cases.show("standby: one whose features later edits change", (code, features(standby) == features(leader)), (0, True))
+            subprocess.run([*VTMAP, "publish", "--url", standby.url], check=True, capture_output=True)
+            code, _ = once(leader.url, "--to", standby.url)
+            cases.show("standby: one that lists no edit any more", (code, known(standby)["edits"]), (0, 5))
+            leader.end(signal.SIGKILL)
+            with Server(folder, old) as back:
+                for number in (30, 31, 2, 4):
+                    put(back, number)
+                before = features(standby)
+                code, lines = once(back.url, "--to", standby.url)
+                said = "feature 2 of " + standby.url in lines[-1] and "put back from a copy" in lines[-1]
+                cases.show("standby: a leader that was put back from an older copy", (code, said, features(standby) == before), (1, True, True))
+    with Server(folder, "twice", 4096) as leader:
+        put(leader, 1)
+        old = copied(leader, folder, "twice_old")
+        put(leader, 2), put(leader, 3, same="same")
+        with Server(folder, copied(leader, folder, "twice_standby")) as standby, Server(folder, old) as back:
+            put(back, 4), put(back, 3, same="same")
+            code, lines = once(back.url, "--to", standby.url)
+            said = "feature 2 of " + standby.url in lines[-1]
+            cases.show("standby: one whose last edit is the same after another one", (code, said, known(standby)["edits"]), (1, True, 3))
+
+
 def standby(cases, folder):
     """Standbys and a log."""
     place = os.path.join(folder, "standby_part")
     os.mkdir(place)
     basics(cases, place)
     behind(cases, place)
+    large(cases, place)
+    histories(cases, place)
     shutil.rmtree(place)

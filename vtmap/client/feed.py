@@ -6,6 +6,7 @@
     standby.take(edits)
 """
 from ..faults import Fault, NoAnswer, Stopped
+from ..limits import MOST_BODY
 from .client import FEED, Client, word
 from .edits import encoded
 from .refusals import WORDS, told
@@ -16,6 +17,7 @@ NO_NUMBERS = "the server makes no edits under a number: it is older than they ar
 # What a proxy says of a server that starts just now, and the server of a moment without memory: it is waited for.
 WAITED_FOR = (502, 503, 504)
 ANEW = "begin it anew from a copy of the server's disk (docs/DEPLOYING.md, A second machine)"
+THEN = ANEW[0].upper() + ANEW[1:]
 
 
 class LeftBehind(Fault):
@@ -69,19 +71,44 @@ class Leader(Client):
             return None
         return edits[0] if edits else None
 
+    def changed_since(self, number):
+        """The ids of the features that the edits after a number change. LeftBehind if these were published."""
+        found, last = set(), self.known()["edits"]
+        while number < last:
+            edits, last = self.edits_from(number + 1)
+            found |= {change.get("put", change.get("delete")) for edit in edits for change in edit["changes"]}
+            number += len(edits)
+        return found
+
 
 class Standby(Leader):
-    """A server that makes the edits of another one. `at` is the number of its last edit, None where that has to be asked for."""
+    """A server that makes the edits of another one. `at` is the number of its last edit, None where that has to be asked for; `is_compared`: whether
+    its map was compared with the leader's."""
 
-    at = None
+    at, is_compared = None, False
 
     def begin(self, leader):
-        """Asks for the last edit, and compares it with the same edit of the leader, if both still list it."""
+        """Asks for the last edit, and compares it with the same edit of the leader. Compares the maps the first time, and where one of them doesn't
+        list that edit any more."""
         self.at = self.known()["edits"]
         here = self.edit(self.at) if self.at else None
         there = leader.edit(self.at) if here else None
         if there and encoded(here) != encoded(there):
-            raise Stopped(f"edit {self.at:,} of {self.address} isn't that of {leader.address}: it was edited by somebody else. {ANEW[0].upper()}{ANEW[1:]}")
+            raise Stopped(f"edit {self.at:,} of {self.address} isn't that of {leader.address}: it was edited by somebody else. {THEN}")
+        if self.at and not (there and self.is_compared):
+            self.compare(leader)
+        self.is_compared = True
+
+    def compare(self, leader):
+        """Compares the map with the leader's. Features that edits since then change may differ: those edits are made here next. If the leader has
+        fewer edits, the next request for them says so."""
+        if self.at > leader.known()["edits"]:
+            return
+        other = set(differing(self.features(), leader.features()))
+        other -= leader.changed_since(self.at) if other else set()
+        if other:
+            raise Stopped(f"feature {min(other):,} of {self.address} isn't that of {leader.address}, and no edit after {self.at:,} changes it: one of the "
+                          f"servers was put back from a copy, or edited by somebody else. {THEN}")
 
     def take(self, edits):
         """Makes edits, the first of which is the one after the last. If the number of its next edit is another one, it has to begin again."""
@@ -95,13 +122,30 @@ class Standby(Leader):
             self.at = edit["edit"]
 
     def reply_to(self, edit):
-        """The reply to an edit that gets its own number or isn't made. If the journal is full, it is sent again after a publication."""
-        path, body = f"{NUMBERED}/{edit['edit']}", encoded({"changes": edit["changes"]})
-        status, content = self.ask("POST", path, body)
+        """The reply to an edit that gets its own number or isn't made."""
+        body = encoded({"changes": edit["changes"]})
+        if len(body) > MOST_BODY:
+            return self.put_alone(edit)
+        return self.sent("POST", f"{NUMBERED}/{edit['edit']}", body)
+
+    def put_alone(self, edit):
+        """The reply to an edit whose changes are too long for a body: it has put one feature, whose JSON alone isn't. A PUT gets whichever number is
+        the next one, so that is asked for before, and seen in the reply."""
+        number, (change,) = self.known()["edits"] + 1, edit["changes"]
+        if number != edit["edit"]:
+            return 409, b"Next %d" % number
+        status, content = self.sent("PUT", f"/features/{change['put']}", encoded(change["feature"]))
+        if status == 200 and self.value(content)["edit"] != edit["edit"]:
+            raise Stopped(f"edit {edit['edit']:,} has another number at {self.address}: it was edited by somebody else. {THEN}")
+        return status, content
+
+    def sent(self, method, path, body):
+        """The reply to a request. If the journal is full, it is sent again after a publication."""
+        status, content = self.ask(method, path, body)
         if status == 507 and content.startswith(b"JournalFull") and self.publishes:
             print(f"        the journal of {self.address} is full: a publication", flush=True)
             self.publish()
-            status, content = self.ask("POST", path, body)
+            status, content = self.ask(method, path, body)
         return status, content
 
     def refused(self, edit, status, content):
@@ -113,3 +157,14 @@ class Standby(Leader):
         self.stop_at(status, content)
         reason = f" ({told(WORDS[said])})" if said in WORDS else ""
         raise Stopped(f"edit {edit['edit']:,} isn't made at {self.address}: {status} {said}{reason}")
+
+
+def differing(one, other):
+    """The ids whose features differ between two lists, which are in the order of ids."""
+    one, other = iter(one), iter(other)
+    here, there = next(one, None), next(other, None)
+    while here or there:
+        number = min(row[0] for row in (here, there) if row)
+        if here != there:
+            yield number
+        here, there = (next(rows, None) if row and row[0] == number else row for rows, row in ((one, here), (other, there)))

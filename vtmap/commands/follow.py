@@ -5,7 +5,7 @@ import sys
 import threading
 import time
 
-from ..client.feed import ANEW, Leader, LeftBehind, Standby
+from ..client.feed import THEN, Leader, LeftBehind, Standby
 from ..ending import regular
 from ..faults import Fault, NoAnswer, Stopped
 from ..files.edit_log import EditLog
@@ -22,7 +22,8 @@ A standby begins as a copy of the server's disk, and nobody else edits it:
 
 Each edit of the server becomes an edit of the standby with the same number and the same changes, within --every seconds. The standby itself
 makes an edit only under that number, so none is made twice or left out, whoever is stopped meanwhile: this command, the server or the standby.
-Each begins where the standby is. At the beginning the standby's last edit is compared with the server's, if both still list it.
+Each begins where the standby is. At the beginning the standby's last edit is compared with the server's, if both still list it, and all features
+but those that later edits change: a server that was put back from a copy is another map.
 
 --log FILE appends a line of JSON for each edit, `{"time":..,"edit":7,"changes":[{"put":9,"feature":{..},"was":{..}}]}`, with the time when the
 edit was seen and what each feature was before: `vtmap log` reads it, and `vtmap undo` takes edits back by it. For that the features of the map
@@ -115,7 +116,7 @@ class Follower:
             self.sink.miss(self.leader, behind.published)
             return
         if self.words.anew is None:
-            raise Stopped(f"it has edits up to {behind.number - 1:,}, and {behind}. {ANEW[0].upper()}{ANEW[1:]}, and give --anew next time; `vtmap publish --pause 5` "
+            raise Stopped(f"it has edits up to {behind.number - 1:,}, and {behind}. {THEN}, and give --anew next time; `vtmap publish --pause 5` "
                           "waits for who follows")
         say(f"{self.sink.address} has edits up to {behind.number - 1:,}, and {behind}: --anew begins it anew")
         self.sink.close()
