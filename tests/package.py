@@ -207,7 +207,7 @@ def purged(cases, root):
     left = "vtserve: left are /var/lib/vtserve /var/backups/vtserve /var/lib/vtserve-log /var/lib/vtserve-wfs, and the user"
     cases.show("a purge says that it leaves maps, backups and the log of edits", (status, left in text or text), (0, True))
     cases.show("and nginx's logs", "vtserve: left is /var/lib/vtserve-nginx, whose logs" in text or text, True)
-    paths = ("/var/lib/vtserve/map.disk", "/var/lib/vtserve-log/edits.jsonl", "/var/lib/vtserve-nginx/edits.log", "/var/lib/vtserve-nginx/cache")
+    paths = ("/var/lib/vtserve/map.disk", "/var/lib/vtserve-log/edits.jsonl.1", "/var/lib/vtserve-nginx/edits.log", "/var/lib/vtserve-nginx/cache")
     kept = [os.path.exists(root + path) for path in paths]
     cases.show("and they are there", (kept, ran("getent", "passwd", "vtserve", root=root)[0]), ([True, True, True, False], 0))
     done("apt-get", "install", "-y", "/srv/vtserve.deb", root=root)
