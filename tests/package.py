@@ -168,8 +168,8 @@ def private(cases):
     time.sleep(1)
     found = [path for pattern in PRIVATE for path in glob.glob(pattern)]
     cases.show("each kind of what is private is there", all(glob.glob(pattern) for pattern in PRIVATE), True)
-    cases.show("another account reads none of it", [path for path in found if ran("runuser", "-u", "nobody", "--", "cat", path)[0] == 0], [])
-    words = ("runuser", "-u", "www-data", "--", "cat", "/var/lib/vtserve/map.disk")
+    cases.show("another account reads none of it", [path for path in found if ran("runuser", "-u", "nobody", "--", "test", "-r", path)[0] == 0], [])
+    words = ("runuser", "-u", "www-data", "--", "test", "-r", "/var/lib/vtserve/map.disk")
     cases.show("nor do nginx's workers read the map", ran(*words)[0] == 0, False)
     cases.show("nginx goes on in the new logs", os.path.getsize("/var/lib/vtserve-nginx/edits.log") > 0, True)
 

@@ -1,5 +1,6 @@
 """The part `operation` of run.py: what keeps a map going. Layers are deleted on full disks, dead ends are seen before they come, the disk file
 is read while it is served, cut features are saved as one, and archives get into an object store."""
+import functools
 import hashlib
 import http.client
 import json
@@ -13,8 +14,10 @@ import sys
 import threading
 import time
 
+from between import Between
+from gateways import Gateway
 from import_stand import area_of, has_gdal, imported, lists_of, round_ring, row, world, written
-from stand import HERE, PROGRAM, TOP, VTMAP, Nginx, Server, curl, feature, free_port, status_of
+from stand import HERE, PROGRAM, TOP, VTMAP, Nginx, Server, archive, curl, feature, free_port, status_of
 
 sys.path += [os.path.join(HERE, "..", "..", "model"), TOP]
 import disk as model  # noqa: E402
@@ -167,6 +170,75 @@ def watching(cases, folder):
         cases.show("operation: vtmap watch, no server", watched(server.url)[0], 2)
         with open(metrics, encoding="utf-8") as file:
             cases.show("operation: its metric", "vtserve_up 0\n" in file.read(), True)
+
+
+def many_entries(cases, folder):
+    """What `vtmap watch` says of an archive with nearly as many entries as one may have: of a stand-in, and of a publication that is refused."""
+    watched = functools.partial(tool, "watch", "--wait", "0.2")
+    header = bytearray(archive()[:127])
+    with Server(folder, "entries", 1024) as server:
+        curl(server.url + "/features/1", "-X", "PUT", body=feature())
+        cases.show("operation: vtmap watch, no archive", watched("--url", server.url)[0], 0)
+        curl(server.url + "/publish", "-X", "POST")
+        # 80 % of 131,072 are 104,857.6; docs/FORMATS.md and PMTiles 3 have the count of entries at byte 80.
+        for entries, more, code in [(104857, [], 0), (104858, [], 1), (131072, [], 1), (65536, ["--at", "50"], 1), (65535, ["--at", "50"], 0)]:
+            header[80:88] = entries.to_bytes(8, "little")
+            part = 206, bytes(header)
+            with Between(server, instead=lambda _, path, part=part: part if path == "/map.pmtiles" else None) as between:
+                found, lines = watched("--url", between.url, "--metrics", os.path.join(folder, "entries.prom"), *more)
+            said = f"the archive has {entries:,} entries, and may have 131,072" in lines[0]
+            cases.show(f"operation: vtmap watch, {entries:,} entries {' '.join(more)}", (found, said), (code, code == 1))
+            with open(os.path.join(folder, "entries.prom"), encoding="utf-8") as file:
+                cases.show("operation: and the metric", f"vtserve_archive_entries {entries}\n" in file.read(), True)
+        with Between(server, instead=lambda _, path: (403, b"no") if path == "/map.pmtiles" else None) as between:
+            cases.show("operation: vtmap watch, an archive that isn't for it", watched("--url", between.url)[0], 0)
+
+
+def too_many_tiles(cases, folder):
+    """The same of real archives: points on all zooms, so far from each other that from zoom 7 on each is alone in one tile,
+    a third of it from its edges."""
+    record = os.path.join(folder, "tiles.record")
+
+    def put(server, numbers):
+        places = {number: [at * 2 ** 25 + 2 ** 25 // 3 for at in (number % 128, number // 128)] for number in numbers}
+        for at in range(0, len(numbers), 64):
+            changes = [{"put": number, "feature": json.loads(feature("p", 0, 19, {"points": [places[number]]}))} for number in numbers[at:at + 64]]
+            curl(server.url + "/edits", "-X", "POST", body=json.dumps({"changes": changes}))
+
+    with Server(folder, "tiles", 262144) as server:
+        put(server, range(8000))
+        told = [subprocess.run([*PUBLISH, server.url, "--record", record], capture_output=True, text=True)]
+        code, lines = tool("watch", "--url", server.url, "--record", record)
+        found = re.match(r"the archive has ([\d,]+) entries, and may have 131,072", lines[0])
+        # Of each point a tile of its own at each of 13 zooms.
+        cases.show("operation: vtmap watch, a real archive of 8,000 points on all zooms", (told[0].returncode, code, found is not None), (0, 1, True))
+        counted = found and int(found[1].replace(",", "")) >= 13 * 8000
+        cases.show("operation: whose entries it counts", counted or lines, True)
+        put(server, range(8000, 10000))
+        told.append(subprocess.run([*PUBLISH, server.url, "--record", record], capture_output=True, text=True))
+        code, lines = tool("watch", "--url", server.url, "--record", record)
+        said = "wasn't made: refused: TooManyTiles 507 (the map has too many tiles for an archive: end features at a smaller zoom)" in lines[0]
+        cases.show("operation: vtmap watch, 10,000 of them, which no archive takes", (told[1].returncode, code, said), (1, 2, True))
+
+
+def watched_gateway(cases, folder):
+    """What `vtmap watch` says of a gateway: one that answers, one whose server is away, one that hangs, and none."""
+    def watched(url, gateway):
+        code, lines = tool("watch", "--url", url, "--gateway", gateway)
+        return code, lines[0].replace(gateway, "URL")
+
+    with Server(folder, "gated") as server, Server(folder, "gated_other") as other, Gateway(folder, other.url) as gateway:
+        cases.show("operation: vtmap watch, a gateway that answers", watched(server.url, gateway.url)[0], 0)
+        other.end(signal.SIGKILL)
+        code, line = watched(server.url, gateway.url)
+        cases.show("operation: vtmap watch, one whose server is away", (code, line.startswith("the gateway URL: 200: the map's server: no reply")), (2, True))
+        gateway.end()
+        code, line = watched(server.url, gateway.url)
+        wanted = "the gateway: no reply of URL: [Errno 111] Connection refused: systemctl status vtserve-wfs"
+        cases.show("operation: vtmap watch, a gateway that has ended", (code, line), (2, wanted))
+        with Between(server, instead=lambda _, path: (403, b"<html><title>403 Forbidden</title></html>")) as between:
+            code, line = watched(server.url, between.url)
+        cases.show("operation: vtmap watch, a gateway that isn't for it", (code, line), (3, "the gateway URL: 403: 403 Forbidden"))
 
 
 def unpublished(cases, folder):
@@ -492,6 +564,6 @@ def operation(cases, folder):
     """Each task of an operator."""
     place = os.path.join(folder, "operation")
     os.mkdir(place)
-    for part in (rooms, touched, watching, unpublished, served_disk, passed_by, exactly, written_disks, wholes, stores):
+    for part in (rooms, touched, watching, many_entries, too_many_tiles, watched_gateway, unpublished, served_disk, passed_by, exactly, written_disks, wholes, stores):
         part(cases, place)
     shutil.rmtree(place)

@@ -6,6 +6,7 @@ import os
 import re
 import shutil
 import signal
+import socket
 import subprocess
 import time
 
@@ -130,6 +131,46 @@ def gateway(cases, folder):
     cases.show("units: memory of it that is writable and executable", [line for line in lines if "PROT_WRITE|PROT_EXEC" in line], [])
 
 
+def told_alive(cases, folder):
+    """What systemd is told by `vtmap wfs`, whose unit has a watchdog: that it answers, and nothing while it doesn't."""
+    path, names = os.path.join(folder, "notify"), ("NOTIFY_SOCKET", "WATCHDOG_USEC")
+
+    def told(seconds):
+        """What comes within some seconds, after what came before."""
+        systemd.setblocking(False)
+        try:
+            while True:
+                systemd.recv(100)
+        except BlockingIOError:
+            systemd.settimeout(seconds)
+        try:
+            return systemd.recv(100)
+        except TimeoutError:
+            return None
+
+    with socket.socket(socket.AF_UNIX, socket.SOCK_DGRAM) as systemd, Server(folder, "alive") as server:
+        systemd.bind(path)
+        os.environ.update(zip(names, (path, "1500000")))
+        try:
+            with Gateway(folder, server.url) as gateway:
+                seen = [told(10)]
+                server.child.send_signal(signal.SIGSTOP)
+                # The gateway waits for the server: what it was asked before may still be answered.
+                time.sleep(2)
+                seen.append(told(4))
+                server.child.send_signal(signal.SIGCONT)
+                seen.append(told(10))
+                gateway.end()
+        finally:
+            for name in names:
+                del os.environ[name]
+    cases.show("units: vtmap wfs tells systemd that it answers", seen, [b"WATCHDOG=1", None, b"WATCHDOG=1"])
+    found = {line.partition("=")[0]: line.partition("=")[2] for line in lines_of("vtserve-wfs.service")}
+    wanted = ("10min", "SIGTERM", "on-failure", True)
+    cases.show("units: its unit starts it again otherwise, once a save is made", (
+        found.get("WatchdogSec"), found.get("WatchdogSignal"), found["Restart"], "AF_UNIX" in found["RestrictAddressFamilies"]), wanted)
+
+
 def lines_of(name):
     """The lines of a unit; one that goes on after a backslash is one."""
     with open(unit(name), encoding="utf-8") as file:
@@ -182,6 +223,7 @@ def units(cases, folder):
     """The units, and whether the filter of system calls has all that the process needs."""
     causes(cases, folder)
     backups(cases, folder)
+    told_alive(cases, folder)
     if not shutil.which("systemd-analyze"):
         cases.say("no systemd-analyze: no unit is judged")
         return

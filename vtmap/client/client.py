@@ -65,7 +65,10 @@ class Refusal:
 
 class Client:
     """The server at a URL, by one connection that is kept. `publishes`: when the journal is full. `most`: the most changes of a request. A name
-    and a password in the URL are sent with each request; `address` is the URL without them."""
+    and a password in the URL are sent with each request; `address` is the URL without them. `longest`: the seconds that a reply may take. A
+    publication may take minutes to begin."""
+
+    longest = 600
 
     def __init__(self, url, publishes=False, most=MOST_CHANGES):
         self.publishes, self.most = publishes, most
@@ -125,11 +128,11 @@ class Client:
             raise
 
     def connect(self):
-        """Opens a connection. A publication may take minutes to begin, a connection not."""
+        """Opens a connection, which takes no minutes."""
         kind = http.client.HTTPSConnection if self.url.scheme == "https" else http.client.HTTPConnection
         self.connection = kind(self.url.netloc, timeout=30)
         self.connection.connect()
-        self.connection.sock.settimeout(600)
+        self.connection.sock.settimeout(self.longest)
 
     def close(self):
         """Ends the kept connection."""

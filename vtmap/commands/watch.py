@@ -1,9 +1,12 @@
 """`vtmap watch`: looks at a running `vtserve serve --admin`, and says what an operator should do before it is too late. Needs no package."""
 import fnmatch
+import html
 import json
 import os
+import re
 import time
 
+from ..alive import ASKED
 from ..client.client import Client, word
 from ..client.followers import NUMBER, Log
 from ..client.refusals import STATUSES, WORDS, told
@@ -13,6 +16,8 @@ from ..limits import MOST_ENTRIES, SECTOR
 
 DAY = 24 * 3600
 SOON, NOW, UNKNOWN = 1, 2, 3
+# The seconds that a gateway may take for its reply. A save of 3,000 features takes it some 4 seconds.
+LONGEST = 60
 # What it ends with if a file, or standard output, can't be written.
 FAILED = UNKNOWN
 ABOUT = {"watch": """Says what an operator should do about a running `vtserve serve --admin`, before it is too late.
@@ -28,8 +33,8 @@ entries as one may have, a publication that was left under way, a failed disk, a
 seen, for the next look: whether the journal fills before the next publication. --record FILE is what `vtmap publish --record` keeps:
 whether the last publication was refused, and when it was. --backups FOLDER is where vtserve-backup.service saves the map
 (map-2026-11-29.jsonl): whether the newest backup is older than --backup-hours. --standby URL is a server that `vtmap follow` keeps as this
-one, and --log FILE a log that it writes: whether they lack edits. --metrics FILE is written for Prometheus, by the textfile collector of
-node_exporter."""}
+one, and --log FILE a log that it writes: whether they lack edits. --gateway URL is a `vtmap wfs`: whether it answers. --metrics FILE is written
+for Prometheus, by the textfile collector of node_exporter."""}
 # How docs/vtserve-backup.service names its files. A backup that isn't finished has another name.
 BACKUP = "map-*.jsonl"
 # Edits of less than this share of the journal say nothing of how fast it fills.
@@ -202,9 +207,15 @@ def recorded(path, now, every):
         yield UNKNOWN, f"{path}: {error}: has `vtmap publish` run with --record?"
         return
     if result != "published":
-        yield NOW, f"the publication {hours:.1f} hours ago wasn't made: {result}"
+        yield NOW, f"the publication {hours:.1f} hours ago wasn't made: {result}{then_of(result)}"
     elif every is not None and hours > 2 * every:
         yield SOON, f"the last publication was {hours:.1f} hours ago, and they are to come every {every:.1f} hours"
+
+
+def then_of(result):
+    """What is to be done about a publication that the server has refused, in brackets: `refused: TooManyTiles 507`."""
+    found = WORDS.get(result.removeprefix("refused: ").split(" ")[0])
+    return f" ({told(found)})" if found else ""
 
 
 def backed_up(folder, now, most):
@@ -255,6 +266,22 @@ def behind_in_logs(paths, status, wait):
                         "`vtmap follow` running, and what does it say (journalctl -u vtserve-log)?")
 
 
+def gateways(urls):
+    """Whether gateways answer by WFS."""
+    for url in urls:
+        client = Client(url)
+        client.longest = LONGEST
+        try:
+            status, content = client.ask("GET", ASKED)
+        except NoAnswer as fault:
+            yield NOW, f"the gateway: {fault}: systemctl status vtserve-wfs"
+            continue
+        if status != 200 or b"WFS_Capabilities" not in content:
+            said = re.search(b"<[^<>]*ExceptionText>([^<]+)<", content)
+            text = html.unescape(said[1].decode("utf-8", "replace")) if said else word(content)
+            yield LEVELS.get(status, NOW), f"the gateway {client.address}: {status}: {text}"
+
+
 def metrics(path, status, result):
     """Writes the metrics; without a status those that are known."""
     values = {"up": int(status is not None), "watch_result": result}
@@ -293,6 +320,7 @@ def tasks(words, client, now):
         found += speed(status, words.state, now, words.every) if words.state else []
         found += behind(words.standby, status, words.wait)
         found += behind_in_logs(words.log, status, words.wait)
+        found += gateways(words.gateway)
     except Unseen as fault:
         return None, [*found, fault.args]
     return status, found
@@ -309,6 +337,7 @@ def options(parser, _):
     parser.add_argument("--backup-hours", type=float, default=26, metavar="HOURS", help="how old the newest of them may be (26)")
     parser.add_argument("--standby", metavar="URL", action="append", default=[], help="a standby that is to have each edit; may be given several times")
     parser.add_argument("--log", metavar="FILE", action="append", default=[], help="a log of `vtmap follow`; may be given several times")
+    parser.add_argument("--gateway", metavar="URL", action="append", default=[], help="a `vtmap wfs` that is to answer; may be given several times")
     parser.add_argument("--metrics", metavar="FILE", help="write metrics for Prometheus")
 
 

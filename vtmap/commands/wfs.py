@@ -3,6 +3,7 @@ import argparse
 import signal
 import sys
 
+from .. import alive
 from ..client.feed import Leader
 from ..faults import NoAnswer, Stopped
 from ..files.checkout_file import KINDS
@@ -31,7 +32,7 @@ short is undone by the next start; the file also has what each QGIS has saved, s
 process. --log FILE appends who has saved what, for `vtmap log --nginx FILE`.
 
 The server needs --admin. Large shapes are cut, for which GDAL's Python module is needed. It ends with 0 at SIGTERM, once a save that is under way
-is made."""}
+is made. If systemd waits for it (WatchdogSec), it asks itself again and again whether it answers, and says so."""}
 FORMS = {"text": "TEXT", "integer": "INTEGER", "boolean": "BOOLEAN"}
 
 
@@ -72,6 +73,7 @@ def work(words):
     server = listener(words.port, wfs, OgcApi(live, wfs.look))
     begin(wfs)
     signal.signal(signal.SIGTERM, lambda *_: sys.exit(0))
+    alive.tell(words.port)
     print(f"http://127.0.0.1:{words.port}/wfs", flush=True)
     try:
         server.serve_forever()

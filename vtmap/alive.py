@@ -1,0 +1,47 @@
+"""Whether a gateway answers: `vtmap watch` asks it, and the gateway asks itself and tells systemd (sd_notify, `WATCHDOG=1`), which starts a unit
+with WatchdogSec= again otherwise. Needs no package."""
+import http.client
+import os
+import socket
+import threading
+import time
+
+# What a gateway is asked. The reply needs the map, and waits for a save that is being made.
+ASKED = "/wfs?SERVICE=WFS&REQUEST=GetCapabilities"
+
+
+def tell(port):
+    """Begins to ask this process by its port, if systemd waits to be told. It asks three times in the time after which systemd gives it up."""
+    name, length = os.environ.get("NOTIFY_SOCKET"), os.environ.get("WATCHDOG_USEC", "")
+    if name and length.isdecimal():
+        threading.Thread(target=keep_telling, args=(name, int(length) / 3e6, port), daemon=True).start()
+
+
+def keep_telling(name, seconds, port):
+    """Asks, and tells of each reply."""
+    while True:
+        if answers(port, seconds):
+            notify(name, b"WATCHDOG=1")
+        time.sleep(seconds)
+
+
+def answers(port, seconds):
+    """Whether a reply comes in time, whatever it says."""
+    connection = http.client.HTTPConnection("127.0.0.1", port, timeout=seconds)
+    try:
+        connection.request("GET", ASKED)
+        connection.getresponse().read()
+        return True
+    except (OSError, http.client.HTTPException):
+        return False
+    finally:
+        connection.close()
+
+
+def notify(name, message):
+    """Sends a message to systemd. A name with an @ is one of the kernel's own space of names."""
+    with socket.socket(socket.AF_UNIX, socket.SOCK_DGRAM) as to:
+        try:
+            to.sendto(message, "\0" + name[1:] if name.startswith("@") else name)
+        except OSError:
+            pass
