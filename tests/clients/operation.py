@@ -564,6 +564,7 @@ def operation(cases, folder):
     """Each task of an operator."""
     place = os.path.join(folder, "operation")
     os.mkdir(place)
-    for part in (rooms, touched, watching, many_entries, too_many_tiles, watched_gateway, unpublished, served_disk, passed_by, exactly, written_disks, wholes, stores):
+    watch = touched, watching, many_entries, too_many_tiles, watched_gateway, unpublished
+    for part in (rooms, *watch, served_disk, passed_by, exactly, written_disks, wholes, stores):
         part(cases, place)
     shutil.rmtree(place)

@@ -6,12 +6,14 @@ import http.server
 import json
 import os
 import re
+import resource
 import shutil
 import socket
 import subprocess
 import threading
 import time
 
+from browser import Browser
 from stand import TOP, Nginx, Server, curl, feature, field, free_port, status_of
 
 KIND = ["-H", "Content-Type: application/json"]
@@ -35,6 +37,8 @@ CHANGES = [
 PASSWORDS = [("# satisfy any;", "satisfy any;"), ("# auth_basic", "auth_basic"), ("/etc/vtserve/people", "people")]
 # Seconds: how long a head may take, and how long it was before.
 HEAD, BEFORE = 10, 60
+# More heads than four processes of 1,024 connections take.
+MANY = 4400
 
 
 def nginx_of(cases):
@@ -114,6 +118,54 @@ def origins(cases, folder, nginx):
         hosts(cases, front)
     shutil.rmtree(front.folder)
     by_tls(cases, folder, nginx)
+
+
+class Strange(http.server.BaseHTTPRequestHandler):
+    """Another origin: a page without anything."""
+
+    def do_GET(self):
+        self.send_response(200)
+        self.send_header("content-length", "0")
+        self.end_headers()
+
+    def log_message(self, *_):
+        pass
+
+
+def sent(page, url, words):
+    """What becomes of a request that a page makes: the status, or that the browser shows it nothing."""
+    return page.value(f"fetch({json.dumps(url)}, {json.dumps(words)}).then(reply => reply.type === 'opaque' ? 'sent' : reply.status, () => 'refused')")
+
+
+def by_browser(cases, folder, nginx):
+    """A browser of the office opens a page of another origin, which sends what browsers send without asking; and one of the server itself."""
+    if not shutil.which("chromium"):
+        cases.say("outsiders: no Chromium: no page is opened")
+        return
+    stranger = http.server.ThreadingHTTPServer(("127.0.0.1", 0), Strange)
+    threading.Thread(target=stranger.serve_forever, daemon=True).start()
+    with Server(folder, "browsed") as server, Nginx(nginx, folder, server) as front, Browser(os.path.join(folder, "profile"), 400, 300) as browser:
+        curl(server.url + "/features/7", "-X", "PUT", body=feature())
+        before, page = known(server), browser.open(f"http://127.0.0.1:{stranger.server_port}/")
+        for more in ({}, {"referrerPolicy": "no-referrer"}, {"body": '{"changes":[{"delete":7}]}', "headers": {"Content-Type": "text/plain;charset=json"}}):
+            found = [sent(page, front.url + path, {"method": "POST", "mode": "no-cors", **more}) for path in ("/publish", "/publish/begin", "/edits", "/wfs")]
+            cases.show(f"outsiders: a browser sends POST with {more or 'nothing'}", found, ["sent"] * 4)
+        cases.show("outsiders: and PUT not at all", sent(page, front.url + "/features/7", {"method": "PUT", "body": feature()}), "refused")
+        cases.show("outsiders: which has changed and published nothing", known(server), before)
+        cases.show("outsiders: it reads a tile", sent(page, front.url + "/map/0/0/0.mvt", {}), 200)
+        pages = os.path.join(front.folder, "pages")
+        os.mkdir(pages)
+        with open(os.path.join(pages, "own.html"), "w", encoding="utf-8") as file:
+            file.write("<!DOCTYPE html><title>own</title>")
+        page = browser.open(front.url + "/pages/own.html")
+        found = [sent(page, path, {"method": method, "body": body, "headers": {"Content-Type": "application/json"}}) for method, path, body in [
+            ("PUT", "/features/8", feature()), ("POST", "/edits", '{"changes":[{"delete":8}]}'), ("POST", "/publish", None), ("DELETE", "/features/7", None)]]
+        cases.show("outsiders: a page of the server edits and publishes", found, [200] * 4)
+        found = sent(page, "/features/9", {"method": "PUT", "body": feature(), "referrerPolicy": "no-referrer"})
+        cases.show("outsiders: also one that names no referrer", found, 200)
+    stranger.shutdown()
+    stranger.server_close()
+    shutil.rmtree(front.folder)
 
 
 # ---- what a Host may be
@@ -299,6 +351,20 @@ def heads(cases, front):
         peer.close()
 
 
+def many_heads(cases, front):
+    """Begun heads of one address take no connection from others: here more of them than four processes of nginx have connections by default."""
+    soft, hard = resource.getrlimit(resource.RLIMIT_NOFILE)
+    if hard < MANY + 500:
+        cases.say(f"outsiders: {hard} descriptors: {MANY} heads aren't begun")
+        return
+    resource.setrlimit(resource.RLIMIT_NOFILE, (max(soft, MANY + 500), hard))
+    peers = [begun(front, "GET / HTTP/1.1\r\nHost: ") for _ in range(MANY)]
+    found = [status_of(curl(front.url + "/map/5/0/0.mvt", "--interface", address, "--max-time", "5")) for address in ("127.0.0.1", "127.0.0.2")]
+    cases.show(f"outsiders: a tile beside {MANY:,} begun heads", found, [200, 200])
+    for peer in peers:
+        peer.close()
+
+
 def limits(cases, server, front):
     """How many requests of an address are answered at once, and how many parts of the archive."""
     tile, archive = front.url + "/map/5/0/0.mvt", front.url + "/map.pmtiles"
@@ -333,6 +399,7 @@ def much(cases, folder, nginx):
         of_one_tile(cases, server, front)
         limits(cases, server, front)
         heads(cases, front)
+        many_heads(cases, front)
     shutil.rmtree(front.folder)
 
 
@@ -418,6 +485,6 @@ def outsiders(cases, folder):
         return
     place = os.path.join(folder, "outsiders")
     os.mkdir(place)
-    for part in (origins, names, much, accounts):
+    for part in (origins, by_browser, names, much, accounts):
         part(cases, place, nginx)
     shutil.rmtree(place)
