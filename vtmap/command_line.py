@@ -20,6 +20,7 @@ COMMANDS = {
     "save": ("backup", "saves the features of the map in a file"),
     "load": ("backup", "puts them back"),
     "publish": ("publish", "publishes the map, while tiles and edits go on"),
+    "join": ("join", "joins archives of several maps to one"),
     "watch": ("watch", "says what an operator should do before it is too late"),
     "delete-layer": ("delete_layer", "deletes the features of layers"),
     "qgis": ("qgis", "writes a QGIS project that shows the map"),

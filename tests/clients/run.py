@@ -28,6 +28,7 @@ from front import in_front
 from full_disks import disk_full
 from hang_ups import hang_ups, shrinking
 from imports import imports
+from joins import joins
 from killed_servers import kills
 from large_imports import large
 from lost_replies import lost_replies
@@ -97,6 +98,7 @@ def main():
         "endings": endings,
         "doors": doors,
         "steps": steps,
+        "join": joins,
         "meanwhile": meanwhile,
         "hang-ups": hang_ups,
         "shrinking": shrinking,

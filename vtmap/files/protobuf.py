@@ -1,4 +1,7 @@
 """Messages of Protocol Buffers, as tiles are. Needs no package."""
+# The wire types of a field: a varint, and bytes after their length.
+NUMBER, BYTES = 0, 2
+SHORT = [bytes([value]) for value in range(128)]
 
 
 def varint(data, at):
@@ -13,7 +16,8 @@ def varint(data, at):
 
 
 def fields(data):
-    """The fields of a message: the number of each and its value, an integer or bytes."""
+    """The fields of a message: the number of each and its value, an integer or bytes. Raises `IndexError` if the bytes end within one, and
+    `KeyError` for a wire type that there isn't."""
     at = 0
     while at < len(data):
         key, at = varint(data, at)
@@ -25,4 +29,28 @@ def fields(data):
         else:
             size = {1: 8, 5: 4}[key & 7]
             value, at = data[at:at + size], at + size
+        if at > len(data):
+            raise IndexError("a field of a message ends early")
         yield key >> 3, value
+
+
+def varint_of(value):
+    """The bytes of a number, in their shortest form."""
+    if value < 128:
+        return SHORT[value]
+    found = bytearray()
+    while value > 127:
+        found.append(value & 127 | 128)
+        value >>= 7
+    found.append(value)
+    return bytes(found)
+
+
+def number_field(number, value):
+    """A field that is a number."""
+    return varint_of(number << 3 | NUMBER) + varint_of(value)
+
+
+def bytes_field(number, value):
+    """A field that is bytes: a text, a packed list or a message."""
+    return varint_of(number << 3 | BYTES) + varint_of(len(value)) + value
