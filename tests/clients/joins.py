@@ -58,7 +58,7 @@ def features_of(chance, at):
         tags = {"name": chance.choice(["Ö", "b", "c"]), "floors": chance.choice([1, 2, -3]), "of": [7, "text", True, 7][at], f"k{at}": one % 2 == 0}
         tags = {key: value for key, value in tags.items() if chance.random() < 0.7}
         layer = chance.choice(["road", "area", "õ", f"own{at}"])
-        first = chance.randrange(3)
+        first = min(at, 2) + chance.randrange(2)
         found[1000 * at + one] = {"layer": layer, "minzoom": first, "maxzoom": ZOOM - at, "geometry": chance.choice(shapes), "tags": tags}
     return found
 
@@ -75,7 +75,7 @@ def regions(cases, folder):
     several = sum(sum(number in found for found in tiles) > 1 for number in set.union(*tiles))
     counts = model.counts_of(model.listed(country))
     said = "4 archives joined: {addressed:,} tiles (%d merged), {entries:,} entries, {contents:,} contents, %s bytes" % (several, f"{len(country):,}")
-    cases.show("join: four maps", (status, lines, several > 50), (0, [said.format(**counts)], True))
+    cases.show("join: four maps", (status, lines, several > 40), (0, [said.format(**counts)], True))
     cases.show("join: the archive is that of one map of all", read(out) == country, True)
     joined(*reversed(paths), out, "--replace")
     cases.show("join: whatever the order", read(out) == country, True)
@@ -231,11 +231,61 @@ def addresses(cases, folder):
         cases.show("join: that of its archive", (joined(server.url + "/map.pmtiles", out, "--replace")[0], read(out) == archive()), (0, True))
 
 
+def country(cases, folder):
+    """`vtmap publish --join`, into an object store that is a folder."""
+    stored, record = os.path.join(folder, "store"), os.path.join(folder, "published")
+    os.mkdir(stored)
+    aws = kept(folder, "aws", b'#!/bin/sh\nfor word; do from=$to; to=$word; done\ncp "$from" "$STORE/${to##*/}"\n')
+    os.chmod(aws, 0o755)
+    words = {**os.environ, "PATH": folder + ":" + os.environ["PATH"], "STORE": stored}
+
+    def published(server, *more):
+        line = [*VTMAP, "publish", "--url", server.url, "--to", "s3://maps/country", "--record", record, *more]
+        child = subprocess.run(line, env=words, capture_output=True, text=True)
+        with open(record, encoding="utf-8") as file:
+            return child.returncode, json.load(file)["result"].split(":")[0], (child.stdout + child.stderr).splitlines()
+
+    def newest():
+        return read(os.path.join(stored, json.loads(read(os.path.join(stored, "newest.json")))["archive"]))
+
+    point, other = json.loads(feature()), json.loads(SECOND)
+    with Server(folder, "north", 4096, more=("--admin", "--etags")) as north, Server(folder, "south", 4096, more=("--admin", "--etags")) as south:
+        for server, number, body in ((north, 7, feature()), (south, 8, SECOND)):
+            curl(f"{server.url}/features/{number}", "-X", "PUT", body=body)
+        cases.show("join: vtmap publish --join, a map that isn't published", published(north, "--join", south.url)[:2], (1, "not joined"))
+        curl(south.url + "/publish", "-X", "POST")
+        found = published(north, "--join", south.url, "--changed")
+        cases.show("join: vtmap publish --join", (found[:2], newest() == archive_of({7: point, 8: other})), ((0, "published"), True))
+        found = published(north, "--join", south.url, "--changed")
+        wanted = ["the archive has each edit already", "the joined archive has each publication already"]
+        cases.show("join: vtmap publish --join --changed, nothing has", (found, len(os.listdir(stored))), ((0, "published", wanted), 2))
+        curl(south.url + "/features/9", "-X", "PUT", body=feature())
+        curl(south.url + "/publish", "-X", "POST")
+        found = published(north, "--join", south.url, "--changed")
+        both = {7: point, 8: other, 9: point}
+        cases.show("join: vtmap publish --join --changed, the other map has", (found[:2], newest() == archive_of(both)), ((0, "published"), True))
+        curl(south.url + "/features/7", "-X", "PUT", body=SECOND)
+        curl(south.url + "/publish", "-X", "POST")
+        found = published(north, "--join", south.url, "--changed")
+        cases.show("join: vtmap publish --join, an id that both have", (found[:2], newest() == archive_of(both)), ((1, "not joined"), True))
+        found = published(north, "--join", south.url, "--changed", "--first")
+        cases.show("join: vtmap publish --join --first", (found[:2], newest() == archive_of(both)), ((0, "published"), True))
+        south.end()
+        found = published(north, "--join", south.url, "--changed", "--first")
+        cases.show("join: vtmap publish --join, a map that is away", (found[:2], newest() == archive_of(both)), ((3, "not joined"), True))
+        cases.show("join: vtmap publish --join without a place", tool_status("publish", "--url", north.url, "--join", south.url), 2)
+
+
+def tool_status(*words):
+    """The status of a command of vtmap."""
+    return subprocess.run([*VTMAP, *words], capture_output=True).returncode
+
+
 def joins(cases, folder):
     """The archives, as they are joined and as they are refused."""
     folder = os.path.join(folder, "joins")
     os.mkdir(folder)
-    for one in (regions, shared_ids, bad_archives, empty_archives, many_entries, addresses):
+    for one in (regions, shared_ids, bad_archives, empty_archives, many_entries, addresses, country):
         place = os.path.join(folder, one.__name__)
         os.mkdir(place)
         one(cases, place)

@@ -1,19 +1,18 @@
 """`vtmap publish`: publishes the map by steps, and may put the archive into an object store. Needs no package."""
-import hashlib
 import json
 import os
 import signal
-import subprocess
 import sys
-import tempfile
 import time
 
+from ..archives.fetching import ARCHIVE
 from ..client.client import Client, word
 from ..client.followers import Wait, said, seconds, told_late
 from ..client.refusals import STATUSES, WORDS, told
 from ..ending import regular, replaced
 from ..faults import Fault, NoAnswer
 from ..progress import Tiles
+from .archive_store import marks_of, store_joined, store_one
 
 ABOUT = {"publish": """Publishes the map of a running `vtserve serve` by steps, so that tiles and edits go on between them.
 
@@ -33,7 +32,10 @@ standby or a log is made of (`vtmap follow`): 5 seconds are enough for one that 
 publishes, `vtmap import --publish` for instance.
 
 --to PLACE puts the archive into an object store, under a name of its own, and then the file newest.json, which names it: readers of an older
-one aren't disturbed. PLACE is s3://BUCKET/FOLDER (by `aws s3 cp`) or REMOTE:BUCKET/FOLDER (by `rclone`)."""}
+one aren't disturbed. PLACE is s3://BUCKET/FOLDER (by `aws s3 cp`) or REMOTE:BUCKET/FOLDER (by `rclone`).
+
+--join ARCHIVE puts one archive there that has also the tiles of other maps, as `vtmap join` makes it: a file, or the address of a map; several
+times. The map of --url is the first one. With --changed and --record it is only made if one of the archives has changed."""}
 PUBLISHED, STEP = "published", "/publish/step"
 
 
@@ -46,6 +48,15 @@ def options(parser, _):
     parser.add_argument("--standby", metavar="URL", action="append", help="wait until this standby has the edits; several times (VTSERVE_STANDBYS)")
     parser.add_argument("--log", metavar="FILE", action="append", help="wait until this log of `vtmap follow` has the edits; several times (VTSERVE_LOGS)")
     parser.add_argument("--to", metavar="PLACE", help="put the archive into an object store")
+    parser.add_argument("--join", metavar="ARCHIVE", action="append", help="put it there joined with this one; several times")
+    parser.add_argument("--first", action="store_true", help="of an id that several of them have, take the first one's feature (`vtmap join`)")
+
+
+def fault_of(words):
+    """Why the words can't be meant."""
+    if words.join and not words.to:
+        return "--join needs --to"
+    return "--first needs --join" if words.first and not words.join else None
 
 
 class Ended(Exception):
@@ -145,56 +156,45 @@ def has_each_edit(client):
     return status is not None and status["generation"] > 0 and status["left"] is None and status["edits"] == status["published"]
 
 
-def is_in_place(words):
-    """Whether the last archive is where it is to be, as far as is known."""
-    if not words.to:
-        return True
+def recorded(words):
+    """What the last publication recorded, if it went well; else nothing."""
     try:
         with open(words.record or os.devnull, encoding="utf-8") as file:
-            return json.load(file)["result"] == PUBLISHED
+            found = json.load(file)
+            return found if found["result"] == PUBLISHED else {}
     except (OSError, ValueError, LookupError, TypeError):
-        return False
+        return {}
 
 
-def put(place, path, name, kind, caching):
-    """Puts a file into the object store, under a name, with its type and how long it may be cached. Returns whether it is there."""
-    target = f"{place.rstrip('/')}/{name}"
-    if place.startswith("s3://"):
-        line = ["aws", "s3", "cp", "--only-show-errors", "--content-type", kind, "--cache-control", caching, path, target]
-    else:
-        line = ["rclone", "copyto", "--header-upload", f"Content-Type: {kind}", "--header-upload", f"Cache-Control: {caching}", path, target]
+def put_joined(words):
+    """Puts the archive of all maps into its place, unless it is there with the last version of each. Returns what they are, for the record."""
+    names = [words.url + ARCHIVE, *words.join]
     try:
-        return subprocess.run(line, check=False).returncode == 0
-    except FileNotFoundError:
-        print(f"{line[0]} isn't installed", file=sys.stderr)
-        return False
-
-
-def store(client, place):
-    """Puts the archive into the object store. Nothing is deleted there: old archives have readers. Returns whether it is there."""
-    status, archive = client.ask("GET", "/map.pmtiles")
-    if status != 200:
-        print(f"/map.pmtiles: {status} {word(archive)}", file=sys.stderr)
-        return False
-    name = f"map-{time.strftime('%Y%m%dT%H%M%SZ', time.gmtime())}-{hashlib.sha256(archive).hexdigest()[:8]}.pmtiles"
-    with tempfile.TemporaryDirectory() as folder:
-        files = {"archive": archive, "newest.json": json.dumps({"archive": name}, separators=(",", ":")).encode()}
-        for part, content in files.items():
-            with open(os.path.join(folder, part), "wb") as file:
-                file.write(content)
-        is_there = (put(place, os.path.join(folder, "archive"), name, "application/vnd.pmtiles", "public, max-age=31536000, immutable")
-                    and put(place, os.path.join(folder, "newest.json"), "newest.json", "application/json", "no-cache"))
-    if is_there:
-        print(f"{name} is the newest archive in {place}")
-    return is_there
+        marks = marks_of(names)
+        if words.changed and recorded(words).get("joined") == marks and None not in marks.values():
+            print("the joined archive has each publication already")
+        elif not store_joined(names, words.to, words.first):
+            raise Ended(1, f"not stored: {words.to}", f"the map is published, but the joined archive isn't in {words.to}")
+        return marks
+    except (Fault, OSError) as fault:
+        raise Ended(getattr(fault, "status", 1), f"not joined: {fault}", f"the map is published, but not joined: {fault}") from fault
 
 
 def published(words):
-    """Publishes if it is wanted. Raises `Ended`."""
+    """Publishes if it is wanted, and puts the archive into its place. Returns what is recorded beside the outcome. Raises `Ended`."""
     client = Client(words.url)
-    if words.changed and is_in_place(words) and has_each_edit(client):
+    is_in_place = not words.to or words.join or recorded(words)
+    if words.changed and is_in_place and has_each_edit(client):
         print("the archive has each edit already")
-        return
+    else:
+        publish(words, client)
+        if words.to and not words.join and not store_one(words.url, words.to):
+            raise Ended(1, f"not stored: {words.to}", f"the map is published, but its archive isn't in {words.to}")
+    return {"joined": put_joined(words)} if words.join else {}
+
+
+def publish(words, client):
+    """Publishes, and may be interrupted. Raises `Ended`."""
     publication = Publication(words, client)
 
     def interrupt(*_):
@@ -203,19 +203,22 @@ def published(words):
             raise KeyboardInterrupt
         publication.is_interrupted = True
 
-    for number in (signal.SIGINT, signal.SIGTERM, signal.SIGHUP):
-        signal.signal(number, interrupt)
-    publication.run()
-    if words.to and not store(client, words.to):
-        raise Ended(1, f"not stored: {words.to}", f"the map is published, but its archive isn't in {words.to}")
+    before = {number: signal.signal(number, interrupt) for number in (signal.SIGINT, signal.SIGTERM, signal.SIGHUP)}
+    try:
+        publication.run()
+    finally:
+        # What comes after it may be interrupted at once.
+        for number, handler in before.items():
+            signal.signal(number, handler)
 
 
 def work(words):
     """Publishes, and records the outcome."""
     if words.record:
         regular(words.record)
+    more = {}
     try:
-        published(words)
+        more = published(words)
         end = Ended(0, PUBLISHED, None)
     except Ended as found:
         end = found
@@ -227,5 +230,5 @@ def work(words):
     if said:
         print(said, file=sys.stderr)
     if words.record:
-        replaced(words.record, json.dumps({"time": int(time.time()), "result": result}, separators=(",", ":")) + "\n", ".new")
+        replaced(words.record, json.dumps({"time": int(time.time()), "result": result, **more}, separators=(",", ":")) + "\n", ".new")
     return status
