@@ -22,6 +22,7 @@ COMMANDS = {
     "publish": ("publish", "publishes the map, while tiles and edits go on"),
     "join": ("join", "joins archives of several maps to one"),
     "watch": ("watch", "says what an operator should do before it is too late"),
+    "maps": ("maps", "lists, adds and removes the maps of a machine that serves several"),
     "delete-layer": ("delete_layer", "deletes the features of layers"),
     "qgis": ("qgis", "writes a QGIS project that shows the map"),
     "follow": ("follow", "follows the edits of a server: into standbys, into a log, or both"),

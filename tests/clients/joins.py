@@ -162,6 +162,11 @@ def bad_archives(cases, folder):
     out = kept(folder, "kept.pmtiles", b"as it was")
     status, lines = joined(good, out)
     cases.show("join: a file that exists", (status, "exists" in lines[0], read(out)), (1, True, b"as it was"))
+    # Room for the contents, and not for the archive.
+    limited = ["prlimit", "--fsize=100", *VTMAP, "join", good, out, "--replace"]
+    child = subprocess.run(limited, capture_output=True, text=True)
+    cases.show("join: a file system that is full", (child.returncode, "File too large" in child.stderr or child.stderr, read(out)), (1, True, b"as it was"))
+    cases.show("join: it leaves nothing", [name for name in os.listdir(folder) if "part" in name or name.startswith("tmp")], [])
     cases.show("join: no OUT", (joined(good)[0], joined()[0]), (2, 2))
     cases.show("join: a server that doesn't answer", joined("http://127.0.0.1:9", os.path.join(folder, "none.pmtiles"))[0], 3)
 

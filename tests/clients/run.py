@@ -44,6 +44,7 @@ from round_trips import round_trips
 from routes import routes
 from running import full, kept_connections, restarts
 from screens import screens
+from several_maps import maps
 from stand import Cases
 from standby import long_follow, standby
 from steps import steps
@@ -112,6 +113,7 @@ def main():
         "nginx": in_front,
         "outsiders": outsiders,
         "units": units,
+        "maps": maps,
     }
     words = sys.argv[2:]
     if not set(words) <= set(parts):

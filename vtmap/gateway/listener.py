@@ -92,7 +92,7 @@ class Handler(BaseHTTPRequestHandler):
     def address(self, path):
         """The address by which the client reaches a path: through a proxy, that which the proxy says."""
         host = self.headers.get("x-forwarded-host", self.headers.get("host", HERE))
-        return f"{self.headers.get('x-forwarded-proto', 'http')}://{host}{path}"
+        return f"{self.headers.get('x-forwarded-proto', 'http')}://{host}{self.headers.get('x-forwarded-prefix', '')}{path}"
 
     def answer_wfs(self, version, code, work):
         """Answers by WFS. A refusal has status 200 too: of another one QGIS shows no text."""

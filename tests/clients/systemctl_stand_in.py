@@ -1,0 +1,77 @@
+#!/usr/bin/env python3
+"""`systemctl` for the part `maps` of run.py: it records its words, and runs what a template unit of docs/ runs for a map, without systemd.
+
+STAND_IN is the folder of what it keeps: `calls`, and the process id of each service. ROOT is the folder of /etc and /var, PROGRAM is vtserve, NGINX
+the words of the nginx that is in front.
+"""
+import json
+import os
+import re
+import shlex
+import signal
+import subprocess
+import sys
+import time
+
+TOP = os.path.join(os.path.dirname(os.path.abspath(__file__)), "..", "..")
+KEPT, ROOT, PROGRAM = os.environ["STAND_IN"], os.environ["ROOT"], os.environ["PROGRAM"]
+
+
+def command_of(unit, name):
+    """The words that a template unit runs for a map, with the paths of ROOT."""
+    with open(os.path.join(TOP, "docs", unit), encoding="utf-8") as file:
+        lines = file.read().replace("\\\n", " ").splitlines()
+    said = dict(line.split("=", 1) for line in lines if re.match("(ExecStart|EnvironmentFile|StateDirectory)=", line))
+    variables = {}
+    with open(ROOT + said["EnvironmentFile"].replace("%i", name), encoding="utf-8") as file:
+        variables = dict(line.strip().split("=", 1) for line in file if not line.startswith("#"))
+    if "StateDirectory" in said:
+        os.makedirs(os.path.join(ROOT, "var/lib", said["StateDirectory"].replace("%i", name)), exist_ok=True)
+    text = re.sub(r"\$\{(\w+)\}", lambda found: variables[found[1]], said["ExecStart"].replace("%i", name))
+    words = [re.sub("^/var/", ROOT + "/var/", word) for word in shlex.split(text)]
+    program = {"vtserve": [PROGRAM], "vtmap": [sys.executable, os.path.join(TOP, "bin", "vtmap")]}[os.path.basename(words[0])]
+    return [*program, *words[1:]]
+
+
+def start(unit):
+    """Starts the service of a map; timers are only recorded."""
+    found = re.fullmatch(r"(vtserve(?:-wfs)?@)(.*)(\.service)", unit)
+    if found:
+        child = subprocess.Popen(command_of(found[1] + found[3], found[2]), stdin=subprocess.DEVNULL, stdout=subprocess.DEVNULL,
+                                 stderr=subprocess.DEVNULL, start_new_session=True)
+        with open(os.path.join(KEPT, unit), "w", encoding="ascii") as file:
+            file.write(str(child.pid))
+
+
+def stop(unit):
+    """Ends it, and waits for that."""
+    path = os.path.join(KEPT, unit)
+    if os.path.exists(path):
+        with open(path, encoding="ascii") as file:
+            number = int(file.read())
+        os.unlink(path)
+        try:
+            os.kill(number, signal.SIGTERM)
+            while os.path.exists(f"/proc/{number}") and "Z" not in open(f"/proc/{number}/stat", encoding="ascii").read().split(")")[1][:3]:
+                time.sleep(0.05)
+        except (ProcessLookupError, FileNotFoundError):
+            pass
+
+
+def main(words):
+    with open(os.path.join(KEPT, "calls"), "a", encoding="utf-8") as file:
+        file.write(" ".join(words) + "\n")
+    if os.path.exists(os.path.join(KEPT, "fails")):
+        print("Failed to enable unit")
+        return 1
+    if "is-active" in words:
+        return 0 if os.environ.get("NGINX") else 3
+    if words[0] == "reload":
+        return subprocess.run([*json.loads(os.environ["NGINX"]), "-s", "reload"], stderr=subprocess.DEVNULL).returncode
+    for unit in words[2:] if words[:2] in (["enable", "--now"], ["disable", "--now"]) else []:
+        (start if words[0] == "enable" else stop)(unit)
+    return 0
+
+
+if __name__ == "__main__":
+    sys.exit(main(sys.argv[1:]))

@@ -1,0 +1,137 @@
+"""The maps of this machine: their files and folders, and the units of systemd that serve them. Needs no package."""
+import os
+import pwd
+import shutil
+import subprocess
+
+from ..ending import replaced
+from ..faults import Refused
+from ..limits import SECTOR
+from .map_file import MapHere, map_of
+from .nginx_files import files_of
+
+USER = "vtserve"
+MAPS, NGINX, UNITS, DISKS, BACKUPS = (
+    "etc/vtserve/maps",
+    "etc/vtserve/nginx-maps",
+    "etc/systemd/system",
+    "var/lib/vtserve",
+    "var/backups/vtserve",
+)
+# What is started with a map, and what else may run for it.
+STARTED = ("vtserve@{}.service", "vtserve-publish@{}.timer", "vtserve-watch@{}.timer", "vtserve-backup@{}.timer")
+GATEWAY = "vtserve-wfs@{}.service"
+OTHERS = (GATEWAY, "vtserve-log@{}.service", "vtserve-standby@{}.service")
+FRONT = "vtserve-nginx.service"
+
+
+class Machine:
+    """The machine whose files are below a folder: `/`, or another one to try things in, where all is of one user."""
+
+    def __init__(self, root: str = "/") -> None:
+        self.root = root
+        self.owner: pwd.struct_passwd | None = None
+        if root == "/":
+            try:
+                self.owner = pwd.getpwnam(USER)
+            except KeyError:
+                raise Refused(f"there is no user {USER} on this machine: docs/DEPLOYING.md, Install") from None
+
+    def path(self, *parts: str) -> str:
+        """A path of the machine."""
+        return os.path.join(self.root, *parts)
+
+    def disk(self, name: str) -> str:
+        """The path of a map's disk file."""
+        return self.path(DISKS, name, "map.disk")
+
+    def maps(self) -> list[MapHere]:
+        """The maps, by their names."""
+        found = []
+        for name in sorted(os.listdir(self.path(MAPS))) if os.path.isdir(self.path(MAPS)) else []:
+            with open(self.path(MAPS, name), encoding="utf-8") as file:
+                found.append(map_of(name, file.read()))
+        return found
+
+    def owned(self, path: str, mode: int, of_user: bool) -> None:
+        """Sets the mode of a file or folder, and whose it is: the user's, or root's with the user's group."""
+        os.chmod(path, mode)
+        if self.owner:
+            os.chown(path, self.owner.pw_uid if of_user else 0, self.owner.pw_gid)
+
+    def make_folders(self, name: str) -> None:
+        """Makes the folders of a map, which nobody but the user may enter."""
+        for folder in (DISKS, BACKUPS):
+            os.makedirs(self.path(folder, name), exist_ok=True)
+            self.owned(self.path(folder, name), 0o750, True)
+        os.makedirs(self.path(MAPS), exist_ok=True)
+
+    def make_disk(self, name: str, sectors: int) -> bool:
+        """Formats a map's disk file, with all of its room. Returns whether there was none before."""
+        path = self.disk(name)
+        if os.path.exists(path):
+            return False
+        user = {"user": self.owner.pw_uid, "group": self.owner.pw_gid, "extra_groups": []} if self.owner else {}
+        self.run(["vtserve", "format", path, "--sectors", str(sectors)], **user)
+        try:
+            with open(path, "r+b") as file:
+                os.posix_fallocate(file.fileno(), 0, SECTOR * sectors)
+        except OSError as fault:
+            os.unlink(path)
+            raise Refused(f"there is no room for the disk of {name}: {fault.strerror}") from None
+        self.owned(path, 0o640, True)
+        return True
+
+    def write(self, one: MapHere) -> None:
+        """Writes the file of a map."""
+        path = self.path(MAPS, one.name)
+        with open(os.open(path, os.O_WRONLY | os.O_CREAT | os.O_EXCL, 0o640), "w", encoding="utf-8") as file:
+            file.write(one.text)
+        self.owned(path, 0o640, False)
+
+    def limit(self, name: str, memory: str) -> None:
+        """Sets the most memory that the server of a map may have."""
+        folder = self.path(UNITS, STARTED[0].format(name) + ".d")
+        os.makedirs(folder, exist_ok=True)
+        replaced(os.path.join(folder, "memory.conf"), f"[Service]\nMemoryMax={memory}\n")
+        self.systemctl("daemon-reload")
+
+    def start(self, one: MapHere, has_gateway: bool) -> None:
+        """Starts what serves a map, now and with the machine."""
+        units = (*STARTED, GATEWAY) if has_gateway else STARTED
+        self.systemctl("enable", "--now", *(unit.format(one.name) for unit in units))
+
+    def stop(self, name: str) -> None:
+        """Stops what serves a map, timers before what they start."""
+        self.systemctl("disable", "--now", *(unit.format(name) for unit in (*STARTED[1:], *OTHERS, STARTED[0])))
+
+    def forget(self, name: str) -> None:
+        """Removes the file of a map, and the limits of its server. Its disk and its backups stay."""
+        os.unlink(self.path(MAPS, name))
+        folder = self.path(UNITS, STARTED[0].format(name) + ".d")
+        if os.path.isdir(folder):
+            shutil.rmtree(folder)
+            self.systemctl("daemon-reload")
+
+    def tell_nginx(self, maps: list[MapHere]) -> bool:
+        """Writes what nginx includes of these maps, and has it read that. Returns whether nginx runs."""
+        os.makedirs(self.path(NGINX), exist_ok=True)
+        for name, text in files_of(maps).items():
+            replaced(self.path(NGINX, name), text)
+        is_active = subprocess.run(["systemctl", "--quiet", "is-active", FRONT], check=False).returncode == 0
+        if is_active:
+            self.systemctl("reload", FRONT)
+        return is_active
+
+    def systemctl(self, *words: str) -> None:
+        """Runs systemctl. Raises `Refused`."""
+        self.run(["systemctl", *words])
+
+    def run(self, line: list[str], **user: object) -> None:
+        """Runs a command. Raises `Refused` with what it printed if it fails."""
+        try:
+            child = subprocess.run(line, check=False, stdout=subprocess.PIPE, stderr=subprocess.STDOUT, text=True, **user)
+        except FileNotFoundError:
+            raise Refused(f"{line[0]} isn't installed") from None
+        if child.returncode:
+            raise Refused(f"{' '.join(line)} ended with {child.returncode}: {child.stdout.strip()}")

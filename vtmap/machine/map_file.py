@@ -1,0 +1,61 @@
+"""The file of a map of this machine, /etc/vtserve/maps/NAME: variables for its units (vtserve@NAME and its companions). Needs no package."""
+import re
+import shlex
+from typing import NamedTuple
+
+from ..faults import Refused, Wrong
+
+NAME, HOST = re.compile(r"[a-z][a-z0-9-]{0,30}"), re.compile(r"[a-z0-9]([a-z0-9.-]{0,252}[a-z0-9])?")
+# The first part of paths that one map has: they can't be names too.
+PATHS = ("admin", "edits", "features", "map", "ogc", "pages", "publish", "wfs")
+# Each map has two ports, from these on: its server's, and its gateway's after it.
+FIRST_PORT, LAST_PORT = 8100, 65534
+ABOUT = """# The map {name}: its units read this file. Add variables of their commands, such as VTSERVE_PAUSE. `vtmap maps` has written it.
+"""
+
+
+class MapHere(NamedTuple):
+    """A map of this machine: its name, the port of its server, that of its gateway, and the host names that are its own."""
+
+    name: str
+    port: int
+    gateway: int
+    hosts: tuple[str, ...] = ()
+
+    @property
+    def text(self) -> str:
+        """The content of its file."""
+        return ABOUT.format(name=self.name) + f'PORT={self.port}\nGATEWAY={self.gateway}\nHOSTS="{" ".join(self.hosts)}"\n'
+
+
+def map_of(name: str, text: str) -> MapHere:
+    """The map of a file. Raises `Refused`."""
+    words = {}
+    for line in text.splitlines():
+        key, is_said, value = line.partition("=")
+        if is_said and not line.lstrip().startswith(("#", ";")):
+            words[key.strip()] = value
+    try:
+        hosts = tuple(" ".join(shlex.split(words.get("HOSTS", ""))).split())
+        return MapHere(name, int(words["PORT"]), int(words["GATEWAY"]), hosts)
+    except (LookupError, ValueError) as fault:
+        raise Refused(f"the file of the map {name} has no PORT and GATEWAY that are numbers ({fault})") from None
+
+
+def new_map(name: str, port: int | None, hosts: list[str], others: list[MapHere]) -> MapHere:
+    """A map that isn't one of the others yet. Raises `Wrong`, or `Refused`."""
+    if not NAME.fullmatch(name) or name in PATHS:
+        raise Wrong(f"{name!r} can't be a map's name: at most 31 of a-z, 0-9 and -, a letter first, and none of {', '.join(PATHS)}")
+    for host in hosts:
+        if not HOST.fullmatch(host):
+            raise Wrong(f"{host!r} is no host name, such as north.example.org")
+    taken = {host: other.name for other in others for host in other.hosts}
+    for host in hosts:
+        if host in taken:
+            raise Refused(f"{host} is a name of the map {taken[host]}")
+    used = {each for other in others for each in (other.port, other.gateway)}
+    if port is None:
+        port = next(each for each in range(FIRST_PORT, LAST_PORT, 2) if not used & {each, each + 1})
+    elif used & {port, port + 1} or not 0 < port <= LAST_PORT:
+        raise Refused(f"port {port}, or the one after it, is used by another map, or is none")
+    return MapHere(name, port, port + 1, tuple(hosts))

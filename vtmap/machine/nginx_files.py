@@ -1,0 +1,40 @@
+"""What docs/nginx.conf includes of the maps of this machine, from the folder nginx-maps beside it. Needs no package."""
+from .map_file import MapHere
+
+ABOUT = "# Written by `vtmap maps`.\n"
+
+
+def upstream_of(one: MapHere) -> str:
+    """Who has a map and its gateway, and the log of its edits."""
+    variable = f"$is_edit_of_{one.name.replace('-', '_')}"
+    return f"""upstream vtserve-{one.name} {{
+    server 127.0.0.1:{one.port};
+    keepalive 4;
+    keepalive_timeout 30s;
+}}
+upstream gateway-{one.name} {{
+    server 127.0.0.1:{one.gateway};
+}}
+map "$is_edit:$map" {variable} {{
+    "1:{one.name}" 1;
+    default 0;
+}}
+access_log edits-{one.name}.log edits if={variable};
+"""
+
+
+def rewrite_of(one: MapHere) -> str:
+    """Takes the name of a map off a path, once: what is left may begin with the name of another map."""
+    return f"if ($map_of_path = {one.name}) {{\n    rewrite ^/{one.name}(?:/(.*))?$ /$1;\n}}\n"
+
+
+def files_of(maps: list[MapHere]) -> dict[str, str]:
+    """The files, by their names."""
+    hosts = [(host, one.name) for one in maps for host in one.hosts]
+    return {
+        "upstreams.conf": ABOUT + "".join(map(upstream_of, maps)),
+        "hosts.conf": ABOUT + "".join(f"{host} {name};\n" for host, name in hosts),
+        "paths.conf": ABOUT + "".join(f'"~^/{one.name}(/|\\?|$)" {one.name};\n' for one in maps),
+        "rewrites.conf": ABOUT + "".join(map(rewrite_of, maps)),
+        "names.conf": ABOUT + "".join(f"server_name {host};\n" for host, _ in hosts),
+    }
