@@ -24,6 +24,7 @@ OWN = (
     (r"(StateDirectory=vtserve-\w+)", r"\1/%i"),
     (r"--port 8080", "--port ${PORT}"),
     (r"http://127\.0\.0\.1:8080", "http://127.0.0.1:${PORT}"),
+    (r"http://127\.0\.0\.1:8090", "http://127.0.0.1:${GATEWAY}"),
     (r"http://([\w.]+):8000", r"http://\1:8000/%i"),
     (r"vtmap wfs ", "vtmap wfs --port ${GATEWAY} "),
     # Not all maps at once, and each at the same time each day.
