@@ -1,10 +1,11 @@
 #!/usr/bin/env python3
-"""Writes the template units of a machine with several maps, docs/vtserve@.service and its companions, from the units of a machine with one.
+"""Writes the template units of a machine with several maps, docs/vtserve@.service and its companions, from the units of
+a machine with one.
 
     python3 tools/templates.py [--check]    with --check it writes nothing, and ends with 1 if a file differs
 
-An instance is a map: `vtserve@north` serves /var/lib/vtserve/north/map.disk on the port that /etc/vtserve/maps/north says. `vtmap maps` writes these
-files, and docs/DEPLOYING.md explains them. Change the unit of one map, and run this.
+An instance is a map: `vtserve@north` serves /var/lib/vtserve/north/map.disk on the port that /etc/vtserve/maps/north
+says. `vtmap maps` writes that file. docs/DEPLOYING.md explains both. Change the unit of one map, and run this.
 """
 import argparse
 import glob
@@ -13,8 +14,8 @@ import re
 import sys
 
 DOCS = os.path.join(os.path.dirname(os.path.abspath(__file__)), "..", "docs")
-UNITS = ("vtserve", "vtserve-publish", "vtserve-watch", "vtserve-backup", "vtserve-log", "vtserve-standby", "vtserve-wfs")
 TIMERS = ("vtserve-publish", "vtserve-watch", "vtserve-backup")
+UNITS = ("vtserve", *TIMERS, "vtserve-log", "vtserve-standby", "vtserve-wfs")
 WORDS = "EnvironmentFile=/etc/vtserve/maps/%i\n"
 # What an instance has of its own: files, ports, the path behind nginx.
 OWN = (

@@ -3,9 +3,9 @@
 
     python3 bench/speed/capacity.py [--program PROGRAM] [--folder FOLDER] [--port PORT] KIND:N ..
 
-KIND is `point`, with three short tags, on zooms 10 to 14 at 25 in a square kilometre, or `building`, of eight corners and five tags, on zooms 13 to
-16 at 625. Features come in batches of 64, without an edit between them and the publication. Memory is VmRSS at rest and VmHWM of the publication.
-It prints a line of JSON for each. docs/DEPLOYING.md has the table.
+KIND is `point`, with three short tags, on zooms 10 to 14 at 25 in a square kilometre, or `building`, of eight corners
+and five tags, on zooms 13 to 16 at 625. Features come in batches of 64. Memory is VmRSS at rest, and VmHWM of the
+publication. It prints a line of JSON for each. docs/DEPLOYING.md has the table.
 """
 import argparse
 import http.client
@@ -31,7 +31,8 @@ def feature(kind: str, chance: random.Random, side: float) -> dict:
     """A feature in a square of this side, in metres."""
     x, y = (int(middle + (chance.random() - 0.5) * side * METRE) for middle in MIDDLE)
     if kind == "point":
-        tags = {"kind": chance.choice(KINDS), "name": f"No. {chance.randrange(10 ** 6)}", "year": chance.randrange(1950, 2026)}
+        year = chance.randrange(1950, 2026)
+        tags = {"kind": chance.choice(KINDS), "name": f"No. {chance.randrange(10 ** 6)}", "year": year}
         return {"layer": "asset", "minzoom": 10, "maxzoom": 14, "geometry": {"points": [[x, y]]}, "tags": tags}
     wide, high = (chance.uniform(8, 20) * METRE for _ in range(2))
     ring = [[x + int(wide * a), y + int(high * b)] for a, b in CORNERS]
@@ -46,7 +47,8 @@ class Server:
     def __init__(self, program: str, disk: str, port: int) -> None:
         began = time.monotonic()
         words = [program, "serve", disk, "--port", str(port), "--connections", "4294967295", "--admin", "--etags"]
-        self.child = subprocess.Popen(words, stdout=subprocess.PIPE, stderr=subprocess.DEVNULL, env={**os.environ, **MALLOC})
+        silent = {"stdout": subprocess.PIPE, "stderr": subprocess.DEVNULL}
+        self.child = subprocess.Popen(words, env={**os.environ, **MALLOC}, **silent)
         if b"serving" not in self.child.stdout.readline():
             raise SystemExit(f"{disk} can't be served on port {port}")
         self.opened = time.monotonic() - began
@@ -77,7 +79,8 @@ def fill(server: Server, kind: str, count: int) -> None:
     """Puts features, 64 in a batch."""
     chance, side = random.Random(7), 1000 * math.sqrt(count / DENSITY[kind])
     for first in range(1, count + 1, 64):
-        rows = [{"put": number, "feature": feature(kind, chance, side)} for number in range(first, min(first + 64, count + 1))]
+        numbers = range(first, min(first + 64, count + 1))
+        rows = [{"put": number, "feature": feature(kind, chance, side)} for number in numbers]
         server.ask("POST", "/edits", json.dumps({"changes": rows}, separators=(",", ":")).encode())
 
 
@@ -106,9 +109,19 @@ def measured(program: str, folder: str, port: int, kind: str, count: int) -> dic
         server.end()
         server = Server(program, disk, port)
         area, archive = 512 * status["area"]["used"], status["archive"]
-        return {"kind": kind, "features": count, "memory a feature": round((rest - empty) * 1e6 / count), "journal a feature": round(512 * journal / count),
-                "snapshot a feature": round((area - archive) / count), "archive a feature": round(archive / count), "area MB": round(area / 1e6, 1),
-                "rest MB": round(rest, 1), "peak MB": round(peak, 1), "publication s": round(seconds, 2), "start s": round(server.opened, 2)}
+        return {
+            "kind": kind,
+            "features": count,
+            "memory a feature": round((rest - empty) * 1e6 / count),
+            "journal a feature": round(512 * journal / count),
+            "snapshot a feature": round((area - archive) / count),
+            "archive a feature": round(archive / count),
+            "area MB": round(area / 1e6, 1),
+            "rest MB": round(rest, 1),
+            "peak MB": round(peak, 1),
+            "publication s": round(seconds, 2),
+            "start s": round(server.opened, 2),
+        }
     finally:
         server.end()
         os.unlink(disk)

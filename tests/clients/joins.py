@@ -158,6 +158,9 @@ def bad_archives(cases, folder):
     }
     for name, (content, said) in bad.items():
         refused(cases, name, folder, [good, kept(folder, "bad.pmtiles", content)], said)
+    refused(cases, "a folder", folder, [good, folder], "it is no regular file")
+    nowhere = os.path.join(folder, "none", "out.pmtiles")
+    cases.show("join: a folder that isn't there", joined(good, nowhere), (1, [f"there is no folder {os.path.dirname(nowhere)}"]))
     refused(cases, "a file that isn't there", folder, [good, os.path.join(folder, "none.pmtiles")], "No such file")
     out = kept(folder, "kept.pmtiles", b"as it was")
     status, lines = joined(good, out)

@@ -18,6 +18,7 @@ from stand import HERE, PROGRAM, TILE, TOP, VTMAP, Nginx, Server, curl, feature,
 
 TIMED = ("publish", "watch", "backup")
 STARTED = "enable --now vtserve@{0}.service" + "".join(f" vtserve-{name}@{{0}}.timer" for name in TIMED)
+SAVED = "start --no-block vtserve-backup@north.service"
 STOPPED = "disable --now" + "".join(f" vtserve-{name}@{{0}}.timer" for name in TIMED) + "".join(
     f" vtserve{name}@{{0}}.service" for name in ("-wfs", "-log", "-standby", ""))
 
@@ -112,6 +113,13 @@ def commands(cases, here):
     cases.show("maps: no host name", here.maps("add", "north", "--host", "north;")[0], 2)
     cases.show("maps: other words that are wrong", [here.maps(*words)[0] for words in (
         ["add"], ["add", "north", "--sectors", "1"], ["add", "north", "--memory", "much"])], [2, 2, 2])
+    os.makedirs(here.path("etc/vtserve"))
+    with open(here.path("etc/vtserve/nginx.conf"), "w", encoding="utf-8") as file:
+        file.write("events {}\n")
+    told = here.maps("add", "north")
+    cases.show("maps: an nginx.conf that knows one map", (told[0], "install nginx.conf anew" in told[1][0], os.listdir(here.path("etc/vtserve"))),
+               (1, True, ["nginx.conf"]))
+    shutil.copy(os.path.join(TOP, "docs", "nginx.conf"), here.path("etc/vtserve/nginx.conf"))
     with open(os.path.join(here.kept, "fails"), "w", encoding="ascii"):
         told = here.add("north")
     cases.show("maps: systemctl fails", (told[0], "Failed to enable unit" in told[1][0], here.maps()[0]), (1, True, 0))
@@ -119,9 +127,10 @@ def commands(cases, here):
     here.calls()
     disk = here.path("var/lib/vtserve/north/map.disk")
     status, lines = here.maps("add", "north", "--host", "north.example.org", "--memory", "512M", "--sectors", "4096")
-    said = ["north: http://localhost:8000/north/", "north: http://north.example.org:8000/"]
-    cases.show("maps: vtmap maps add", (status, lines), (0, [f"{disk} is kept as it was"] + [line + " once nginx runs (vtserve-nginx.service)" for line in said]))
-    cases.show("maps: what it runs", here.calls(), ["daemon-reload", STARTED.format("north"), "--quiet is-active vtserve-nginx.service"])
+    once = " once nginx runs (vtserve-nginx.service)"
+    said = [f"{disk} is kept as it was", "north: http://localhost:8000/north/" + once, "north: http://north.example.org:8000/" + once]
+    cases.show("maps: vtmap maps add", (status, lines), (0, said))
+    cases.show("maps: what it runs", here.calls(), ["daemon-reload", STARTED.format("north"), SAVED, "--quiet is-active vtserve-nginx.service"])
     modes = [here.mode(*path) for path in (["etc/vtserve/maps/north"], ["var/lib/vtserve/north/map.disk"], ["var/lib/vtserve/north"])]
     cases.show("maps: modes of its files, and of its folder", modes, ["0o640", "0o640", "0o750"])
     with open(here.path("etc/vtserve/maps/north"), encoding="utf-8") as file:
@@ -137,6 +146,9 @@ def commands(cases, here):
                (["is", "formatted,", "64", "sectors"], "south"))
     with open(here.path("etc/vtserve/maps/south"), encoding="utf-8") as file:
         cases.show("maps: they are free ones", file.read().splitlines()[1:3], ["PORT=8102", "GATEWAY=8103"])
+    with open(here.path("etc/vtserve/maps/south~"), "w", encoding="utf-8"):
+        cases.show("maps: what an editor leaves is none", len(here.maps()[1]), 2)
+    os.unlink(here.path("etc/vtserve/maps/south~"))
     cases.show("maps: a map that isn't there", here.maps("remove", "west"), (1, ["there is no map west"]))
     here.calls()
     for name in ("north", "south"):

@@ -1,8 +1,9 @@
 #!/usr/bin/env python3
-"""`systemctl` for the part `maps` of run.py: it records its words, and runs what a template unit of docs/ runs for a map, without systemd.
+"""`systemctl` for the part `maps` of run.py: it records its words, and runs what a template unit of docs/ runs for a map,
+without systemd.
 
-STAND_IN is the folder of what it keeps: `calls`, and the process id of each service. ROOT is the folder of /etc and /var, PROGRAM is vtserve, NGINX
-the words of the nginx that is in front.
+STAND_IN is the folder of what it keeps: `calls`, and the process id of each service. ROOT is the folder of /etc and
+/var, PROGRAM is vtserve, NGINX the words of the nginx that is in front.
 """
 import json
 import os
@@ -29,16 +30,25 @@ def command_of(unit, name):
         os.makedirs(os.path.join(ROOT, "var/lib", said["StateDirectory"].replace("%i", name)), exist_ok=True)
     text = re.sub(r"\$\{(\w+)\}", lambda found: variables[found[1]], said["ExecStart"].replace("%i", name))
     words = [re.sub("^/var/", ROOT + "/var/", word) for word in shlex.split(text)]
-    program = {"vtserve": [PROGRAM], "vtmap": [sys.executable, os.path.join(TOP, "bin", "vtmap")]}[os.path.basename(words[0])]
-    return [*program, *words[1:]]
+    programs = {"vtserve": [PROGRAM], "vtmap": [sys.executable, os.path.join(TOP, "bin", "vtmap")]}
+    return [*programs[os.path.basename(words[0])], *words[1:]]
+
+
+def is_running(number):
+    """Whether a process runs, and isn't a zombie."""
+    try:
+        with open(f"/proc/{number}/stat", encoding="ascii") as file:
+            return file.read().rpartition(")")[2].split()[0] != "Z"
+    except FileNotFoundError:
+        return False
 
 
 def start(unit):
     """Starts the service of a map; timers are only recorded."""
     found = re.fullmatch(r"(vtserve(?:-wfs)?@)(.*)(\.service)", unit)
     if found:
-        child = subprocess.Popen(command_of(found[1] + found[3], found[2]), stdin=subprocess.DEVNULL, stdout=subprocess.DEVNULL,
-                                 stderr=subprocess.DEVNULL, start_new_session=True)
+        silent = {name: subprocess.DEVNULL for name in ("stdin", "stdout", "stderr")}
+        child = subprocess.Popen(command_of(found[1] + found[3], found[2]), start_new_session=True, **silent)
         with open(os.path.join(KEPT, unit), "w", encoding="ascii") as file:
             file.write(str(child.pid))
 
@@ -50,12 +60,10 @@ def stop(unit):
         with open(path, encoding="ascii") as file:
             number = int(file.read())
         os.unlink(path)
-        try:
+        if is_running(number):
             os.kill(number, signal.SIGTERM)
-            while os.path.exists(f"/proc/{number}") and "Z" not in open(f"/proc/{number}/stat", encoding="ascii").read().split(")")[1][:3]:
-                time.sleep(0.05)
-        except (ProcessLookupError, FileNotFoundError):
-            pass
+        while is_running(number):
+            time.sleep(0.05)
 
 
 def main(words):

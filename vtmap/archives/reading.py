@@ -20,6 +20,8 @@ class Archive:
 
     def __init__(self, path: str, name: str | None = None) -> None:
         self.name = name or path
+        if os.path.exists(path) and not os.path.isfile(path):
+            raise self.fault("it is no regular file")
         self.file = os.open(path, os.O_RDONLY)
         try:
             data, size = os.pread(self.file, LENGTH, 0), os.fstat(self.file).st_size

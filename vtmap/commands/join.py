@@ -37,6 +37,8 @@ def work(words: argparse.Namespace) -> int:
     if os.path.exists(regular(words.out)) and not words.replace:
         raise Refused(f"{words.out} exists: is it one of the archives, and OUT is missing? --replace replaces it")
     folder = os.path.dirname(words.out) or "."
+    if not os.path.isdir(folder):
+        raise Refused(f"there is no folder {folder}")
     with opened(words.archives, folder) as archives:
         found = join(archives, words.out, folder, words.first)
     print(f"{len(words.archives)} archives joined: {told(found)}")

@@ -7,7 +7,7 @@ from ..faults import Fault, NoAnswer, Refused
 from ..machine.machine import Machine
 from ..machine.map_file import MapHere, new_map
 
-ABOUT = {"maps": """Lists, adds and removes the maps of a machine that serves several. It is run as root, on that machine.
+ABOUT = {"maps": """Lists, adds and removes the maps of a machine that serves several. Run it as root, on that machine.
 
     vtmap maps
     vtmap maps add north --host north.example.org
@@ -30,13 +30,13 @@ def options(parser: argparse.ArgumentParser, _: str) -> None:
     """The words of the command."""
     parser.add_argument("action", nargs="?", choices=["add", "remove"], help="what to do (list the maps)")
     parser.add_argument("name", nargs="?", metavar="NAME", help="the name of a map")
-    parser.add_argument("--host", metavar="HOST", action="append", default=[], help="a host name of the map; several times")
+    parser.add_argument("--host", action="append", default=[], help="a host name of the map; several times")
     parser.add_argument("--sectors", type=int, default=SECTORS, help=f"sectors of its disk file ({SECTORS})")
     parser.add_argument("--memory", metavar="SIZE", help="the most memory of its server, such as 512M (1G)")
-    parser.add_argument("--port", type=int, help="the port of its server; the next one is its gateway's (8100, 8102, ..)")
+    parser.add_argument("--port", type=int, help="the port of its server, before its gateway's (8100, 8102, ..)")
     parser.add_argument("--wfs", action="store_true", help="start its gateway for QGIS too")
-    parser.add_argument("--front", metavar="URL", default=FRONT, help=f"the address of nginx, which is printed ({FRONT})")
-    parser.add_argument("--root", metavar="FOLDER", default="/", help="the folder of /etc and /var, to try it elsewhere")
+    parser.add_argument("--front", metavar="URL", default=FRONT, help=f"the address of nginx, for the list ({FRONT})")
+    parser.add_argument("--root", metavar="FOLDER", default="/", help="the folder of /etc and /var, for a try")
 
 
 def fault_of(words: argparse.Namespace) -> str | None:
@@ -61,8 +61,10 @@ def state(one: MapHere) -> str | None:
     """What the server of a map tells of it, None if it doesn't answer."""
     client = Client(f"http://127.0.0.1:{one.port}")
     try:
-        status = client.status() or {}
-        return f"{status.get('features', '?'):,} features, edit {status.get('edits', '?')}, generation {status.get('generation', '?')}"
+        status = client.status()
+        if status is None:
+            return "its server runs without --admin"
+        return f"{status['features']:,} features, edit {status['edits']}, generation {status['generation']}"
     except Fault:
         return None
     finally:
@@ -85,6 +87,7 @@ def add(machine: Machine, words: argparse.Namespace) -> None:
     if words.name in [one.name for one in maps]:
         raise Refused(f"there is a map {words.name} already")
     one = new_map(words.name, words.port, words.host, maps)
+    machine.check_nginx()
     machine.make_folders(one.name)
     is_new = machine.make_disk(one.name, words.sectors)
     machine.write(one)

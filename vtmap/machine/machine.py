@@ -7,7 +7,7 @@ import subprocess
 from ..ending import replaced
 from ..faults import Refused
 from ..limits import SECTOR
-from .map_file import MapHere, map_of
+from .map_file import NAME, MapHere, map_of
 from .nginx_files import files_of
 
 USER = "vtserve"
@@ -20,9 +20,9 @@ MAPS, NGINX, UNITS, DISKS, BACKUPS = (
 )
 # What is started with a map, and what else may run for it.
 STARTED = ("vtserve@{}.service", "vtserve-publish@{}.timer", "vtserve-watch@{}.timer", "vtserve-backup@{}.timer")
-GATEWAY = "vtserve-wfs@{}.service"
+GATEWAY, BACKUP = "vtserve-wfs@{}.service", "vtserve-backup@{}.service"
 OTHERS = (GATEWAY, "vtserve-log@{}.service", "vtserve-standby@{}.service")
-FRONT = "vtserve-nginx.service"
+FRONT, FRONT_FILE = "vtserve-nginx.service", "etc/vtserve/nginx.conf"
 
 
 class Machine:
@@ -46,9 +46,10 @@ class Machine:
         return self.path(DISKS, name, "map.disk")
 
     def maps(self) -> list[MapHere]:
-        """The maps, by their names."""
+        """The maps, by their names. What an editor leaves beside their files isn't one."""
         found = []
-        for name in sorted(os.listdir(self.path(MAPS))) if os.path.isdir(self.path(MAPS)) else []:
+        names = os.listdir(self.path(MAPS)) if os.path.isdir(self.path(MAPS)) else []
+        for name in sorted(filter(NAME.fullmatch, names)):
             with open(self.path(MAPS, name), encoding="utf-8") as file:
                 found.append(map_of(name, file.read()))
         return found
@@ -100,6 +101,8 @@ class Machine:
         """Starts what serves a map, now and with the machine."""
         units = (*STARTED, GATEWAY) if has_gateway else STARTED
         self.systemctl("enable", "--now", *(unit.format(one.name) for unit in units))
+        # `vtmap watch` looks for a backup.
+        self.systemctl("start", "--no-block", BACKUP.format(one.name))
 
     def stop(self, name: str) -> None:
         """Stops what serves a map, timers before what they start."""
@@ -112,6 +115,14 @@ class Machine:
         if os.path.isdir(folder):
             shutil.rmtree(folder)
             self.systemctl("daemon-reload")
+
+    def check_nginx(self) -> None:
+        """Raises `Refused` if nginx has a configuration from before there were several maps."""
+        path = self.path(FRONT_FILE)
+        if os.path.exists(path):
+            with open(path, encoding="utf-8") as file:
+                if os.path.basename(NGINX) not in file.read():
+                    raise Refused(f"{path} knows no several maps: install nginx.conf anew (docs/DEPLOYING.md)")
 
     def tell_nginx(self, maps: list[MapHere]) -> bool:
         """Writes what nginx includes of these maps, and has it read that. Returns whether nginx runs."""
@@ -130,7 +141,8 @@ class Machine:
     def run(self, line: list[str], **user: object) -> None:
         """Runs a command. Raises `Refused` with what it printed if it fails."""
         try:
-            child = subprocess.run(line, check=False, stdout=subprocess.PIPE, stderr=subprocess.STDOUT, text=True, **user)
+            both = {"stdout": subprocess.PIPE, "stderr": subprocess.STDOUT}
+            child = subprocess.run(line, check=False, text=True, **both, **user)
         except FileNotFoundError:
             raise Refused(f"{line[0]} isn't installed") from None
         if child.returncode:

@@ -1,4 +1,5 @@
-"""The file of a map of this machine, /etc/vtserve/maps/NAME: variables for its units (vtserve@NAME and its companions). Needs no package."""
+"""The file of a map of this machine, /etc/vtserve/maps/NAME: variables for its units, vtserve@NAME and companions.
+Needs no package."""
 import re
 import shlex
 from typing import NamedTuple
@@ -10,12 +11,12 @@ NAME, HOST = re.compile(r"[a-z][a-z0-9-]{0,30}"), re.compile(r"[a-z0-9]([a-z0-9.
 PATHS = ("admin", "edits", "features", "map", "ogc", "pages", "publish", "wfs")
 # Each map has two ports, from these on: its server's, and its gateway's after it.
 FIRST_PORT, LAST_PORT = 8100, 65534
-ABOUT = """# The map {name}: its units read this file. Add variables of their commands, such as VTSERVE_PAUSE. `vtmap maps` has written it.
+ABOUT = """# The map {name}, by `vtmap maps`. Its units read this file: add variables of their commands, such as VTSERVE_PAUSE.
 """
 
 
 class MapHere(NamedTuple):
-    """A map of this machine: its name, the port of its server, that of its gateway, and the host names that are its own."""
+    """A map of this machine: its name, the ports of its server and of its gateway, and its own host names."""
 
     name: str
     port: int
@@ -25,7 +26,8 @@ class MapHere(NamedTuple):
     @property
     def text(self) -> str:
         """The content of its file."""
-        return ABOUT.format(name=self.name) + f'PORT={self.port}\nGATEWAY={self.gateway}\nHOSTS="{" ".join(self.hosts)}"\n'
+        hosts = " ".join(self.hosts)
+        return ABOUT.format(name=self.name) + f'PORT={self.port}\nGATEWAY={self.gateway}\nHOSTS="{hosts}"\n'
 
 
 def map_of(name: str, text: str) -> MapHere:
@@ -45,7 +47,8 @@ def map_of(name: str, text: str) -> MapHere:
 def new_map(name: str, port: int | None, hosts: list[str], others: list[MapHere]) -> MapHere:
     """A map that isn't one of the others yet. Raises `Wrong`, or `Refused`."""
     if not NAME.fullmatch(name) or name in PATHS:
-        raise Wrong(f"{name!r} can't be a map's name: at most 31 of a-z, 0-9 and -, a letter first, and none of {', '.join(PATHS)}")
+        rule = f"at most 31 of a-z, 0-9 and -, a letter first, and none of {', '.join(PATHS)}"
+        raise Wrong(f"{name!r} can't be a map's name: {rule}")
     for host in hosts:
         if not HOST.fullmatch(host):
             raise Wrong(f"{host!r} is no host name, such as north.example.org")
