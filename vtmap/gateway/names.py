@@ -1,4 +1,4 @@
-"""Names of layers and tags as names of XML, and values as texts of XML. Needs no package.
+"""Names of layers and tags as names of XML. Needs no package.
 
 A name of XML says the name of the map by itself, so a project that was saved long ago still sends its edits to the right tag: `:` is `.`, a blank
 is `·`, and what XML doesn't allow is `_xHHHH_`.
@@ -11,10 +11,6 @@ FIRST, INNER = re.compile(f"[{START}]"), re.compile(f"[-0-9\u0300-\u036f{START}]
 WRITTEN = {":": ".", " ": "\u00b7"}
 READ = {to: of for of, to in WRITTEN.items()}
 CODED = re.compile("_x([0-9A-F]{4,6})_")
-# What XML 1.0 can't say, and what stands for it.
-UNSAYABLE = re.compile("[\x00-\x08\x0b\x0c\x0e-\x1f\ud800-\udfff\ufffe\uffff]")
-REPLACEMENT = "\ufffd"
-ESCAPES = {"&": "&amp;", "<": "&lt;", ">": "&gt;", '"': "&quot;", "\r": "&#13;"}
 
 
 def xml_name(text, taken=()):
@@ -35,13 +31,3 @@ def map_name(name):
     """The name of the map of which `xml_name` made this one."""
     parts = CODED.split(name)
     return "".join(chr(int(part, 16)) if at % 2 else "".join(READ.get(one, one) for one in part) for at, part in enumerate(parts))
-
-
-def sayable(text):
-    """A text without what XML can't say."""
-    return UNSAYABLE.sub(REPLACEMENT, text)
-
-
-def said(value):
-    """A text or a number as the text of an element or of an attribute."""
-    return "".join(ESCAPES.get(part, part) for part in sayable(str(value)))

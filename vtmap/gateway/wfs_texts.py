@@ -5,7 +5,7 @@ from collections import namedtuple
 from ..files.checkout_file import ZOOMS
 from ..geometry.gml import gml_of
 from ..geometry.world import WORLD, degrees
-from .names import said
+from ..markup import Frame, document, element
 from .tables import ID, SHAPE, text_of
 
 SPACE = "urn:vtserve"
@@ -14,7 +14,6 @@ TRUTHS = {"ImplementsBasicWFS": True, "ImplementsTransactionalWFS": True, "KVPEn
 FORMS = {"TEXT": "xsd:string", "INTEGER": "xsd:long", "BOOLEAN": "xsd:boolean"}
 SHAPES = {"points": ("PointPropertyType", "MultiPointPropertyType"), "lines": ("CurvePropertyType", "MultiCurvePropertyType"),
           "polygons": ("SurfacePropertyType", "MultiSurfacePropertyType")}
-HEAD = '<?xml version="1.0" encoding="UTF-8"?>'
 
 # What a version says otherwise than another: namespaces, the name of EPSG:3857, of the element that names it, of the format and of its schema, of
 # what a feature substitutes, and of an id in a filter with its attribute.
@@ -35,66 +34,67 @@ def chosen(names):
 
 def spaces(version):
     """The namespaces of a document."""
-    return (f'xmlns:wfs="{version.wfs}" xmlns:ogc="{version.filter}" xmlns:ows="{version.ows}" xmlns:gml="{version.gml}" xmlns:v="{SPACE}" '
-            'xmlns:xlink="http://www.w3.org/1999/xlink"')
+    return {"xmlns:wfs": version.wfs, "xmlns:ogc": version.filter, "xmlns:ows": version.ows, "xmlns:gml": version.gml, "xmlns:v": SPACE,
+            "xmlns:xlink": "http://www.w3.org/1999/xlink"}
 
 
 # ---- capabilities
 
 def capabilities(version, tables, address):
     """What there is, and at which address it is asked for."""
-    is_two = version is V2
-    listed = "".join(table_of(version, table) for table in tables)
-    each = "".join(f"<wfs:Operation>{name}</wfs:Operation>" for name in ("Query", "Insert", "Update", "Delete"))
-    service = f"<ows:Title>vtserve</ows:Title><ows:ServiceType>WFS</ows:ServiceType><ows:ServiceTypeVersion>{version.name}</ows:ServiceTypeVersion>"
-    return (f'{HEAD}<wfs:WFS_Capabilities version="{version.name}" {spaces(version)}>'
-            f"<ows:ServiceIdentification>{service}</ows:ServiceIdentification>"
-            f"<ows:OperationsMetadata>{''.join(operation(version, name, said(address)) for name in OPERATIONS)}{constraints() if is_two else ''}"
-            f"</ows:OperationsMetadata><wfs:FeatureTypeList>{'' if is_two else f'<wfs:Operations>{each}</wfs:Operations>'}{listed}</wfs:FeatureTypeList>"
-            "<ogc:Filter_Capabilities><ogc:Spatial_Capabilities/><ogc:Scalar_Capabilities/></ogc:Filter_Capabilities></wfs:WFS_Capabilities>")
+    service = element("ows:ServiceIdentification", element("ows:Title", "vtserve"), element("ows:ServiceType", "WFS"),
+                      element("ows:ServiceTypeVersion", version.name))
+    each = [element("wfs:Operation", name) for name in ("Query", "Insert", "Update", "Delete")]
+    types = [table_of(version, table) for table in tables]
+    can = element("ogc:Filter_Capabilities", element("ogc:Spatial_Capabilities"), element("ogc:Scalar_Capabilities"))
+    named = [operation(version, name, address) for name in OPERATIONS]
+    if version is V2:
+        operations, listed = element("ows:OperationsMetadata", *named, *constraints()), element("wfs:FeatureTypeList", *types)
+    else:
+        operations, listed = element("ows:OperationsMetadata", *named), element("wfs:FeatureTypeList", element("wfs:Operations", *each), *types)
+    return document(element("wfs:WFS_Capabilities", service, operations, listed, can, version=version.name, **spaces(version)))
 
 
 def operation(version, name, address):
     """How an operation is asked for."""
-    words = parameter(version, "outputFormat", [version.format]) + parameter(version, "resultType", ["results", "hits"]) if name == "GetFeature" else ""
-    return (f'<ows:Operation name="{name}"><ows:DCP><ows:HTTP><ows:Get xlink:href="{address}?"/><ows:Post xlink:href="{address}"/></ows:HTTP></ows:DCP>'
-            f"{words}</ows:Operation>")
+    words = [parameter(version, "outputFormat", [version.format]), parameter(version, "resultType", ["results", "hits"])] if name == "GetFeature" else []
+    ways = element("ows:Get", **{"xlink:href": f"{address}?"}), element("ows:Post", **{"xlink:href": address})
+    return element("ows:Operation", element("ows:DCP", element("ows:HTTP", *ways)), *words, name=name)
 
 
 def parameter(version, name, values):
     """The values that a parameter may have."""
-    made = "".join(f"<ows:Value>{value}</ows:Value>" for value in values)
-    return f'<ows:Parameter name="{name}">{f"<ows:AllowedValues>{made}</ows:AllowedValues>" if version is V2 else made}</ows:Parameter>'
+    made = [element("ows:Value", value) for value in values]
+    return element("ows:Parameter", *([element("ows:AllowedValues", *made)] if version is V2 else made), name=name)
 
 
 def constraints():
     """What of WFS 2 there is."""
-    return "".join(f'<ows:Constraint name="{name}"><ows:NoValues/><ows:DefaultValue>{str(value).upper()}</ows:DefaultValue></ows:Constraint>'
-                   for name, value in TRUTHS.items())
+    return [element("ows:Constraint", element("ows:NoValues"), element("ows:DefaultValue", str(value).upper()), name=name) for name, value in TRUTHS.items()]
 
 
 def table_of(version, table):
     """What is said of a table."""
     west, north, east, south = table.box or (0, 0, WORLD - 1, WORLD - 1)
-    low, high, name = degrees((west, south)), degrees((east, north)), f"Default{version.system_element}"
-    return (f"<wfs:FeatureType><wfs:Name>v:{table.name}</wfs:Name><wfs:Title>{said(table.title)}</wfs:Title>"
-            f"<wfs:{name}>{version.system}</wfs:{name}><ows:WGS84BoundingBox><ows:LowerCorner>{low[0]:.7f} {low[1]:.7f}</ows:LowerCorner>"
-            f"<ows:UpperCorner>{high[0]:.7f} {high[1]:.7f}</ows:UpperCorner></ows:WGS84BoundingBox></wfs:FeatureType>")
+    low, high = degrees((west, south)), degrees((east, north))
+    box = element("ows:WGS84BoundingBox", element("ows:LowerCorner", f"{low[0]:.7f} {low[1]:.7f}"),
+                  element("ows:UpperCorner", f"{high[0]:.7f} {high[1]:.7f}"))
+    return element("wfs:FeatureType", element("wfs:Name", f"v:{table.name}"), element("wfs:Title", table.title),
+                   element(f"wfs:Default{version.system_element}", version.system), box)
 
 
 def schema(version, tables):
     """The columns of tables."""
-    made = []
+    made = [element("xsd:import", namespace=version.gml, schemaLocation=f"http://schemas.opengis.net/gml/{version.schema}/gml.xsd")]
     for table in tables:
         columns = [(SHAPE, "gml:" + SHAPES[table.kind][table.is_several]), (ID, "xsd:long")]
         columns += [(name, FORMS[form]) for name, (_, form) in table.columns.items()] + [(zoom, "xsd:int") for zoom in ZOOMS]
-        inner = "".join(f'<xsd:element name="{name}" type="{form}" minOccurs="0" nillable="true"/>' for name, form in columns)
-        made.append(f'<xsd:complexType name="{table.name}Type"><xsd:complexContent><xsd:extension base="gml:AbstractFeatureType"><xsd:sequence>{inner}'
-                    f'</xsd:sequence></xsd:extension></xsd:complexContent></xsd:complexType><xsd:element name="{table.name}" '
-                    f'type="v:{table.name}Type" substitutionGroup="gml:{version.feature}"/>')
-    return (f'{HEAD}<xsd:schema xmlns:xsd="http://www.w3.org/2001/XMLSchema" xmlns:gml="{version.gml}" xmlns:v="{SPACE}" targetNamespace="{SPACE}" '
-            f'elementFormDefault="qualified"><xsd:import namespace="{version.gml}" schemaLocation="http://schemas.opengis.net/gml/{version.schema}/gml.xsd"/>'
-            f'{"".join(made)}</xsd:schema>')
+        inner = element("xsd:sequence", *[element("xsd:element", name=name, type=form, minOccurs=0, nillable="true") for name, form in columns])
+        content = element("xsd:complexContent", element("xsd:extension", inner, base="gml:AbstractFeatureType"))
+        made.append(element("xsd:complexType", content, name=f"{table.name}Type"))
+        made.append(element("xsd:element", name=table.name, type=f"v:{table.name}Type", substitutionGroup=f"gml:{version.feature}"))
+    names = {"xmlns:xsd": "http://www.w3.org/2001/XMLSchema", "xmlns:gml": version.gml, "xmlns:v": SPACE}
+    return document(element("xsd:schema", *made, **names, targetNamespace=SPACE, elementFormDefault="qualified"))
 
 
 # ---- features
@@ -102,54 +102,60 @@ def schema(version, tables):
 def features(version, found, fids, matched):
     """Features: pairs of table and view, and their ids. `matched`: how many there are with those that aren't returned."""
     now = time.strftime("%Y-%m-%dT%H:%M:%SZ", time.gmtime())
-    counts = f'numberMatched="{matched}" numberReturned="{len(found)}"' if version is V2 else f'numberOfFeatures="{len(found) or matched}"'
-    head = f'{HEAD}<wfs:FeatureCollection {spaces(version)} timeStamp="{now}" {counts}>'
-    members = [feature(version, table, view, fid) for (table, view), fid in zip(found, fids)]
-    if version is V2:
-        inner = "".join(f"<wfs:member>{member}</wfs:member>" for member in members)
-    else:
-        inner = f"<gml:featureMembers>{''.join(members)}</gml:featureMembers>" if members else ""
-    return f"{head}{inner}</wfs:FeatureCollection>"
+    counts = {"numberMatched": matched, "numberReturned": len(found)} if version is V2 else {"numberOfFeatures": len(found) or matched}
+    whole = "wfs:FeatureCollection", {**spaces(version), "timeStamp": now, **counts}
+    rows = {table.name: Rows(version, table) for table in {table.name: table for table, _ in found}.values()}
+    members = [rows[table.name].member(view, fid) for (table, view), fid in zip(found, fids)]
+    return Frame(whole, *(["gml:featureMembers"] if members and version is V1 else [])).document(members)
 
 
-def feature(version, table, view, fid):
-    """A feature. What is inside of it is made once."""
-    key = version.name, table.form
-    if view.written[0] != key:
-        view.written = key, inside(version, table, view)
-    return f'<v:{table.name} gml:id="{said(fid)}">{view.written[1]}</v:{table.name}>'
+class Rows:
+    """How the features of a table are written: as members of a collection of a version."""
 
+    def __init__(self, version, table):
+        self.version, self.table, self.key = version, table, (version.name, table.form)
+        self.shape, self.number = Frame(f"v:{SHAPE}"), Frame(f"v:{ID}")
+        self.tags = [(tag, form, Frame(f"v:{name}")) for name, (tag, form) in table.columns.items()]
+        self.zooms = [(zoom, Frame(f"v:{zoom}")) for zoom in ZOOMS]
+        self.name, self.around = f"v:{table.name}", Frame(*(["wfs:member"] if version is V2 else []))
 
-def inside(version, table, view):
-    """The columns of a feature."""
-    tags, made = view.feature["tags"], f"<v:{SHAPE}>{gml_of(view.feature['geometry'], table.is_several, version.system)}</v:{SHAPE}>"
-    made += f"<v:{ID}>{view.number}</v:{ID}>"
-    for name, (tag, form) in table.columns.items():
-        text = text_of(tags.get(tag), form)
-        if text is not None:
-            made += f"<v:{name}>{said(text)}</v:{name}>"
-    return made + "".join(f"<v:{zoom}>{view.feature[zoom]}</v:{zoom}>" for zoom in ZOOMS)
+    def member(self, view, fid):
+        """A feature. It is written once for all who have it under the same id."""
+        # Another request may keep its own way of writing it meanwhile.
+        key, last, written = self.key, *view.written
+        if last != (key, fid):
+            written = self.around.of(element(self.name, *self.columns(view), **{"gml:id": fid}))
+            view.written = (key, fid), written
+        return written
+
+    def columns(self, view):
+        """The columns of a feature."""
+        tags = view.feature["tags"]
+        made = [self.shape.of(gml_of(view.feature["geometry"], self.table.is_several, self.version.system)), self.number.of(view.number)]
+        for tag, form, frame in self.tags:
+            text = text_of(tags.get(tag), form)
+            if text is not None:
+                made.append(frame.of(text))
+        return made + [frame.of(view.feature[zoom]) for zoom, frame in self.zooms]
 
 
 # ---- reports
 
 def report(version, code, text):
     """Why something isn't done."""
-    return (f'{HEAD}<ows:ExceptionReport xmlns:ows="{version.ows}" version="{version.name}"><ows:Exception exceptionCode="{code}">'
-            f"<ows:ExceptionText>{said(text)}</ows:ExceptionText></ows:Exception></ows:ExceptionReport>")
+    told = element("ows:Exception", element("ows:ExceptionText", text), exceptionCode=code)
+    return document(element("ows:ExceptionReport", told, version=version.name, **{"xmlns:ows": version.ows}))
 
 
 def transacted(name, counts, fids):
     """The reply to a Transaction of a version."""
     if name == OLD:
-        inserted = "".join(f'<ogc:FeatureId fid="{fid}"/>' for fid in fids)
-        return (f'{HEAD}<wfs:WFS_TransactionResponse version="{OLD}" xmlns:wfs="{V1.wfs}" xmlns:ogc="{V1.filter}">'
-                f"{f'<wfs:InsertResult>{inserted}</wfs:InsertResult>' if fids else ''}"
-                "<wfs:TransactionResult><wfs:Status><wfs:SUCCESS/></wfs:Status></wfs:TransactionResult></wfs:WFS_TransactionResponse>")
+        ids = [element("wfs:InsertResult", *[element("ogc:FeatureId", fid=fid) for fid in fids])] if fids else []
+        done = element("wfs:TransactionResult", element("wfs:Status", element("wfs:SUCCESS")))
+        return document(element("wfs:WFS_TransactionResponse", *ids, done, version=OLD, **{"xmlns:wfs": V1.wfs, "xmlns:ogc": V1.filter}))
     version = chosen(name)
-    inserted = "".join(f'<wfs:Feature><ogc:{version.id_element} {version.id_name}="{fid}"/></wfs:Feature>' for fid in fids)
-    totals = "".join(f"<wfs:total{name}>{counts[action]}</wfs:total{name}>"
-                     for action, name in (("Insert", "Inserted"), ("Update", "Updated"), ("Delete", "Deleted")))
-    return (f'{HEAD}<wfs:TransactionResponse version="{version.name}" xmlns:wfs="{version.wfs}" xmlns:ogc="{version.filter}">'
-            f"<wfs:TransactionSummary>{totals}</wfs:TransactionSummary>"
-            f"{f'<wfs:InsertResults>{inserted}</wfs:InsertResults>' if fids else ''}</wfs:TransactionResponse>")
+    totals = [element(f"wfs:total{done}", counts[action]) for action, done in (("Insert", "Inserted"), ("Update", "Updated"), ("Delete", "Deleted"))]
+    made = [element("wfs:Feature", element(f"ogc:{version.id_element}", **{version.id_name: fid})) for fid in fids]
+    results = [element("wfs:InsertResults", *made)] if made else []
+    return document(element("wfs:TransactionResponse", element("wfs:TransactionSummary", *totals), *results, version=version.name,
+                            **{"xmlns:wfs": version.wfs, "xmlns:ogc": version.filter}))

@@ -7,7 +7,8 @@ from ..faults import Refused
 from ..files.checkout_file import KINDS, ZOOMS, normal, tag_of
 from ..geometry.shapes import bounds, reach
 from ..limits import GREATEST_ZOOM, MOST_NAME, MOST_REACH, MOST_TAG, MOST_TAGS, MOST_TEXT
-from .names import map_name, sayable
+from ..markup import sayable
+from .names import map_name
 from .tables import ID, OWN, SHAPE, text_of
 
 TRUE, FALSE = ("true", "1", "t"), ("false", "0", "f")

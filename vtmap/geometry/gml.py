@@ -3,38 +3,45 @@
 Coordinates are those of `geopackage.py`: EPSG:3857, the middles of the squares of 9 mm that the map distinguishes, in tenths of a millimetre, so
 that a vertex that nobody moved comes back as it was.
 """
+import functools
 import re
 
 from ..files.geopackage import MERCATOR, Unreadable, world
+from ..markup import Frame, together
 from .world import metres
 
+POINT, LINE = Frame("gml:pos"), Frame("gml:posList")
+EXTERIOR, INTERIOR = (Frame(name, "gml:LinearRing", "gml:posList") for name in ("gml:exterior", "gml:interior"))
 # The names by which clients know EPSG:3857.
 SYSTEM = re.compile("(?:^|[:#/])(3857|900913)$")
-PARTS = {"points": ("Point", "MultiPoint", "pointMember"), "lines": ("LineString", "MultiCurve", "curveMember"),
-         "polygons": ("Polygon", "MultiSurface", "surfaceMember")}
+PARTS = {"points": ("gml:Point", "gml:MultiPoint", "gml:pointMember"), "lines": ("gml:LineString", "gml:MultiCurve", "gml:curveMember"),
+         "polygons": ("gml:Polygon", "gml:MultiSurface", "gml:surfaceMember")}
 MULTIPLE = {"MultiPoint": "points", "MultiLineString": "lines", "MultiCurve": "lines", "MultiPolygon": "polygons", "MultiSurface": "polygons"}
 
 
 def gml_of(geometry, is_several, system):
     """A geometry as GML 3: as one of several parts, or as its only part."""
     (kind, lists), = geometry.items()
+    several, part = frames_of(kind, is_several, system)
+    made = [part.of(coordinates_of(kind, one)) for one in lists]
+    return several.of(together(made)) if is_several else made[0]
+
+
+@functools.lru_cache
+def frames_of(kind, is_several, system):
+    """The frames of a geometry, and of each of its parts."""
     one, several, member = PARTS[kind]
-    made = [part_of(kind, one, part, system) for part in lists]
-    if not is_several:
-        return made[0]
-    return f'<gml:{several} srsName="{system}">' + "".join(f"<gml:{member}>{part}</gml:{member}>" for part in made) + f"</gml:{several}>"
+    named = {"srsName": system}
+    return Frame((several, named)), Frame(*([member] if is_several else []), (one, named))
 
 
-def part_of(kind, element, part, system):
-    """A point, a line or a polygon."""
-    head = f'<gml:{element} srsName="{system}">'
+def coordinates_of(kind, part):
+    """The coordinates of a point, a line or a polygon."""
     if kind == "points":
-        return f"{head}<gml:pos>{places([part])}</gml:pos></gml:{element}>"
+        return POINT.of(places([part]))
     if kind == "lines":
-        return f"{head}<gml:posList>{places(part)}</gml:posList></gml:{element}>"
-    rings = [f"<gml:LinearRing><gml:posList>{places([*ring, ring[0]])}</gml:posList></gml:LinearRing>" for ring in part]
-    inner = "".join(f"<gml:interior>{ring}</gml:interior>" for ring in rings[1:])
-    return f"{head}<gml:exterior>{rings[0]}</gml:exterior>{inner}</gml:{element}>"
+        return LINE.of(places(part))
+    return together([(INTERIOR if at else EXTERIOR).of(places([*ring, ring[0]])) for at, ring in enumerate(part)])
 
 
 def places(points):
