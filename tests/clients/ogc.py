@@ -39,7 +39,7 @@ def ogc(cases, folder):
     with Server(folder, "town", sectors=16384) as server:
         town(folder, server.url)
         trail = os.path.join(folder, "gateway.edits.log")
-        with Gateway(folder, server.url, "--log", trail) as gateway:
+        with Gateway(folder, server.url, "--log", trail, "--behind-nginx") as gateway:
             documents(cases, gateway.url + "/ogc")
             pages(cases, gateway.url + "/ogc/collections", server.url)
             selections(cases, gateway.url + "/ogc/collections")

@@ -29,7 +29,8 @@ that the import has cut is one feature.
 What QGIS saves by one Transaction is made by checked edits, all of it or nothing: if somebody else has changed a feature since QGIS got it, nothing
 is saved, and QGIS shows which feature that is. What a save needs is noted in the file of --state before it is sent, so that a save that was cut
 short is undone by the next start; the file also has what each QGIS has saved, so that a restart isn't noticed. Without it both end with the
-process. --log FILE appends who has saved what, for `vtmap log --nginx FILE`.
+process. --log FILE appends who has saved what, for `vtmap log --nginx FILE`. Behind nginx --behind-nginx takes the name or the address of whoever
+saves from nginx; without it that is 127.0.0.1.
 
 The server needs --admin. Large shapes are cut, for which GDAL's Python module is needed. It ends with 0 at SIGTERM, once a save that is under way
 is made. If systemd waits for it (WatchdogSec), it asks itself again and again whether it answers, and says so."""}
@@ -44,6 +45,7 @@ def options(parser, _):
     parser.add_argument("--layer", type=layer_of, action="append", default=[], metavar="LAYER:KIND[:TAG=FORM,..]",
                         help="a layer that the map doesn't have yet, or further tags of one: KIND is points, lines or areas, FORM text, integer or boolean; "
                         "may be repeated")
+    parser.add_argument("--behind-nginx", action="store_true", help="nginx passes requests on, and says by whom they are (docs/nginx.conf)")
     parser.add_argument("--publish", action="store_true", help="publish when the journal is full")
 
 
@@ -70,7 +72,7 @@ def work(words):
         sessions.restore(row)
     live = LiveMap(Leader(words.url, words.publish), dict(words.layer))
     wfs = Wfs(live, sessions, Saves(live, log, words.log))
-    server = listener(words.port, wfs, OgcApi(live, wfs.look))
+    server = listener(words.port, wfs, OgcApi(live, wfs.look), words.behind_nginx)
     begin(wfs)
     signal.signal(signal.SIGTERM, lambda *_: sys.exit(0))
     alive.tell(words.port)

@@ -6,10 +6,15 @@ from xml.parsers import expat
 
 from ..files.geopackage import Unreadable
 from ..geometry.gml import geometry_of, local
+from .tables import signed
 
 # Elements of a filter that names features by their ids, and the attributes that have these.
 OF_IDS = ("FeatureId", "GmlObjectId", "ResourceId")
 ID_NAMES = ("fid", "id", "rid")
+# The most elements and attributes of a request, and how deep elements are inside of each other. 32 MB from QGIS have half as many.
+MOST_ELEMENTS, MOST_DEPTH = 1_000_000, 500
+# The id of a feature: table, number, version, its signature, and which one of several it is. Earlier ones have no signature.
+ID = re.compile(r"""[^\s<>&"']+\.([0-9]{1,19})\.([0-9a-f]{16})([0-9a-f]{8})?(-[0-9]+)?""")
 
 
 @dataclass
@@ -23,18 +28,66 @@ class Action:
     values: dict = field(default_factory=dict)
 
 
-def parsed(body):
-    """The root of an XML text. One with a document type, which may have entities of its own, is refused."""
+class Builder:
+    """The elements of an XML text, as they are parsed. A document type, which may have entities of its own, is refused; so is too much, before it is
+    in memory. A name keeps its prefix in place of the namespace: a long namespace would be in memory once for each name."""
+
+    def __init__(self):
+        self.root, self.open, self.count, self.last = None, [], 0, None
+        self.parser = expat.ParserCreate()
+        # A long text in few parts: each is added to those before it.
+        self.parser.buffer_size, self.parser.buffer_text = 2 ** 20, True
+        self.parser.StartDoctypeDeclHandler = self.refuse
+        self.parser.StartElementHandler, self.parser.EndElementHandler = self.begin, self.end
+        self.parser.CharacterDataHandler = self.text
+
+    @staticmethod
     def refuse(*_):
+        """Refuses a document type."""
         raise Unreadable("the request has a document type")
 
-    checker = expat.ParserCreate()
-    checker.StartDoctypeDeclHandler = refuse
+    def begin(self, name, attributes):
+        """Begins an element."""
+        self.count += 1 + len(attributes)
+        if self.count > MOST_ELEMENTS:
+            raise Unreadable(f"the request has over {MOST_ELEMENTS:,} elements: save fewer features at once")
+        if len(self.open) == MOST_DEPTH:
+            raise Unreadable(f"the request is nested too deep: over {MOST_DEPTH} elements are inside of each other")
+        made = tree.Element(named(name), {named(key): value for key, value in attributes.items() if not key.startswith("xmlns")})
+        if self.open:
+            self.open[-1].append(made)
+        else:
+            self.root = made
+        self.open.append(made)
+        self.last = None
+
+    def end(self, _):
+        """Ends an element."""
+        self.last = self.open.pop()
+
+    def text(self, data):
+        """Takes the text of an element, or what comes after one."""
+        if self.last is not None:
+            self.last.tail = (self.last.tail or "") + data
+        else:
+            self.open[-1].text = (self.open[-1].text or "") + data
+
+
+def named(name):
+    """A name with its prefix, as `local` reads it."""
+    prefix, colon, own = name.partition(":")
+    return f"{{{prefix}}}{own}" if colon else name
+
+
+def parsed(body):
+    """The root of an XML text."""
+    builder = Builder()
     try:
-        checker.Parse(body, True)
-        return tree.fromstring(body)
-    except (expat.ExpatError, tree.ParseError, ValueError) as fault:
+        builder.parser.Parse(body, True)
+    except (expat.ExpatError, ValueError, LookupError) as fault:
+        # An encoding that isn't known is a LookupError.
         raise Unreadable(f"the request is no XML: {fault}") from fault
+    return builder.root
 
 
 def actions_of(root):
@@ -102,5 +155,11 @@ def fids_in(element):
 
 def number_and_version(fid):
     """The number of a feature and the version of it that an id names; None if it is no id of the gateway."""
-    found = re.fullmatch(r"""[^\s<>&"']+\.([0-9]{1,19})\.([0-9a-f]{16})(-[0-9]+)?""", fid)
-    return found and (int(found[1]), found[2])
+    found = ID.fullmatch(fid)
+    return found and (int(found[1]), signed(found[2]))
+
+
+def is_given(fid):
+    """Whether the gateway has given an id: by its signature."""
+    found = ID.fullmatch(fid)
+    return found is not None and found[3] is not None and signed(found[2]) == found[2] + found[3]

@@ -43,11 +43,12 @@ def corners(metres):
 def test_of(element, table, session):
     """What a filter asks of a feature, as a function of its view."""
     name = local(element)
+    if name in ("Filter", "Or") and len(element) and all(local(child) in OF_IDS for child in element):
+        return test_of_ids([fid for child in element for fid in fids_in(child)], session)
     if name in ("Filter", "And", "Or", "Not"):
         return joined_test(name, element, [test_of(child, table, session) for child in element])
     if name in OF_IDS:
-        wanted = [session.held(fid)[0] for fid in fids_in(element)]
-        return lambda view: view.number in wanted
+        return test_of_ids(fids_in(element), session)
     if name in ("BBOX", "Intersects"):
         box = box_in(element)
         return lambda view: meets(view.box, box)
@@ -59,14 +60,19 @@ def test_of(element, table, session):
     return lambda view: test(table.cell(view, named[0]))
 
 
+def test_of_ids(fids, session):
+    """Whether a feature has one of these ids."""
+    wanted = {session.held(fid)[0] for fid in fids}
+    return lambda view: view.number in wanted
+
+
 def joined_test(name, element, tests):
     """A test that joins others."""
     if not tests:
         raise Refused(f"a filter with {name} of nothing isn't taken")
     if name == "Not":
         return lambda view: not tests[0](view)
-    are_ids = all(local(child) in OF_IDS for child in element)
-    some = any if name == "Or" or (name == "Filter" and are_ids) else all
+    some = any if name == "Or" else all
     return lambda view: some(test(view) for test in tests)
 
 
@@ -93,21 +99,26 @@ def value_test(name, element, literals):
 
 
 def parts_of_like(element, literal):
-    """What a PropertyIsLike has between its wildcards: the length and the regular expression of each part. One expression with wildcards would take
-    longer by a power of the text's length with each of them."""
+    """What a PropertyIsLike has between its wildcards: the length and the regular expression of each part. In one expression of all, each wildcard
+    would multiply the time by the length of the text."""
     wild, single = element.get("wildCard"), element.get("singleChar")
-    escape, made, parts = element.get("escapeChar", element.get("escape")), [[]], iter(literal)
-    for part in parts:
-        if part == wild:
+    escape, made, letters = element.get("escapeChar", element.get("escape")), [[]], iter(literal)
+    for letter in letters:
+        if letter == escape:
+            made[-1] += map(re.escape, next(letters, ""))
+        elif letter == single:
+            made[-1].append(".")
+        elif letter == wild:
             made.append([])
         else:
-            made[-1] += ["."] if part == single else [re.escape(one) for one in (next(parts, "") if part == escape else part)]
+            made[-1].append(re.escape(letter))
     case = re.IGNORECASE if element.get("matchCase") == "false" else 0
     return [(len(part), re.compile("".join(part), re.DOTALL | case)) for part in made]
 
 
 def is_like(parts, text):
-    """Whether a text has these parts in their order: the first one at its beginning, the last one at its end."""
+    """Whether a text has these parts in their order: the first one at its beginning, the last one at its end, and each between them as soon as it
+    comes."""
     (at, first), *others = parts
     if not others:
         return bool(first.fullmatch(text))

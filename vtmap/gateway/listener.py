@@ -1,9 +1,12 @@
-"""HTTP for the gateway: paths, addresses, sizes, and a reply for each fault. Needs no package."""
+"""HTTP for the gateway: paths, addresses, origins, sizes, times, and a reply for each fault. Needs no package."""
 import gzip
+import http
 import json
 import re
+import socket
 import sys
 import threading
+import time
 import traceback
 import urllib.parse
 from http.server import BaseHTTPRequestHandler, ThreadingHTTPServer
@@ -15,35 +18,65 @@ from .ogc_texts import JSON
 
 WFS, OGC = "/wfs", "/ogc"
 XML, TEXT = "text/xml; charset=utf-8", "text/plain; charset=utf-8"
-# The types of a Transaction.
-KINDS_OF_XML = ("text/xml", "application/xml", "application/gml+xml")
+# The media types of a Transaction, and the methods that change nothing.
+KINDS_OF_XML, READS = ("text/xml", "application/xml", "application/gml+xml"), ("GET", "HEAD", "OPTIONS")
 HERE = "127.0.0.1"
 # The names by which a client, or the proxy in front, reaches this. A web page could rebind its own name to this address, and edit the map.
 HOSTS = re.compile(r"(127\.0\.0\.1|localhost|\[::1\])(:[0-9]+)?", re.IGNORECASE)
-# The most bytes of a Transaction, and those from which on a reply is compressed.
-MOST_BODY, LEAST_GZIP = 32 * 2 ** 20, 2000
-# Seconds after which a connection without a request is closed.
-IDLE = 300
+# What a browser may do with a reply: show it as what it says that it is, run nothing of it, and show it in no other page.
+SAFETY = [("X-Content-Type-Options", "nosniff"), ("Content-Security-Policy", "default-src 'none'; frame-ancestors 'none'; sandbox")]
+# The most bytes of a Transaction, of all bodies at once, and those from which on a reply is compressed.
+MOST_BODY, MOST_BODIES, LEAST_GZIP = 32 * 2 ** 20, 256 * 2 ** 20, 2000
+# Seconds after which a connection without a request is closed, and one that stops in the middle of a request or takes nothing of its reply; the bytes
+# of a second that a body or a reply takes at least beside these; and the seconds for which what a refused client sends yet is read.
+IDLE, PAUSE, SLOWEST, LINGER = 300, 30, 64 * 2 ** 10, 2
 
 
 class Handler(BaseHTTPRequestHandler):
-    """One connection. `wfs` and `ogc` answer."""
+    """One connection. `wfs` and `ogc` answer. `is_behind_nginx`: whether nginx says who sends a request."""
 
     protocol_version = "HTTP/1.1"
     disable_nagle_algorithm = True
-    wbufsize = -1
     timeout = IDLE
     wfs = ogc = None
+    is_behind_nginx = False
 
     def log_message(self, *words):
         """Prints nothing: what was saved is printed elsewhere."""
+
+    def handle_one_request(self):
+        """Waits for a request, and answers it."""
+        self.connection.settimeout(IDLE)
+        super().handle_one_request()
+
+    def parse_request(self):
+        """Reads the head of a request. Returns whether it is to be answered."""
+        self.connection.settimeout(PAUSE)
+        if not super().parse_request():
+            return False
+        if not HOSTS.fullmatch(self.headers.get("host", "")):
+            self.refuse(421, "reach it as 127.0.0.1 or localhost, or through a proxy that does")
+        elif self.is_foreign():
+            self.refuse(403, "a page of another origin asks for a change")
+        else:
+            return True
+        return False
+
+    def is_foreign(self):
+        """Whether a page of another origin asks for a change. A browser names the origin of the page with such a request, other programs name none.
+        The scheme isn't compared: a proxy may take https and pass on http. No page can send X-Forwarded-Host without the browser asking first."""
+        here = self.headers.get("x-forwarded-host", self.headers.get("host")).lower()
+        origins = [] if self.command in READS else self.headers.get_all("origin", [])
+        return any(origin.lower() not in ("", f"http://{here}", f"https://{here}") for origin in origins)
+
+    def handle_expect_100(self):
+        """Says nothing yet: a body is asked for once it is known that it is taken."""
+        return True
 
     def do_GET(self):
         """Answers WFS and OGC API Features."""
         path, _, query = self.path.partition("?")
         given = dict(urllib.parse.parse_qsl(query, keep_blank_values=True))
-        if not self.is_for_here():
-            return
         if path == OGC or path.startswith(OGC + "/"):
             self.answer_ogc(path.removeprefix(OGC), given)
             return
@@ -58,41 +91,74 @@ class Handler(BaseHTTPRequestHandler):
     do_HEAD = do_GET
 
     def do_POST(self):
-        """Makes a Transaction. The process doesn't end before its reply is sent."""
-        with self.server.saving:
-            self.post()
-
-    def post(self):
         """Makes a Transaction."""
-        session, length = session_in(self.path.partition("?")[0]), self.headers.get("content-length", "")
-        if not re.fullmatch("[0-9]{1,12}", length) or int(length) > MOST_BODY:
-            self.close_connection = True
-            self.reply(413 if length.isdecimal() else 411, f"a body of at most {MOST_BODY:,} bytes is taken".encode(), TEXT)
-            return
-        body = self.rfile.read(int(length))
-        if not self.is_for_here():
-            return
-        # A web page can make a browser post text or a form to any server, also with a parameter that has "xml" in it. For XML of another origin the
-        # browser asks first.
-        if session is None or self.headers.get_content_type() not in KINDS_OF_XML:
-            self.reply(404 if session is None else 415, b"NotFound" if session is None else b"text/xml is needed", TEXT)
-            return
-        person = self.headers.get("x-forwarded-user") or self.headers.get("x-real-ip") or self.client_address[0]
-        self.answer_wfs(wfs_texts.V1, "OperationProcessingFailed", lambda: self.wfs.transaction(session, body, person))
+        session, length = session_in(self.path.partition("?")[0]), self.length()
+        if length is None:
+            self.refuse(411, "one Content-Length is needed")
+        elif length > MOST_BODY:
+            self.refuse(413, f"a body of at most {MOST_BODY:,} bytes is taken")
+        elif session is None:
+            self.refuse(404, "NotFound")
+        elif self.headers.get_content_type() not in KINDS_OF_XML:
+            # A web page can make a browser post text or a form to any server, also with a parameter that has "xml" in it. For XML of another origin
+            # the browser asks first.
+            self.refuse(415, "text/xml is needed")
+        elif not self.server.bodies.take(length):
+            self.refuse(503, "others are sending very much just now")
+        else:
+            try:
+                self.post(session, length)
+            finally:
+                self.server.bodies.take(-length)
 
-    # ---- replies
+    def post(self, session, length):
+        """Makes a Transaction, once its body is there. The process doesn't end before its reply is sent."""
+        body = self.body(length)
+        if body is None:
+            self.refuse(408, "the body didn't come")
+            return
+        try:
+            with self.server.saving:
+                self.answer_wfs(wfs_texts.V1, "OperationProcessingFailed", lambda: self.wfs.transaction(session, body, self.person()))
+        except Ending:
+            self.refuse(503, "the gateway ends")
 
-    def is_for_here(self):
-        """Whether a request is for this machine by its name. If it isn't, it is refused."""
-        is_here = bool(HOSTS.fullmatch(self.headers.get("host", "")))
-        if not is_here:
-            self.reply(421, b"reach it as 127.0.0.1 or localhost, or through a proxy that does", TEXT)
-        return is_here
+    # ---- what a client says
+
+    def length(self):
+        """The length of the body, None if it isn't said once."""
+        said = self.headers.get_all("content-length", [])
+        is_said = len(said) == 1 and re.fullmatch("[0-9]{1,12}", said[0].strip()) and "transfer-encoding" not in self.headers
+        return int(said[0]) if is_said else None
+
+    def body(self, length):
+        """The body of a request, None if it doesn't come in time."""
+        if self.headers.get("expect", "").lower() == "100-continue":
+            self.connection.sendall(b"HTTP/1.1 100 Continue\r\n\r\n")
+        end, parts = time.monotonic() + PAUSE + length / SLOWEST, bytearray()
+        try:
+            while len(parts) < length:
+                self.connection.settimeout(max(min(end - time.monotonic(), PAUSE), 0.001))
+                part = self.rfile.read1(min(length - len(parts), 2 ** 16))
+                if not part:
+                    return None
+                parts += part
+        except TimeoutError:
+            return None
+        return bytes(parts)
 
     def address(self, path):
         """The address by which the client reaches a path: through a proxy, that which the proxy says."""
         host = self.headers.get("x-forwarded-host", self.headers.get("host", HERE))
         return f"{self.headers.get('x-forwarded-proto', 'http')}://{host}{self.headers.get('x-forwarded-prefix', '')}{path}"
+
+    def person(self):
+        """Who sends a request: what nginx says of it, a name or an address; without nginx anybody can say anything."""
+        said = self.is_behind_nginx and (self.headers.get("x-forwarded-user") or self.headers.get("x-real-ip"))
+        # Fields are read as ISO 8859-1, and nginx sends a name in UTF-8.
+        return said.encode("iso-8859-1", "replace").decode(errors="replace") if said else self.client_address[0]
+
+    # ---- replies
 
     def answer_wfs(self, version, code, work):
         """Answers by WFS. A refusal has status 200 too: of another one QGIS shows no text."""
@@ -128,25 +194,61 @@ class Handler(BaseHTTPRequestHandler):
         is_zipped = len(data) >= LEAST_GZIP and "gzip" in self.headers.get("accept-encoding", "")
         data = gzip.compress(data, 1) if is_zipped else data
         # Another client of the same address needs another session.
-        fields = [("Content-Type", kind), ("Content-Length", str(len(data))), ("Cache-Control", "no-store"), ("X-Content-Type-Options", "nosniff")]
-        self.send_response_only(status)
-        for name, value in fields + ([("Content-Encoding", "gzip")] if is_zipped else []):
-            self.send_header(name, value)
+        fields = [("Content-Type", kind), ("Content-Length", len(data)), ("Cache-Control", "no-store"), *SAFETY]
+        fields += [("Content-Encoding", "gzip")] if is_zipped else []
+        fields += [("Connection", "close")] if self.close_connection else []
+        head = "\r\n".join([f"HTTP/1.1 {status} {http.HTTPStatus(status).phrase}", *(f"{name}: {value}" for name, value in fields), "", ""])
         try:
-            self.end_headers()
-            if self.command != "HEAD":
-                self.wfile.write(data)
-            self.wfile.flush()
+            # The time of all of it.
+            self.connection.settimeout(PAUSE + len(data) / SLOWEST)
+            self.connection.sendall(head.encode() + (data if self.command != "HEAD" else b""))
         except OSError:
             # A GIS no longer waits once somebody has moved the map on.
             self.close_connection = True
+
+    def refuse(self, status, text):
+        """Refuses a request whose body, if it has one, isn't read, and ends the connection."""
+        self.close_connection = True
+        self.reply(status, text.encode(), TEXT)
+        # A connection that is closed while the client sends is reset, and the client gets no reply.
+        end = time.monotonic() + LINGER
+        try:
+            self.connection.shutdown(socket.SHUT_WR)
+            while (left := end - time.monotonic()) > 0:
+                self.connection.settimeout(left)
+                if not self.connection.recv(2 ** 16):
+                    break
+        except OSError:
+            pass
+
+    def send_error(self, code, message=None, explain=None):
+        """Refuses what is no request."""
+        self.refuse(int(code), message or http.HTTPStatus(code).phrase)
+
+
+class Ending(Exception):
+    """Why nothing is saved any more: the process ends."""
+
+
+class Bodies:
+    """How many bytes of bodies there are, which are being read or saved."""
+
+    def __init__(self):
+        self.bytes, self.lock = 0, threading.Lock()
+
+    def take(self, length):
+        """Takes room for a body, or gives it back. Returns whether there was room."""
+        with self.lock:
+            has_room = self.bytes + length <= MOST_BODIES
+            self.bytes += length if has_room else 0
+            return has_room
 
 
 class Saving:
     """How many saves are under way."""
 
     def __init__(self):
-        self.count, self.changed = 0, threading.Condition()
+        self.count, self.changed, self.is_over = 0, threading.Condition(), False
 
     def __enter__(self):
         self.add(1)
@@ -157,12 +259,15 @@ class Saving:
     def add(self, number):
         """One more, or one less."""
         with self.changed:
+            if number > 0 and self.is_over:
+                raise Ending
             self.count += number
             self.changed.notify_all()
 
     def wait(self):
-        """Waits until there is none."""
+        """Waits until there is none, and takes no further one."""
         with self.changed:
+            self.is_over = True
             self.changed.wait_for(lambda: self.count == 0)
 
 
@@ -174,7 +279,7 @@ class Listener(ThreadingHTTPServer):
 
     def __init__(self, *words):
         super().__init__(*words)
-        self.saving = Saving()
+        self.saving, self.bodies = Saving(), Bodies()
 
     def handle_error(self, request, client_address):
         """Says nothing of a client that has gone, and all of another fault."""
@@ -199,9 +304,9 @@ def broken(fault):
     return f"the request can't be understood ({type(fault).__name__}: {fault})"
 
 
-def listener(port, wfs, ogc):
+def listener(port, wfs, ogc, is_behind_nginx):
     """Listens on a port."""
-    handler = type("Here", (Handler,), {"wfs": wfs, "ogc": ogc})
+    handler = type("Here", (Handler,), {"wfs": wfs, "ogc": ogc, "is_behind_nginx": is_behind_nginx})
     try:
         return Listener((HERE, port), handler)
     except OSError as fault:

@@ -35,13 +35,14 @@ class OgcApi:
         with self.live.lock:
             self.look()
             tables = self.live.tables()
-            parts = [urllib.parse.unquote(part) for part in path.strip("/").split("/")] if path.strip("/") else []
-            if parts[:1] == ["collections"] and 2 <= len(parts) <= 4:
-                kind, found = self.collection(parts[1:], tables, given, address)
-            else:
-                kind, found = whole(parts, tables.values(), address)
-                see_names(given, ())
-            return kind, json.dumps(found, ensure_ascii=False, separators=(",", ":"))
+        # Tables and views stay as they are: others go on while the reply is made.
+        parts = [urllib.parse.unquote(part) for part in path.strip("/").split("/")] if path.strip("/") else []
+        if parts[:1] == ["collections"] and 2 <= len(parts) <= 4:
+            kind, found = self.collection(parts[1:], tables, given, address)
+        else:
+            kind, found = whole(parts, tables.values(), address)
+            see_names(given, ())
+        return kind, json.dumps(found, ensure_ascii=False, separators=(",", ":"))
 
     def collection(self, parts, tables, given, address):
         """The reply about a collection, its features, or one of them."""
@@ -58,7 +59,8 @@ class OgcApi:
 
     def item(self, table, text, here):
         """One feature."""
-        view = self.live.views.get(int(text)) if re.fullmatch("[0-9]{1,19}", text) else None
+        with self.live.lock:
+            view = self.live.views.get(int(text)) if re.fullmatch("[0-9]{1,19}", text) else None
         if view is None or view.key != (table.layer, table.kind):
             raise Unknown(f"{table.name} has no feature {text}")
         links = [ogc_texts.link("self", GEOJSON, f"{here}/items/{view.number}", "this feature"), ogc_texts.link("collection", JSON, here, table.title)]

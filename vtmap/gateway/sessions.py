@@ -10,10 +10,13 @@ from collections import defaultdict
 from ..faults import Refused
 from ..geometry.world import WORLD
 from .actions import number_and_version
-from .tables import is_within
+from .tables import DIGITS, is_within, signed
 
-# Seconds without a request after which a session's boxes are dropped, and after which what it has saved is.
+# Seconds without a request after which a session that has only read is dropped, and the boxes of one that has saved; and after which that one is.
 IDLE, FORGOTTEN = 12 * 3600, 30 * 24 * 3600
+# The most sessions, the most features in the boxes of all of them, and the most boxes of a table in one. Of those beyond, the ones go first that were
+# used least recently, and of sessions those that have saved nothing.
+MOST_SESSIONS, MOST_SHOWN, MOST_BOXES = 10_000, 5_000_000, 1000
 
 
 class Session:
@@ -26,7 +29,7 @@ class Session:
         # Versions of conflicts that it was told (None: deleted), the ids under which it got these features since, and those that are as it was told.
         self.told, self.given, self.seen = {}, {}, set()
         # By the names of tables: the boxes that were asked for since the layer was loaded, and the features in them.
-        self.boxes = {}
+        self.boxes, self.shown = {}, 0
         # What its last Transaction was that added features, and the ids that these got.
         self.mark, self.added = "", []
 
@@ -92,39 +95,76 @@ class Session:
             boxes.clear()
             shown.clear()
         boxes.append(box)
+        del boxes[:-MOST_BOXES]
         for view in views:
             if view.number not in shown or (view.number, view.version) in self.fids:
                 shown[view.number] = view
         return [shown[view.number] for view in views]
 
 
+    def count_shown(self):
+        """Counts the features in its boxes. Returns how many more they are than before."""
+        before, self.shown = self.shown, sum(len(shown) for _, shown in self.boxes.values())
+        return self.shown - before
+
+    @property
+    def is_needed(self):
+        """Whether it has more than what its GIS gets again by reading."""
+        return bool(self.has or self.told)
+
+
 class Sessions:
-    """The sessions by their names."""
+    """The sessions by their names, the one that was used last at the end."""
 
     def __init__(self):
-        self.all, self.swept = defaultdict(Session), time.time()
+        self.all, self.shown, self.swept = {}, 0, time.time()
 
     def get(self, name):
-        """The session of a name, and one that nobody has without."""
+        """The session of a name, or a new one, which is only kept by `keep`: anybody can make up names."""
         if time.time() > self.swept + 3600:
             self.sweep()
-        session = self.all[name] if name else Session()
+        session = self.all.get(name) or Session()
         session.used = time.time()
         return session
+
+    def keep(self, name, session):
+        """Keeps a session that has read or saved something. What nobody has named isn't kept."""
+        if not name:
+            return
+        self.all.pop(name, None)
+        self.all[name] = session
+        self.shown += session.count_shown()
+        while len(self.all) > MOST_SESSIONS:
+            self.drop(next((one for one, other in self.all.items() if not other.is_needed), next(iter(self.all))))
+        if self.shown > MOST_SHOWN:
+            for other in [one for one in self.all.values() if one.shown and one is not session]:
+                self.empty(other)
+                if self.shown <= MOST_SHOWN:
+                    break
+
+    def drop(self, name):
+        """Drops a session."""
+        self.shown -= self.all.pop(name).shown
+
+    def empty(self, session):
+        """Drops the boxes of a session."""
+        session.boxes.clear()
+        self.shown += session.count_shown()
 
     def restore(self, row):
         """Takes what was noted of a save."""
         if row["session"]:
-            session = self.all[row["session"]]
-            for note in row["notes"]:
-                session.note(*note)
+            session = self.get(row["session"])
+            for fid, number, version in row["notes"]:
+                session.note(fid, number, signed(version[:DIGITS]))
             session.mark, session.added, session.used = row["mark"], row["added"], row["time"]
+            self.keep(row["session"], session)
 
     def sweep(self):
         """Drops what hasn't been used for long."""
         self.swept = now = time.time()
         for name, session in list(self.all.items()):
-            if now > session.used + IDLE:
-                session.boxes.clear()
-            if now > session.used + FORGOTTEN:
-                del self.all[name]
+            if now > session.used + (FORGOTTEN if session.is_needed else IDLE):
+                self.drop(name)
+            elif now > session.used + IDLE:
+                self.empty(session)

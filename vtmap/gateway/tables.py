@@ -1,5 +1,6 @@
 """The features of the map as a GIS sees them: a table for each kind of shapes that a layer has, with a column for each tag. Needs no package."""
 import hashlib
+import secrets
 from collections import Counter, defaultdict
 
 from ..client.edits import encoded
@@ -10,8 +11,8 @@ from .names import xml_name
 # Columns that aren't tags.
 SHAPE, ID = "geom", "feature_id"
 OWN = (SHAPE, ID, *ZOOMS)
-# The digits of a version. A feature of a table that has none yet is shown at these zooms.
-DIGITS, NEW_ZOOMS = 16, (0, 14)
+# The digits of a version, and the bytes of its signature. A feature of a table that has none yet is shown at these zooms.
+DIGITS, SIGNATURE, NEW_ZOOMS = 16, 4, (0, 14)
 
 
 class View:
@@ -65,9 +66,27 @@ class Table:
         return value if form == "INTEGER" else text_of(value, form)
 
 
+def key_of_machine():
+    """What versions are signed with: the same after a restart, and no web page knows it."""
+    try:
+        with open("/etc/machine-id", "rb") as file:
+            text = file.read().strip()
+    except OSError:
+        text = b""
+    return hashlib.sha256(b"vtmap wfs " + text).digest() if text else secrets.token_bytes(32)
+
+
+KEY = key_of_machine()
+
+
+def signed(digits):
+    """A version: its digits, and that the gateway has given it."""
+    return digits + hashlib.blake2b(digits.encode(), key=KEY, digest_size=SIGNATURE).hexdigest()
+
+
 def version_of(pieces):
     """The version of a feature that is these features of the map, by their ids."""
-    return hashlib.sha256(encoded({str(number): feature for number, feature in pieces.items()})).hexdigest()[:DIGITS]
+    return signed(hashlib.sha256(encoded({str(number): feature for number, feature in pieces.items()})).hexdigest()[:DIGITS])
 
 
 def table_name(layer, kind):

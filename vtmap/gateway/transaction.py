@@ -2,11 +2,12 @@
 from collections import Counter
 
 from ..client.edits import checked, delete, put
-from ..commands.differences import told_change
+from ..commands.differences import shown, told_change
 from ..faults import Refused
 from ..geometry.pieces import pieces_of
 from ..geometry.shapes import Unfit
 from ..geometry.wholes import PIECE
+from .actions import is_given
 from .saves import Taken
 from .tables import version_of
 from .wishes import Wish, changed, fault_of_piece, new_feature
@@ -14,6 +15,8 @@ from .wishes import Wish, changed, fault_of_piece, new_feature
 # How often new features get other ids because somebody else was faster.
 TRIES = 8
 ADVICE = "Load the layer anew (F5) to see them. If you save again then, your edits are put over theirs; or undo yours"
+# What is said of an id that this gateway hasn't given: from before an update of it, or made up.
+NOT_GIVEN = ", undo your edit of it, load the layer anew and make it again"
 
 
 class Conflict(Refused):
@@ -25,10 +28,14 @@ class Conflict(Refused):
 
 
 class Transaction:
-    """What a GIS saves at once. `live` is as the map is now."""
+    """What a GIS saves at once. `live` is as the map is now. `again`: the ids that its new features got, if the GIS has sent it before. Those that the
+    map has as they were added aren't made again."""
 
-    def __init__(self, live, session, actions):
+    def __init__(self, live, session, actions, again=()):
         self.live, self.session, self.tables = live, session, live.tables()
+        self.again = again
+        # Its new features in their order: the id of one that isn't made again, or the wish.
+        self.new = []
         # What it makes of each feature, by the ids, and the versions that these had.
         self.wishes, self.versions = {}, {}
         self.conflicts, self.counts, self.free = [], Counter(), None
@@ -58,8 +65,13 @@ class Transaction:
 
     def insert(self, action, table):
         """Takes a new feature."""
+        before = self.again[len(self.new)] if len(self.new) < len(self.again) else None
+        if before is not None and is_there(self.live, self.session, before):
+            self.new.append(before)
+            return
         number = self.new_id()
         self.wishes[number] = Wish(table, None, number, None, changed(new_feature(table), action, table))
+        self.new.append(self.wishes[number])
 
     def new_id(self):
         """The next free id. Pieces of cut features have greater ones."""
@@ -81,8 +93,10 @@ class Transaction:
             return None
         # A GIS that got no reply saves the same again.
         is_made = before and view and action.name == "Update" and changed(before, action, table, number) == view.feature
-        if now != version and not is_made and not ((number, now) in self.session.seen and (view or before)):
-            self.tell(table, number, view, before)
+        # What is put over others' edits has an id that was given: whoever makes one up hasn't seen anything.
+        is_known = fid in self.session.has or is_given(fid)
+        if now != version and not is_made and not (is_known and (number, now) in self.session.seen and (view or before)):
+            self.tell(table, number, view, before, is_known)
             return None
         if view and view.key != (table.layer, table.kind):
             raise Refused(f"feature {number} isn't of {table.name}")
@@ -90,13 +104,14 @@ class Transaction:
         self.wishes[number] = Wish(table, fid, number, view and view.whole, view.feature if view else before)
         return self.wishes[number]
 
-    def tell(self, table, number, view, before):
+    def tell(self, table, number, view, before, is_known):
         """Tells a conflict."""
         now = f"now {told_change(before, view and view.feature)}" if before else "changed" if view else "deleted"
-        text = f"{table.layer} {number} ({now})"
+        text = f"{shown(table.layer)} {number} ({now}{'' if is_known else NOT_GIVEN})"
         if text not in self.conflicts:
             self.conflicts.append(text)
-        self.session.told[number] = view and view.version
+        if is_known:
+            self.session.told[number] = view and view.version
 
     # ---- making it
 
@@ -141,7 +156,7 @@ class Transaction:
 
     def saved(self):
         """What is to be noted of each feature that the GIS has now: its id, the number and the version; and the ids of new features."""
-        notes, added = [], []
+        notes, fids = [], {}
         for number, wish in self.wishes.items():
             if wish.feature is None:
                 continue
@@ -149,7 +164,13 @@ class Transaction:
             version = version_of(wish.wanted)
             self.live.remember(number, version, wish.feature)
             fid = wish.fid or self.session.fid(wish.table, number, version)
-            if wish.fid is None:
-                added.append(fid)
+            fids[wish] = fid
             notes += self.session.saved(fid, wish.table, number, wish.base and self.versions[number], version)
-        return notes, added
+        return notes, [fids.get(one, one) for one in self.new]
+
+
+def is_there(live, session, fid):
+    """Whether the map has a feature as it was added under this id."""
+    number, version = session.held(fid)
+    view = live.views.get(number)
+    return view is not None and view.version == version

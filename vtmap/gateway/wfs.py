@@ -2,14 +2,16 @@
 import hashlib
 import re
 import secrets
+import threading
 
+from ..commands.differences import shown
 from ..faults import Refused, Stopped
 from ..files.save_log import Unwritable
 from ..geometry.gml import SYSTEM, local
 from . import wfs_texts
 from .actions import actions_of, parsed, type_in
 from .filters import box_of, test_of
-from .transaction import Conflict, Transaction
+from .transaction import Conflict, Transaction, is_there
 
 # The hexadecimal digits of the name of a session.
 NAME_BYTES = 5
@@ -20,7 +22,7 @@ class Wfs:
     """The WFS of a live map."""
 
     def __init__(self, live, sessions, saves):
-        self.live, self.sessions, self.saves = live, sessions, saves
+        self.live, self.sessions, self.saves, self.turn = live, sessions, saves, threading.Lock()
 
     def look(self, is_saving=False):
         """Takes what others have changed, and undoes what was cut short. Where that can't be undone yet, the map is read, and nothing is saved."""
@@ -42,68 +44,61 @@ class Wfs:
             raise Refused(f"no such request: {given.get('request')}")
         with self.live.lock:
             self.look()
-            tables = self.live.tables()
-            if request == CAPABILITIES:
-                # Two layers of a GIS have the same id with different contents, so each has an address of its own: QGIS uses this one.
-                return wfs_texts.capabilities(version, tables.values(), f"{address}/{name or secrets.token_hex(NAME_BYTES)}")
-            asked = named_tables(given, tables)
-            return wfs_texts.schema(version, asked) if request == SCHEMA else self.features(version, name, given, asked)
+            tables, session = self.live.tables(), self.sessions.get(name)
+        # Tables and views stay as they are: others go on while features are chosen and written.
+        if request == CAPABILITIES:
+            # Two layers of a GIS have the same id with different contents, so each has an address of its own: QGIS uses this one.
+            return wfs_texts.capabilities(version, tables.values(), f"{address}/{name or secrets.token_hex(NAME_BYTES)}")
+        asked = named_tables(given, tables)
+        return wfs_texts.schema(version, asked) if request == SCHEMA else self.features(version, (name, session), given, asked)
 
-    def features(self, version, name, given, tables):
-        """The features that a request asks for."""
+    def features(self, version, named, given, tables):
+        """The features that a request asks for. `named`: the session, and its name before it."""
         see_system(given.get("srsname"))
-        session, is_hits = self.sessions.get(name), given.get("resulttype", "").lower() == "hits"
-        found = self.found(session, given, tables, is_hits)
-        matched, first = len(found), number_in(given, ("startindex",), 0)
+        (name, session), is_hits = named, given.get("resulttype", "").lower() == "hits"
+        chosen, is_plain = chosen_in(session, given, tables)
         if is_hits:
-            return wfs_texts.features(version, [], [], matched)
-        found = found[first:first + number_in(given, ("count", "maxfeatures"), matched)]
-        for _, view in found:
-            self.live.remember(view.number, view.version, view.feature)
-        session.give(found)
-        return wfs_texts.features(version, found, [session.fid(table, view.number, view.version) for table, view in found], matched)
-
-    def found(self, session, given, tables, is_hits):
-        """Pairs of table and view that a request asks for."""
-        box, fids = box_of(given.get("bbox")), given.get("featureid", given.get("resourceid"))
-        wanted = {session.held(fid)[0] for fid in fids.split(",")} if fids else None
-        asked, made = parsed(given["filter"].encode()) if given.get("filter") else None, []
-        for table in tables:
-            test = test_of(asked, table, session) if asked is not None else None
-            views = [view for view in table.meeting(box) if (wanted is None or view.number in wanted) and (test is None or test(view))]
-            is_plain = not is_hits and wanted is None and test is None
-            made += [(table, view) for view in (session.pinned(table, box, views) if is_plain else views)]
-        return made
+            return wfs_texts.features(version, [], [], sum(len(views) for _, views in chosen))
+        with self.live.lock:
+            box = box_of(given.get("bbox"))
+            found = [(table, view) for table, views in chosen for view in (session.pinned(table, box, views) if is_plain else views)]
+            matched, first = len(found), number_in(given, ("startindex",), 0)
+            found = found[first:first + number_in(given, ("count", "maxfeatures"), matched)]
+            for _, view in found:
+                self.live.remember(view.number, view.version, view.feature)
+            session.give(found)
+            fids = [session.fid(table, view.number, view.version) for table, view in found]
+            self.sessions.keep(name, session)
+        return wfs_texts.features(version, found, fids, matched)
 
     # ---- saving
 
     def transaction(self, name, body, person):
         """The reply to a Transaction. `person`: who sends it, a name or an address."""
-        root = parsed(body)
-        if local(root) != "Transaction":
-            raise Refused(f"a body with {local(root)} isn't taken")
-        with self.live.lock:
-            self.look(is_saving=True)
-            session, mark = self.sessions.get(name), hashlib.sha256(body).hexdigest()
-            counts, added = {"Insert": len(session.added), "Update": 0, "Delete": 0}, session.added
-            # If the reply to it was lost, the GIS sends the same again: its new features are made once, as long as they are on the map.
-            if session.mark != mark or not all(self.is_there(session, fid) for fid in session.added):
-                counts, added = self.save(name, session, actions_of(root), mark, person)
-            return wfs_texts.transacted(root.get("version", wfs_texts.V1.name), counts, added)
+        # One at a time: what is parsed may be several times as large as the body.
+        with self.turn:
+            root = parsed(body)
+            if local(root) != "Transaction":
+                raise Refused(f"a body with {local(root)} isn't taken")
+            with self.live.lock:
+                self.look(is_saving=True)
+                session, mark = self.sessions.get(name), hashlib.sha256(body).hexdigest()
+                # If the reply to it was lost, the GIS sends the same again: its new features are made once, as long as they are on the map.
+                again = session.added if session.mark == mark else []
+                counts, added = {"Insert": len(again), "Update": 0, "Delete": 0}, again
+                if not again or not all(is_there(self.live, session, fid) for fid in again):
+                    counts, added = self.save((name, session), actions_of(root), again, mark, person)
+                return wfs_texts.transacted(root.get("version", wfs_texts.V1.name), counts, added)
 
-    def is_there(self, session, fid):
-        """Whether the map has a feature as it was added under this id."""
-        number, version = session.held(fid)
-        view = self.live.views.get(number)
-        return view is not None and view.version == version
-
-    def save(self, name, session, actions, mark, person):
-        """Makes a Transaction. Returns its counts and the ids of new features."""
+    def save(self, named, actions, again, mark, person):
+        """Makes a Transaction. `named`: the session, and its name before it. Returns its counts and the ids of new features."""
+        name, session = named
         try:
-            task = Transaction(self.live, session, actions)
+            task = Transaction(self.live, session, actions, again)
             made = task.make(self.saves, person)
         except Conflict as conflict:
-            print(f"conflict: {person}: {'; '.join(conflict.features)}", flush=True)
+            self.sessions.keep(name, session)
+            print(f"conflict: {shown(person)}: {'; '.join(conflict.features)}", flush=True)
             raise
         notes, added = task.saved()
         mark = mark if added else ""
@@ -111,8 +106,20 @@ class Wfs:
         for note in notes:
             session.note(*note)
         session.mark, session.added = mark, added
-        print(f"saved: {person}: {told(task.counts)}{edits_told(made.edits)}", flush=True)
+        self.sessions.keep(name, session)
+        print(f"saved: {shown(person)}: {told(task.counts)}{edits_told(made.edits)}", flush=True)
         return task.counts, added
+
+
+def chosen_in(session, given, tables):
+    """The views of each table that a request asks for, and whether it names nothing but a box."""
+    box, fids = box_of(given.get("bbox")), given.get("featureid", given.get("resourceid"))
+    wanted = {session.held(fid)[0] for fid in fids.split(",")} if fids else None
+    asked, made = parsed(given["filter"].encode()) if given.get("filter") else None, []
+    for table in tables:
+        test = test_of(asked, table, session) if asked is not None else None
+        made.append((table, [view for view in table.meeting(box) if (wanted is None or view.number in wanted) and (test is None or test(view))]))
+    return made, wanted is None and asked is None
 
 
 def told(counts):
