@@ -2,10 +2,12 @@
 import os
 import sys
 
+from .shown import shown_lines
+
 
 def told(text, status):
     """Says why the process ends, and returns its status."""
-    print(text, file=sys.stderr)
+    print(shown_lines(text), file=sys.stderr)
     return status
 
 

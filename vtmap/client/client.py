@@ -18,6 +18,7 @@ from dataclasses import dataclass
 from ..faults import NoAnswer, Stopped
 from ..geometry.wholes import PIECE
 from ..limits import MOST_CHANGES, NUMBER_END
+from ..shown import shown
 from . import followers
 from .address import address
 from .edits import NOTHING, batches, body_of, delete, encoded, fits
@@ -452,8 +453,8 @@ def word(content):
     text = content.decode("utf-8", "replace").strip()
     if text.startswith("<"):
         title = re.search(r"<title>\s*(.*?)\s*</title>", text, re.IGNORECASE | re.DOTALL)
-        return title[1] if title else "a page in HTML"
-    return text.splitlines()[0] if text else ""
+        return shown(title[1]) if title else "a page in HTML"
+    return shown(text.splitlines()[0]) if text else ""
 
 
 def refusal(status, content, length):

@@ -14,6 +14,7 @@ from ..geometry.geojson import feature_of, geojson_of
 from ..geometry.wholes import right_handed, wholes_of
 from ..limits import MOST_CHANGES
 from ..progress import with_progress
+from ..shown import shown
 from .deletions import are_many
 from .ids import ranges
 
@@ -160,7 +161,7 @@ def deletions_for(rows, there, many):
     gone = {number: was for number, was in there.items() if number not in known}
     if gone:
         layers = Counter(json.loads(was)["layer"] for was in gone.values())
-        print(f"to be deleted: {', '.join(f'{count:,} of {layer}' for layer, count in layers.most_common())}, which the file doesn't have", flush=True)
+        print(f"to be deleted: {', '.join(f'{count:,} of {shown(layer)}' for layer, count in layers.most_common())}, which the file doesn't have", flush=True)
     if are_many(len(gone), len(there)) and not many:
         raise Refused(f"{len(gone):,} of the {len(there):,} features of the map would be deleted: nothing was changed (--delete-many deletes them)")
     return [delete(number)._replace(was=was) for number, was in gone.items()]

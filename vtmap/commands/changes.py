@@ -7,6 +7,7 @@ from ..client.edits import Change, batches, delete, encoded, sectors
 from ..files.base_file import hash_of
 from ..geometry.wholes import whole_in
 from ..limits import MOST_CHANGES, NUMBER_END
+from ..shown import shown
 from .deletions import are_many
 from .differences import named, told_difference
 from .sizes import Sizes
@@ -22,7 +23,7 @@ Found = namedtuple("Found", "layer whole body")
 
 def counted_layers(counts):
     """Counts of layers, as a text."""
-    return ", ".join(f"{count:,} of {layer}" for layer, count in counts.most_common())
+    return ", ".join(f"{count:,} of {shown(layer)}" for layer, count in counts.most_common())
 
 
 class Changes:

@@ -10,6 +10,7 @@ from ..geometry.pieces import pieces_of
 from ..geometry.shapes import Unfit
 from ..geometry.wholes import WHOLE, wholes_of
 from ..interpreters import look_for
+from ..shown import shown
 from .checkout import Choice, needed
 from .deletions import are_many
 from .differences import told_change
@@ -61,7 +62,7 @@ class Checkin:
         now = dict(self.client.features())
         self.adopt(now)
         for table in geopackage.plain_tables(self.file.file):
-            print(f"note: the table {table} has no geometry, and isn't sent")
+            print(f"note: the table {shown(table)} has no geometry, and isn't sent")
         rows = list(self.file.rows())
         for fault in self.file.unreadable:
             self.refused += 1
@@ -108,7 +109,7 @@ class Checkin:
             row.wanted = pieces_of(row, now)
         except Unfit as fault:
             self.refused += 1
-            print(f"refused: {row}: {fault}")
+            print(f"refused: {row}: {shown(fault)}")
             return False
         if row.base is base and base and self.is_changed(row, now):
             self.conflicts += 1
@@ -160,11 +161,11 @@ class Checkin:
         for _, base in sorted(self.file.base.items()):
             theirs = seen_of(base, now)
             if (theirs is None or theirs.pieces != base.pieces) and base.number not in mine:
-                print(f"changed by others: {base.feature['layer']} {base.number}: {told_change(base.feature, theirs and theirs.feature)}")
+                print(f"changed by others: {shown(base.feature['layer'])} {base.number}: {told_change(base.feature, theirs and theirs.feature)}")
         choice = Choice(self.file.told["layers"], self.file.told["bbox"])
         for whole in wholes_of((number, feature) for number, feature in now.items() if number not in ours):
             if whole.number not in mine and whole.feature["tags"].get(WHOLE) not in ours and choice.has(whole):
-                print(f"new by others: {whole.feature['layer']} {whole.number}")
+                print(f"new by others: {shown(whole.feature['layer'])} {whole.number}")
 
     def told(self, rows):
         """Tells the counts, and gives the status of the process."""

@@ -6,6 +6,7 @@ from ..client.client import Client, Full
 from ..client.edits import DELETES_OF_A_SECTOR, batches, checked, delete
 from ..faults import Fault, NoAnswer, Stopped
 from ..progress import with_progress
+from ..shown import shown
 from .ids import ranges
 
 ABOUT = {"delete-layer": """Deletes the features of layers from the map.
@@ -111,5 +112,5 @@ def work(words):
         print("interrupted: run the same command again")
         end = 130
     for layer in words.layers:
-        print(f"{deleted[layer]} features of {layer} deleted")
+        print(f"{deleted[layer]} features of {shown(layer)} deleted")
     return end

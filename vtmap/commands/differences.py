@@ -1,11 +1,7 @@
 """What differs between two versions of a feature, and the name of a feature, as people read them: Needs no package."""
+from ..shown import shown
 
 ZOOMS = ("minzoom", "maxzoom")
-
-
-def shown(name):
-    """A name that somebody has sent, as a terminal may have it."""
-    return name if name.isprintable() else repr(name)
 
 
 def said_of(feature):

@@ -11,6 +11,7 @@ from ..files.gdal_file import Reader
 from ..files.id_file import IdFile
 from ..limits import MOST_CHANGES
 from ..progress import with_progress
+from ..shown import shown
 from .changes import Changes
 from .ids import told_ranges
 from .import_options import MAXZOOM, has_ids
@@ -79,7 +80,7 @@ def obstacles(words, client, status, changes):
         if words.ids and any(not changes.plan.ids.is_known(layer) for layer in layers):
             found.append(f"{words.ids} has no ids of the layer, which the map has already: is it the file that was used before? (--anyway goes on)")
     if layers and words.first is None and words.id is None:
-        print(f"note: the map has {' and '.join(sorted(layers))} already: these are further features of it (`vtmap update` changes them instead)", flush=True)
+        print(f"note: the map has {' and '.join(map(shown, sorted(layers)))} already: these are further features of it (`vtmap update` changes them instead)", flush=True)
     return found
 
 
@@ -229,5 +230,5 @@ def imported(words):
         fault, status = found, 1
     except RuntimeError as found:
         fault, status = f"GDAL can't read {words.file}: {found}", 1
-    print(f"{fault}: nothing was sent")
+    print(f"{shown(fault)}: nothing was sent")
     return status

@@ -7,7 +7,8 @@ from datetime import date, datetime
 from ..faults import Refused
 from ..files.edit_log import lines_of
 from ..files.proxy_log import Senders
-from .differences import named, shown, told_change
+from ..shown import shown
+from .differences import named, told_change
 from .ids import ranges, told_ranges
 
 ABOUT = {"log": """Tells who changed what on the map, and when.

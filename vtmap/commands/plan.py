@@ -10,6 +10,7 @@ from ..geometry.shapes import Unfit, bounds, count, is_shown, size, wrong_zooms
 from ..geometry.wholes import PIECE
 from ..geometry.world import WORLD, degrees
 from ..limits import NUMBER_END
+from ..shown import shown
 from .sizes import is_heavy
 
 # Cut features that are named each; the rest is counted.
@@ -70,7 +71,7 @@ class Plan:
             self.refused += 1
             self.keep(number)
             named = f"feature of the file {feature.GetFID()}" if number is None else f"feature {number}"
-            print(f"{named} refused: not sent: {fault}", flush=True)
+            print(f"{named} refused: not sent: {shown(fault)}", flush=True)
             return None
         self.layers.add(layer)
         for own, planned in made:

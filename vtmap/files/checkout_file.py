@@ -9,6 +9,7 @@ from collections import Counter, defaultdict, namedtuple
 
 from ..faults import Refused
 from ..geometry.wholes import wholes_of
+from ..shown import shown
 from . import geopackage
 
 ZOOMS = ("minzoom", "maxzoom")
@@ -186,9 +187,9 @@ class Row:
         self.feature = merged(self.shown, self.said, theirs.feature) if theirs else self.said
 
     def __str__(self):
-        layer = (self.said or self.shown)["layer"]
-        row = f" (row {self.fid} of {self.table})" if self.shown is None else ""
-        return f"{layer} {self.number}{row}" if self.number is not None else f"new feature of {self.table} (row {self.fid})"
+        layer, table = shown((self.said or self.shown)["layer"]), shown(self.table)
+        row = f" (row {self.fid} of {table})" if self.shown is None else ""
+        return f"{layer} {self.number}{row}" if self.number is not None else f"new feature of {table} (row {self.fid})"
 
 
 def merged(before, after, theirs):
@@ -293,14 +294,14 @@ class Checkout:
         for table, column in geopackage.tables(self.file):
             for fid, blob, cells in geopackage.rows(self.file, table, column):
                 seen.add((table, fid))
-                shown = self.shown.get((table, fid))
+                was = self.shown.get((table, fid))
                 try:
-                    said = self.feature(table, shown, blob, cells)
+                    said = self.feature(table, was, blob, cells)
                 except geopackage.Unreadable as fault:
-                    self.unreadable.append(f"{table}, row {fid}: {fault}")
+                    self.unreadable.append(f"{shown(table)}, row {fid}: {shown(fault)}")
                     continue
-                if shown is None or said != shown:
-                    yield Row(table, fid, self.base.get((table, fid)), shown, said)
+                if was is None or said != was:
+                    yield Row(table, fid, self.base.get((table, fid)), was, said)
         for (table, fid), base in self.base.items():
             if (table, fid) not in seen:
                 yield Row(table, fid, base, self.shown[table, fid], None)

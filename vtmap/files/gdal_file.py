@@ -11,6 +11,7 @@ from ..faults import Fault
 from ..geometry.shapes import Unfit
 from ..geometry.world import EARTH, HALF, WORLD
 from ..limits import MOST_TAG
+from ..shown import shown
 from .texts import Texts
 
 # Columns of x and y of a CSV file, as they are usually named; which of them are longitude and latitude.
@@ -50,7 +51,7 @@ class Notes:
 
     def show(self):
         for note, count in self.counts.items():
-            print(f"note: {note}{self.examples.get(note, '')}: {count:,} feature{'s' if count > 1 else ''}", flush=True)
+            print(f"note: {shown(note)}{self.examples.get(note, '')}: {count:,} feature{'s' if count > 1 else ''}", flush=True)
 
 
 class Unreadable(Fault):
@@ -90,14 +91,14 @@ class Reader:
         layers = [self.file.GetLayer(at) for at in range(self.file.GetLayerCount())]
         chosen = [layer for layer in layers if source in (None, layer.GetName())]
         if not chosen:
-            raise Unreadable(f"{self.path} has no layer {source}: its layers are {', '.join(layer.GetName() for layer in layers)}")
+            raise Unreadable(f"{self.path} has no layer {source}: its layers are {', '.join(shown(layer.GetName()) for layer in layers)}")
         return chosen
 
     @staticmethod
     def is_left_out(layer):
         """Whether a layer beside others is a table without geometry, which is said."""
         if is_table(layer):
-            print(f"note: the layer {layer.GetName()} of the file is a table without geometry, and isn't read", flush=True)
+            print(f"note: the layer {shown(layer.GetName())} of the file is a table without geometry, and isn't read", flush=True)
         return is_table(layer)
 
     def read_columns(self, table, columns):
@@ -106,7 +107,7 @@ class Reader:
         names = {layer.GetFieldDefn(at).GetName().lower(): layer.GetFieldDefn(at).GetName() for at in range(layer.GetFieldCount())}
         x, y = columns or next((pair for pair in COLUMNS if set(pair) <= set(names)), (None, None))
         if x is None or not {x.lower(), y.lower()} <= set(names):
-            raise Unreadable(f"{self.path} has no geometry: name the columns of its points by --x and --y (it has {', '.join(names.values())})")
+            raise Unreadable(f"{self.path} has no geometry: name the columns of its points by --x and --y (it has {', '.join(map(shown, names.values()))})")
         x, y = names[x.lower()], names[y.lower()]
         if self.crs is None and (x.lower(), y.lower()) in DEGREES:
             self.crs = "EPSG:4326"
@@ -119,9 +120,9 @@ class Reader:
         if self.crs is not None and (source is None or self.kind.startswith("GeoJSON")):
             source = system_of(self.crs)
         elif source is None:
-            raise Unreadable(f"the layer {layer.GetName()} has no coordinate system: name it with --crs, as in --crs EPSG:4326")
+            raise Unreadable(f"the layer {shown(layer.GetName())} has no coordinate system: name it with --crs, as in --crs EPSG:4326")
         elif self.crs is not None:
-            print(f"note: the layer {layer.GetName()} names its coordinate system itself: --crs isn't used", flush=True)
+            print(f"note: the layer {shown(layer.GetName())} names its coordinate system itself: --crs isn't used", flush=True)
         source = source.Clone()
         target = osr.SpatialReference()
         target.ImportFromEPSG(3857)
@@ -158,7 +159,7 @@ class Reader:
         if not any(cells):
             return None
         if not all(NUMBER.fullmatch(cell) for cell in cells):
-            told = " and ".join(f"its {name} is {cell!r}" for name, cell in zip(self.columns, cells))
+            told = " and ".join(f"its {shown(name)} is {cell!r}" for name, cell in zip(self.columns, cells))
             raise Unfit(f"{told}: two numbers are needed, as 7.25 or 7,25, without separators of thousands")
         made = ogr.Geometry(ogr.wkbPoint)
         made.AddPoint_2D(*(float(cell.replace(",", ".")) for cell in cells))

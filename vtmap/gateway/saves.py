@@ -11,6 +11,7 @@ from ..client.edits import NOTHING, batches, body_of, delete, encoded, fits, sec
 from ..faults import NoAnswer, Refused, Stopped
 from ..files.proxy_log import line_of
 from ..files.save_log import Unwritable
+from ..shown import shown
 from .sessions import FORGOTTEN
 
 
@@ -137,7 +138,7 @@ class Saves:
     def name(self, number):
         """A feature of the map as people know it."""
         feature = self.live.now.get(number)
-        return f"{feature['layer']} {number}" if feature else str(number)
+        return f"{shown(feature['layer'])} {number}" if feature else str(number)
 
 
 def steps(change):

@@ -2,11 +2,12 @@
 from collections import Counter
 
 from ..client.edits import checked, delete, put
-from ..commands.differences import shown, told_change
+from ..commands.differences import told_change
 from ..faults import Refused
 from ..geometry.pieces import pieces_of
 from ..geometry.shapes import Unfit
 from ..geometry.wholes import PIECE
+from ..shown import shown
 from .actions import is_given
 from .saves import Taken
 from .tables import version_of

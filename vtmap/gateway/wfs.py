@@ -4,10 +4,10 @@ import re
 import secrets
 import threading
 
-from ..commands.differences import shown
 from ..faults import Refused, Stopped
 from ..files.save_log import Unwritable
 from ..geometry.gml import SYSTEM, local
+from ..shown import shown
 from . import wfs_texts
 from .actions import actions_of, parsed, type_in
 from .filters import box_of, test_of
