@@ -24,6 +24,7 @@ from doors import doors
 from editors import editors
 from encodings_of_files import encodings
 from endings import endings
+from foreign import foreign
 from front import in_front
 from full_disks import disk_full
 from hang_ups import hang_ups, shrinking
@@ -57,6 +58,7 @@ from units import units
 from updates import updates
 from wfs import wfs
 from wfs_deaths import wfs_deaths
+from wfs_hostile import wfs_hostile
 from wfs_qgis import wfs_qgis
 from wfs_random import wfs_random
 
@@ -88,6 +90,8 @@ def main():
         "three-ways": three_ways,
         "wfs": wfs,
         "wfs-deaths": wfs_deaths,
+        "wfs-hostile": wfs_hostile,
+        "foreign": foreign,
         "wfs-random": wfs_random,
         "wfs-qgis": wfs_qgis,
         "ogc": ogc,
