@@ -10,7 +10,7 @@ HEAD = '<?xml version="1.0" encoding="UTF-8"?>'
 
 
 class Xml(str):
-    """A text that is XML already. Only `element` makes one: any other text is escaped."""
+    """A text that is XML already. Only this module makes one: any other text is escaped."""
 
 
 def sayable(text):
@@ -54,7 +54,8 @@ def element(name, /, *content, **attributes):
 
 
 class Frame:
-    """Elements inside of each other that are written often. `names`: the outer one first, each alone or with its attributes."""
+    """Elements inside of each other that are written often. `names`: the outer one first, each alone or with its
+    attributes."""
 
     def __init__(self, *names):
         pairs = [(name, {}) if isinstance(name, str) else name for name in names]

@@ -1,5 +1,6 @@
-"""The part `foreign` of run.py: pages of other origins, and made-up ids, change nothing by `vtmap wfs`. By hand each kind of request that a browser
-makes for a page, and a page in Chromium itself; straight to the gateway, as on an editor's own machine."""
+"""The part `foreign` of run.py: pages of other origins, and made-up ids, change nothing by `vtmap wfs`. By hand each
+kind of request that a browser makes for a page, and a page in Chromium itself; straight to the gateway, as on an
+editor's own machine."""
 import http.client
 import itertools
 import json
@@ -15,7 +16,8 @@ from stand import Server, curl, feature
 
 # Media types of a Transaction; and others, of which a page can send some without the browser asking first.
 TAKEN = ("text/xml", "text/xml; charset=UTF-8", "Application/XML", "application/gml+xml; version=3.2")
-OTHERS = ("text/plain", "text/plain;charset=xml", "application/x-www-form-urlencoded;xml", "multipart/form-data; boundary=xml", "")
+OTHERS = ("text/plain", "text/plain;charset=xml", "application/x-www-form-urlencoded;xml",
+          "multipart/form-data; boundary=xml", "")
 ROUTES = ("/wfs", "/wfs/0123456789", "/ogc/collections/p.points/items", "/")
 COUNT = itertools.count()
 
@@ -37,19 +39,22 @@ def foreign(cases, folder):
 
 def origins(port):
     """Origins, and whether a request that names one is served: seven."""
-    return {None: True, f"http://127.0.0.1:{port}": True, f"https://127.0.0.1:{port}": True, "null": False, f"http://127.0.0.1:{port + 1}": False,
-            f"http://127.0.0.1:{port}.example.org": False, "http://example.org": False}
+    here = f"127.0.0.1:{port}"
+    return {None: True, f"http://{here}": True, f"https://{here}": True, "null": False,
+            f"http://127.0.0.1:{port + 1}": False, f"http://{here}.example.org": False, "http://example.org": False}
 
 
 def insert():
     """A Transaction that adds a point, which no other one adds."""
     shape = f"<geom>{point(1000.0 + next(COUNT), 5.0)}</geom>"
-    return f'<Transaction {GML} version="1.0.0"><Insert><v:p.points xmlns:v="urn:vtserve">{shape}</v:p.points></Insert></Transaction>'
+    made = f'<Insert><v:p.points xmlns:v="urn:vtserve">{shape}</v:p.points></Insert>'
+    return f'<Transaction {GML} version="1.0.0">{made}</Transaction>'
 
 
 def asked(gateway, method, path, origin=None, kind="", body=None, **more):
     """The status of the reply to a request."""
-    fields = {"Origin": origin, "Content-Type": kind, **{name.replace("_", "-"): value for name, value in more.items()}}
+    more = {name.replace("_", "-"): value for name, value in more.items()}
+    fields = {"Origin": origin, "Content-Type": kind, **more}
     connection = http.client.HTTPConnection("127.0.0.1", gateway.port, timeout=60)
     connection.request(method, path, body, {name: value for name, value in fields.items() if value})
     reply = connection.getresponse()
@@ -72,20 +77,23 @@ def by_hand(cases, server, gateway):
             if status != wanted(is_own, kind, route):
                 wrong.append((kind, route, status))
         made = edits_at(server.url) - edits
-        cases.show(f"foreign: POST of origin {origin}: nine media types to four routes", (wrong, made), ([], 2 * len(TAKEN) if is_own else 0))
+        name = f"foreign: POST of origin {origin}: nine media types to four routes"
+        cases.show(name, (wrong, made), ([], 2 * len(TAKEN) if is_own else 0))
 
 
 def other_methods(cases, gateway):
     """Other methods. What only reads is answered to all: no page of another origin gets to see it."""
     for method, status in (("PUT", 501), ("DELETE", 501), ("PATCH", 501)):
-        found = [asked(gateway, method, route, origin) for origin in (None, "http://example.org", "null") for route in ROUTES]
+        places = itertools.product((None, "http://example.org", "null"), ROUTES)
+        found = [asked(gateway, method, route, origin) for origin, route in places]
         cases.show(f"foreign: {method}", found, [status] * 4 + [403] * 8)
     reads = "/wfs?REQUEST=GetCapabilities", "/ogc/"
     for method, status in (("GET", 200), ("HEAD", 200), ("OPTIONS", 501)):
         found = [asked(gateway, method, path, origin) for origin in (None, "http://example.org") for path in reads]
         cases.show(f"foreign: {method} is answered", found, [status] * 4)
     reply = curl(f"{gateway.url}/wfs?REQUEST=GetCapabilities", "-H", "Origin: http://example.org")
-    cases.show("foreign: and no page is allowed to read it", [name for name, _ in reply[1] if name.lower().startswith("access-control")], [])
+    allowed = [name for name, _ in reply[1] if name.lower().startswith("access-control")]
+    cases.show("foreign: and no page is allowed to read it", allowed, [])
 
 
 def behind_another_name(cases, gateway):
@@ -97,9 +105,9 @@ def behind_another_name(cases, gateway):
 
 def smuggled(cases, server, gateway):
     """The body of a refused request isn't the next request."""
-    edits, inner = edits_at(server.url), insert()
-    inner = f"POST /wfs HTTP/1.1\r\nHost: {gateway.url[7:]}\r\nContent-Type: text/xml\r\nContent-Length: {len(inner)}\r\n\r\n{inner}"
-    outer = f"POST /wfs HTTP/1.1\r\nHost: {gateway.url[7:]}\r\nOrigin: null\r\nContent-Type: text/plain\r\nContent-Length: {len(inner)}\r\n\r\n{inner}"
+    edits, inner, head = edits_at(server.url), insert(), f"POST /wfs HTTP/1.1\r\nHost: {gateway.url[7:]}\r\n"
+    inner = f"{head}Content-Type: text/xml\r\nContent-Length: {len(inner)}\r\n\r\n{inner}"
+    outer = f"{head}Origin: null\r\nContent-Type: text/plain\r\nContent-Length: {len(inner)}\r\n\r\n{inner}"
     with socket.create_connection(("127.0.0.1", gateway.port), timeout=60) as peer:
         peer.sendall(outer.encode())
         peer.shutdown(socket.SHUT_WR)
@@ -117,7 +125,8 @@ def made_up(cases, server, gateway):
         gis.get("GetFeature")
         again = gis.save(gis.update(7, name="Forged"))
         found = "others have changed" in refused, "others have changed" in again, feature_at(server.url, 7)["tags"]
-        cases.show(f"foreign: the made-up id {fid}, before and after a read", found, (True, True, {"name": "Seven"}))
+        name = f"foreign: the made-up id {fid}, before and after a read"
+        cases.show(name, found, (True, True, {"name": "Seven"}))
     gis = Gis(gateway, "p.points")
     gis.rows()
     put_at(server.url, 7, name="By others")
@@ -152,16 +161,29 @@ def by_page(cases, folder, server, gateway):
         page = browser.open(f"http://127.0.0.1:{other.server_address[1]}/")
         edits = edits_at(server.url)
         for kind, mode in [*((kind, "no-cors") for kind in ("", *OTHERS[:4], *TAKEN)), ("text/xml", "cors")]:
-            words = {"method": "POST", "mode": mode, "body": insert(), "headers": {"Content-Type": kind} if kind else {}}
-            page.value(f"fetch({json.dumps(gateway.url + '/wfs')}, {json.dumps(words)}).then(reply => reply.type, fault => String(fault))")
+            fields = {"Content-Type": kind} if kind else {}
+            words = json.dumps({"method": "POST", "mode": mode, "body": insert(), "headers": fields})
+            page.value(f"fetch('{gateway.url}/wfs', {words}).then(reply => reply.type, fault => String(fault))")
         cases.show("foreign: a page in Chromium posts each media type", edits_at(server.url) - edits, 0)
-        found = page.value(f"fetch({json.dumps(gateway.url + '/ogc/collections/p.points/items')}).then(() => 'read', () => 'refused')")
+        path = f"{gateway.url}/ogc/collections/p.points/items"
+        found = page.value(f"fetch('{path}').then(() => 'read', () => 'refused')")
         cases.show("foreign: and reads nothing", found, "refused")
-        form = f"const form = Object.assign(document.createElement('form'), {{method: 'post', enctype: 'text/plain', action: '{gateway.url}/wfs'}})"
-        field = f"form.append(Object.assign(document.createElement('input'), {{name: {json.dumps(insert() + '<!--')}, value: '-->'}}))"
-        page.value(f"{form}; {field}; document.body.append(form); form.submit(); 0")
+        page.value(form(gateway.url + "/wfs", insert()))
         page.wait(f"location.href.startsWith('{gateway.url}')")
         told = page.wait("document.readyState === 'complete' && document.body?.innerText")
-        cases.show("foreign: its form is refused", (told, edits_at(server.url) - edits), ("a page of another origin asks for a change", 0))
+        found = told, edits_at(server.url) - edits
+        cases.show("foreign: its form is refused", found, ("a page of another origin asks for a change", 0))
     other.shutdown()
     other.server_close()
+
+
+def form(address, text):
+    """The script that sends a text to an address by a form."""
+    words = {"method": "post", "enctype": "text/plain", "action": address}
+    field = {"name": text + "<!--", "value": "-->"}
+    return f"""(() => {{
+        const form = Object.assign(document.createElement("form"), {json.dumps(words)});
+        form.append(Object.assign(document.createElement("input"), {json.dumps(field)}));
+        document.body.append(form);
+        form.submit();
+    }})()"""

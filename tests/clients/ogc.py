@@ -186,6 +186,8 @@ def by_leaflet(cases, folder, server, gateway):
         cases.say("no nginx, no Chromium or no libjs-leaflet: Leaflet doesn't draw the features")
         return
     port = [("127.0.0.1:8090", f"127.0.0.1:{gateway.port}")]
+    place, markup = json.loads(curl(f"{server.url}/features/451")[2]), "<i>markup</i>"
+    curl(f"{server.url}/features/999", "-X", "PUT", body=json.dumps({**place, "layer": markup}))
     with Nginx(nginx, folder, server, port) as front, Browser(os.path.join(folder, "profile"), 760, 480) as browser:
         pages = os.path.join(front.folder, "pages")
         shutil.copytree(os.path.join(TOP, "web"), pages)
@@ -194,9 +196,9 @@ def by_leaflet(cases, folder, server, gateway):
         shutil.copytree(os.path.join(LEAFLET, "images"), os.path.join(pages, "images"))
         page = browser.open(f"{front.url}/pages/features.html")
         names = "[...document.querySelectorAll('.leaflet-control-layers-overlays label')].map(label => label.innerText.trim())"
-        wanted = ["land (areas)", "park (areas)", "road (lines)", "building (areas)", "place (points)"]
-        page.wait("document.querySelectorAll('.leaflet-control-layers-overlays label').length === 5 && document.querySelector('canvas')")
-        cases.show("ogc: Leaflet has each collection", page.value(names), wanted)
+        wanted = [markup + " (points)", "land (areas)", "park (areas)", "road (lines)", "building (areas)", "place (points)"]
+        page.wait("document.querySelectorAll('.leaflet-control-layers-overlays label').length === 6 && document.querySelector('canvas')")
+        cases.show("ogc: Leaflet has each collection, and a name that is markup as a text", page.value(names), wanted)
         page.wait("document.querySelector('canvas').getContext('2d').getImageData(380, 240, 1, 1).data[3] > 0")
         time.sleep(1)
         page.click(380, 250)
@@ -206,6 +208,7 @@ def by_leaflet(cases, folder, server, gateway):
         if os.environ.get("PICTURES"):
             time.sleep(1)
             page.picture(os.path.join(os.environ["PICTURES"], "features-leaflet.png"))
+    curl(f"{server.url}/features/999", "-X", "DELETE")
     shutil.rmtree(front.folder)
 
 

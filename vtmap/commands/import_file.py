@@ -80,7 +80,8 @@ def obstacles(words, client, status, changes):
         if words.ids and any(not changes.plan.ids.is_known(layer) for layer in layers):
             found.append(f"{words.ids} has no ids of the layer, which the map has already: is it the file that was used before? (--anyway goes on)")
     if layers and words.first is None and words.id is None:
-        print(f"note: the map has {' and '.join(map(shown, sorted(layers)))} already: these are further features of it (`vtmap update` changes them instead)", flush=True)
+        names = " and ".join(map(shown, sorted(layers)))
+        print(f"note: the map has {names} already: these are further features of it (`vtmap update` changes them instead)", flush=True)
     return found
 
 

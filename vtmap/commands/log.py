@@ -7,7 +7,7 @@ from datetime import date, datetime
 from ..faults import Refused
 from ..files.edit_log import lines_of
 from ..files.proxy_log import Senders
-from ..shown import shown
+from ..shown import shown, shown_json
 from .differences import named, told_change
 from .ids import ranges, told_ranges
 
@@ -183,7 +183,7 @@ def work(words):
     for edit in edits_of(words.log, words.nginx):
         if isinstance(edit, dict):
             if is_told:
-                print(json.dumps(edit, separators=(",", ":")) if words.json else missing(edit))
+                print(shown_json(edit) if words.json else missing(edit))
             continue
         found = wanted(words, edit)
         if found is None:
@@ -192,7 +192,7 @@ def work(words):
         if words.count:
             counts.add(found)
         elif words.json:
-            print(json.dumps({**edit.row, "person": edit.person, "changes": found.changes}, ensure_ascii=False, separators=(",", ":")))
+            print(shown_json({**edit.row, "person": edit.person, "changes": found.changes}))
         elif is_told:
             print("\n".join(lines(found)))
     if words.numbers:

@@ -16,6 +16,8 @@ from .wishes import Wish, changed, fault_of_piece, new_feature
 # How often new features get other ids because somebody else was faster.
 TRIES = 8
 ADVICE = "Load the layer anew (F5) to see them. If you save again then, your edits are put over theirs; or undo yours"
+# What counts new features that were sent again, and aren't made again.
+AGAIN = "again"
 # What is said of an id that this gateway hasn't given: from before an update of it, or made up.
 NOT_GIVEN = ", undo your edit of it, load the layer anew and make it again"
 
@@ -69,6 +71,7 @@ class Transaction:
         before = self.again[len(self.new)] if len(self.new) < len(self.again) else None
         if before is not None and is_there(self.live, self.session, before):
             self.new.append(before)
+            self.counts[AGAIN] += 1
             return
         number = self.new_id()
         self.wishes[number] = Wish(table, None, number, None, changed(new_feature(table), action, table))

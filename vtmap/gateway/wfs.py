@@ -11,7 +11,7 @@ from ..shown import shown
 from . import wfs_texts
 from .actions import actions_of, parsed, type_in
 from .filters import box_of, test_of
-from .transaction import Conflict, Transaction, is_there
+from .transaction import AGAIN, Conflict, Transaction, is_there
 
 # The hexadecimal digits of the name of a session.
 NAME_BYTES = 5
@@ -50,17 +50,17 @@ class Wfs:
             # Two layers of a GIS have the same id with different contents, so each has an address of its own: QGIS uses this one.
             return wfs_texts.capabilities(version, tables.values(), f"{address}/{name or secrets.token_hex(NAME_BYTES)}")
         asked = named_tables(given, tables)
-        return wfs_texts.schema(version, asked) if request == SCHEMA else self.features(version, (name, session), given, asked)
-
-    def features(self, version, named, given, tables):
-        """The features that a request asks for. `named`: the session, and its name before it."""
+        if request == SCHEMA:
+            return wfs_texts.schema(version, asked)
         see_system(given.get("srsname"))
-        (name, session), is_hits = named, given.get("resulttype", "").lower() == "hits"
-        chosen, is_plain = chosen_in(session, given, tables)
-        if is_hits:
+        return self.features(version, name, given, *chosen_in(session, given, asked))
+
+    def features(self, version, name, given, chosen, is_plain):
+        """The features that were chosen. `is_plain`: by nothing but a box."""
+        if given.get("resulttype", "").lower() == "hits":
             return wfs_texts.features(version, [], [], sum(len(views) for _, views in chosen))
         with self.live.lock:
-            box = box_of(given.get("bbox"))
+            session, box = self.sessions.get(name), box_of(given.get("bbox"))
             found = [(table, view) for table, views in chosen for view in (session.pinned(table, box, views) if is_plain else views)]
             matched, first = len(found), number_in(given, ("startindex",), 0)
             found = found[first:first + number_in(given, ("count", "maxfeatures"), matched)]
@@ -124,8 +124,8 @@ def chosen_in(session, given, tables):
 
 def told(counts):
     """The counts of a Transaction as a text."""
-    names = (("Insert", "new"), ("Update", "changed"), ("Delete", "deleted"))
-    return ", ".join(f"{counts[name]:,} {said}" for name, said in names if counts[name]) or "nothing"
+    made = (counts["Insert"] - counts[AGAIN], "new"), (counts["Update"], "changed"), (counts["Delete"], "deleted")
+    return ", ".join(f"{count:,} {said}" for count, said in made if count) or "nothing"
 
 
 def edits_told(numbers):

@@ -122,10 +122,10 @@ class Rows:
     def member(self, view, fid):
         """A feature. It is written once for all who have it under the same id."""
         # Another request may keep its own way of writing it meanwhile.
-        key, last, written = self.key, *view.written
-        if last != (key, fid):
+        last, written = view.written
+        if last != (self.key, fid):
             written = self.around.of(element(self.name, *self.columns(view), **{"gml:id": fid}))
-            view.written = (key, fid), written
+            view.written = (self.key, fid), written
         return written
 
     def columns(self, view):
