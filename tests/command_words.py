@@ -57,7 +57,7 @@ def told_more(cases, folder, disk):
             (["verify", absent], b"File: " + absent.encode() + is_missing),
             (["upgrade", absent], b"File: " + absent.encode() + is_missing),
             (["export", absent, goal], b"File: " + absent.encode() + is_missing),
-            (["export", disk, goal], b"File: " + goal.encode() + is_missing),
+            (["export", disk, goal], b"File: " + goal.encode() + b".part" + is_missing),
             (["export", disk, disk], b"File: " + disk.encode() + b": not a regular file, or the disk itself"),
             (["pipe", used], b"File: " + used.encode() + b": another process uses it"),
             (["export", used, absent], b"File: " + used.encode() + b": another process uses it"),

@@ -116,8 +116,10 @@ def deaf_readers(cases, disk, count):
     peers = [connected(serving.port, 4_096) for _ in range(count)]
     for peer in peers:
         peer.sendall(GET_LARGE)
-    # (the tile is cut for the first one, and spelled for each)
-    asks(serving.port, [GET_NONE])
+    # The tile is cut for the first one, and spelled for each, between which others are answered: each has begun to get it, or was ended.
+    end = time.monotonic() + 60
+    while not all(map(is_readable, peers)) and time.monotonic() < end:
+        asks(serving.port, [GET_NONE])
     replies, longest = asks(serving.port, [GET_NONE, put_small(1_000), GET_NONE] * 5)
     statuses = [reply[9:12] for reply in replies]
     cases.show(f"others are served beside {count} peers that read nothing of 8 MB", statuses, [b"404", b"200", b"404"] * 5)
