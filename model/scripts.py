@@ -8,8 +8,10 @@ A module of `MODULES` has the name of its crate, `CRATE`, and a function `files`
 by side: each writes the part of its script that `PART` names. At the end comes what the folder `worked` of the crate has: examples whose answers no model
 made, and which nothing here writes anew.
 """
+import concurrent.futures
 import importlib
 import itertools
+import os
 import pathlib
 import sys
 
@@ -33,22 +35,22 @@ def worked(crate, file):
     return path.read_text() if path.exists() else ""
 
 
-def files_of(modules):
-    """The files of a crate: those of its modules, one after the other. The lines of a part follow one that names it, which has no answer."""
-    found = {"stdin": "", "stdout": ""}
-    for module in modules:
-        found["stdin"] += f"part {module.PART}\n"
-        for file, text in module.files().items():
-            found[file] += text
-    return found
+def part_of(name):
+    """The crate of a module, and its files. The lines of a part follow one that names it, which has no answer."""
+    module = importlib.import_module(name)
+    files = module.files()
+    return module.CRATE, {**files, "stdin": f"part {module.PART}\n{files['stdin']}"}
 
 
 def main(check):
     differ = 0
-    modules = [importlib.import_module(name) for name in MODULES]
-    for crate, of_crate in itertools.groupby(modules, lambda module: module.CRATE):
-        for file, text in files_of(of_crate).items():
-            differ += differs(CRATES / crate / file, text + worked(crate, file), check)
+    with concurrent.futures.ProcessPoolExecutor(len(os.sched_getaffinity(0))) as pool:
+        parts = list(pool.map(part_of, MODULES))
+    for crate, of_crate in itertools.groupby(parts, lambda part: part[0]):
+        # The files of a crate are those of its modules, one after the other.
+        found = [files for _, files in of_crate]
+        for file in ("stdin", "stdout"):
+            differ += differs(CRATES / crate / file, "".join(files[file] for files in found) + worked(crate, file), check)
     return 1 if check and differ else 0
 
 

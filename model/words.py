@@ -1,4 +1,5 @@
 """How the scripts of test programs spell bytes, and values in the form of `{:?}`. It shares no code with the programs."""
+import functools
 
 from rust_text import mark
 
@@ -84,6 +85,7 @@ def spelled(held):
     return " ".join(word for word in words if word)
 
 
+@functools.lru_cache(1024)
 def digest(held):
     """The 64-bit FNV-1a hash of bytes."""
     found = 0xCBF29CE484222325

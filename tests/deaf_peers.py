@@ -13,6 +13,8 @@ from command_streams import BODY, TEXT, reply
 
 # How many bytes all connections may hold.
 MAX_HELD = 2**28
+# How many bytes the large tile has at least, and what the log says of a connection that is ended since its client takes nothing.
+LARGE, WRITE = 2**23, b", write\n"
 # Features of which each takes some 21,000 bytes of the tile of zoom 0, as digits.
 FEATURES, POINTS = 390, 2_700
 GET_LARGE = b"GET /map/0/0/0.hex HTTP/1.1\r\nhost: x\r\n\r\n"
@@ -31,7 +33,14 @@ class Logged(Serving):
         self.reader.start()
 
     def read_log(self):
-        self.log = self.child.stderr.read()
+        for line in self.child.stderr:
+            self.log += line
+
+    def wait_for_ended(self, count):
+        """Waits until so many connections were ended since they take nothing, or for two minutes."""
+        end = time.monotonic() + 120
+        while self.log.count(WRITE) < count and time.monotonic() < end:
+            time.sleep(0.1)
 
     def end(self):
         status = self.child.wait(timeout=120)
@@ -112,14 +121,13 @@ def edit_of(reply):
 
 def deaf_readers(cases, disk, count):
     """So many peers ask for a large tile and read nothing. Others are served meanwhile."""
-    serving = Logged(disk, count + 2)
+    serving = Logged(disk, count + 3)
     peers = [connected(serving.port, 4_096) for _ in range(count)]
     for peer in peers:
         peer.sendall(GET_LARGE)
-    # The tile is cut for the first one, and spelled for each, between which others are answered: each has begun to get it, or was ended.
-    end = time.monotonic() + 60
-    while not all(map(is_readable, peers)) and time.monotonic() < end:
-        asks(serving.port, [GET_NONE])
+    # The tile is cut for the first one, and spelled for each by parts, between which others are answered.
+    asks(serving.port, [GET_NONE])
+    serving.wait_for_ended(5 if count * LARGE > MAX_HELD else 0)
     replies, longest = asks(serving.port, [GET_NONE, put_small(1_000), GET_NONE] * 5)
     statuses = [reply[9:12] for reply in replies]
     cases.show(f"others are served beside {count} peers that read nothing of 8 MB", statuses, [b"404", b"200", b"404"] * 5)
@@ -127,6 +135,8 @@ def deaf_readers(cases, disk, count):
     memory = most_memory(serving)
     for peer in peers:
         peer.close()
+    # The last connection: until then the process runs, also if all others were ended meanwhile.
+    asks(serving.port, [GET_NONE])
     status, _, log = serving.end()
     return status, log, memory
 

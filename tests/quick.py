@@ -1,12 +1,16 @@
 #!/usr/bin/env python3
-"""What the gate tries beside the proofs: the program's commands, `vtmap`, the page, the kept configurations and the documents.
+"""What the gate tries beside the proofs: the program's commands, `vtmap`, the page, the kept configurations and the
+documents.
 
-    python3 tests/quick.py [--program PROGRAM] [--jobs N] [PART ..]    PROGRAM is crates/vtserve/out/vtserve, which `rt ci` leaves there
+    python3 tests/quick.py [--program PROGRAM] [--jobs N] [PART ..]
 
-The parts are the lines of `PARTS`; with PART only these run, and `--list` names them. It prints a line for each with its counts and its
-seconds, the output of one that fails, and what is left out since a tool isn't installed. The last line is `N passed, M failed, K skipped`,
-and it ends with 1 if something failed. As root on Linux each part has its own network and processes (`unshare`): its ports are free, and
-nothing of it is left running. Elsewhere the parts look for free ports, and their process group is killed at their end.
+PROGRAM is crates/vtserve/out/vtserve, which `rt ci` leaves there.
+
+The parts are the lines of `PARTS`; with PART only these run, and `--list` names them. It prints a line for each with
+its counts and its seconds, the output of one that fails, and what is left out since a tool isn't installed. The last
+line is `N passed, M failed, K skipped`, and it ends with 1 if something failed. As root on Linux each part has its own
+network and processes (`unshare`): its ports are free, and nothing of it is left running. Elsewhere the parts look for
+free ports, and their process group is killed at their end.
 """
 import argparse
 import concurrent.futures
@@ -26,52 +30,61 @@ from collections import namedtuple
 
 HERE = os.path.dirname(os.path.abspath(__file__))
 TOP = os.path.dirname(HERE)
-PROGRAM, SCRATCH = "PROGRAM", "SCRATCH"
-PYTHON = sys.executable
+# Words of commands that stand for the program, a folder of the part's own, and an interpreter that has GDAL's module
+# if one has it.
+PROGRAM, SCRATCH, GDAL_PYTHON = "PROGRAM", "SCRATCH", "GDAL_PYTHON"
+PYTHON, SYSTEM_PYTHON = sys.executable, "/usr/bin/python3"
 
-# A name, the words of the command, after how many seconds it has failed, and the tools without which it isn't run.
-Part = namedtuple("Part", "name words seconds needs", defaults=((),))
+# A name, the words of the command, and the tools without which it isn't run. After so many seconds a part is killed,
+# and has failed: on a machine that does much else it takes ten times what it takes alone.
+Part = namedtuple("Part", "name words needs", defaults=((),))
+LONGEST = 2400
 
 
-def client(name, seconds):
+def client(name):
     """A part of tests/clients/run.py."""
-    return Part(name, [PYTHON, "tests/clients/run.py", PROGRAM, name], seconds, ("curl",))
+    return Part(name, [PYTHON, "tests/clients/run.py", PROGRAM, name], ("curl",))
 
 
-def page_of(name, seconds):
+def page_of(name):
     """The commands of a document."""
-    return Part(name, [PYTHON, "tests/documents.py", PROGRAM, "--page", name], seconds, ("namespaces", "ip", "curl", "nginx", "osgeo"))
+    return Part(
+        name, [PYTHON, "tests/documents.py", PROGRAM, "--page", name], ("namespaces", "ip", "curl", "nginx", "osgeo")
+    )
 
 
 # The longest ones first, so that no processor waits at the end.
 PARTS = [
-    Part("commands", [PYTHON, "tests/commands.py", PROGRAM], 400),
-    client("toolbox", 240),
-    client("wfs", 240),
-    client("trail", 200),
-    page_of("docs/DEPLOYING.md", 200),
-    page_of("docs/OFFICE.md", 200),
-    client("ogc", 180),
-    client("import", 200),
-    client("admin", 120),
-    page_of("docs/HTTP.md", 120),
-    page_of("docs/COMMANDS.md", 120),
-    page_of("README.md", 120),
-    client("batches", 100),
-    client("routes", 100),
-    client("tags", 60),
-    client("requests", 60),
-    client("features", 60),
-    client("full", 60),
-    client("restarts", 60),
-    client("kept", 60),
-    Part("modules", [PYTHON, "-m", "unittest", "discover", "-v", "-b", "-s", "tests/modules", "-t", "tests/modules"], 100),
-    Part("types", ["mypy", "--config-file", "tests/mypy.ini", "--cache-dir", os.devnull, "vtmap"], 120, ("mypy",)),
-    Part("page", [PYTHON, "tests/page/run.py"], 60, ("node",)),
-    Part("refusals", [PYTHON, "-m", "vtmap.client.refusals", "check"], 30),
-    Part("promises", [PYTHON, "tests/promises.py"], 60),
-    Part("mutants", [PYTHON, "bench/mutants/try.py", "--fits"], 60),
-    Part("nginx.conf", ["nginx", "-t", "-q", "-p", SCRATCH, "-c", os.path.join(TOP, "docs", "nginx.conf")], 30, ("nginx",)),
+    Part("models", [PYTHON, "model/scripts.py", "--check"]),
+    Part("commands", [PYTHON, "tests/commands.py", PROGRAM]),
+    client("toolbox"),
+    client("wfs"),
+    client("import"),
+    client("trail"),
+    client("batches"),
+    page_of("docs/DEPLOYING.md"),
+    page_of("docs/OFFICE.md"),
+    client("ogc"),
+    client("admin"),
+    page_of("docs/HTTP.md"),
+    page_of("docs/COMMANDS.md"),
+    page_of("README.md"),
+    Part("types", ["mypy", "--config-file", "tests/mypy.ini", "--cache-dir", os.devnull, "vtmap"], ("mypy",)),
+    client("routes"),
+    client("tags"),
+    client("requests"),
+    client("features"),
+    client("full"),
+    client("restarts"),
+    client("kept"),
+    Part(
+        "modules", [GDAL_PYTHON, "-m", "unittest", "discover", "-v", "-b", "-s", "tests/modules", "-t", "tests/modules"]
+    ),
+    Part("page", [PYTHON, "tests/page/run.py"], ("node",)),
+    Part("refusals", [PYTHON, "-m", "vtmap.client.refusals", "check"]),
+    Part("promises", [PYTHON, "tests/promises.py"]),
+    Part("mutants", [PYTHON, "bench/mutants/try.py", "--fits"]),
+    Part("nginx.conf", ["nginx", "-t", "-q", "-p", SCRATCH, "-c", os.path.join(TOP, "docs", "nginx.conf")], ("nginx",)),
 ]
 
 # Lines of outputs: of cases, of unittest, and of TAP, which node writes.
@@ -81,25 +94,31 @@ SKIPPED = re.compile(r" {8}(?:[\w-]+: )?((?:no|GDAL makes no) [^:]+: .*)|.* \.\.
 RUN = re.compile(r"\S+: (\d+) commands run, (\d+) differ; \d+ not run")
 NOTHING = re.compile(r"(?:Ran )?0 (?:cases|tests)\b|1\.\.0$", re.MULTILINE)
 MOST_LINES = 300
-# A part is ended so many seconds after its time, if SIGTERM doesn't end it.
+# So many seconds a process that was killed is waited for.
 GRACE = 5
 
 
 # ---- tools
 
+
 def has_namespaces():
     """Whether this process may have networks, processes and mounts of its own."""
-    return shutil.which("unshare") is not None and subprocess.run([*APART, "true"], capture_output=True, check=False).returncode == 0
+    words = [*APART, PYTHON, os.path.abspath(__file__), "--inside", "true"]
+    if shutil.which("unshare") is None:
+        return False
+    return subprocess.run(words, capture_output=True, check=False).returncode == 0
 
 
-def has_module(name):
-    """Whether an interpreter that `vtmap` looks for has a package."""
-    paths = dict.fromkeys(["/usr/bin/python3", sys.executable])
-    return any(subprocess.run([path, "-c", f"import {name}"], capture_output=True, check=False).returncode == 0 for path in paths if os.path.exists(path))
+def has_gdal(path):
+    """Whether an interpreter has GDAL's module."""
+    return (
+        os.path.exists(path)
+        and subprocess.run([path, "-c", "import osgeo"], capture_output=True, check=False).returncode == 0
+    )
 
 
 APART = ["unshare", "--net", "--mount", "--pid", "--fork", "--kill-child", "--mount-proc"]
-LOOKS = {"namespaces": has_namespaces, "osgeo": lambda: has_module("osgeo")}
+LOOKS = {"namespaces": has_namespaces, "osgeo": lambda: has_gdal(PYTHON) or has_gdal(SYSTEM_PYTHON)}
 
 
 class Tools:
@@ -116,6 +135,7 @@ class Tools:
 
 
 # ---- a part
+
 
 class Counts(namedtuple("Counts", "passed failed skipped")):
     """How many cases passed and failed, and why others were left out."""
@@ -148,9 +168,11 @@ def counted(status, text):
 
 
 def shown(text):
-    """The end of an output."""
-    lines = text.splitlines()
-    return [f"    ({len(lines) - MOST_LINES} lines before these)"] * (len(lines) > MOST_LINES) + [f"    {line}" for line in lines[-MOST_LINES:]]
+    """The end of an output, without the cases that passed."""
+    lines = [line for line in text.splitlines() if not PASSED.match(line)]
+    return [f"    ({len(lines) - MOST_LINES} lines before these)"] * (len(lines) > MOST_LINES) + [
+        f"    {line}" for line in lines[-MOST_LINES:]
+    ]
 
 
 class Runner:
@@ -169,31 +191,44 @@ class Runner:
         else:
             status, text = self.output_of(part)
             counts = counted(status, text)
-        lines = [f"{'FAILED' if counts.failed else 'ok':8}{part.name}: {told(counts)}, {time.monotonic() - began:.0f} s"]
+        word = "FAILED" if counts.failed else "ok" if counts.passed else "skipped"
+        lines = [f"{word:8}{part.name}: {told(counts)}, {time.monotonic() - began:.0f} s"]
         if counts.failed:
             lines += shown(text)
         with self.lock:
-            print("\n".join([*lines, *(f"        {part.name}: skipped: {why}" for why in counts.skipped)]), flush=True)
+            print("\n".join([*lines, *(f"        {part.name}: {why}" for why in counts.skipped)]), flush=True)
         return counts
 
     def output_of(self, part):
         """The status of a part and what it prints. One that takes too long is killed."""
         folder = os.path.join(self.scratch, part.name.replace("/", "-"))
         os.mkdir(folder, 0o755)
-        words = [{PROGRAM: self.program, SCRATCH: folder}.get(word, word) for word in part.words]
+        known = {
+            PROGRAM: self.program,
+            SCRATCH: folder,
+            GDAL_PYTHON: SYSTEM_PYTHON if has_gdal(SYSTEM_PYTHON) else PYTHON,
+        }
+        words = [known.get(word, word) for word in part.words]
         if self.tools.has("namespaces"):
             words = [*APART, PYTHON, os.path.abspath(__file__), "--inside", *words]
-        known = {name: value for name, value in os.environ.items() if not name.startswith("VTSERVE_")}
-        path = os.pathsep.join([known.get("PATH", os.defpath), "/usr/sbin"])
+        clean = {name: value for name, value in os.environ.items() if not name.startswith("VTSERVE_")}
+        path = os.pathsep.join([clean.get("PATH", os.defpath), "/usr/sbin"])
         with open(os.path.join(folder, "output"), "w+b") as output:
-            child = subprocess.Popen(words, cwd=TOP, env={**known, "TMPDIR": folder, "PATH": path}, stdin=subprocess.DEVNULL, stdout=output,
-                                     stderr=subprocess.STDOUT, start_new_session=True)
+            child = subprocess.Popen(
+                words,
+                cwd=TOP,
+                env={**clean, "TMPDIR": folder, "PATH": path},
+                stdin=subprocess.DEVNULL,
+                stdout=output,
+                stderr=subprocess.STDOUT,
+                start_new_session=True,
+            )
             self.children.add(child.pid)
             try:
-                status = child.wait(part.seconds)
+                status = child.wait(LONGEST)
                 more = ""
             except subprocess.TimeoutExpired:
-                status, more = 1, f"\nit hasn't ended after {part.seconds} seconds\n"
+                status, more = 1, f"\nit hasn't ended after {LONGEST} seconds\n"
             finally:
                 killed(child)
                 self.children.discard(child.pid)
@@ -224,7 +259,7 @@ def told(counts):
 
 
 def inside(words):
-    """Runs a command where this process has a network of its own, whose loopback device is down at first. Returns its status."""
+    """Runs a command in a network of its own, whose loopback device is down at first. Returns its status."""
     with socket.socket() as device:
         # SIOCSIFFLAGS with IFF_UP and IFF_RUNNING.
         fcntl.ioctl(device, 0x8914, struct.pack("16sH22x", b"lo", 0x41))
@@ -235,8 +270,14 @@ def main():
     if sys.argv[1:2] == ["--inside"]:
         return inside(sys.argv[2:])
     parser = argparse.ArgumentParser(description="Tries what ships beside the proofs.")
-    parser.add_argument("--program", default=os.path.join(TOP, "crates", "vtserve", "out", "vtserve"), help="vtserve (crates/vtserve/out/vtserve)")
-    parser.add_argument("--jobs", type=int, default=3, help="how many parts run at a time (3: most of them wait for something)")
+    parser.add_argument(
+        "--program",
+        default=os.path.join(TOP, "crates", "vtserve", "out", "vtserve"),
+        help="vtserve (crates/vtserve/out/vtserve)",
+    )
+    parser.add_argument(
+        "--jobs", type=int, default=3, help="how many parts run at a time (3: most of them wait for something)"
+    )
     parser.add_argument("--list", action="store_true", help="names the parts")
     parser.add_argument("part", nargs="*", help="parts to run (all)")
     words = parser.parse_args()

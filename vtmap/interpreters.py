@@ -4,6 +4,7 @@ import os
 import shutil
 import subprocess
 import sys
+from collections.abc import Sequence
 
 from .faults import Refused
 
@@ -12,12 +13,12 @@ FOUND = "VTMAP_INTERPRETER"
 PACKAGES = {"osgeo": ("GDAL's Python module", "python3-gdal"), "PIL": ("Pillow", "python3-pil")}
 
 
-def has(package):
+def has(package: str) -> bool:
     """Whether this interpreter has a package."""
     return importlib.util.find_spec(package) is not None
 
 
-def other(package):
+def other(package: str) -> str | None:
     """Another interpreter that has it, or None."""
     for path in dict.fromkeys(filter(None, ["/usr/bin/python3", "/usr/local/bin/python3", shutil.which("python3")])):
         if os.path.exists(path) and subprocess.run([path, "-c", f"import {package}"], capture_output=True, check=False).returncode == 0:
@@ -25,7 +26,7 @@ def other(package):
     return None
 
 
-def look_for(package, words):
+def look_for(package: str, words: Sequence[str]) -> None:
     """Goes on in an interpreter that has a package, if this one hasn't. Returns if it has, or if none has. `words`: those of the command."""
     if has(package) or os.environ.get(FOUND) == package:
         return
@@ -38,7 +39,7 @@ def look_for(package, words):
     os.execve(path, [path, "-m", "vtmap", *words], {**os.environ, FOUND: package, "PYTHONPATH": os.pathsep.join(places)})
 
 
-def need(package, words):
+def need(package: str, words: Sequence[str]) -> None:
     """Goes on in an interpreter that has a package. Raises `Refused` if none has."""
     look_for(package, words)
     if not has(package):

@@ -1,6 +1,8 @@
 """How far a command is that sends many changes, and a server that makes the tiles of a publication."""
 import threading
 import time
+from collections.abc import Iterable, Iterator
+from typing import Any
 
 from .faults import Fault
 
@@ -9,7 +11,7 @@ EACH = 1000
 PAUSE = 2
 
 
-def with_progress(changes):
+def with_progress(changes: Iterable) -> Iterator:
     """Passes on what `Client.make` yields, and prints a line for each thousand changes."""
     began = time.monotonic()
     for done, change in enumerate(changes, 1):
@@ -21,18 +23,18 @@ def with_progress(changes):
 class Tiles:
     """While it lasts, it prints how many tiles of a publication are made, by a connection of its own. A server without --admin doesn't tell."""
 
-    def __init__(self, client):
+    def __init__(self, client: Any) -> None:
         self.client, self.is_over = client.twin(), threading.Event()
         self.thread = threading.Thread(target=self.watch, daemon=True)
 
-    def __enter__(self):
+    def __enter__(self) -> "Tiles":
         self.thread.start()
         return self
 
-    def __exit__(self, *_):
+    def __exit__(self, *_: Any) -> None:
         self.is_over.set()
 
-    def watch(self):
+    def watch(self) -> None:
         """Asks until it is over, or the server doesn't tell."""
         try:
             while not self.is_over.wait(PAUSE):

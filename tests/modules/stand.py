@@ -10,7 +10,13 @@ sys.path.insert(0, TOP)
 
 def feature(geometry=None, layer="p", first=0, last=2, **tags):
     """A feature of the map."""
-    return {"layer": layer, "minzoom": first, "maxzoom": last, "geometry": geometry or {"points": [[0, 0]]}, "tags": tags}
+    return {
+        "layer": layer,
+        "minzoom": first,
+        "maxzoom": last,
+        "geometry": geometry or {"points": [[0, 0]]},
+        "tags": tags,
+    }
 
 
 class InFolder(unittest.TestCase):

@@ -1,5 +1,5 @@
-"""Tests of vtmap/gateway/ and of vtmap/geometry/gml.py without a server. Filters are those of OGC 09-026 (Filter Encoding 2.0) and 04-095 (1.1), geometries
-those of GML 2 and 3, requests those of OGC 17-069 (OGC API Features)."""
+"""Tests of vtmap/gateway/ and of vtmap/geometry/gml.py without a server. Filters are those of OGC 09-026 (Filter
+Encoding 2.0) and 04-095 (1.1), geometries those of GML 2 and 3, requests those of OGC 17-069 (OGC API Features)."""
 import json
 import math
 import unittest
@@ -33,8 +33,12 @@ def view(number, place, **tags):
 
 
 # A point in each quarter of the world.
-VIEWS = [view(1, [2 ** 30, 2 ** 30], name="Ash", height=5), view(2, [3 * 2 ** 30, 2 ** 30], name="ash", height=12, is_old=True),
-         view(3, [2 ** 30, 3 * 2 ** 30], name="Beech*"), view(4, [3 * 2 ** 30, 3 * 2 ** 30], height=-3)]
+VIEWS = [
+    view(1, [2**30, 2**30], name="Ash", height=5),
+    view(2, [3 * 2**30, 2**30], name="ash", height=12, is_old=True),
+    view(3, [2**30, 3 * 2**30], name="Beech*"),
+    view(4, [3 * 2**30, 3 * 2**30], height=-3),
+]
 TABLE = Table(("p", "points"), VIEWS, {})
 
 
@@ -46,13 +50,20 @@ def found(inner):
 
 def compare(name, column, *literals, more=""):
     """A comparison."""
-    return f"<{name} {more}><ValueReference>v:{column}</ValueReference>{''.join(f'<Literal>{one}</Literal>' for one in literals)}</{name}>"
+    values = "".join(f"<Literal>{one}</Literal>" for one in literals)
+    return f"<{name} {more}><ValueReference>v:{column}</ValueReference>{values}</{name}>"
 
 
 class Filters(unittest.TestCase):
     def test_comparisons_of_numbers(self):
-        for name, wanted in [("EqualTo", [1]), ("NotEqualTo", [2, 4]), ("LessThan", [4]), ("GreaterThan", [2]),
-                             ("LessThanOrEqualTo", [1, 4]), ("GreaterThanOrEqualTo", [1, 2])]:
+        for name, wanted in [
+            ("EqualTo", [1]),
+            ("NotEqualTo", [2, 4]),
+            ("LessThan", [4]),
+            ("GreaterThan", [2]),
+            ("LessThanOrEqualTo", [1, 4]),
+            ("GreaterThanOrEqualTo", [1, 2]),
+        ]:
             self.assertEqual(found(compare(f"PropertyIs{name}", "height", "5")), wanted, name)
 
     def test_numbers_are_compared_as_numbers(self):
@@ -71,23 +82,39 @@ class Filters(unittest.TestCase):
         self.assertEqual(found("<Not>" + compare("PropertyIsNil", "name") + "</Not>"), [1, 2, 3])
 
     def test_between(self):
-        inner = "<ValueReference>height</ValueReference><LowerBoundary><Literal>-3</Literal></LowerBoundary><UpperBoundary><Literal>5</Literal></UpperBoundary>"
+        inner = "<ValueReference>height</ValueReference><LowerBoundary><Literal>-3</Literal></LowerBoundary>"
+        inner += "<UpperBoundary><Literal>5</Literal></UpperBoundary>"
         self.assertEqual(found(f"<PropertyIsBetween>{inner}</PropertyIsBetween>"), [1, 4])
 
     def test_and_or_not(self):
         tall, ash = compare("PropertyIsGreaterThan", "height", "5"), compare("PropertyIsEqualTo", "name", "Ash")
-        self.assertEqual((found(f"<And>{tall}{ash}</And>"), found(f"<Or>{tall}{ash}</Or>"), found(f"<Not>{ash}</Not>")), ([], [1, 2], [2, 3, 4]))
+        self.assertEqual(
+            (found(f"<And>{tall}{ash}</And>"), found(f"<Or>{tall}{ash}</Or>"), found(f"<Not>{ash}</Not>")),
+            ([], [1, 2], [2, 3, 4]),
+        )
 
     def test_like(self):
         for literal, more, wanted in [
-            ("*s*", "", [1, 2]), ("A.h", "", [1]), ("a??", "", []), ("ash", 'matchCase="false"', [1, 2]), ("Beech!*", "", [3]), ("B*!*", "", [3]), ("h", "", []),
+            ("*s*", "", [1, 2]),
+            ("A.h", "", [1]),
+            ("a??", "", []),
+            ("ash", 'matchCase="false"', [1, 2]),
+            ("Beech!*", "", [3]),
+            ("B*!*", "", [3]),
+            ("h", "", []),
         ]:
             more += ' wildCard="*" singleChar="." escapeChar="!"'
             self.assertEqual(found(compare("PropertyIsLike", "name", literal, more=more)), wanted, literal)
 
     def test_parts_of_a_pattern_dont_overlap(self):
         element = tree.fromstring('<PropertyIsLike wildCard="%" singleChar="_" escape="\\"/>')
-        for literal, text, wanted in [("ab%ba", "aba", False), ("ab%ba", "abba", True), ("%", "", True), ("a%b%c", "axxbyyc", True), ("a%b%c", "acb", False)]:
+        for literal, text, wanted in [
+            ("ab%ba", "aba", False),
+            ("ab%ba", "abba", True),
+            ("%", "", True),
+            ("a%b%c", "axxbyyc", True),
+            ("a%b%c", "acb", False),
+        ]:
             self.assertEqual(is_like(parts_of_like(element, literal), text), wanted, (literal, text))
 
     def test_a_pattern_of_many_wildcards_ends_soon(self):
@@ -103,14 +130,20 @@ class Filters(unittest.TestCase):
         self.assertEqual(found(ids), [2, 4])
 
     def test_what_isnt_taken(self):
-        for inner in ("<DWithin/>", "<And/>", "<PropertyIsEqualTo><Literal>1</Literal></PropertyIsEqualTo>", '<ResourceId rid="p.7"/>', "<BBOX/>",
-                      compare("PropertyIsEqualTo", "name", "a", "b")):
+        for inner in (
+            "<DWithin/>",
+            "<And/>",
+            "<PropertyIsEqualTo><Literal>1</Literal></PropertyIsEqualTo>",
+            '<ResourceId rid="p.7"/>',
+            "<BBOX/>",
+            compare("PropertyIsEqualTo", "name", "a", "b"),
+        ):
             with self.assertRaises(Refused, msg=inner):
                 found(inner)
 
     def test_bbox_parameter(self):
         self.assertEqual(box_of(f"{-HALF},{-HALF},{HALF},{HALF}"), (0, 0, WORLD, WORLD))
-        self.assertEqual(box_of(f"0,0,{9 * HALF},{9 * HALF},urn:ogc:def:crs:EPSG::3857"), (2 ** 31, 0, WORLD, 2 ** 31))
+        self.assertEqual(box_of(f"0,0,{9 * HALF},{9 * HALF},urn:ogc:def:crs:EPSG::3857"), (2**31, 0, WORLD, 2**31))
         self.assertIsNone(box_of(""))
         for text in ("1,2,3", "1,2,3,x", "1,2,3,nan", "1,2,3,4,EPSG:4326"):
             self.assertRaises(Refused, box_of, text)
@@ -119,10 +152,15 @@ class Filters(unittest.TestCase):
 
 class Boxes(unittest.TestCase):
     def test_meets(self):
-        self.assertEqual([meets((0, 0, 5, 5), other) for other in [(5, 5, 9, 9), (6, 0, 9, 5), (0, 6, 5, 9), (1, 1, 2, 2)]], [True, False, False, True])
+        self.assertEqual(
+            [meets((0, 0, 5, 5), other) for other in [(5, 5, 9, 9), (6, 0, 9, 5), (0, 6, 5, 9), (1, 1, 2, 2)]],
+            [True, False, False, True],
+        )
 
     def test_within(self):
-        self.assertEqual([is_within(one, (0, 0, 5, 5)) for one in [(0, 0, 5, 5), (1, 1, 6, 2), (-1, 0, 2, 2)]], [True, False, False])
+        self.assertEqual(
+            [is_within(one, (0, 0, 5, 5)) for one in [(0, 0, 5, 5), (1, 1, 6, 2), (-1, 0, 2, 2)]], [True, False, False]
+        )
 
     def test_around(self):
         self.assertEqual(around([(1, 9, 3, 10), (0, 4, 2, 20)]), (0, 4, 3, 20))
@@ -130,8 +168,17 @@ class Boxes(unittest.TestCase):
 
 class Names(unittest.TestCase):
     def test_names_of_xml(self):
-        for name, wanted in [("name", "name"), ("addr:street", "addr.street"), ("a b", "a·b"), ("1st", "_x0031_st"), ("a/b", "a_x002F_b"), (":a", "_x003A_a"),
-                             ("Höhe", "Höhe"), ("_x0041_", "_x005F_x0041_"), ("\U0001f600", "_x1F600_")]:
+        for name, wanted in [
+            ("name", "name"),
+            ("addr:street", "addr.street"),
+            ("a b", "a·b"),
+            ("1st", "_x0031_st"),
+            ("a/b", "a_x002F_b"),
+            (":a", "_x003A_a"),
+            ("Höhe", "Höhe"),
+            ("_x0041_", "_x005F_x0041_"),
+            ("\U0001f600", "_x1F600_"),
+        ]:
             self.assertEqual(xml_name(name), wanted)
             self.assertEqual(map_name(wanted), name)
             tree.fromstring(f"<{xml_name(name)}/>")
@@ -148,8 +195,13 @@ class Names(unittest.TestCase):
 
 class Tables(unittest.TestCase):
     def test_columns(self):
-        self.assertEqual(TABLE.columns, {"height": ("height", "INTEGER"), "is_old": ("is_old", "BOOLEAN"), "name": ("name", "TEXT")})
-        self.assertEqual((TABLE.name, TABLE.zooms, TABLE.is_several, TABLE.box), ("p.points", (0, 2), False, (2 ** 30, 2 ** 30, 3 * 2 ** 30, 3 * 2 ** 30)))
+        self.assertEqual(
+            TABLE.columns, {"height": ("height", "INTEGER"), "is_old": ("is_old", "BOOLEAN"), "name": ("name", "TEXT")}
+        )
+        self.assertEqual(
+            (TABLE.name, TABLE.zooms, TABLE.is_several, TABLE.box),
+            ("p.points", (0, 2), False, (2**30, 2**30, 3 * 2**30, 3 * 2**30)),
+        )
 
     def test_a_version_changes_with_the_feature(self):
         one = version_of({7: stand.feature(a=1, b=2)})
@@ -161,7 +213,9 @@ class Tables(unittest.TestCase):
 
 class Gml(unittest.TestCase):
     SHAPES = [
-        {"points": [[1, 2]]}, {"points": [[1, 2], [3, 4]]}, {"lines": [[[0, 0], [2 ** 32 - 1, 2 ** 32 - 1]]]},
+        {"points": [[1, 2]]},
+        {"points": [[1, 2], [3, 4]]},
+        {"lines": [[[0, 0], [2**32 - 1, 2**32 - 1]]]},
         {"polygons": [[[[0, 0], [9, 0], [9, 9]], [[5, 1], [6, 1], [6, 2]]], [[[20, 20], [29, 20], [29, 29]]]]},
     ]
 
@@ -172,33 +226,55 @@ class Gml(unittest.TestCase):
             self.assertEqual(geometry_of(tree.fromstring(text)), shape)
 
     def test_a_point(self):
-        x, y = metres((2 ** 31, 2 ** 31))
-        self.assertEqual(gml_of({"points": [[2 ** 31, 2 ** 31]]}, False, "EPSG:3857"),
-                         f'<gml:Point srsName="EPSG:3857"><gml:pos>{x:.4f} {y:.4f}</gml:pos></gml:Point>')
-        self.assertAlmostEqual(x, EARTH / 2 ** 33, places=9)
+        x, y = metres((2**31, 2**31))
+        self.assertEqual(
+            gml_of({"points": [[2**31, 2**31]]}, False, "EPSG:3857"),
+            f'<gml:Point srsName="EPSG:3857"><gml:pos>{x:.4f} {y:.4f}</gml:pos></gml:Point>',
+        )
+        self.assertAlmostEqual(x, EARTH / 2**33, places=9)
 
     def read(self, text):
         return geometry_of(tree.fromstring(text.replace(">", f" {GML}>", 1)))
 
     def test_gml_2(self):
-        place = [3 * 2 ** 30, 2 ** 30]
+        place = [3 * 2**30, 2**30]
         quarter = HALF / 2
-        self.assertEqual(self.read(f"<gml:Point><gml:coordinates>{quarter},{quarter}</gml:coordinates></gml:Point>"), {"points": [place]})
-        self.assertEqual(self.read(f"<gml:Point><gml:coord><gml:X>{quarter}</gml:X><gml:Y>{quarter}</gml:Y></gml:coord></gml:Point>"), {"points": [place]})
+        self.assertEqual(
+            self.read(f"<gml:Point><gml:coordinates>{quarter},{quarter}</gml:coordinates></gml:Point>"),
+            {"points": [place]},
+        )
+        self.assertEqual(
+            self.read(
+                f"<gml:Point><gml:coord><gml:X>{quarter}</gml:X><gml:Y>{quarter}</gml:Y></gml:coord></gml:Point>"
+            ),
+            {"points": [place]},
+        )
 
     def test_heights_are_left_out(self):
-        self.assertEqual(self.read('<gml:LineString srsDimension="3"><gml:posList>0 0 7 10000000 0 7</gml:posList></gml:LineString>'),
-                         {"lines": [[[2 ** 31, 2 ** 31], [math.floor((10000000 / EARTH + 0.5) * 2 ** 32), 2 ** 31]]]})
+        self.assertEqual(
+            self.read(
+                '<gml:LineString srsDimension="3"><gml:posList>0 0 7 10000000 0 7</gml:posList></gml:LineString>'
+            ),
+            {"lines": [[[2**31, 2**31], [math.floor((10000000 / EARTH + 0.5) * 2**32), 2**31]]]},
+        )
 
     def test_a_curve_of_segments(self):
-        segments = "".join(f"<gml:LineStringSegment><gml:posList>{places}</gml:posList></gml:LineStringSegment>" for places in ("0 0 0 100", "0 100 0 200"))
+        segments = "".join(
+            f"<gml:LineStringSegment><gml:posList>{places}</gml:posList></gml:LineStringSegment>"
+            for places in ("0 0 0 100", "0 100 0 200")
+        )
         (line,) = self.read(f"<gml:Curve><gml:segments>{segments}</gml:segments></gml:Curve>")["lines"]
         self.assertEqual(len(line), 3)
 
     def test_what_isnt_taken(self):
-        for text in ('<gml:Point srsName="EPSG:25832"><gml:pos>0 0</gml:pos></gml:Point>', "<gml:Point><gml:pos>0 x</gml:pos></gml:Point>",
-                     "<gml:Point><gml:pos>30000000 0</gml:pos></gml:Point>", "<gml:Solid></gml:Solid>", "<gml:Polygon><gml:exterior></gml:exterior></gml:Polygon>",
-                     "<gml:LineString></gml:LineString>"):
+        for text in (
+            '<gml:Point srsName="EPSG:25832"><gml:pos>0 0</gml:pos></gml:Point>',
+            "<gml:Point><gml:pos>0 x</gml:pos></gml:Point>",
+            "<gml:Point><gml:pos>30000000 0</gml:pos></gml:Point>",
+            "<gml:Solid></gml:Solid>",
+            "<gml:Polygon><gml:exterior></gml:exterior></gml:Polygon>",
+            "<gml:LineString></gml:LineString>",
+        ):
             with self.assertRaises(Unreadable, msg=text):
                 self.read(text)
 
@@ -209,10 +285,14 @@ class Actions(unittest.TestCase):
         some = f'<Filter {FES}><ResourceId rid="{fid}"/></Filter>'
         body = f"""<Transaction xmlns:v="urn:vtserve"><Insert><v:p.points><v:name>x</v:name></v:p.points></Insert>
             <Update typeName="v:p.points"><Property><ValueReference>v:name</ValueReference><Value>y</Value></Property>
-            <Property><ValueReference>v:height</ValueReference></Property>{some}</Update><Delete typeName="v:p.points">{some}</Delete></Transaction>"""
+            <Property><ValueReference>v:height</ValueReference></Property>{some}</Update>
+            <Delete typeName="v:p.points">{some}</Delete></Transaction>"""
         insert, update, delete = actions_of(parsed(body.encode()))
         self.assertEqual((insert.name, insert.type, insert.values), ("Insert", "p.points", {"name": "x"}))
-        self.assertEqual((update.name, update.type, update.fids, update.values), ("Update", "p.points", [fid], {"name": "y", "height": None}))
+        self.assertEqual(
+            (update.name, update.type, update.fids, update.values),
+            ("Update", "p.points", [fid], {"name": "y", "height": None}),
+        )
         self.assertEqual((delete.name, delete.fids), ("Delete", [fid]))
 
     def test_a_document_type_is_refused(self):
@@ -227,7 +307,12 @@ class Actions(unittest.TestCase):
     def test_ids(self):
         self.assertEqual(number_and_version("p.points.352.0123456789abcdef"), (352, "0123456789abcdef"))
         self.assertEqual(number_and_version("a.b.c.352.0123456789abcdef-2"), (352, "0123456789abcdef"))
-        for fid in ("p.points.352", "p.points.x.0123456789abcdef", "p.<b>.352.0123456789abcdef", "p.points.352.0123456789ABCDEF"):
+        for fid in (
+            "p.points.352",
+            "p.points.x.0123456789abcdef",
+            "p.<b>.352.0123456789abcdef",
+            "p.points.352.0123456789ABCDEF",
+        ):
             self.assertFalse(number_and_version(fid), fid)
 
 
@@ -238,11 +323,21 @@ class Wishes(unittest.TestCase):
         return changed(feature or stand.feature(name="x", height=5), action, TABLE, 7)
 
     def test_values_by_their_types(self):
-        self.assertEqual(self.update(name="7", height=" 12 ", is_old="true")["tags"], {"name": "7", "height": 12, "is_old": True})
+        self.assertEqual(
+            self.update(name="7", height=" 12 ", is_old="true")["tags"], {"name": "7", "height": 12, "is_old": True}
+        )
         self.assertEqual(self.update(name=None)["tags"], {"height": 5})
 
     def test_what_isnt_taken(self):
-        for values in ({"height": "tall"}, {"is_old": "perhaps"}, {"minzoom": "9"}, {"maxzoom": "20"}, {"feature_id": "8"}, {"geom": None}, {"name": "x" * 1025}):
+        for values in (
+            {"height": "tall"},
+            {"is_old": "perhaps"},
+            {"minzoom": "9"},
+            {"maxzoom": "20"},
+            {"feature_id": "8"},
+            {"geom": None},
+            {"name": "x" * 1025},
+        ):
             with self.assertRaises(Refused, msg=values):
                 self.update(**values)
 
@@ -251,8 +346,15 @@ class Wishes(unittest.TestCase):
         self.assertIsNone(fault_of({**new_feature(TABLE), "geometry": {"points": [[0, 0]]}}))
 
     def test_limits_of_tags(self):
-        self.assertIsNone(fault_of(stand.feature(**{f"k{at}": 2 ** 64 - 1 for at in range(64)})))
-        for tags in ({f"k{at}": 1 for at in range(65)}, {"k": 2 ** 64}, {"k": -2 ** 63 - 1}, {"ß" * 33: 1}, {"": 1}, {"k": "ß" * 513}):
+        self.assertIsNone(fault_of(stand.feature(**{f"k{at}": 2**64 - 1 for at in range(64)})))
+        for tags in (
+            {f"k{at}": 1 for at in range(65)},
+            {"k": 2**64},
+            {"k": -(2**63) - 1},
+            {"ß" * 33: 1},
+            {"": 1},
+            {"k": "ß" * 513},
+        ):
             self.assertIsNotNone(fault_of(stand.feature(**tags)))
 
 
@@ -277,11 +379,11 @@ class Sessions(unittest.TestCase):
 
     def test_who_pans_gets_no_second_version(self):
         session, old = Session(), VIEWS[0]
-        new = view(1, [2 ** 30, 2 ** 30], name="Oak")
-        self.assertEqual(session.pinned(TABLE, (0, 0, 2 ** 31, 2 ** 31), [old]), [old])
-        self.assertEqual(session.pinned(TABLE, (0, 0, 2 ** 31, WORLD), [new]), [old])
+        new = view(1, [2**30, 2**30], name="Oak")
+        self.assertEqual(session.pinned(TABLE, (0, 0, 2**31, 2**31), [old]), [old])
+        self.assertEqual(session.pinned(TABLE, (0, 0, 2**31, WORLD), [new]), [old])
         # The same box again is asked for when the layer is loaded anew.
-        self.assertEqual(session.pinned(TABLE, (0, 0, 2 ** 31, 2 ** 31), [new]), [new])
+        self.assertEqual(session.pinned(TABLE, (0, 0, 2**31, 2**31), [new]), [new])
 
     def test_another_id(self):
         self.assertRaises(Refused, Session().held, "somewhere.7")
@@ -302,7 +404,7 @@ class Known:
         return self.now.items()
 
     def edits_from(self, number):
-        return self.edits[number - 1:], len(self.edits)
+        return self.edits[number - 1 :], len(self.edits)
 
 
 class Live(unittest.TestCase):
@@ -310,9 +412,14 @@ class Live(unittest.TestCase):
         server = Known({7: stand.feature(name="x")})
         live = LiveMap(server, {})
         live.look()
-        server.edits = [{"edit": 1, "changes": [{"put": 8, "feature": stand.feature(name="y")}]}, {"edit": 2, "changes": [{"delete": 7}]}]
+        server.edits = [
+            {"edit": 1, "changes": [{"put": 8, "feature": stand.feature(name="y")}]},
+            {"edit": 2, "changes": [{"delete": 7}]},
+        ]
         live.look()
-        self.assertEqual((live.edits, set(live.views), [one.number for one in live.tables()["p.points"].views]), (2, {8}, [8]))
+        self.assertEqual(
+            (live.edits, set(live.views), [one.number for one in live.tables()["p.points"].views]), (2, {8}, [8])
+        )
 
     def test_pieces_are_one_view(self):
         left, right = (stand.feature({"lines": [line]}, whole=7) for line in ([[0, 0], [5, 0]], [[5, 0], [9, 0]]))
@@ -331,26 +438,36 @@ class Live(unittest.TestCase):
 
 class Documents(unittest.TestCase):
     def test_versions(self):
-        self.assertEqual([chosen(names).name for names in ("2.0.0", "1.1.0", "3.0.0,1.1.0", "2.0.2", "")], ["2.0.0", "1.1.0", "1.1.0", "1.1.0", "1.1.0"])
+        self.assertEqual(
+            [chosen(names).name for names in ("2.0.0", "1.1.0", "3.0.0,1.1.0", "2.0.2", "")],
+            ["2.0.0", "1.1.0", "1.1.0", "1.1.0", "1.1.0"],
+        )
 
     def test_they_are_xml(self):
         odd = Table(("<&>", "points"), [view(1, [0, 0], **{'a"<': "]]>&\0"})], {})
         for version in VERSIONS.values():
-            for text in (capabilities(version, [TABLE, odd], "http://h/?a=1&b=2"), schema(version, [TABLE, odd]),
-                         features(version, [(odd, odd.views[0])], ["x"], 1)):
+            for text in (
+                capabilities(version, [TABLE, odd], "http://h/?a=1&b=2"),
+                schema(version, [TABLE, odd]),
+                features(version, [(odd, odd.views[0])], ["x"], 1),
+            ):
                 tree.fromstring(text)
 
     def test_a_feature(self):
         root = tree.fromstring(features(VERSIONS["2.0.0"], [(TABLE, VIEWS[0])], ["p.points.1.x"], 4))
         self.assertEqual((root.get("numberMatched"), root.get("numberReturned")), ("4", "1"))
         (member,) = root.iter("{urn:vtserve}p.points")
-        self.assertEqual({child.tag.rpartition("}")[2]: child.text for child in member if not len(child)},
-                         {"feature_id": "1", "height": "5", "name": "Ash", "minzoom": "0", "maxzoom": "2"})
+        self.assertEqual(
+            {child.tag.rpartition("}")[2]: child.text for child in member if not len(child)},
+            {"feature_id": "1", "height": "5", "name": "Ash", "minzoom": "0", "maxzoom": "2"},
+        )
 
 
 class Ogc(unittest.TestCase):
     def setUp(self):
-        self.api = ogc_api.OgcApi(LiveMap(Known({one.number: one.feature for one in VIEWS}), {}), lambda: self.api.live.look())
+        self.api = ogc_api.OgcApi(
+            LiveMap(Known({one.number: one.feature for one in VIEWS}), {}), lambda: self.api.live.look()
+        )
 
     def ask(self, path, **given):
         return json.loads(self.api.answer(path, given, "http://h/ogc")[1])
@@ -358,13 +475,22 @@ class Ogc(unittest.TestCase):
     def test_pages(self):
         first = self.ask("/collections/p.points/items", limit="3")
         (after,) = (link["href"] for link in first["links"] if link["rel"] == "next")
-        self.assertEqual(([one["id"] for one in first["features"]], first["numberMatched"], after.endswith("limit=3&after=3")), ([1, 2, 3], 4, True))
+        self.assertEqual(
+            ([one["id"] for one in first["features"]], first["numberMatched"], after.endswith("limit=3&after=3")),
+            ([1, 2, 3], 4, True),
+        )
         last = self.ask("/collections/p.points/items", limit="3", after="3")
-        self.assertEqual(([one["id"] for one in last["features"]], [link["rel"] for link in last["links"]]), ([4], ["self", "collection"]))
+        self.assertEqual(
+            ([one["id"] for one in last["features"]], [link["rel"] for link in last["links"]]),
+            ([4], ["self", "collection"]),
+        )
 
     def test_boxes(self):
         ids = lambda bbox: [one["id"] for one in self.ask("/collections/p.points/items", bbox=bbox)["features"]]
-        self.assertEqual((ids("-180,0,0,85"), ids("0,-85,180,0"), ids("45,-85,-45,85"), ids("-180,-90,0,180,90,9")), ([1], [4], [1, 2, 3, 4], [1, 2, 3, 4]))
+        self.assertEqual(
+            (ids("-180,0,0,85"), ids("0,-85,180,0"), ids("45,-85,-45,85"), ids("-180,-90,0,180,90,9")),
+            ([1], [4], [1, 2, 3, 4], [1, 2, 3, 4]),
+        )
 
     def test_queryables(self):
         self.assertEqual([one["id"] for one in self.ask("/collections/p.points/items", height="12")["features"]], [2])
@@ -373,7 +499,15 @@ class Ogc(unittest.TestCase):
         self.assertEqual(self.ask("/collections/p.points/items/3")["properties"], {"name": "Beech*"})
 
     def test_what_isnt_taken(self):
-        for given in ({"limit": "0"}, {"limit": "x"}, {"bbox": "1,2,3"}, {"bbox": "0,50,10,40"}, {"f": "html"}, {"datetime": "soon"}, {"other": "1"}):
+        for given in (
+            {"limit": "0"},
+            {"limit": "x"},
+            {"bbox": "1,2,3"},
+            {"bbox": "0,50,10,40"},
+            {"f": "html"},
+            {"datetime": "soon"},
+            {"other": "1"},
+        ):
             with self.assertRaises(Refused, msg=given):
                 self.ask("/collections/p.points/items", **given)
         for path in ("/collections/other", "/collections/p.points/items/9", "/collections/p.points/other", "/other"):

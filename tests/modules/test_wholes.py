@@ -1,4 +1,5 @@
-"""Tests of vtmap/geometry/wholes.py, pieces.py and cutting.py: cut features put together again, by squares whose pieces are drawn by hand."""
+"""Tests of vtmap/geometry/wholes.py, pieces.py and cutting.py: cut features put together again, by squares whose pieces
+are drawn by hand."""
 import importlib.util
 import unittest
 from collections import namedtuple
@@ -7,7 +8,18 @@ import stand
 from vtmap.geometry.pieces import pieces_of
 from vtmap.geometry.shapes import Unfit
 from vtmap.geometry.wholes import (
-    PIECE, Whole, is_between, is_inside, joined_lines, joined_polygons, oriented, right_handed, twice_area, uncancelled, whole_in, wholes_of,
+    PIECE,
+    Whole,
+    is_between,
+    is_inside,
+    joined_lines,
+    joined_polygons,
+    oriented,
+    right_handed,
+    twice_area,
+    uncancelled,
+    whole_in,
+    wholes_of,
 )
 from vtmap.geometry.world import WORLD
 
@@ -92,7 +104,9 @@ class Wholes(unittest.TestCase):
 
     def test_pieces_are_one(self):
         pieces = {7: self.left, 7 + PIECE: self.right}
-        self.assertEqual(wholes_of(pieces.items()), [Whole(7, stand.feature({"lines": [[[0, 0], [9, 0]]]}, name="x"), pieces)])
+        self.assertEqual(
+            wholes_of(pieces.items()), [Whole(7, stand.feature({"lines": [[[0, 0], [9, 0]]]}, name="x"), pieces)]
+        )
 
     def test_a_piece_with_another_tag_stays_apart(self):
         pieces = {7: self.left, 9: {**self.right, "tags": {"name": "y", "whole": 7}}}
@@ -106,10 +120,14 @@ class Wholes(unittest.TestCase):
         area = stand.feature({"polygons": [[SQUARE]]}, whole=7)
         edge = stand.feature({"lines": [[[0, 0], [4, 0]]]}, layer="p-outline", whole=7)
         (found,) = wholes_of([(7, area), (8, edge)])
-        self.assertEqual((found.feature["layer"], found.feature["geometry"].keys(), set(found.pieces)), ("p", {"polygons"}, {7, 8}))
+        self.assertEqual(
+            (found.feature["layer"], found.feature["geometry"].keys(), set(found.pieces)), ("p", {"polygons"}, {7, 8})
+        )
 
     def test_whole_in(self):
-        self.assertEqual([whole_in({"whole": value}) for value in (7, True, "7")] + [whole_in({})], [7, None, None, None])
+        self.assertEqual(
+            [whole_in({"whole": value}) for value in (7, True, "7")] + [whole_in({})], [7, None, None, None]
+        )
 
 
 class Pieces(unittest.TestCase):
@@ -117,20 +135,27 @@ class Pieces(unittest.TestCase):
         self.assertEqual(pieces_of(Row(7, None), {}), {})
 
     def test_a_small_feature_is_itself(self):
-        for geometry in ({"points": [[1, 1]]}, {"lines": [[[0, 0], [2 ** 20, 0]]]}):
-            self.assertEqual(pieces_of(Row(7, stand.feature(geometry, last=0)), {}), {7: stand.feature(geometry, last=0)})
+        for geometry in ({"points": [[1, 1]]}, {"lines": [[[0, 0], [2**20, 0]]]}):
+            self.assertEqual(
+                pieces_of(Row(7, stand.feature(geometry, last=0)), {}), {7: stand.feature(geometry, last=0)}
+            )
 
     def test_tags_of_a_cut_feature_go_to_all_pieces(self):
-        pieces = {7: stand.feature({"lines": [[[0, 0], [5, 0]]]}, whole=7), 9: stand.feature({"lines": [[[5, 0], [9, 0]]]}, whole=7)}
+        pieces = {
+            7: stand.feature({"lines": [[[0, 0], [5, 0]]]}, whole=7),
+            9: stand.feature({"lines": [[[5, 0], [9, 0]]]}, whole=7),
+        }
         shape = {"lines": [[[0, 0], [9, 0]]]}
         made = pieces_of(Row(7, stand.feature(shape, name="new"), Whole(7, stand.feature(shape), pieces)), {})
-        self.assertEqual({number: (piece["geometry"], piece["tags"]) for number, piece in made.items()},
-                         {number: (piece["geometry"], {"name": "new", "whole": 7}) for number, piece in pieces.items()})
+        self.assertEqual(
+            {number: (piece["geometry"], piece["tags"]) for number, piece in made.items()},
+            {number: (piece["geometry"], {"name": "new", "whole": 7}) for number, piece in pieces.items()},
+        )
 
     @unittest.skipUnless(HAS_GDAL, NO_GDAL)
     def test_pieces_of_a_new_feature_take_no_id_of_others(self):
         # (a segment of more than half of the world would be one across the 180th meridian)
-        line = stand.feature({"lines": [[[at * 2 ** 30, 2 ** 31] for at in range(4)]]}, last=3)
+        line = stand.feature({"lines": [[[at * 2**30, 2**31] for at in range(4)]]}, last=3)
         made = pieces_of(Row(7, line), {7 + PIECE: stand.feature()})
         self.assertGreater(len(made), 1)
         self.assertEqual(min(made), 7)
@@ -141,37 +166,45 @@ class Pieces(unittest.TestCase):
 class Cutting(unittest.TestCase):
     def test_a_polygon(self):
         from vtmap.geometry.cutting import cut
+
         before, after = cut(("polygons", [[[(0, 0), (4, 0), (4, 4), (0, 4)]]]), 0, 1)
         self.assertEqual([abs(twice_area(part[1][0][0])) for part in (before, after)], [8, 24])
 
     def test_a_line(self):
         from vtmap.geometry.cutting import cut
+
         before, after = cut(("lines", [[(0, 0), (4, 8)]]), 0, 1)
         self.assertEqual((before, after), (("lines", [[(0, 0), (1, 2)]]), ("lines", [[(1, 2), (4, 8)]])))
 
     def test_points(self):
         from vtmap.geometry.cutting import cut
+
         self.assertEqual(cut(("points", [(0, 0), (4, 8)]), 1, 9), (("points", [(0, 0), (4, 8)]), None))
 
     def test_the_180th_meridian(self):
         from vtmap.geometry.cutting import on_the_world
+
         (kind, lines), crosses = on_the_world(("lines", [[(WORLD - 10000, 5), (10000, 5)]]))
         self.assertEqual((kind, crosses), ("lines", True))
         self.assertEqual(sorted(lines), [[(0, 5), (10000, 5)], [(WORLD - 10000, 5), (WORLD, 5)]])
 
     def test_outside_of_the_world(self):
         from vtmap.geometry.cutting import on_the_world
+
         with self.assertRaises(Unfit):
             on_the_world(("lines", [[(0, -50), (10, -20)]]))
 
     def test_pieces_are_drawn_right_and_lose_nothing(self):
         from vtmap.geometry.cutting import Cutter
         from vtmap.geometry.shapes import wrong_zooms
-        line = ("lines", [[(0, 2 ** 31), (WORLD, 2 ** 31)]])
+
+        line = ("lines", [[(0, 2**31), (WORLD, 2**31)]])
         pieces = Cutter(range(0, 4)).pieces(line, 100, 100)
         self.assertEqual([wrong_zooms(piece, range(0, 4)) for piece in pieces], [[]] * len(pieces))
         ends = sorted((chain[0][0], chain[-1][0]) for _, lines in pieces for chain in lines)
-        self.assertEqual((ends[0][0], ends[-1][1], [end for _, end in ends[:-1]]), (0, WORLD, [start for start, _ in ends[1:]]))
+        self.assertEqual(
+            (ends[0][0], ends[-1][1], [end for _, end in ends[:-1]]), (0, WORLD, [start for start, _ in ends[1:]])
+        )
 
 
 if __name__ == "__main__":

@@ -3,8 +3,8 @@
 
     python3 tests/page/run.py
 
-The modules lie in a scratch folder beside a package.json that says that they are modules, which browsers know without. It prints what node
-prints (TAP), and ends with its status.
+The modules lie in a scratch folder beside a package.json that says that they are modules, which browsers know without.
+It prints what node prints (TAP), and ends with its status.
 """
 import json
 import os
@@ -27,7 +27,14 @@ def main():
             json.dump({"type": "module"}, file)
         with open(os.path.join(scratch, "all.js"), "w", encoding="utf-8") as file:
             file.writelines(f'import "./{name}";\n' for name in tests)
-        child = subprocess.run(["node", "--test-reporter=tap", "all.js"], cwd=scratch, stdout=subprocess.PIPE, text=True, encoding="utf-8", check=False)
+        child = subprocess.run(
+            ["node", "--test-reporter=tap", "all.js"],
+            cwd=scratch,
+            stdout=subprocess.PIPE,
+            text=True,
+            encoding="utf-8",
+            check=False,
+        )
     print(child.stdout, end="")
     return child.returncode
 

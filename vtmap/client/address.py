@@ -14,7 +14,7 @@ from ..faults import Wrong
 SCHEMES = ("http", "https")
 
 
-def address(url):
+def address(url: str) -> tuple[urllib.parse.SplitResult, dict[str, str]]:
     """The parts of a URL without name and password, and the header fields that say these."""
     try:
         parts = urllib.parse.urlsplit(url)
@@ -27,7 +27,7 @@ def address(url):
     return parts._replace(netloc=parts.netloc.rpartition("@")[2]), authorization(parts.username, parts.password)
 
 
-def authorization(name, password):
+def authorization(name: str | None, password: str | None) -> dict[str, str]:
     """The header field of a name and a password of a URL. What the URL lacks is in the environment."""
     name = os.environ.get("VTSERVE_USER") if name is None else urllib.parse.unquote(name)
     password = os.environ.get("VTSERVE_PASSWORD") if password is None else urllib.parse.unquote(password)
@@ -36,6 +36,6 @@ def authorization(name, password):
     return {"Authorization": "Basic " + base64.b64encode(f"{name}:{password}".encode()).decode()}
 
 
-def shown(url):
+def shown(url: str) -> str:
     """A text that may be no URL, as a message has it: without all that may be a password."""
     return re.sub("//.*@", "//", url, flags=re.DOTALL)

@@ -112,13 +112,12 @@ class Client:
         """The status and the content of the reply to a request that is sent once."""
         is_sent = False
         try:
-            if not self.connection:
-                self.connect()
+            connection = self.connection or self.connect()
             is_sent = True
             if not self.ahead:
-                self.connection.request(method, self.url.path.rstrip("/") + path, body, fields)
+                connection.request(method, self.url.path.rstrip("/") + path, body, fields)
             self.ahead = None
-            reply = self.connection.getresponse()
+            reply = connection.getresponse()
             self.tag_of_reply = reply.headers.get("etag")
             return reply.status, reply.read()
         except (OSError, http.client.HTTPException) as fault:
@@ -129,11 +128,12 @@ class Client:
             raise
 
     def connect(self):
-        """Opens a connection, which takes no minutes."""
+        """Opens a connection, and returns it. It takes no minutes, as what is asked for may."""
         kind = http.client.HTTPSConnection if self.url.scheme == "https" else http.client.HTTPConnection
         self.connection = kind(self.url.netloc, timeout=30)
         self.connection.connect()
         self.connection.sock.settimeout(self.longest)
+        return self.connection
 
     def close(self):
         """Ends the kept connection."""

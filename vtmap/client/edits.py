@@ -6,6 +6,8 @@ their limits allow; `client.py` sends them.
 """
 import json
 from collections import namedtuple
+from collections.abc import Iterable, Iterator
+from typing import Any
 
 from ..limits import MOST_BODY, MOST_CHANGES, MOST_TEXT, PART
 
@@ -23,12 +25,12 @@ NOTHING = b"null"
 Change = namedtuple("Change", "number body text was", defaults=(None,))
 
 
-def encoded(value):
+def encoded(value: Any) -> bytes:
     """A value as JSON, its names in order: equal values have equal bytes."""
     return json.dumps(value, ensure_ascii=False, separators=(",", ":"), sort_keys=True).encode()
 
 
-def text_bytes(feature):
+def text_bytes(feature: dict[str, Any]) -> int:
     """The bytes of a feature in the journal and in the snapshot."""
     (kind, lists), = feature["geometry"].items()
     chains = [lists] if kind == "points" else lists if kind == "lines" else [ring for rings in lists for ring in rings]
@@ -37,29 +39,29 @@ def text_bytes(feature):
     return 14 + len(feature["layer"].encode()) + 2 * counts + 8 * sum(map(len, chains)) + tags
 
 
-def value_bytes(value):
+def value_bytes(value: bool | int | str) -> int:
     """The bytes of a tag's value, without its kind."""
     if isinstance(value, bool):
         return 0
     return 2 + len(value.encode()) if isinstance(value, str) else 8
 
 
-def put(number, feature):
+def put(number: int, feature: dict[str, Any]) -> Change:
     """The change that puts a feature."""
     return Change(number, encoded(feature), text_bytes(feature))
 
 
-def delete(number):
+def delete(number: int) -> Change:
     """The change that deletes a feature."""
     return Change(number, None, DELETE_BYTES)
 
 
-def checked(change, was):
+def checked(change: Change, was: dict[str, Any] | None) -> Change:
     """The change, to be made only if the map still has this feature, or none if it is None."""
     return change._replace(was=encoded(was))
 
 
-def json_of(change):
+def json_of(change: Change) -> bytes:
     """A change as a request has it."""
     was = b"" if change.was is None else b',"was":' + change.was
     if change.body is None:
@@ -67,17 +69,17 @@ def json_of(change):
     return b'{"put":%d,"feature":%s%s}' % (change.number, change.body, was)
 
 
-def body_of(group):
+def body_of(group: Iterable[Change]) -> bytes:
     """The body of a request that makes changes."""
     return FRAME % b",".join(map(json_of, group))
 
 
-def fits(change):
+def fits(change: Change) -> bool:
     """Whether a change alone fits into a request."""
     return FRAME_BYTES + len(json_of(change)) + 1 <= MOST_BODY
 
 
-def batches(changes, most=MOST_CHANGES):
+def batches(changes: Iterable[Change], most: int = MOST_CHANGES) -> Iterator[list[Change]]:
     """Changes in groups of different ids, each as large as a request takes, and checked or not. What is too large for any is alone."""
     group, numbers, body, text = [], set(), FRAME_BYTES, 0
     for change in changes:
@@ -94,6 +96,6 @@ def batches(changes, most=MOST_CHANGES):
         yield group
 
 
-def sectors(group):
+def sectors(group: Iterable[Change]) -> int:
     """The sectors of the journal that an edit of these changes takes."""
     return -(-(1 + sum(change.text for change in group)) // PART)

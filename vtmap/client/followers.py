@@ -5,6 +5,8 @@ the paths of logs, with blanks between them: with those it waits until each of t
 """
 import os
 import time
+from collections.abc import Callable, Iterable
+from typing import Any
 
 from ..faults import Fault, Wrong
 
@@ -14,7 +16,7 @@ LONGEST, EACH = 60, 0.1
 NUMBER = ".at"
 
 
-def seconds(text):
+def seconds(text: str) -> float:
     """A number of seconds, at most an hour."""
     found = float(text)
     if not 0 <= found <= 3600:
@@ -22,22 +24,23 @@ def seconds(text):
     return found
 
 
-def said():
+def said() -> tuple[float | None, list[str], list[str]]:
     """What the environment says: the seconds, or None, the addresses of standbys, and the paths of logs."""
     text = os.environ.get("VTSERVE_PAUSE")
     try:
-        return seconds(text) if text else None, *(os.environ.get(name, "").split() for name in ("VTSERVE_STANDBYS", "VTSERVE_LOGS"))
+        length = seconds(text) if text else None
     except ValueError as fault:
         raise Wrong(f"VTSERVE_PAUSE: {text!r} is no number of seconds") from fault
+    return length, os.environ.get("VTSERVE_STANDBYS", "").split(), os.environ.get("VTSERVE_LOGS", "").split()
 
 
 class Log:
     """A log that `vtmap follow --log` writes, as one who follows the edits."""
 
-    def __init__(self, path):
+    def __init__(self, path: str) -> None:
         self.address = path
 
-    def status(self):
+    def status(self) -> dict[str, int] | None:
         """The number of its last edit, as a server tells it, or None if that can't be read."""
         try:
             with open(self.address + NUMBER, encoding="ascii") as file:
@@ -49,15 +52,15 @@ class Log:
 class Wait:
     """How long a publication waits: for standbys and logs until they have its edits, and otherwise the whole time."""
 
-    def __init__(self, length, standbys, logs):
+    def __init__(self, length: float | None, standbys: Iterable, logs: Iterable[str]) -> None:
         self.followers = [*standbys, *map(Log, logs)]
         self.length = length if length is not None else LONGEST if self.followers else 0
 
-    def __str__(self):
+    def __str__(self) -> str:
         return f"waiting at most {self.length:g} s for {' and '.join(one.address for one in self.followers)}" if self.followers else (
             f"waiting {self.length:g} s for who follows the edits")
 
-    def wait(self, edits, is_over=lambda: False):
+    def wait(self, edits: int, is_over: Callable[[], bool] = lambda: False) -> list:
         """Waits. `edits`: the number of the last edit of the publication's beginning, or a later one. Returns who lacks some of them."""
         end, late = time.monotonic() + self.length, self.followers
         while not is_over() and (late or not self.followers) and time.monotonic() < end:
@@ -67,7 +70,7 @@ class Wait:
         return late
 
 
-def lacks(follower, edits):
+def lacks(follower: Any, edits: int) -> bool:
     """Whether a standby or a log lacks an edit, or doesn't say."""
     try:
         status = follower.status()
@@ -76,7 +79,7 @@ def lacks(follower, edits):
     return status is None or status["edits"] < edits
 
 
-def told_late(follower):
+def told_late(follower: Any) -> str:
     """What a publication does to who lacks some of its edits."""
     then = "they will be missing in it" if isinstance(follower, Log) else "it may have to begin anew"
     return f"{follower.address} lacks edits that this publication takes out of the list: {then}"

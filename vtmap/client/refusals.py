@@ -8,6 +8,7 @@ import os
 import re
 import sys
 from collections import namedtuple
+from typing import Any
 
 # Why, what whoever runs a command does, and what whoever uses the page does; empty where that says itself.
 Reason = namedtuple("Reason", "why then for_people", defaults=("", ""))
@@ -71,18 +72,18 @@ ROWS = [("JournalFull",), ("AreaFull", "TooManyTiles"), ("Device", "Broken"), ("
         (502, 503)]
 
 
-def told(reason):
+def told(reason: Reason) -> str:
     """Why, and what whoever runs a command does."""
     return f"{reason.why}: {reason.then}" if reason.then else reason.why
 
 
-def for_people(key):
+def for_people(key: Any) -> str:
     """Why, and what whoever uses the page does."""
     reason = WORDS.get(key) or STATUSES[key]
     return f"{reason.why}: {reason.for_people}" if reason.for_people else reason.why
 
 
-def script():
+def script() -> str:
     """The module of the page."""
     keys = [*WORDS, *(status for status, reason in STATUSES.items() if reason.for_people)]
     rows = [(key, for_people(key).replace("*", "").replace("`", "")) for key in keys]
@@ -90,14 +91,14 @@ def script():
     return f"// Why a request is refused, and what to do: by vtmap/client/refusals.py, which writes this file.\nexport const WHY = {{\n{lines}}};\n"
 
 
-def row(keys):
+def row(keys: tuple) -> str:
     """A row of the table."""
     reasons = [WORDS.get(key) or STATUSES[key] for key in keys]
     names = ", ".join(f"`{key}`" if key in WORDS else str(key) for key in keys)
     return f"| {names}: {'; '.join(dict.fromkeys(reason.why for reason in reasons))} | {reasons[0].for_people} |"
 
 
-def made(office):
+def made(office: str) -> str:
     """The table of OFFICE.md with these rows: those whose first cell begins with a word or a status of `ROWS`."""
     known = re.compile(rf"\| (?:{'|'.join(re.escape(f'`{keys[0]}`' if keys[0] in WORDS else str(keys[0])) for keys in ROWS)})[,:].*\n")
     found = list(known.finditer(office))
@@ -107,7 +108,7 @@ def made(office):
     return office[:found[0].start()] + "".join(row(keys) + "\n" for keys in ROWS) + rest
 
 
-def main():
+def main() -> int:
     top = os.path.join(os.path.dirname(os.path.abspath(__file__)), "..", "..")
     differ = 0
     for name, write in (("web/refusals.js", lambda _: script()), ("docs/OFFICE.md", made)):

@@ -53,7 +53,7 @@ class Follower:
         self.leader = Leader(words.url)
         # With which status it ends, what was said last of who doesn't answer, the server's publication that is known, and whether it has begun.
         self.status, self.told, self.generation, self.is_begun = 1, None, None, False
-        self.looked = 0
+        self.looked = 0.0
 
     def run(self):
         """Follows until it can't go on, or with --once until all edits are followed."""

@@ -50,7 +50,10 @@ def numbers(colour):
     """Red, green, blue and opacity of `#a9cfe3` or `rgba(85, 119, 170, 0.4)`, each 0 to 255."""
     if colour.startswith("#"):
         return [int(colour[at:at + 2], 16) for at in (1, 3, 5)] + [255]
-    red, green, blue, opacity = re.fullmatch(r"rgba\((\d+), *(\d+), *(\d+), *([0-9.]+)\)", colour).groups()
+    found = re.fullmatch(r"rgba\((\d+), *(\d+), *(\d+), *([0-9.]+)\)", colour)
+    if found is None:
+        raise ValueError(f"{colour} is no colour")
+    red, green, blue, opacity = found.groups()
     return [int(red), int(green), int(blue), round(255 * float(opacity))]
 
 

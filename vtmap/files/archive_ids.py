@@ -4,7 +4,7 @@ import struct
 from .protobuf import fields, varint
 
 
-def contents(archive, at, length, leaves, tiles):
+def contents(archive: bytes, at: int, length: int, leaves: int, tiles: int) -> list[tuple[int, int]]:
     """The contents of the tiles of a directory: offset and length of each."""
     data, rows, found = archive[at:at + length], [], []
     count, at = varint(data, 0)
@@ -23,7 +23,7 @@ def contents(archive, at, length, leaves, tiles):
     return found
 
 
-def ids_in(archive):
+def ids_in(archive: bytes) -> list[int]:
     """The ids of the features in the tiles of an archive, ascending."""
     if not archive:
         return []

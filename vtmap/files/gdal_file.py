@@ -75,7 +75,7 @@ class Reader:
         self.file = opened(self.place, encoding, keeps_text=id_field == "id")
         self.kind = self.file.GetDriver().ShortName
         # The columns of x and y of a table.
-        self.columns = ()
+        self.columns: tuple[str, ...] = ()
         self.layers = self.layers_of(source)
         if all(map(is_table, self.layers)):
             if len(self.layers) > 1:

@@ -2,12 +2,13 @@
 import fcntl
 import json
 import os
+from collections.abc import Iterable
 
 
 class LineFile:
     """A file whose lines begin with one of these texts. Nobody else can use it meanwhile. `rows` has the values of its lines."""
 
-    def __init__(self, path, starts, what):
+    def __init__(self, path: str, starts: Iterable[str], what: str) -> None:
         self.path = path
         self.file = open(path, "a+", encoding="utf-8")
         try:
@@ -26,11 +27,11 @@ class LineFile:
             raise OSError(f"{path} is no file of {what}: {fault}") from fault
         self.file.truncate(len(whole.encode()))
 
-    def add(self, rows):
+    def add(self, rows: Iterable) -> None:
         """Adds lines."""
         self.file.write("".join(json.dumps(row, ensure_ascii=False, separators=(",", ":")) + "\n" for row in rows))
         self.file.flush()
 
-    def sync(self):
+    def sync(self) -> None:
         """Has what was added outlive a crash."""
         os.fsync(self.file.fileno())

@@ -1,10 +1,13 @@
 """Messages of Protocol Buffers, as tiles are. Needs no package."""
+from collections.abc import Iterator
+from typing import Any
+
 # The wire types of a field: a varint, and bytes after their length.
 NUMBER, BYTES = 0, 2
 SHORT = [bytes([value]) for value in range(128)]
 
 
-def varint(data, at):
+def varint(data: bytes, at: int) -> tuple[int, int]:
     """A number of Protocol Buffers or of a directory of PMTiles, and where it ends."""
     value = shift = 0
     while True:
@@ -15,10 +18,11 @@ def varint(data, at):
             return value, at
 
 
-def fields(data):
-    """The fields of a message: the number of each and its value, an integer or bytes. Raises `IndexError` if the bytes end within one, and
-    `KeyError` for a wire type that there isn't."""
+def fields(data: bytes) -> Iterator[tuple[int, Any]]:
+    """The fields of a message: the number of each and its value, an integer or bytes. Raises `IndexError` if the bytes
+    end within one, and `KeyError` for a wire type that there isn't."""
     at = 0
+    value: Any
     while at < len(data):
         key, at = varint(data, at)
         if key & 7 == 0:

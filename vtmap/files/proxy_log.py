@@ -52,7 +52,7 @@ class Senders:
     """Who sent which edit, by lines of nginx's log."""
 
     def __init__(self):
-        self.sent = defaultdict(list)
+        self.sent: dict = defaultdict(list)
         self.unread, self.last = 0, 0
 
     def add(self, line):

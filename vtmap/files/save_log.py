@@ -8,6 +8,7 @@ import json
 import os
 import time
 from collections import Counter
+from typing import Any
 
 from ..client.edits import Change
 from ..ending import regular, replaced
@@ -22,7 +23,8 @@ class SaveLog:
     """The log at a path; None: nothing outlives the process. What can't be written isn't noted."""
 
     def __init__(self, path):
-        self.path, self.file, self.next = path, None, 1
+        self.path, self.next = path, 1
+        self.file: Any = None
         # What comes before the next line: a line feed, if a part of a line may have been written.
         self.before = ""
         # The saves that were cut short: their groups of changes, and how many of them were made, by their ids. The lines of those that were done.

@@ -1,10 +1,13 @@
 """Features of the map as features of GeoJSON, and back. Needs no package."""
+from typing import Any
+
 from .world import degrees, world
 
 
-def geojson_of(number, feature):
+def geojson_of(number: int, feature: dict[str, Any]) -> dict[str, Any]:
     """A feature of the map as one of GeoJSON, its rings in their directions."""
     (kind, parts), = feature["geometry"].items()
+    places: list
     if kind == "points":
         name, places = "Point", [degrees(point) for point in parts]
     elif kind == "lines":
@@ -16,11 +19,12 @@ def geojson_of(number, feature):
     return {"type": "Feature", "id": number, **rest, "properties": feature["tags"], "geometry": geometry}
 
 
-def feature_of(row):
+def feature_of(row: dict[str, Any]) -> dict[str, Any]:
     """The body of a PUT, from a feature that `geojson_of` made."""
     name, places = row["geometry"]["type"], row["geometry"]["coordinates"]
     if not name.startswith("Multi"):
         places = [places]
+    geometry: dict[str, list]
     if name.endswith("Point"):
         geometry = {"points": [world(place) for place in places]}
     elif name.endswith("LineString"):

@@ -5,6 +5,7 @@ list of lines, `polygons` with a list of lists of rings. Points are pairs of flo
 point of a ring isn't repeated at its end.
 """
 import math
+from collections.abc import Iterable
 
 from .wholes import twice_area
 from .world import EARTH, WORLD
@@ -15,13 +16,16 @@ LEAST, GREATEST = -8192, 8191
 SAFE = 4030
 # Points of a feature times tiles that it covers: above it the server would take long for each publication.
 MOST_WORK = 2 ** 21
+# A shape, and west, north, east and south of one.
+Shape = tuple[str, list]
+Box = tuple[float, float, float, float]
 
 
 class Unfit(Exception):
     """Why a feature can't be put."""
 
 
-def chains(shape):
+def chains(shape: Shape) -> list:
     """The lists of points of a shape, whatever its kind."""
     kind, lists = shape
     if kind == "points":
@@ -29,7 +33,7 @@ def chains(shape):
     return lists if kind == "lines" else [ring for rings in lists for ring in rings]
 
 
-def points_of(geometry):
+def points_of(geometry: dict[str, list]) -> list:
     """All points of a geometry."""
     (kind, lists), = geometry.items()
     if kind == "points":
@@ -37,45 +41,45 @@ def points_of(geometry):
     return [point for line in (lists if kind == "lines" else [ring for rings in lists for ring in rings]) for point in line]
 
 
-def count(shape):
+def count(shape: Shape) -> int:
     """How many points a shape has."""
     return sum(len(chain) for chain in chains(shape))
 
 
-def list_count(shape):
+def list_count(shape: Shape) -> int:
     """How many lists a shape has: each takes two bytes of an edit's text."""
     kind, lists = shape
     return 1 + {"points": 0, "lines": 1, "polygons": 1}[kind] * len(lists) + (sum(map(len, lists)) if kind == "polygons" else 0)
 
 
-def bounds(shape):
+def bounds(shape: Shape) -> Box:
     """West, north, east and south of a shape."""
     xs = [point[0] for chain in chains(shape) for point in chain]
     ys = [point[1] for chain in chains(shape) for point in chain]
     return min(xs), min(ys), max(xs), max(ys)
 
 
-def size(shape):
+def size(shape: Shape) -> tuple[float, float]:
     """Width and height in metres, at the latitude of its middle."""
     west, north, east, south = bounds(shape)
     metres = EARTH / WORLD / math.cosh(math.pi * (1 - (north + south) / WORLD))
     return (east - west) * metres, (south - north) * metres
 
 
-def met(zoom, least, greatest):
+def met(zoom: int, least: float, greatest: float) -> tuple[int, int]:
     """The first and the last column (or row) of a zoom whose tiles meet something between two coordinates."""
     first = -(-((math.floor(least) >> (20 - zoom)) - 4160) // 4096)
     last = ((math.floor(greatest) >> (20 - zoom)) + 64) // 4096
     return max(first, 0), min(last, 2 ** zoom - 1)
 
 
-def covered(box, zoom):
+def covered(box: Box, zoom: int) -> tuple[tuple[int, int], tuple[int, int]]:
     """The columns and rows of a zoom that a bounding box meets."""
     west, north, east, south = box
     return met(zoom, west, east), met(zoom, north, south)
 
 
-def reach(box, zooms):
+def reach(box: Box, zooms: Iterable[int]) -> int:
     """How many tiles a bounding box covers on all zooms."""
     found = 0
     for zoom in zooms:
@@ -84,7 +88,7 @@ def reach(box, zooms):
     return found
 
 
-def is_safe(box, zoom):
+def is_safe(box: Box, zoom: int) -> bool:
     """Whether no tile of a zoom has a coordinate of this bounding box that renderers clamp."""
     for least, greatest, (first, last) in zip(box[:2], box[2:], covered(box, zoom)):
         least, greatest = math.floor(least) >> (20 - zoom), math.floor(greatest) >> (20 - zoom)
@@ -93,7 +97,7 @@ def is_safe(box, zoom):
     return True
 
 
-def boxes(shape):
+def boxes(shape: Shape) -> list[Box]:
     """The bounding boxes that are whole in a tile, if it has any of them: of a polygon its own, of a line that of each segment."""
     kind, lists = shape
     if kind == "polygons":
@@ -106,18 +110,18 @@ def boxes(shape):
     return found
 
 
-def wrong_zooms(shape, zooms):
+def wrong_zooms(shape: Shape, zooms: Iterable[int]) -> list[int]:
     """The zooms at which a renderer that clamps coordinates draws a shape wrong."""
     found = boxes(shape)
     widest = max((max(box[2] - box[0], box[3] - box[1]) for box in found), default=0)
     return [zoom for zoom in zooms if zoom > 1 and widest > SAFE << (20 - zoom) and not all(is_safe(box, zoom) for box in found)]
 
 
-def rounded(shape):
+def rounded(shape: Shape) -> Shape | None:
     """The shape with integers in the world, without what has no extent; None if nothing of it has one."""
     kind, lists = shape
 
-    def points(chain, ring=False):
+    def points(chain: Iterable, ring: bool = False) -> list:
         made = []
         for point in chain:
             # Cutting leaves coordinates of a cut a little beside it.
@@ -143,7 +147,7 @@ def rounded(shape):
     return (kind, made) if made else None
 
 
-def is_shown(shape, zoom):
+def is_shown(shape: Shape, zoom: int) -> bool:
     """Whether a shape of integers is shown at a zoom: a line has two places there, a polygon an area."""
     kind, lists = shape
     if kind == "points":

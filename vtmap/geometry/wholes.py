@@ -7,6 +7,8 @@ Pieces whose tags, layer or zooms have become different since are different feat
 import json
 import math
 from collections import defaultdict, namedtuple
+from collections.abc import Iterable, Iterator, Sequence
+from typing import Any
 
 WHOLE, OUTLINE = "whole", "-outline"
 # Ids of features are below it, where pieces get ids of their own: piece k of the feature of id n has the id n + k * PIECE.
@@ -17,7 +19,7 @@ PIECE = 2 ** 40
 Whole = namedtuple("Whole", "number feature pieces")
 
 
-def wholes_of(features, name=WHOLE):
+def wholes_of(features: Iterable[tuple[int, dict]], name: str = WHOLE) -> list[Whole]:
     """The features of a map, given as pairs of id and feature, as wholes in ascending order of their ids."""
     groups, made = defaultdict(dict), []
     for number, feature in features:
@@ -34,13 +36,13 @@ def wholes_of(features, name=WHOLE):
     return sorted(made)
 
 
-def whole_in(tags, name=WHOLE):
+def whole_in(tags: dict[str, Any], name: str = WHOLE) -> int | None:
     """The id of the whole that the tags of a piece name; None if they name none."""
     number = tags.get(name)
     return None if isinstance(number, bool) or not isinstance(number, int) else number
 
 
-def group_of(feature, name):
+def group_of(feature: dict[str, Any], name: str) -> tuple | None:
     """What the pieces of one feature have in common, first the id of the whole; None for a feature that is no piece."""
     number = whole_in(feature["tags"], name)
     if number is None:
@@ -49,7 +51,7 @@ def group_of(feature, name):
     return number, feature["layer"].removesuffix(OUTLINE), feature["minzoom"], feature["maxzoom"], tags
 
 
-def joined(number, pieces, name):
+def joined(number: int, pieces: dict[int, dict], name: str) -> Whole:
     """The whole of these pieces."""
     first = pieces[number]
     (kind, _), = first["geometry"].items()
@@ -59,14 +61,14 @@ def joined(number, pieces, name):
     return Whole(number, {**first, "geometry": {kind: lists}, "tags": tags}, pieces)
 
 
-def joined_points(parts):
+def joined_points(parts: Iterable[list]) -> list:
     """The points of all pieces."""
     return [point for part in parts for point in part]
 
 
 # ---- lines
 
-def joined_lines(parts):
+def joined_lines(parts: Iterable[list]) -> list:
     """The lines of all pieces: two of different pieces are one where the end of one alone is the start of the other alone."""
     lines = [(at, [tuple(point) for point in line]) for at, part in enumerate(parts) for line in part]
     starts, ends = defaultdict(list), defaultdict(list)
@@ -95,7 +97,7 @@ def joined_lines(parts):
 
 # ---- polygons
 
-def joined_polygons(parts):
+def joined_polygons(parts: Iterable[list]) -> list:
     """The union of the polygons of all pieces. Cuts run along columns and rows of the world, where the edges of two pieces cancel out."""
     kept, straight = [], (defaultdict(list), defaultdict(list))
     for rings in (rings for part in parts for rings in part):
@@ -111,24 +113,24 @@ def joined_polygons(parts):
     for axis in (0, 1):
         for at, edges in straight[axis].items():
             left, is_cut = uncancelled(edges)
-            kept += [tuple((at, place) if axis == 0 else (place, at) for place in edge) for edge in left]
+            kept += [((at, one), (at, other)) if axis == 0 else ((one, at), (other, at)) for one, other in left]
             if is_cut:
                 cuts[axis].add(at)
     rings = [ring for loop in loops(kept) for ring in [without_joints(loop, cuts)] if len(ring) > 2 and twice_area(ring)]
     return polygons_of(rings)
 
 
-def twice_area(ring):
+def twice_area(ring: list) -> float:
     """Twice the signed area of a ring."""
     return sum(a[0] * b[1] - b[0] * a[1] for a, b in zip(ring, ring[1:] + ring[:1]))
 
 
-def oriented(ring, is_outer):
+def oriented(ring: list, is_outer: bool) -> list:
     """The ring with the inside on its left."""
     return ring if (twice_area(ring) > 0) == is_outer else ring[::-1]
 
 
-def right_handed(feature):
+def right_handed(feature: dict[str, Any]) -> dict[str, Any]:
     """The feature with its rings as GeoJSON has them (RFC 7946, 3.1.6): outer ones counterclockwise in longitude and latitude, inner ones clockwise.
     In the map, whose rows go down, that is the other way round."""
     polygons = feature["geometry"].get("polygons")
@@ -137,7 +139,7 @@ def right_handed(feature):
     return {**feature, "geometry": {"polygons": [[oriented(ring, at > 0) for at, ring in enumerate(rings)] for rings in polygons]}}
 
 
-def uncancelled(edges):
+def uncancelled(edges: Iterable[tuple]) -> tuple[list, bool]:
     """What is left of edges on one column or row, each from one place to another, and whether some cancelled out."""
     places = sorted({place for edge in edges for place in edge})
     index = {place: at for at, place in enumerate(places)}
@@ -154,7 +156,7 @@ def uncancelled(edges):
     return left, is_cut
 
 
-def loops(edges):
+def loops(edges: Iterable[tuple]) -> Iterator[list]:
     """The rings that edges make, none of which visits a place twice."""
     onward = defaultdict(list)
     for one, other in edges:
@@ -178,7 +180,7 @@ def loops(edges):
                 path.append(next_of(before, here, onward[here]))
 
 
-def next_of(before, here, choices):
+def next_of(before: tuple, here: tuple, choices: list[tuple]) -> tuple:
     """Takes the next place out of several: the first one clockwise of where the path came from, which is round the same inside."""
     if len(choices) == 1:
         return choices.pop()
@@ -187,14 +189,14 @@ def next_of(before, here, choices):
     return choices.pop(turns.index(min(turns)))
 
 
-def is_between(one, place, other):
+def is_between(one: Sequence, place: Sequence, other: Sequence) -> bool:
     """Whether a place is on the line between two others, to what rounding moves it: one and a half units of the world, of 9 mm each."""
     wide, high = other[0] - one[0], other[1] - one[1]
     away = abs(wide * (place[1] - one[1]) - high * (place[0] - one[0]))
     return away <= 1.5 * math.hypot(wide, high) and (place[0] - one[0]) * wide + (place[1] - one[1]) * high >= 0
 
 
-def without_joints(ring, cuts):
+def without_joints(ring: Sequence, cuts: tuple[set, set]) -> list:
     """The ring without the places that cuts put on its edges."""
     made = list(ring)
     at = 0
@@ -207,7 +209,7 @@ def without_joints(ring, cuts):
     return made
 
 
-def polygons_of(rings):
+def polygons_of(rings: list) -> list:
     """Polygons of rings: each inner ring is in the smallest outer one round it."""
     outer = sorted((ring for ring in rings if twice_area(ring) > 0), key=twice_area)
     made = [[ring] for ring in outer]
@@ -219,7 +221,7 @@ def polygons_of(rings):
     return [[[list(point) for point in ring] for ring in polygon] for polygon in reversed(made)]
 
 
-def is_inside(place, ring):
+def is_inside(place: Sequence, ring: list) -> bool:
     """Whether a place is inside of a ring."""
     inside = False
     for (x, y), (u, v) in zip(ring, ring[1:] + ring[:1]):
