@@ -6,8 +6,8 @@
 It reads the tables' cells. `crate::Type::function` (`clause`, ..) is a function of that crate whose contract has these clauses, lemma `name`
 of `crate` a lemma in its proofs/, `tests_..` (`name`, ..) tests of that crate, `tests_..` (rows `name`, ..) rows of the tables that its
 tests run, `.._runs` (lines `word`, ..) lines of its script that begin with the word, `.._runs` (part `name`, lines `word`, ..) and part `name` of
-`.._runs` (lines `word`, ..) those of that part, and `.._runs` (blocks `name`, ..) functions of the models that write such lines. It prints what
-it doesn't find, and ends with 1 then.
+`.._runs` (lines `word`, ..) those of that part, and `.._runs` (blocks `name`, ..) functions of the models that write such lines. The section Trusted has to name just the ported crates on
+which a crate of crates.txt stands. It prints what it doesn't find, and ends with 1 then.
 """
 import functools
 import re
@@ -123,8 +123,22 @@ def missing_in(text):
         yield from (f"block {block} of {crate}" for block in listed(blocks) if block not in blocks_of(crate))
 
 
+def ported():
+    """The crates of the kit that crates.txt names."""
+    lines = [line.partition(":") for line in (ROOT / "crates.txt").read_text().splitlines() if line and not line.startswith("#")]
+    return {name for _, _, below in lines for name in below.split()} - {name.split()[0] for name, _, _ in lines}
+
+
+def untrusted(text):
+    """How the section Trusted differs from the ported crates that are used."""
+    said = set(listed(re.search(r"^## Trusted\n.*?\(((?:`\w+`(?:, )?)+)\)", text.replace("that `crates.txt` names", ""), re.M | re.S).group(1)))
+    yield from (f"ported crate {name} in the section Trusted" for name in ported() - said)
+    yield from (f"use of the ported crate {name}, which the section Trusted names," for name in said - ported())
+
+
 def main():
-    missing = sorted(set(missing_in((ROOT / "docs" / "PROMISES.md").read_text())))
+    text = (ROOT / "docs" / "PROMISES.md").read_text()
+    missing = sorted({*missing_in(text), *untrusted(text)})
     for name in missing:
         print(name)
     print(f"{len(missing)} names of docs/PROMISES.md aren't in the crates" if missing else "each name of docs/PROMISES.md is in the crates")
