@@ -3,6 +3,8 @@
 
     python3 model/scripts.py            writes the files stdin and stdout of each
     python3 model/scripts.py --check    compares them with those that are there, and ends with 1 where one differs
+    python3 model/scripts.py --check map_script read_script
+                                        the same for what these modules write alone: `service_script` takes longer than all others together
 
 A module of `MODULES` has the name of its crate, `CRATE`, and a function `files` from which its files come, by their names. Modules of one crate stand side
 by side: each writes the part of its script that `PART` names. At the end comes what the folder `worked` of the crate has: examples whose answers no model
@@ -42,10 +44,26 @@ def part_of(name):
     return module.CRATE, {**files, "stdin": f"part {module.PART}\n{files['stdin']}"}
 
 
+def made_by(modules):
+    """The crates of modules, and their files."""
+    with concurrent.futures.ProcessPoolExecutor(len(os.sched_getaffinity(0))) as pool:
+        return list(pool.map(part_of, modules))
+
+
+def check_parts(modules):
+    """Compares what some modules write with the part of a script that it should be. Returns the status."""
+    differ = 0
+    for name, (crate, files) in zip(modules, made_by(modules)):
+        for file in ("stdin", "stdout"):
+            if files[file] not in (CRATES / crate / file).read_text():
+                print(f"{crate}/{file}: the part of {name} differs")
+                differ += 1
+    return 1 if differ else 0
+
+
 def main(check):
     differ = 0
-    with concurrent.futures.ProcessPoolExecutor(len(os.sched_getaffinity(0))) as pool:
-        parts = list(pool.map(part_of, MODULES))
+    parts = made_by(MODULES)
     for crate, of_crate in itertools.groupby(parts, lambda part: part[0]):
         # The files of a crate are those of its modules, one after the other.
         found = [files for _, files in of_crate]
@@ -55,4 +73,7 @@ def main(check):
 
 
 if __name__ == "__main__":
-    sys.exit(main("--check" in sys.argv))
+    chosen = [word for word in sys.argv[1:] if word != "--check"]
+    if not set(chosen) <= set(MODULES) or (chosen and "--check" not in sys.argv):
+        sys.exit(f"--check [MODULE ..], where modules are {', '.join(MODULES)}")
+    sys.exit(check_parts(chosen) if chosen else main("--check" in sys.argv))

@@ -7,7 +7,8 @@ documents.
 PROGRAM is crates/vtserve/out/vtserve, which `rt ci` leaves there.
 
 The parts are the lines of `PARTS`; with PART only these run, and `--list` names them. It prints a line for each with
-its counts and its seconds, the output of one that fails, and what is left out since a tool isn't installed. The last
+its counts and its seconds, the output of one that fails, and what is left out since a tool isn't installed. A part that
+fails is run once more with nothing beside it, since cases of it wait for seconds, and counts as it ends then. The last
 line is `N passed, M failed, K skipped`, and it ends with 1 if something failed. As root on Linux each part has its own
 network and processes (`unshare`): its ports are free, and nothing of it is left running. Elsewhere the parts look for
 free ports, and their process group is killed at their end.
@@ -55,7 +56,7 @@ def page_of(name):
 
 # The longest ones first, so that no processor waits at the end.
 PARTS = [
-    Part("models", [PYTHON, "model/scripts.py", "--check"]),
+    Part("models", [PYTHON, "model/scripts.py", "--check", "reply_script", "map_script", "read_script", "journal_script"]),
     Part("commands", [PYTHON, "tests/commands.py", PROGRAM]),
     client("toolbox"),
     client("wfs"),
@@ -72,6 +73,12 @@ PARTS = [
     Part("types", ["mypy", "--config-file", "tests/mypy.ini", "--cache-dir", os.devnull, "vtmap"], ("mypy",)),
     client("routes"),
     client("tags"),
+    client("foreign"),
+    client("wfs-hostile"),
+    client("outsiders"),
+    client("standby"),
+    client("join"),
+    client("maps"),
     client("requests"),
     client("features"),
     client("full"),
@@ -182,14 +189,14 @@ class Runner:
         self.program, self.scratch, self.tools = program, scratch, Tools()
         self.lock, self.children = threading.Lock(), set()
 
-    def run(self, part):
-        """Runs a part, and prints how it went. Returns its counts."""
+    def run(self, part, place="first"):
+        """Runs a part, and prints how it went. Returns its counts. `place`: what the name of its folder begins with."""
         began = time.monotonic()
         missing = [name for name in part.needs if not self.tools.has(name)]
         if missing:
             status, text, counts = 0, "", Counts(0, 0, [f"no {', no '.join(missing)}: {part.name} isn't tried"])
         else:
-            status, text = self.output_of(part)
+            status, text = self.output_of(part, place)
             counts = counted(status, text)
         word = "FAILED" if counts.failed else "ok" if counts.passed else "skipped"
         lines = [f"{word:8}{part.name}: {told(counts)}, {time.monotonic() - began:.0f} s"]
@@ -199,9 +206,9 @@ class Runner:
             print("\n".join([*lines, *(f"        {part.name}: {why}" for why in counts.skipped)]), flush=True)
         return counts
 
-    def output_of(self, part):
+    def output_of(self, part, place):
         """The status of a part and what it prints. One that takes too long is killed."""
-        folder = os.path.join(self.scratch, part.name.replace("/", "-"))
+        folder = os.path.join(self.scratch, f"{place}-{part.name.replace('/', '-')}")
         os.mkdir(folder, 0o755)
         known = {
             PROGRAM: self.program,
@@ -289,13 +296,20 @@ def main():
         print(f"there is no program {words.program}\n0 passed, 1 failed, 0 skipped")
         return 1
     signal.signal(signal.SIGTERM, lambda *_: sys.exit(143))
+    # A shell has its background commands ignore this one, and so would the commands that the tests interrupt.
+    signal.signal(signal.SIGINT, signal.default_int_handler)
     total = Counts(0, 0, [])
     with tempfile.TemporaryDirectory() as scratch, concurrent.futures.ThreadPoolExecutor(words.jobs) as pool:
         os.chmod(scratch, 0o755)
         runner = Runner(os.path.abspath(words.program), os.path.realpath(scratch))
         try:
-            for counts in pool.map(runner.run, [part for part in PARTS if part.name in words.part or not words.part]):
-                total += counts
+            parts = [part for part in PARTS if part.name in words.part or not words.part]
+            found = list(pool.map(runner.run, parts))
+            for at, part in enumerate(parts):
+                if found[at].failed:
+                    print(f"again   {part.name}, with nothing beside it", flush=True)
+                    found[at] = runner.run(part, "again")
+                total += found[at]
         finally:
             pool.shutdown(wait=False, cancel_futures=True)
             runner.end()

@@ -9,17 +9,18 @@ import stand
 from vtmap.faults import Refused
 from vtmap.files.geopackage import Unreadable
 from vtmap.gateway import ogc_api
-from vtmap.gateway.actions import actions_of, number_and_version, parsed
+from vtmap.gateway.actions import actions_of, is_given, number_and_version, parsed
 from vtmap.gateway.filters import box_of, is_like, numbers, parts_of_like, test_of
 from vtmap.gateway.live_map import LiveMap
-from vtmap.gateway.names import map_name, said, sayable, xml_name
+from vtmap.gateway.names import map_name, xml_name
 from vtmap.gateway.sessions import Session
-from vtmap.gateway.tables import Table, View, around, is_within, meets, version_of
+from vtmap.gateway.tables import Table, View, around, is_within, meets, signed, version_of
 from vtmap.gateway.wfs_texts import VERSIONS, capabilities, chosen, features, schema
 from vtmap.gateway.wishes import changed, fault_of, new_feature
 from vtmap.geometry.gml import geometry_of, gml_of
 from vtmap.geometry.wholes import Whole
 from vtmap.geometry.world import EARTH, WORLD, metres
+from vtmap.markup import said, sayable
 
 FES = 'xmlns="http://www.opengis.net/fes/2.0" xmlns:gml="http://www.opengis.net/gml/3.2"'
 GML = 'xmlns:gml="http://www.opengis.net/gml"'
@@ -208,7 +209,7 @@ class Tables(unittest.TestCase):
         self.assertEqual(one, version_of({7: stand.feature(b=2, a=1)}))
         self.assertNotEqual(one, version_of({7: stand.feature(a=1, b=3)}))
         self.assertNotEqual(one, version_of({8: stand.feature(a=1, b=2)}))
-        self.assertRegex(one, "^[0-9a-f]{16}$")
+        self.assertRegex(one, "^[0-9a-f]{24}$")
 
 
 class Gml(unittest.TestCase):
@@ -305,8 +306,9 @@ class Actions(unittest.TestCase):
                 actions_of(parsed(f'<Transaction><Delete typeName="p.points">{inner}</Delete></Transaction>'.encode()))
 
     def test_ids(self):
-        self.assertEqual(number_and_version("p.points.352.0123456789abcdef"), (352, "0123456789abcdef"))
-        self.assertEqual(number_and_version("a.b.c.352.0123456789abcdef-2"), (352, "0123456789abcdef"))
+        version = signed("0123456789abcdef")
+        for fid in (f"p.points.352.{version}", f"a.b.c.352.{version}-2", "p.points.352.0123456789abcdef"):
+            self.assertEqual(number_and_version(fid), (352, version))
         for fid in (
             "p.points.352",
             "p.points.x.0123456789abcdef",
@@ -314,6 +316,13 @@ class Actions(unittest.TestCase):
             "p.points.352.0123456789ABCDEF",
         ):
             self.assertFalse(number_and_version(fid), fid)
+
+    def test_ids_that_were_given_are_signed(self):
+        version = signed("0123456789abcdef")
+        other = "0" if version[-1] != "0" else "1"
+        self.assertTrue(is_given(f"p.points.352.{version}"))
+        for made in ("0123456789abcdef", version[:-1] + other, "1" + version[1:]):
+            self.assertFalse(is_given(f"p.points.352.{made}"), made)
 
 
 class Wishes(unittest.TestCase):
@@ -361,7 +370,7 @@ class Wishes(unittest.TestCase):
 class Sessions(unittest.TestCase):
     def test_an_id_stays_after_a_save(self):
         session = Session()
-        before, after = "0" * 16, "1" * 16
+        before, after = signed("0" * 16), signed("1" * 16)
         fid = session.fid(TABLE, 7, before)
         self.assertEqual((fid, session.held(fid)), (f"p.points.7.{before}", (7, before)))
         for note in session.saved(fid, TABLE, 7, before, after):
@@ -370,7 +379,7 @@ class Sessions(unittest.TestCase):
 
     def test_a_version_that_comes_back_gets_another_id(self):
         session = Session()
-        before, after = "0" * 16, "1" * 16
+        before, after = signed("0" * 16), signed("1" * 16)
         fid = session.fid(TABLE, 7, before)
         for note in session.saved(fid, TABLE, 7, before, after):
             session.note(*note)

@@ -55,7 +55,7 @@ def entries_in(data: bytes) -> list[Entry]:
             raise BadDirectory("an entry has a number that it can't have")
         if before is not None and delta < max(1, before.run):
             raise BadDirectory("its ids don't ascend")
-        offset = place - 1 if place else before.offset + before.length
+        offset = before.offset + before.length if before is not None and place == 0 else place - 1
         entry = Entry(delta + (before.id if before else 0), run, length, offset)
         if entry.end > ID_END:
             raise BadDirectory("an id is beyond the last zoom")

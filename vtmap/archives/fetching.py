@@ -4,7 +4,7 @@ import http.client
 import os
 import shutil
 import tempfile
-from typing import Iterator
+from typing import IO, Iterator
 
 from ..client.address import SCHEMES, shown
 from ..client.client import Client, word
@@ -38,13 +38,13 @@ def tag_of(name: str) -> str | None:
     return f"{about.st_mtime_ns}-{about.st_size}"
 
 
-def fetch(name: str, file: object) -> None:
+def fetch(name: str, file: IO[bytes]) -> None:
     """Reads the archive of a server into a file."""
     client, path = client_of(name)
     try:
-        client.connect()
-        client.connection.request("GET", client.url.path.rstrip("/") + path, b"", client.person)
-        reply = client.connection.getresponse()
+        connection = client.connect()
+        connection.request("GET", client.url.path.rstrip("/") + path, b"", client.person)
+        reply = connection.getresponse()
         if reply.status != 200:
             raise Fault(f"{shown(name)}: {reply.status} {word(reply.read())}")
         shutil.copyfileobj(reply, file, CHUNK)

@@ -45,7 +45,9 @@ def steps(archives: list[Archive]) -> Iterator[Step]:
         end = min([entry.end for _, entry in found] + [number for number, _, _ in heads[:1]])
         yield Step(first, end - first, [(archives[at], entry) for at, entry in found])
         for at, entry in found:
-            rest = entry._replace(id=end, run=entry.end - end) if entry.end > end else next(rows[at], None)
+            rest: Entry | None = entry._replace(id=end, run=entry.end - end)
+            if entry.end <= end:
+                rest = next(rows[at], None)
             if rest:
                 heapq.heappush(heads, (rest.id, at, rest))
 

@@ -9,7 +9,7 @@ import os
 import shutil
 import tempfile
 from array import array
-from typing import BinaryIO, Iterator
+from typing import IO, Iterator
 
 from ..faults import Refused
 from .directory import NUMBER_END, Entry, directory_of, zoom_and_place
@@ -27,7 +27,7 @@ class Writer:
     """The contents and the entries of an archive, by ascending tile ids."""
 
     def __init__(self, folder: str) -> None:
-        self.contents: BinaryIO = tempfile.TemporaryFile(dir=folder)
+        self.contents: IO[bytes] = tempfile.TemporaryFile(dir=folder)
         self.size = self.addressed = 0
         # The columns of the entries, and where each content is, by its digest.
         self.ids, self.runs, self.lengths, self.offsets = array("Q"), array("Q"), array("I"), array("Q")

@@ -38,7 +38,7 @@ def fields(data: bytes) -> Iterator[tuple[int, Any]]:
         yield key >> 3, value
 
 
-def varint_of(value):
+def varint_of(value: int) -> bytes:
     """The bytes of a number, in their shortest form."""
     if value < 128:
         return SHORT[value]
@@ -50,11 +50,11 @@ def varint_of(value):
     return bytes(found)
 
 
-def number_field(number, value):
+def number_field(number: int, value: int) -> bytes:
     """A field that is a number."""
     return varint_of(number << 3 | NUMBER) + varint_of(value)
 
 
-def bytes_field(number, value):
+def bytes_field(number: int, value: bytes) -> bytes:
     """A field that is bytes: a text, a packed list or a message."""
     return varint_of(number << 3 | BYTES) + varint_of(len(value)) + value

@@ -3,6 +3,7 @@ import os
 import pwd
 import shutil
 import subprocess
+from typing import Any
 
 from ..ending import replaced
 from ..faults import Refused
@@ -138,11 +139,12 @@ class Machine:
         """Runs systemctl. Raises `Refused`."""
         self.run(["systemctl", *words])
 
-    def run(self, line: list[str], **user: object) -> None:
+    def run(self, line: list[str], **user: Any) -> None:
         """Runs a command. Raises `Refused` with what it printed if it fails."""
         try:
-            both = {"stdout": subprocess.PIPE, "stderr": subprocess.STDOUT}
-            child = subprocess.run(line, check=False, text=True, **both, **user)
+            child = subprocess.run(
+                line, check=False, text=True, stdout=subprocess.PIPE, stderr=subprocess.STDOUT, **user
+            )
         except FileNotFoundError:
             raise Refused(f"{line[0]} isn't installed") from None
         if child.returncode:
