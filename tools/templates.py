@@ -28,6 +28,7 @@ OWN = (
     (r"http://127\.0\.0\.1:8090", "http://127.0.0.1:${GATEWAY}"),
     (r"http://([\w.]+):8000", r"http://\1:8000/%i"),
     (r"vtmap wfs ", "vtmap wfs --port ${GATEWAY} "),
+    (r"(--metrics \S+)", r"\1 --map %i"),
     # Not all maps at once, and each at the same time each day.
     (r"(OnCalendar=hourly\n)", r"\1RandomizedDelaySec=50min\nFixedRandomDelay=true\n"),
     (r"(OnCalendar=\*-\*-\* .*\n)", r"\1RandomizedDelaySec=3h\nFixedRandomDelay=true\n"),

@@ -18,7 +18,7 @@ from stand import HERE, PROGRAM, TILE, TOP, VTMAP, Nginx, Server, curl, feature,
 
 TIMED = ("publish", "watch", "backup")
 STARTED = "enable --now vtserve@{0}.service" + "".join(f" vtserve-{name}@{{0}}.timer" for name in TIMED)
-SAVED = "start --no-block vtserve-backup@north.service"
+ONCE = "start --no-block vtserve-publish@north.service vtserve-backup@north.service"
 STOPPED = "disable --now" + "".join(f" vtserve-{name}@{{0}}.timer" for name in TIMED) + "".join(
     f" vtserve{name}@{{0}}.service" for name in ("-wfs", "-log", "-standby", ""))
 
@@ -130,7 +130,7 @@ def commands(cases, here):
     once = " once nginx runs (vtserve-nginx.service)"
     said = [f"{disk} is kept as it was", "north: http://localhost:8000/north/" + once, "north: http://north.example.org:8000/" + once]
     cases.show("maps: vtmap maps add", (status, lines), (0, said))
-    cases.show("maps: what it runs", here.calls(), ["daemon-reload", STARTED.format("north"), SAVED, "--quiet is-active vtserve-nginx.service"])
+    cases.show("maps: what it runs", here.calls(), ["daemon-reload", STARTED.format("north"), ONCE, "--quiet is-active vtserve-nginx.service"])
     modes = [here.mode(*path) for path in (["etc/vtserve/maps/north"], ["var/lib/vtserve/north/map.disk"], ["var/lib/vtserve/north"])]
     cases.show("maps: modes of its files, and of its folder", modes, ["0o640", "0o640", "0o750"])
     with open(here.path("etc/vtserve/maps/north"), encoding="utf-8") as file:
@@ -189,10 +189,18 @@ def addresses(cases, here, front):
         page = curl(f"{url}{path}/pages/", *words)
         moved = [field(curl(url + path + end, *words), "location") for end in ("/", "/pages")]
         cases.show(f"maps: the page of {path or words}", (status_of(page), b"page.js" in page[2], moved), (200, True, [path + "/pages/"] * 2))
-    publication = subprocess.run([*VTMAP, "publish", "--url", url + "/north"], capture_output=True, text=True)
+    state = here.path("var/lib/vtserve-watch/north")
+    os.makedirs(state)
+    words = [*VTMAP, "publish", "--url", url + "/north", "--record", os.path.join(state, "published")]
+    publication = subprocess.run(words, capture_output=True, text=True)
     cases.show("maps: vtmap by the address of a map", (publication.returncode, publication.stdout.splitlines()[-1:]), (0, ["published"]))
     parts = [curl(url + path + "/map.pmtiles", "-H", "Range: bytes=0-6") for path in ("/north", "/south")]
     cases.show("maps: the archive of each", [(status_of(part), part[2]) for part in parts], [(206, b"PMTiles"), (404, b"NotFound\n")])
+    child = subprocess.run(["systemctl", "start", "vtserve-watch@north.service"], env=here.words, capture_output=True, text=True)
+    said = f"{here.path('var/backups/vtserve/north')} has no backup"
+    cases.show("maps: the watch of a map", (child.returncode, said in child.stdout or child.stdout + child.stderr), (1, True))
+    with open(os.path.join(state, "vtserve.prom"), encoding="utf-8") as file:
+        cases.show("maps: its metrics", [line for line in file.read().splitlines() if line.startswith("vtserve_features")], ['vtserve_features{map="north"} 1'])
     links = {link["rel"]: link["href"] for link in json.loads(answered(url + "/north/ogc/")[2])["links"]}
     cases.show("maps: its gateway knows the path", links["data"], f"{url}/north/ogc/collections")
     cases.show("maps: a map without a gateway", status_of(curl(url + "/south/ogc/")), 502)
@@ -254,6 +262,7 @@ def maps(cases, folder):
             with Nginx(program, place, one, [("127.0.0.1:8001", f"127.0.0.1:{free_port()}"), ("alias pages/;", f"alias {TOP}/web/;")]) as front:
                 used = os.path.join(front.folder, "used.conf")
                 os.symlink(here.path("etc/vtserve/nginx-maps"), os.path.join(front.folder, "nginx-maps"))
+                here.words["FRONT"] = front.url
                 here.words["NGINX"] = json.dumps([program, "-p", front.folder, "-c", used])
                 told = [here.add("north", "--host", "north.example.org", "--wfs"), here.add("south"), here.add("east", "--front", front.url)]
                 cases.show("maps: three maps are added", ([code for code, _ in told], told[2][1][1]), ([0, 0, 0], f"east: {front.url}/east/"))

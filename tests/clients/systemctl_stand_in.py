@@ -3,7 +3,7 @@
 without systemd.
 
 STAND_IN is the folder of what it keeps: `calls`, and the process id of each service. ROOT is the folder of /etc and
-/var, PROGRAM is vtserve, NGINX the words of the nginx that is in front.
+/var, PROGRAM is vtserve, NGINX the words of the nginx that is in front, FRONT its address.
 """
 import json
 import os
@@ -29,6 +29,7 @@ def command_of(unit, name):
     if "StateDirectory" in said:
         os.makedirs(os.path.join(ROOT, "var/lib", said["StateDirectory"].replace("%i", name)), exist_ok=True)
     text = re.sub(r"\$\{(\w+)\}", lambda found: variables[found[1]], said["ExecStart"].replace("%i", name))
+    text = text.replace("http://127.0.0.1:8000", os.environ.get("FRONT", ""))
     words = [re.sub("^/var/", ROOT + "/var/", word) for word in shlex.split(text)]
     programs = {"vtserve": [PROGRAM], "vtmap": [sys.executable, os.path.join(TOP, "bin", "vtmap")]}
     return [*programs[os.path.basename(words[0])], *words[1:]]
@@ -76,6 +77,9 @@ def main(words):
         return 0 if os.environ.get("NGINX") else 3
     if words[0] == "reload":
         return subprocess.run([*json.loads(os.environ["NGINX"]), "-s", "reload"], stderr=subprocess.DEVNULL).returncode
+    watch = re.fullmatch(r"start (vtserve-watch@)(.*)(\.service)", " ".join(words))
+    if watch:
+        return subprocess.run(command_of(watch[1] + watch[3], watch[2])).returncode
     for unit in words[2:] if words[:2] in (["enable", "--now"], ["disable", "--now"]) else []:
         (start if words[0] == "enable" else stop)(unit)
     return 0

@@ -282,8 +282,9 @@ def gateways(urls):
             yield LEVELS.get(status, NOW), f"the gateway {client.address}: {status}: {text}"
 
 
-def metrics(path, status, result):
-    """Writes the metrics; without a status those that are known."""
+def metrics(path, status, result, name_of_map=None):
+    """Writes the metrics; without a status those that are known. Where a machine has several maps, each has the name of its map as a label."""
+    label = f'{{map="{name_of_map}"}}' if name_of_map else ""
     values = {"up": int(status is not None), "watch_result": result}
     if status is not None:
         journal, area = status["journal"], status["area"]
@@ -304,7 +305,7 @@ def metrics(path, status, result):
         others = [("stale_cells", "stale"), ("cells", "cells"), ("archive_entries", "entries")]
         values |= {name: status[member] for name, member in others if status.get(member) is not None}
     replace(path, "".join(
-        f"# HELP vtserve_{name} {text}\n# TYPE vtserve_{name} {kind}\nvtserve_{name} {values[name]}\n"
+        f"# HELP vtserve_{name} {text}\n# TYPE vtserve_{name} {kind}\nvtserve_{name}{label} {values[name]}\n"
         for name, kind, text in METRICS if name in values
     ))
 
@@ -339,6 +340,7 @@ def options(parser, _):
     parser.add_argument("--log", metavar="FILE", action="append", default=[], help="a log of `vtmap follow`; may be given several times")
     parser.add_argument("--gateway", metavar="URL", action="append", default=[], help="a `vtmap wfs` that is to answer; may be given several times")
     parser.add_argument("--metrics", metavar="FILE", help="write metrics for Prometheus")
+    parser.add_argument("--map", metavar="NAME", help="the map that they are of, on a machine with several")
 
 
 def work(words):
@@ -354,7 +356,7 @@ def work(words):
         print(f"{status['features']:,} features, edit {status['edits']:,}, generation {status['generation']:,}: nothing to do")
     if words.metrics:
         try:
-            metrics(words.metrics, status, result)
+            metrics(words.metrics, status, result, words.map)
         except OSError as fault:
             print(f"--metrics {words.metrics}: {fault}")
             return NOW if result == NOW else UNKNOWN

@@ -11,7 +11,8 @@ from .tables import signed
 # Elements of a filter that names features by their ids, and the attributes that have these.
 OF_IDS = ("FeatureId", "GmlObjectId", "ResourceId")
 ID_NAMES = ("fid", "id", "rid")
-# The most elements and attributes of a request, and how deep elements are inside of each other. 32 MB from QGIS have half as many.
+# The most elements and attributes of a request, and how deep elements are inside of each other. A new point with ten attributes is some
+# twenty of them.
 MOST_ELEMENTS, MOST_DEPTH = 1_000_000, 500
 # The id of a feature: table, number, version, its signature, and which one of several it is. Earlier ones have no signature.
 ID = re.compile(r"""[^\s<>&"']+\.([0-9]{1,19})\.([0-9a-f]{16})([0-9a-f]{8})?(-[0-9]+)?""")

@@ -12,6 +12,7 @@ import urllib.parse
 from http.server import BaseHTTPRequestHandler, ThreadingHTTPServer
 
 from ..faults import Fault, NoAnswer, Refused, Stopped
+from ..shown import shown_lines
 from . import wfs_texts
 from .ogc_api import Unknown
 from .ogc_texts import JSON
@@ -300,7 +301,7 @@ def refused(code, text):
 
 def broken(fault):
     """Prints a fault of this program, and says that there was one."""
-    traceback.print_exc()
+    print(shown_lines(traceback.format_exc()), file=sys.stderr, flush=True)
     return f"the request can't be understood ({type(fault).__name__}: {fault})"
 
 

@@ -101,7 +101,6 @@ class Session:
                 shown[view.number] = view
         return [shown[view.number] for view in views]
 
-
     def count_shown(self):
         """Counts the features in its boxes. Returns how many more they are than before."""
         before, self.shown = self.shown, sum(len(shown) for _, shown in self.boxes.values())

@@ -21,7 +21,9 @@ MAPS, NGINX, UNITS, DISKS, BACKUPS = (
 )
 # What is started with a map, and what else may run for it.
 STARTED = ("vtserve@{}.service", "vtserve-publish@{}.timer", "vtserve-watch@{}.timer", "vtserve-backup@{}.timer")
-GATEWAY, BACKUP = "vtserve-wfs@{}.service", "vtserve-backup@{}.service"
+GATEWAY = "vtserve-wfs@{}.service"
+# What is done once at first: `vtmap watch` looks for both.
+FIRST = ("vtserve-publish@{}.service", "vtserve-backup@{}.service")
 OTHERS = (GATEWAY, "vtserve-log@{}.service", "vtserve-standby@{}.service")
 FRONT, FRONT_FILE = "vtserve-nginx.service", "etc/vtserve/nginx.conf"
 
@@ -102,8 +104,7 @@ class Machine:
         """Starts what serves a map, now and with the machine."""
         units = (*STARTED, GATEWAY) if has_gateway else STARTED
         self.systemctl("enable", "--now", *(unit.format(one.name) for unit in units))
-        # `vtmap watch` looks for a backup.
-        self.systemctl("start", "--no-block", BACKUP.format(one.name))
+        self.systemctl("start", "--no-block", *(unit.format(one.name) for unit in FIRST))
 
     def stop(self, name: str) -> None:
         """Stops what serves a map, timers before what they start."""
