@@ -75,9 +75,9 @@ def so_many_are_open(script):
         Peer((0, A), (5001, END), answered=[A], last=1000),
         log=log, time=5001,
     )
-    script.note("While each of those that are open has begun a request, none is ended for another one, which waits until their time is over.")
+    script.note("While each of those that are open has begun a request, another one waits for ten seconds. Then the one that has waited longest is closed.")
     log = logged(*((number, 0, "read") for number in range(1, MAX_OPEN + 2)))
-    listen(script, Peer((0, FRONT), more=MAX_OPEN), log=log, time=120_010)
+    listen(script, Peer((0, FRONT), more=MAX_OPEN), log=log, time=70_000)
     script.note("At that limit as many are closed as come, and no more while another one may come.")
     log = logged(*((number, 1, "closed") for number in [1, 2, *range(4, MAX_OPEN + 3), 3, MAX_OPEN + 3]))
     listen(
@@ -183,6 +183,7 @@ PUT_HALF = request("PUT", "/features/8", b"x" * 9_000)[:5_000]
 
 def all_hold_too_much(script):
     script.say("Once all connections hold more than they may, the one is ended that has waited longest for its peer, and no other one.")
+    script.note("The reply to the last one is longer than what is given to it in a turn, and counts until it is sent.")
     with_points(script)
     size = reply_size(script, A)
     deaf = {"answered": [A], "takes": (1000, 0), "size": 1000}
@@ -192,7 +193,7 @@ def all_hold_too_much(script):
         Peer((100, A), comes=100, last=100, **deaf),
         Peer((200, A), comes=200, last=200, **deaf),
         Peer((300, A), (400, END), answered=[A], comes=300, last=300),
-        word=f"held {size * 5 // 2}", log=logged((1, 0, "write"), (4, 1, "closed"), (2, 0, "write"), (3, 0, "write")), time=60_200,
+        word=f"held {size * 5 // 2}", log=logged((1, 0, "write"), (2, 0, "write"), (4, 1, "closed"), (3, 0, "write")), time=60_200,
     )
     script.note("One whose peer reads goes on.")
     rate = 10_000

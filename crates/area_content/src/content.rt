@@ -110,27 +110,19 @@ impl AreaContent {
         archive_len(&self.archive) as u64
     }
 
-    /// How many sectors both take, which one more doesn't overflow.
-    fn taken(&self) -> u64
-        ensures taken { result ≡ sectors_taken self.now }
-        ensures small { result ≤ 2 ^ 56 }
-    {
-        sectors_for(self.snapshot.len()) + sectors_for(archive_len(&self.archive))
-    }
-
     /// How many sectors both take.
     pub fn sectors(&self) -> u64
         ensures { result ≡ sectors_taken self.now }
     {
-        self.taken()
+        sectors_for(self.snapshot.len()) + sectors_for(archive_len(&self.archive))
     }
 
-    /// How much is left of writing it, once this many sectors are written: the others, and 1 for the root.
+    /// How many of its sectors are left to write, once this many are written.
     pub fn left(&self, written: u64) -> u64
         requires { written ≤ sectors_taken self.now }
-        ensures { result + written ≡ sectors_taken self.now + 1 }
+        ensures { result + written ≡ sectors_taken self.now }
     {
-        self.taken() - written + 1
+        self.sectors() - written
     }
 
     /// The bytes of a sector: first come those of the snapshot, then those of the archive. It reads no other bytes.

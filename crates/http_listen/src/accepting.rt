@@ -5,7 +5,6 @@ ghost use Rattle.http_listen.specs.Goes.{Goes, hand_of};
 ghost use Rattle.http_listen.specs.Places.{peer_at};
 ghost use Rattle.http_listen.specs.Ways.{MayGiveWay};
 
-use crate::deadlines::LOOK_NANOSECONDS;
 use crate::logs::Logs;
 use crate::peers::GivenUp;
 use crate::places::List;
@@ -19,6 +18,9 @@ use std::time::Duration;
 
 /// How many milliseconds a new connection waits until it is looked again whether there is room for it.
 const QUEUE_MILLISECONDS: u64 = 10;
+
+/// How many connections that may not be closed are looked at in a millisecond: a look at more of them isn't repeated at once.
+const LOOKS_A_MILLISECOND: u64 = 100;
 
 /// The connection that was accepted before, if there was no room for it, or the next one.
 fn next_stream<L: Waits>(came: &mut Option<L::Stream>, listener: &L) -> io::Result<L::Stream> {
@@ -36,10 +38,9 @@ struct GivingWay {
 }
 
 impl GivingWay {
-    /// How long it is until the next look: a look at many connections that may not be closed isn't repeated at once.
+    /// How long it is until the next look.
     fn pause(self) -> Duration {
-        let passed = self.passed as u64;
-        let pause = Duration::from_nanos(passed.saturating_mul(LOOK_NANOSECONDS));
+        let pause = Duration::from_millis(self.passed as u64 / LOOKS_A_MILLISECOND);
         match self.key {
             Some(_) => pause,
             None => pause.max(Duration::from_millis(QUEUE_MILLISECONDS)),

@@ -2,7 +2,7 @@
 ghost use Rattle.std.specs.Prelude.{◌≡◌, ◌+◌, ◌-◌, ◌*◌, ◌^◌, max, min};
 
 /// How many nanoseconds it is at least from one look to the next, for each connection that was looked at: 0.1 s for 10,000.
-pub(crate) const LOOK_NANOSECONDS: u64 = 10_000;
+const LOOK_NANOSECONDS: u64 = 10_000;
 
 /// When the next look at all connections is due. All times are in nanoseconds.
 #[derive(Clone, Copy)]

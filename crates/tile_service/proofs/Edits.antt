@@ -4,5 +4,4 @@ pub mod EditStored
 pub mod JournalAppend
 pub mod Limits
 pub mod ListedEdits
-pub mod SeenFeatures
 pub mod ServiceAfter

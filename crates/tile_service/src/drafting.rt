@@ -259,10 +259,11 @@ impl<D: Sectors + Drop> Service<D> {
     {
         match MapReading::of(self.alloc, self.map.store(), self.layout.area) {
             Ok(reading) => {
+                let (start, places) = self.journal.begin();
                 self.moment = Some(self.map.store().moment());
                 self.draft = Some(Draft {
-                    start: self.journal.next(),
-                    places: self.journal.used,
+                    start,
+                    places,
                     made: 0,
                     stage: DraftStage::Reading(reading),
                 });

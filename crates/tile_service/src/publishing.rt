@@ -240,8 +240,9 @@ impl<D: Sectors + Drop> Service<D> {
         if left <= STEP_SECTORS {
             return self.install_now(publication);
         }
+        let rest = publication.content.left(written);
         self.publication = Some(publication);
-        Ok(left - more + 1)
+        Ok(rest + 1)
     }
 
     /// Begins a publication: builds the snapshot of the map and the archive of its tiles in memory, and returns how many sectors they
@@ -274,10 +275,11 @@ impl<D: Sectors + Drop> Service<D> {
         match content_for(self.alloc, self.map.store(), self.layout.area) {
             Ok(content) => {
                 let left = content.sectors() + 1;
+                let (start, places) = self.journal.begin();
                 self.publication = Some(Publication {
                     content,
-                    start: self.journal.next(),
-                    places: self.journal.used,
+                    start,
+                    places,
                     written: 0,
                     pauses: true,
                 });

@@ -54,7 +54,7 @@ impl<D: Sectors + Drop> Service<D> {
         ensures { result ≡ option_map left_of self.now.publication }
     {
         match &self.publication {
-            Some(publication) => { Some(publication.content.sectors() - publication.written + 1) }
+            Some(publication) => Some(publication.content.left(publication.written) + 1),
             None => None,
         }
     }

@@ -90,13 +90,14 @@ returns-clause-machine g c = rw (← c.self.view_is, ← c.publication.view_is) 
     let within : c.publication.inside.written ≤ sectors_taken c.publication.inside.content =
     subst (λ (q : PublicationView). q.written ≤ sectors_taken q.content) (sym c.publication.view_is) c.requires.going.2.written in
     step_told known service p (ap (λ s. s.broken) c.self.view_is ∙ c.requires.unbroken)
-    (c.publication.inside.written + c.min-more.result) (c.sectors.result - c.publication.inside.written - c.min-more.result + 1) c.write_sectors.new.disk
-    (omega (arith, c.sectors.ensures)) (omega (arith, c.sectors.ensures, c.min-more.ensures, within)) (omega (arith, c.min-more.ensures)))
+    (c.publication.inside.written + c.min-more.result) (c.left-rest.result + 1) c.write_sectors.new.disk
+    (omega (arith, c.sectors.ensures)) (omega (arith, c.sectors.ensures, c.min-more.ensures, c.left-rest.ensures, within))
+    (omega (arith, c.min-more.ensures)))
 
 pub returns-clause-any_moment : goal.returns-clause-any_moment
 returns-clause-any_moment g c = rw (← c.self.view_is, ← c.publication.view_is) (λ stored honest up.
     let p : PublicationView = publication_view c.publication.inside in
-    step_leaves _ _ stored p _ _ (Ok (c.sectors.result - c.publication.inside.written - c.min-more.result + 1))
+    step_leaves _ _ stored p _ _ (Ok (c.left-rest.result + 1))
     (c.write_sectors.ensures.leaves stored honest (next_of _ _ up.generation_is) up.keeps))
 
 pub returns-clause-after : goal.returns-clause-after
@@ -108,7 +109,7 @@ returns-clause-after g c = rw (← c.self.view_is, ← c.publication.view_is) (�
     up_further _ _ _ _ stored service p (c.self.inside.root.generation + 1) (c.publication.inside.written + c.min-more.result) c.write_sectors.new.disk up
     c.write_sectors.ensures.disk.same_count refl (c.write_sectors.ensures.keeps stored written (next_of _ _ up.generation_is) up.keeps)
     (c.in-Ok.ensures.first written) in
-    up_after_step _ stored p _ _ _ (c.sectors.result - c.publication.inside.written - c.min-more.result + 1) (omega arith) between)
+    up_after_step _ stored p _ _ _ (c.left-rest.result + 1) (omega arith) between)
 
 pub returns-in-Err-clause-archive : goal.returns-in-Err-clause-archive
 returns-in-Err-clause-archive g c other =
@@ -153,6 +154,11 @@ write_sectors-requires-clause-order g c = omega arith
 
 pub write_sectors-requires-clause-within : goal.write_sectors-requires-clause-within
 write_sectors-requires-clause-within g c =
+    let going = going_seen _ (service_view c.self.inside) _ (publication_view c.publication.inside) c.self.view_is c.publication.view_is c.requires.going in
+    more_within _ _ _ c.sectors.ensures _ c.min-more.ensures going.2.written
+
+pub left-rest-requires : goal.left-rest-requires
+left-rest-requires g c =
     let going = going_seen _ (service_view c.self.inside) _ (publication_view c.publication.inside) c.self.view_is c.publication.view_is c.requires.going in
     more_within _ _ _ c.sectors.ensures _ c.min-more.ensures going.2.written
 

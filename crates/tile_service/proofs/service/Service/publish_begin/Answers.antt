@@ -11,24 +11,25 @@ use Rattle.tile_service.specs.Publishing.{HasNoContent}
 use Rattle.tile_service.proofs.service.Service.publish_begin.Goals as goal
 
 pub returns-in-Ok-clause-machine : goal.returns-in-Ok-clause-machine
-returns-in-Ok-clause-machine g c = rw (← c.self.view_is) (λ known.
+returns-in-Ok-clause-machine g c = rw (c.begin-places.ensures.same, ← c.self.view_is) (λ known.
     let none : c.self.inside.publication ≡ None = none_there c.self.inside.publication (sym c.is_some.ensures ∙ c.if-is_some.false) in
     begins_told {D = g.row.D.Denot} known (service_view c.self.inside)
-    (record { content = c.in-Ok.content; start = c.next.result; places = c.self.inside.journal.used; written = 0 })
+    (record { content = c.in-Ok.content; start = c.begin-places.result.0; places = c.begin-places.result.1; written = 0 })
     (c.sectors-left.result + 1) c.if-self.false none (omega arith)
     (subst (λ m. IsPublishable m c.in-Ok.content.archive) c.store.ensures.features c.in-Ok.ensures.archive)
     (c.in-Ok.ensures.snapshot ∙ ap (λ m. snapshot m) c.store.ensures.features)
-    (omega (arith, c.in-Ok.ensures.fits, c.self.inside.layout.area_is)) c.self.invariant.ring c.next.ensures.1 refl refl
+    (omega (arith, c.in-Ok.ensures.fits, c.self.inside.layout.area_is)) c.self.invariant.ring c.begin-places.ensures.start.1 c.begin-places.ensures.places refl
     (omega (arith, c.sectors-left.ensures)))
 
 pub returns-in-Ok-clause-up : goal.returns-in-Ok-clause-up
-returns-in-Ok-clause-up g c = rw (← c.self.view_is) (λ stored up.
-    let p : PublicationView = record { content = c.in-Ok.content; start = c.next.result; places = c.self.inside.journal.used; written = 0 } in
+returns-in-Ok-clause-up g c = rw (c.begin-places.ensures.same, ← c.self.view_is) (λ stored up.
+    let p : PublicationView = record { content = c.in-Ok.content; start = c.begin-places.result.0; places = c.begin-places.result.1; written = 0 } in
     up_with _ _ stored _ up (Some p) (begins_publishing _ _ stored _ up p (subst (λ m. IsMap m) c.store.ensures.features c.content_for.ensures.map)
     (subst (λ m. IsMapArchive m c.in-Ok.content.archive) c.store.ensures.features
     (archive_of_publishable c.store.result.now.features c.in-Ok.content.archive c.in-Ok.ensures.archive))
     (c.in-Ok.ensures.snapshot ∙ ap (λ m. snapshot m) c.store.ensures.features)
-    (omega (arith, c.in-Ok.ensures.fits, c.self.inside.layout.area_is)) (omega arith) c.self.invariant.ring c.next.ensures.0 c.next.ensures.1 refl refl))
+    (omega (arith, c.in-Ok.ensures.fits, c.self.inside.layout.area_is)) (omega arith) c.self.invariant.ring c.begin-places.ensures.start.0 c.begin-places.ensures.start.1
+    c.begin-places.ensures.places refl))
 
 -- nothing is changed by a beginning that is refused
 
@@ -86,7 +87,7 @@ returns-then-self-2-clause-machine g c = rw (← c.self.view_is) (λ known. (
 ))
 
 pub returns-in-Ok-clause-same : goal.returns-in-Ok-clause-same
-returns-in-Ok-clause-same g c = rw (← c.self.view_is) refl
+returns-in-Ok-clause-same g c = rw (c.begin-places.ensures.same, ← c.self.view_is) refl
 
 pub returns-in-Err-clause-machine : goal.returns-in-Err-clause-machine
 returns-in-Err-clause-machine g c = rw (← c.self.view_is) (λ known. begin_refused (state_of known (service_view c.self.inside)) c.in-Err.fault c.if-self.false

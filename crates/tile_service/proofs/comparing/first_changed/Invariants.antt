@@ -1,7 +1,0 @@
-use Rattle.std.proofs.Common.{map, take, All}
-use Rattle.feature_model.specs.Seen.{seen_data}
-use Rattle.tile_service.specs.Seen.{IsAsSeen}
-use Rattle.tile_service.proofs.comparing.first_changed.Given as goal
-
-abbrev pub invariant-loop-seen : goal.invariant-loop-seen
-invariant-loop-seen l = All (IsAsSeen l.store.features) (map seen_data (take l.seen-index l.all))
