@@ -642,19 +642,19 @@ module _ {D : Type 0} (sectors : D → ℕ) (honest : D → Type 0) (history : D
           (still_none then.drafting there.drafting stays so_far.0, so_far.1, so_far.2, so_far.3)
       still_begun stays (inr none) beginning has = absurd (is_none (beginning_of new) beginning has none.0)
 
+      -- the map of the publication in the making stays
+      stays_as_told : there.drafting ≡ then.drafting → GoesMeanwhile first new (meanwhile new run fixed)
+      stays_as_told same = record {
+        here = refl;
+        goes = now_goes;
+        drafts = λ d some. let so_far = drafts d (sym same ∙ some) in
+            (so_far.0, so_far.1, drafts_rest (inner_service first) then there run so_far.0 so_far.2 prepared_rests same);
+        begun = still_begun (inl same) is.whole;
+      }
+
       told_preparing : (there.drafting ≡ then.drafting) ⊎ (there.drafting ≡ None)
           ⊎ (CanPrepare then × (there.drafting ≡ Some (drafted_now then)) × (beginning_of new ≡ None)) → ToldPrepared
-      told_preparing (inl same) = (
-        meanwhile new run fixed,
-        inl (is, refl, inl (inl refl)),
-        record {
-          here = refl;
-          goes = now_goes;
-          drafts = λ d some. let so_far = drafts d (sym same ∙ some) in
-              (so_far.0, so_far.1, drafts_rest (inner_service first) then there run so_far.0 so_far.2 prepared_rests same);
-          begun = still_begun (inl same) is.whole;
-        },
-      )
+      told_preparing (inl same) = (meanwhile new run fixed, inl (is, refl, inl (inl refl)), stays_as_told same)
       told_preparing (inr (inl none)) = (
         meanwhile new run fixed,
         inl (is, refl, inl (inl refl)),
@@ -747,8 +747,8 @@ module _ {D : Type 0} (sectors : D → ℕ) (honest : D → Type 0) (history : D
         )
 
     -- a part of a tile is read
-    told_part : ReadsPart sectors honest history faults old new → ToldPrepared
-    told_part is =
+    part_as_told : ReadsPart sectors honest history faults old new → GoesMeanwhile first new (meanwhile new run fixed)
+    part_as_told is =
         let service_same : there ≡ record then { disk = there.disk; published = there.published } =
         ap (λ (r : MapReplies D). asked_service r) is.same in
         let same : there.drafting ≡ then.drafting = ap (λ (s : ServiceView D). s.drafting) service_same in
@@ -759,18 +759,17 @@ module _ {D : Type 0} (sectors : D → ℕ) (honest : D → Type 0) (history : D
             disk = is.disk;
           };
           up = is.up;
-        } in (
-          meanwhile new run fixed,
-          inr (inr (inr (inr (is, refl, refl)))),
-          record {
-            here = refl;
-            goes = goes_rest sectors honest history (inner_service first) then there run goes rests;
-            drafts = λ d some. let so_far = drafts d (sym same ∙ some) in
-                (so_far.0, so_far.1, drafts_rest (inner_service first) then there run so_far.0 so_far.2 rests same);
-            begun = λ beginning has. let so_far = begun beginning (sym is.whole ∙ has) in
-                (same ∙ so_far.0, so_far.1, so_far.2, so_far.3);
-          },
-        )
+        } in record {
+          here = refl;
+          goes = goes_rest sectors honest history (inner_service first) then there run goes rests;
+          drafts = λ d some. let so_far = drafts d (sym same ∙ some) in
+              (so_far.0, so_far.1, drafts_rest (inner_service first) then there run so_far.0 so_far.2 rests same);
+          begun = λ beginning has. let so_far = begun beginning (sym is.whole ∙ has) in
+              (same ∙ so_far.0, so_far.1, so_far.2, so_far.3);
+        }
+
+    told_part : ReadsPart sectors honest history faults old new → ToldPrepared
+    told_part is = (meanwhile new run fixed, inr (inr (inr (inr (is, refl, refl)))), part_as_told is)
 
     told_prepared : Prepares sectors honest history faults old new → ToldPrepared
     told_prepared (inl is) = told_preparing is is.draft
@@ -784,9 +783,13 @@ module _ {D : Type 0} (sectors : D → ℕ) (honest : D → Type 0) (history : D
         → (next : Meanwhile D) × TellsPreparedFor sectors honest history faults (meanwhile old run fixed) connection request next × GoesMeanwhile first new next
     told_for connection request (inl is) = let told = told_prepared is.1 in (told.0, (told.1, inl is.0), told.2)
     told_for connection request (inr (other, inl is)) =
-        let step = step_nothing sectors honest history faults old new is.0 (inl is.1) in
-        let told = told_preparing step step.draft in (told.0, (told.1, inr (refl, refl)), told.2)
-    told_for connection request (inr (other, inr is)) = let told = told_part is in (told.0, (told.1, inr (refl, refl)), told.2)
+        let step : PreparingStep sectors honest history faults old new = step_nothing sectors honest history faults old new is.0 (inl is.1) in (
+          meanwhile new run fixed,
+          (inl (step, refl, inl (inl refl)), inr (refl, refl)),
+          stays_as_told step (ap (λ (r : MapReplies D). (asked_service r).drafting) is.0),
+        )
+    told_for connection request (inr (other, inr is)) =
+        (meanwhile new run fixed, (inr (inr (inr (inr (is, refl, refl)))), inr (refl, refl)), part_as_told is)
 
   pub prepared_told : (first old : PreparingReplies D) (so : Meanwhile D) (connection : ℕ) (request : RequestView) (new : PreparingReplies D)
       → GoesMeanwhile first old so → PreparesFor sectors honest history faults old connection request new
