@@ -1,5 +1,6 @@
 -- A reply to a request that asks for no call of a publication reports none.
 use Rattle.std.proofs.Common.{◌≡◌, inl, inr, ◌⊎◌, ◌+◌, ℕ, List, [], ◌∷◌, ◌++◌, Bool, true, false, Option, Some, None, Result, Ok, Err, refl, sym, subst}
+use Rattle.std.specs.Prelude.{◌&&◌, not}
 use Rattle.std.proofs.lemmas.Bool.{false≢true}
 use Rattle.feature_model.specs.Seen.{SeenData}
 use Rattle.http_serve.specs.Reply.{ReplyView}
@@ -192,16 +193,17 @@ allowed_apart failed old new (asked_action action) method ask body other reply h
     action_apart failed old new action body other reply happenings is
 allowed_apart failed old new asked_nothing method ask body other reply happenings is = none happenings is.1
 
-unless_apart : (refused : Bool) (IsMeant : ReplyView → List Happening → Type 0) → AllApart IsMeant → AllApart (UnlessRefused refused IsMeant)
-unless_apart true IsMeant each reply happenings is = none happenings is.1
-unless_apart false IsMeant each reply happenings is = each reply happenings is
+unless_apart : (refused asks : Bool) (IsMeant : ReplyView → List Happening → Type 0) → (asks ≡ false → AllApart IsMeant) → not refused && asks ≡ false
+    → AllApart (UnlessRefused refused IsMeant)
+unless_apart true asks IsMeant each unasked reply happenings is = none happenings is.1
+unless_apart false asks IsMeant each unasked reply happenings is = each unasked reply happenings is
 
 -- whatever the method
 pub method_apart : (failed : Type 0) (old new : Status) (asked : Asked) (method : Result Method RouteFault) (ask : AskView) (body : List ℕ)
-    → calls_publication asked method ≡ false → (reply : ReplyView) (happenings : List Happening)
+    → calls_publication asked method ask ≡ false → (reply : ReplyView) (happenings : List Happening)
     → MeansMethod failed old new asked method ask body reply happenings → AreApart happenings
 method_apart failed old new asked (Ok method) ask body other reply happenings is =
-    unless_apart (refuses (needed ask) method) (MeansAllowed failed old new asked method ask body) (allowed_apart failed old new asked method ask body other)
-    reply happenings is
+    unless_apart (refuses (needed ask) method) (asks_to_publish asked) (MeansAllowed failed old new asked method ask body)
+    (allowed_apart failed old new asked method ask body) other reply happenings is
 method_apart failed old new asked (Err routes.NotFound) ask body other reply happenings is = none happenings is.1
 method_apart failed old new asked (Err routes.NotAllowed) ask body other reply happenings is = none happenings is.1

@@ -1,6 +1,6 @@
 -- When a publication in the making can begin, and what it is then.
 use Rattle.std.proofs.Common.{◌≡◌, ◌⊎◌, inl, inr, ℕ, List, [], ◌∷◌, Bool, true, false, Option, Some, None, Result, Ok, Err, refl, sym, ap, subst, ◌∙◌}
-use Rattle.std.specs.Prelude.{IfSome, IsSome, OnOk, OnErr}
+use Rattle.std.specs.Prelude.{◌&&◌, not, IfSome, IsSome, OnOk, OnErr}
 use Rattle.std.proofs.lemmas.Bool.{false≢true}
 use Rattle.std.specs.Option.{is_some, option_map}
 use Rattle.http_requests.specs.Requests.{RequestView}
@@ -25,10 +25,11 @@ use Rattle.map_replies.specs.declared.parts.Sending.{Sending}
 use Rattle.map_replies.specs.declared.preparing.PreparingReplies.{PreparingReplies}
 use Rattle.map_replies.specs.declared.service.MapReplies.{MapReplies}
 use Rattle.map_replies.specs.declared.turns.Turns.{Turns}
-use Rattle.map_replies.specs.Conditions.{AskView}
+use Rattle.map_replies.specs.Conditions.{AskView, needed, refuses}
 use Rattle.map_replies.specs.Meanings.{asked_for}
 use Rattle.map_replies.specs.Preparing.{IsReady, IsToBegin, IsToPublishWhole, MayPost, BeginsLate, PreparingStep, asks_to_publish, calls_publication, inner_service}
-use Rattle.map_replies.specs.Preparing.{BeginsWhole, GivesUp, IsMadeReady, Prepares, PreparesTile, ReadsPart, beginning_of, has_begun, undrafted, undrafted_calls}
+use Rattle.map_replies.specs.Preparing.{BeginsWhole, GivesUp, IsMadeReady, Prepares, PreparesTile, ReadsPart, beginning_of, has_begun, is_to_publish}
+use Rattle.map_replies.specs.Preparing.{undrafted, undrafted_calls}
 use Rattle.map_replies.specs.Sending.{SendsMethod}
 use Rattle.map_replies.specs.Tickets.{KeepsTickets}
 use Rattle.map_replies.specs.State.{access_of, asked_service}
@@ -101,9 +102,14 @@ module _ {D : Type 0} where
   )
 
 -- A request that calls one asks for it.
-pub calls_asks : (asked : Asked) (method : Result Method RouteFault) → calls_publication asked method ≡ true → asks_to_publish asked ≡ true
-calls_asks asked (Ok method) is = is
-calls_asks asked (Err fault) is = absurd (false≢true is)
+asked_unless : (refused asks : Bool) → not refused && asks ≡ true → asks ≡ true
+asked_unless true asks is = absurd (false≢true is)
+asked_unless false asks is = is
+
+pub calls_asks : (asked : Asked) (method : Result Method RouteFault) (ask : AskView) → calls_publication asked method ask ≡ true
+    → asks_to_publish asked ≡ true
+calls_asks asked (Ok method) ask is = asked_unless (refuses (needed ask) method) (asks_to_publish asked) is
+calls_asks asked (Err fault) ask is = absurd (false≢true is)
 
 module _ {D : Type 0} (sectors : D → ℕ) (honest : D → Type 0) (history : D → History) (faults : D → ℕ) where
   -- none is answered with the archive
@@ -279,13 +285,13 @@ module _ {D : Type 0} (sectors : D → ℕ) (honest : D → Type 0) (history : D
 
   -- it is dropped, or given up
   pub made_ready : (old middle : PreparingReplies D) (request : RequestView) (ready : MapReplies D) → GivesUp sectors honest history faults old middle
-      → ready ≡ record middle.replies { calls = undrafted_calls middle.replies.calls }
+      → ready ≡ record middle.replies { calls = undrafted_calls middle.replies.calls } → is_to_publish old.replies request ≡ true
       → (done : List Happening) × IsMadeReady sectors honest history faults old request done ready (beginning_of middle)
-  made_ready old middle request ready (none, inl is) same = (
+  made_ready old middle request ready (none, inl is) same calls = (
     [],
-    inr (inl (refl, same ∙ ap (λ (r : MapReplies D). record r { calls = undrafted_calls r.calls }) is.1, none, is.0)),
+    inr (inl (refl, same ∙ ap (λ (r : MapReplies D). record r { calls = undrafted_calls r.calls }) is.1, none, is.0, calls)),
   )
-  made_ready old middle request ready (none, inr is) same = (
+  made_ready old middle request ready (none, inr is) same calls = (
     cancel is.0 ∷ [],
     inr (inr (
       is.0,
@@ -295,5 +301,6 @@ module _ {D : Type 0} (sectors : D → ℕ) (honest : D → Type 0) (history : D
       none,
       is.1,
       is.3,
+      calls,
     )),
   )

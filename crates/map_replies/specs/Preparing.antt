@@ -1,7 +1,7 @@
 -- Replies between which a publication is prepared: its map is fixed as it is asked for, and its tiles are made while other requests are answered.
 -- The beginning of the publication stands in the run where its map was fixed, though it is made later. The steps of a whole publication stand where
 -- they are made: between other replies, and the last ones with its answer.
-use Rattle.std.specs.Prelude.{◌≡◌, ◌⊎◌, ◌<◌, ◌+◌, ℕ, Bool, true, false, List, [], ◌∷◌, ◌++◌, length, map, All, Option, Some, None, Result, Ok, Err}
+use Rattle.std.specs.Prelude.{◌≡◌, ◌⊎◌, ◌<◌, ◌+◌, ◌&&◌, ℕ, Bool, true, false, not, List, [], ◌∷◌, ◌++◌, length, map, All, Option, Some, None, Result, Ok, Err}
 use Rattle.std.specs.Prelude.{IfOk, IfErr}
 use Rattle.http_requests.specs.Requests.{RequestView}
 use Rattle.http_serve.specs.Reply.{ReplyView}
@@ -30,7 +30,7 @@ use Rattle.tile_service.specs.declared.status.Status.{Status}
 use Rattle.map_replies.specs.declared.calls.Calls.{Calls}
 use Rattle.map_replies.specs.declared.preparing.PreparingReplies.{PreparingReplies}
 use Rattle.map_replies.specs.declared.service.MapReplies.{MapReplies}
-use Rattle.map_replies.specs.Conditions.{ask_of, needed, refuses}
+use Rattle.map_replies.specs.Conditions.{AskView, ask_of, needed, refuses}
 use Rattle.map_replies.specs.Meanings.{DiskFailed, asked_for, last_outcome}
 use Rattle.map_replies.specs.State.{access_of, tags_of, asked_service, settings_of, sending_size, sending_ticket, ServiceReplies, ServiceSends, ServiceFails}
 use Rattle.map_replies.specs.State.{ServiceReads}
@@ -46,15 +46,16 @@ asks_to_publish (asked_action PublishStep) = true
 asks_to_publish (asked_action PublishCancel) = true
 asks_to_publish asked = false
 
--- so it does by a method, or by one that the path refuses, which asks for nothing
-abbrev pub calls_publication : Asked → Result Method RouteFault → Bool
-calls_publication asked (Ok method) = asks_to_publish asked
-calls_publication asked (Err fault) = false
+-- so it does by a method and with conditions that don't refuse it: a request that is refused by its method, or by its conditions, asks for nothing
+abbrev pub calls_publication : Asked → Result Method RouteFault → AskView → Bool
+calls_publication asked (Ok method) ask = not (refuses (needed ask) method) && asks_to_publish asked
+calls_publication asked (Err fault) ask = false
 
 -- the same of a request to these replies
 abbrev pub is_to_publish : {D : Type 0} → MapReplies D → RequestView → Bool
 is_to_publish replies request =
     calls_publication (asked_for (access_of replies) request) (method_on request.method (asked_for (access_of replies) request))
+    (ask_of (tags_of replies) request)
 
 -- its conditions, if replies have entity tags, don't refuse what it posts
 abbrev pub MayPost : {D : Type 0} → MapReplies D → RequestView → Type 0
@@ -164,15 +165,17 @@ module _ {D : Type 0} (sectors : D → ℕ) (honest : D → Type 0) (history : D
       ⊎ ((outcome : Result (Unit {0}) ServiceFault) × (has_begun old ≡ true) × (new.replies ≡ record old.replies { calls = new.replies.calls })
       × CancelsBegun sectors honest history faults old.replies.calls outcome new.replies.calls))
 
-  -- Before a call of a publication the one that is prepared is dropped, or cancelled if it has begun; before any other request nothing is done.
+  -- Before a call of a publication the one that is prepared is dropped, or cancelled if it has begun. Before any other request, and before one that is
+  -- refused, nothing is done.
   abbrev pub IsMadeReady : PreparingReplies D → RequestView → (done : List Happening) → (ready : MapReplies D)
       → (beginning : Option (Result ℕ ServiceFault)) → Type 0
   IsMadeReady old request done ready beginning =
       ((done ≡ []) × (ready ≡ old.replies) × (beginning ≡ beginning_of old) × (is_to_publish old.replies request ≡ false))
-      ⊎ ((done ≡ []) × (ready ≡ record old.replies { calls = undrafted_calls old.replies.calls }) × (beginning ≡ None) × (has_begun old ≡ false))
+      ⊎ ((done ≡ []) × (ready ≡ record old.replies { calls = undrafted_calls old.replies.calls }) × (beginning ≡ None) × (has_begun old ≡ false)
+      × (is_to_publish old.replies request ≡ true))
       ⊎ ((outcome : Result (Unit {0}) ServiceFault) × (cancelled : Calls D) × (done ≡ cancel outcome ∷ [])
       × (ready ≡ record old.replies { calls = undrafted_calls cancelled }) × (beginning ≡ None) × (has_begun old ≡ true)
-      × CancelsBegun sectors honest history faults old.replies.calls outcome cancelled)
+      × CancelsBegun sectors honest history faults old.replies.calls outcome cancelled × (is_to_publish old.replies request ≡ true))
 
   -- one reply to one request, or the late answer to a beginning, or to a whole publication, by what its beginning came to
   abbrev pub PreparingReplied : PreparingReplies D → RequestView → ReplyView → PreparingReplies D → Type 0
@@ -254,7 +257,7 @@ module _ {D : Type 0} (sectors : D → ℕ) (honest : D → Type 0) (history : D
       ⊎ ((outcome : Result ℕ ServiceFault) × StepsWhole old outcome new)
       ⊎ ((outcome : Result (Unit {0}) ServiceFault) × CancelsWhole old outcome new) ⊎ ReadsPart old new
 
-  -- for a request that asks for no call of a publication: a tile that is made changes nothing that a reply shows
+  -- for a request that asks for no call of a publication, or is refused: a tile that is made changes nothing that a reply shows
   abbrev pub PreparesTile : PreparingReplies D → PreparingReplies D → Type 0
   PreparesTile old new = ((new.replies ≡ old.replies) × (beginning_of new ≡ beginning_of old)) ⊎ ReadsPart old new
 

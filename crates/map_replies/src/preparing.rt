@@ -9,10 +9,12 @@ ghost use Rattle.tile_routes.specs.Targets.{asked_of};
 ghost use Rattle.tile_routes.specs.declared.method.Method.TheVariants.{Post};
 ghost use Rattle.tile_routes.specs.declared.target.Action.TheVariants.{Publish, PublishBegin};
 ghost use Rattle.map_replies.specs.declared.replies.TheConstants.{MAX_TEXT};
+ghost use Rattle.map_replies.specs.Conditions.{ask_of};
 ghost use Rattle.map_replies.specs.Meanings.{asked_for};
-ghost use Rattle.map_replies.specs.Preparing.{asks_to_publish, calls_publication, without_draft, beginning_of, inner_size, BeginsLate, MayPost, IsReady};
+ghost use Rattle.map_replies.specs.Preparing.{asks_to_publish, calls_publication, is_to_publish, without_draft, beginning_of, inner_size};
+ghost use Rattle.map_replies.specs.Preparing.{BeginsLate, MayPost, IsReady};
 ghost use Rattle.map_replies.specs.Preparing.{PreparingReplied, PreparingSends, Prepares, PreparesTile, ReadsPart};
-ghost use Rattle.map_replies.specs.State.{access_of};
+ghost use Rattle.map_replies.specs.State.{access_of, tags_of};
 ghost use Rattle.map_replies.specs.Words.{left_reply};
 
 use crate::calls::Calls;
@@ -64,23 +66,6 @@ fn is_publishing(target: Target) -> bool
         | Target::View(_)
         | Target::Nothing => false,
     }
-}
-
-/// Whether a call of a publication is asked for, by a method that its path allows.
-fn is_call(target: Target, method: &[u8]) -> bool
-    ensures { result ≡ calls_publication (asked_of target) (method_on method.now (asked_of target)) }
-{
-    match target.method(method) {
-        Ok(_) => is_publishing(target),
-        Err(_) => false,
-    }
-}
-
-/// The same of a request.
-fn is_to_publish(target: Target, request: &Request<'_>) -> bool
-    ensures { result ≡ calls_publication (asked_of target) (method_on request.now.method (asked_of target)) }
-{
-    is_call(target, request.method)
 }
 
 /// Whether the beginning of a publication by steps is asked for.
@@ -184,6 +169,25 @@ impl<D: Sectors + Drop> PreparingReplies<D> {
         ensures { result ≡ self.replies }
     {
         self.replies
+    }
+
+    /// Whether a request for this calls a publication: it asks for one by a method that its path allows, and its conditions don't refuse it.
+    fn is_call(&self, target: Target, request: &Request<'_>) -> bool
+        ensures { result ≡ calls_publication (asked_of target) (method_on request.now.method (asked_of target))
+            (ask_of (tags_of self.now.replies) request.now) }
+    {
+        match target.method(request.method) {
+            Ok(method) => !self.replies.refuses(method, request) && is_publishing(target),
+            Err(_) => false,
+        }
+    }
+
+    /// The same of a request that asks for this.
+    fn is_to_publish(&self, target: Target, request: &Request<'_>) -> bool
+        requires asked { asked_of target ≡ asked_for (access_of self.now.replies) request.now }
+        ensures { result ≡ is_to_publish self.now.replies request.now }
+    {
+        self.is_call(target, request)
     }
 
     /// Whether a publication is prepared that the next request has to wait for: one that has begun, or one in the making if this is to be prepared.
@@ -422,7 +426,7 @@ impl<D: Sectors + Drop> PreparingReplies<D> {
         if !is_to_begin(target, request.method) {
             return None;
         }
-        if self.replies.refuses_post(request) {
+        if self.replies.refuses(Method::Post, request) {
             return None;
         }
         if !self.replies.calls.is_ready() {
@@ -447,7 +451,7 @@ impl<D: Sectors + Drop> PreparingReplies<D> {
         if !is_to_publish_whole(target, request.method) {
             return None;
         }
-        if self.replies.refuses_post(request) {
+        if self.replies.refuses(Method::Post, request) {
             return None;
         }
         match replies::outcome_space(self.replies.calls.alloc) {
@@ -459,7 +463,7 @@ impl<D: Sectors + Drop> PreparingReplies<D> {
     /// Answers a request for a call of a publication. The publication that is prepared is dropped before, or cancelled if it has begun.
     fn answer_afresh(&mut self, target: Target, request: &Request<'_>) -> Reply
         requires asked { asked_of target ≡ asked_for (access_of self.old.replies) request.now }
-        requires publishes { asks_to_publish (asked_of target) ≡ true }
+        requires calls { is_to_publish self.old.replies request.now ≡ true }
         ensures replied { (reply : ReplyView) × IsReply result reply
             × PreparingReplied D.sectors D.honest D.history D.faults self.old request.now reply self.new
             × InParts result.content (PreparingSends D.sectors D.honest D.history D.faults self.old request.now reply self.new
@@ -479,7 +483,7 @@ impl<D: Sectors + Drop> PreparingReplies<D> {
         beginning: Result<u64, ServiceFault>,
     ) -> Reply
         requires asked { asked_of target ≡ asked_for (access_of self.old.replies) request.now }
-        requires publishes { asks_to_publish (asked_of target) ≡ true }
+        requires calls { is_to_publish self.old.replies request.now ≡ true }
         requires has { beginning_of self.old ≡ Some beginning }
         ensures replied { (reply : ReplyView) × IsReply result reply
             × PreparingReplied D.sectors D.honest D.history D.faults self.old request.now reply self.new
@@ -499,7 +503,7 @@ impl<D: Sectors + Drop> PreparingReplies<D> {
     /// Answers a request for a call of a publication, with the whole one that is prepared.
     fn answer_whole(&mut self, target: Target, request: &Request<'_>) -> Reply
         requires asked { asked_of target ≡ asked_for (access_of self.old.replies) request.now }
-        requires publishes { asks_to_publish (asked_of target) ≡ true }
+        requires calls { is_to_publish self.old.replies request.now ≡ true }
         ensures replied { (reply : ReplyView) × IsReply result reply
             × PreparingReplied D.sectors D.honest D.history D.faults self.old request.now reply self.new
             × InParts result.content (PreparingSends D.sectors D.honest D.history D.faults self.old request.now reply self.new
@@ -515,7 +519,7 @@ impl<D: Sectors + Drop> PreparingReplies<D> {
     /// Answers a request for a call of a publication. One that is prepared is dropped or cancelled, unless it begins or is made to its end.
     fn answer_publishing(&mut self, target: Target, request: &Request<'_>) -> Reply
         requires asked { asked_of target ≡ asked_for (access_of self.old.replies) request.now }
-        requires publishes { asks_to_publish (asked_of target) ≡ true }
+        requires calls { is_to_publish self.old.replies request.now ≡ true }
         ensures replied { (reply : ReplyView) × IsReply result reply
             × PreparingReplied D.sectors D.honest D.history D.faults self.old request.now reply self.new
             × InParts result.content (PreparingSends D.sectors D.honest D.history D.faults self.old request.now reply self.new
@@ -545,7 +549,7 @@ impl<D: Sectors + Drop> Handler for PreparingReplies<D> {
 
     fn answer(&mut self, request: &Request<'_>) -> Reply {
         let target = self.replies.target(request);
-        if is_to_publish(target, request) {
+        if self.is_to_publish(target, request) {
             self.answer_publishing(target, request)
         } else {
             self.replies.answer_at(target, request)
@@ -580,7 +584,7 @@ impl<D: Sectors + Drop> Prepares for PreparingReplies<D> {
 
     fn prepare(&mut self, connection: u64, request: &Request<'_>) -> Preparation {
         let target = self.replies.target(request);
-        if is_to_publish(target, request) {
+        if self.is_to_publish(target, request) {
             return self.prepare_call(connection, target, request.method);
         }
         self.prepare_other(connection, target, request.method)

@@ -3,7 +3,6 @@ ghost use Rattle.std.specs.Prelude.{◌≡◌, length};
 ghost use Rattle.http_serve.specs.Reply.{ReplyView, IsReply, InParts, HasShortWords, head_view};
 ghost use Rattle.http_serve.specs.declared.connection.TheConstants.{MAX_READS};
 ghost use Rattle.tile_routes.specs.Targets.{asked_of};
-ghost use Rattle.tile_routes.specs.declared.method.Method.TheVariants.{Post};
 ghost use Rattle.map_replies.specs.Conditions.{ask_of, needed, refuses};
 ghost use Rattle.map_replies.specs.Meanings.{asked_for};
 ghost use Rattle.map_replies.specs.Served.{ServesMap};
@@ -79,15 +78,15 @@ impl<D: Sectors + Drop> MapReplies<D> {
             .granted(self.settings.access)
     }
 
-    /// Whether the conditions of a request refuse what it posts.
-    pub(crate) fn refuses_post(&self, request: &Request<'_>) -> bool
-        ensures { result ≡ refuses (needed (ask_of (tags_of self.now) request.now)) Post }
+    /// Whether the conditions of a request can't be met, so that it is refused with this method.
+    pub(crate) fn refuses(&self, method: Method, request: &Request<'_>) -> bool
+        ensures { result ≡ refuses (needed (ask_of (tags_of self.now) request.now)) method }
     {
         let ask = Ask {
             fields: &request.fields,
             tags: self.settings.tags,
         };
-        ask.refuses(Method::Post)
+        ask.refuses(method)
     }
 
     /// Answers a request that asks for this.

@@ -1,17 +1,14 @@
-use Rattle.std.proofs.Common.{◌≡◌, [], false, inl, refl, sym, ap, ◌∙◌}
+use Rattle.std.proofs.Common.{◌≡◌, [], false, inl, refl, sym, ◌∙◌}
 use Rattle.http_serve.proofs.PartLemmas.{in_parts}
-use Rattle.tile_routes.specs.Methods.{method_on}
-use Rattle.map_replies.specs.Preparing.{calls_publication, is_to_publish}
-use Rattle.map_replies.proofs.ReadyLemmas.{calls_asks}
+use Rattle.map_replies.specs.Preparing.{is_to_publish}
 use Rattle.map_replies.proofs.preparing.PreparingRepliesHandler.answer.Goals as goal
 
-pub answer_publishing-requires-clause-publishes : goal.answer_publishing-requires-clause-publishes
-answer_publishing-requires-clause-publishes g c = calls_asks _ _ (sym c.is_to_publish.ensures ∙ c.if-is_to_publish.true)
+pub answer_publishing-requires-clause-calls : goal.answer_publishing-requires-clause-calls
+answer_publishing-requires-clause-calls g c = sym c.is_to_publish.ensures ∙ c.if-is_to_publish.true
 
 pub returns-else-is_to_publish-clause-replied : goal.returns-else-is_to_publish-clause-replied
 returns-else-is_to_publish-clause-replied g c =
-    let other : is_to_publish c.args.self.now.replies c.args.request.now ≡ false =
-    sym (ap (λ a. calls_publication a (method_on c.args.request.now.method a)) c.target-target.ensures) ∙ sym c.is_to_publish.ensures ∙ c.if-is_to_publish.false in
+    let other : is_to_publish c.args.self.now.replies c.args.request.now ≡ false = sym c.is_to_publish.ensures ∙ c.if-is_to_publish.false in
     let told = c.answer_at.ensures.replied in (
       told.0,
       told.1,
