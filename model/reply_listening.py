@@ -2,6 +2,7 @@
 import connections
 from listening import END, FLOOD, Fixed, Peer, Turn, listen as listen_to, logged, pace, time_for
 from reply_admin import batch_of
+from reply_tags import with_tags
 from reply_stand import BEGIN, CANCEL, GET_ARCHIVE, PUBLISH, STEP, Often, large_put, put, put_parts, request, text_of, with_point
 
 # Linux's errors: no descriptor is left, a signal, a connection is gone, a fault of the protocol, an argument at fault. Then one that is none.
@@ -365,12 +366,6 @@ def preparations(script):
         one = Peer((0, asked), (10, STEP), (20, GET_ARCHIVE), (30, END), answered=[asked, STEP, GET_ARCHIVE], last=20)
         other = Peer((0, EDIT + DONE), (29, END), answered=[EDIT, DONE])
         listen(script, one, other, order=[0, 1, 1, 0, 0], log=logged((2, 2, "closed"), (1, 3, "closed")), time=30)
-    script.note("A request that the path of a call refuses changes nothing of it either.")
-    refused = request("GET", "/publish")
-    with_point(script)
-    one = Peer((0, BEGIN), (10, STEP), (20, GET_ARCHIVE), (30, END), answered=[BEGIN, STEP, GET_ARCHIVE], last=20)
-    other = Peer((0, EDIT + refused + DONE), (29, END), answered=[EDIT, refused, DONE])
-    listen(script, one, other, order=[0, 1, 1, 1, 0, 0], log=logged((2, 3, "closed"), (1, 3, "closed")), time=30)
     with_point(script)
     script.note("Edits that are acknowledged before it is read are in it.")
     gone = request("DELETE", "/features/7")
@@ -390,6 +385,38 @@ def preparations(script):
 
 
 STATUS = request("GET", "/admin/status")
+
+# Requests that a path, a method or a condition refuses. No feature has a tag, and neither has the map, so that a condition is never met.
+REFUSED_BY_PATH = [request("GET", "/publish"), request("HEAD", "/publish/begin"), request("POST", "/publish/other"), request("POST", "/nothing")]
+CONDITIONS = ["if-match: *", "if-none-match: *", 'if-match: "1-1-223"']
+REFUSED_CALLS = [request("POST", path, b"", field) for path, field in zip(("/publish", "/publish/begin", "/publish/step"), CONDITIONS)]
+REFUSED_CALLS += [request("POST", "/publish/cancel?x", b"", CONDITIONS[0]), b"\r\n" + request("POST", "/publish?x", b"", CONDITIONS[1])]
+
+
+def refused_meanwhile(script):
+    script.say("A request that is refused by its path, its method or its conditions changes nothing of what is prepared for another connection.")
+    for refused in REFUSED_BY_PATH + REFUSED_CALLS:
+        with_point(script)
+        one = Peer((0, BEGIN), (10, STEP), (20, GET_ARCHIVE), (30, END), answered=[BEGIN, STEP, GET_ARCHIVE], last=20)
+        other = Peer((0, EDIT + refused + DONE), (29, END), answered=[EDIT, refused, DONE])
+        listen(script, one, other, order=[0, 1, 1, 1, 0, 0], log=logged((2, 3, "closed"), (1, 3, "closed")), time=30)
+    script.note("Nor of a whole publication.")
+    for refused in REFUSED_BY_PATH + REFUSED_CALLS:
+        with_point(script)
+        one = Peer((0, PUBLISH), (20, GET_ARCHIVE), (30, END), answered=[PUBLISH, GET_ARCHIVE], last=20)
+        other = Peer((0, EDIT + refused + DONE), (29, END), answered=[EDIT, refused, DONE])
+        listen(script, one, other, order=[Fixed(0), 1, 1, 1, 0, 0], log=logged((2, 3, "closed"), (1, 2, "closed")), time=30)
+    script.note("Nothing is prepared for it: it is answered in its first turn, and what follows it in the second one, before the third one of another.")
+    for refused in REFUSED_CALLS:
+        with_point(script)
+        one = Peer((0, refused + DONE), (30, END), answered=[refused, DONE])
+        other = Peer((0, STEP + SHOWN + EDIT), (29, END), answered=[STEP, SHOWN, EDIT])
+        listen(script, one, other, order=[0, 1, 0, 1, 1], log=logged((2, 3, "closed"), (1, 2, "closed")), time=30)
+    script.note("It doesn't wait for a whole publication that has begun, nor end it.")
+    for refused in (REFUSED_BY_PATH[0], REFUSED_CALLS[0], REFUSED_CALLS[3]):
+        with_large_map(script)
+        listen_to_steps(script, [*[DONE] * (BEGINS + 1), refused, STATUS, refused, STATUS])
+        script.ask(SHOWN_AT_ONCE)
 
 
 def whole_preparations(script):
@@ -473,11 +500,22 @@ def long_tiles(script):
     script.ask(put(9))
     one, other = Peer((0, HEAD), (30, END), answered=[HEAD]), Peer((0, gone + DONE), (29, END), answered=[gone, DONE])
     listen(script, one, other, order=[1, 1, 0], log=logged((2, 2, "closed"), (1, 1, "closed")), time=30)
+    script.note("So is one that is asked for behind an empty line, or with a query.")
+    for asked in (b"\r\n" + A, request("GET", "/map/0/0/0.hex?x")):
+        script.ask(put(9))
+        one, other = Peer((0, asked), (30, END), answered=[asked]), Peer((0, gone + DONE), (29, END), answered=[gone, DONE])
+        listen(script, one, other, order=[1, 1, 0], log=logged((2, 2, "closed"), (1, 1, "closed")), time=30)
     script.note("It is cached. Two ask for the next one at once, and it is made for both.")
     listen(script, Peer((0, A + B + A), (30, END), answered=[A, B, A]), log=logged((1, 3, "closed")), time=30)
     both = Peer((0, A), (30, END), answered=[A], more=1)
     listen(script, both, log=logged((1, 1, "closed"), (2, 1, "closed")), time=30)
+    script.note("One of the two makes its steps and the other waits, so that others have as many turns meanwhile as with one: it has the edit of the last.")
+    asked = [*[DONE] * 24, gone]
+    both, third = Peer((0, A), (30, END), answered=[A], more=1), Peer((0, b"".join(asked)), (29, END), answered=asked)
+    script.ask(put(9))
+    listen(script, both, third, order=[*[2] * 25, 0, 1], log=logged((3, 25, "closed"), (1, 1, "closed"), (2, 1, "closed")), time=30)
     script.note("Another one of many features waits for it, and one of few doesn't.")
+    script.ask(put(9))
     script.ask(gone, put(9))
     first, second = Peer((0, A), (28, END), answered=[A]), Peer((0, NEAR), (29, END), answered=[NEAR])
     third = Peer((0, FAR + SHOWN), (30, END), answered=[FAR, SHOWN])
@@ -603,4 +641,5 @@ def whole_steps(script):
 
 
 BLOCKS = [no_descriptor, accepts_that_fail, so_many_are_open, turns, slow_readers, all_hold_too_much, so_many_reads]
-BLOCKS += [cut_anywhere, byte_by_byte, stages, paces, downloads, preparations, whole_preparations, whole_steps, long_tiles, wide_tiles, read_tiles]
+BLOCKS += [cut_anywhere, byte_by_byte, stages, paces, downloads, preparations, whole_preparations, whole_steps]
+BLOCKS += [with_tags(refused_meanwhile), long_tiles, wide_tiles, read_tiles]

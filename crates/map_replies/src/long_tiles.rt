@@ -126,6 +126,14 @@ impl LongTiles {
         self.turns.has_to_wait(connection)
     }
 
+    /// Whether a connection has to wait for another one that has the turns, and whose reply has the same tile.
+    pub(crate) fn waits_for_owner(&mut self, connection: u64, at: TileAt) -> bool {
+        if self.current != Some(at) || self.turns.is_owner(connection) {
+            return false;
+        }
+        self.turns.has_to_wait(connection)
+    }
+
     /// Gives a connection its turn, in which this tile is made.
     pub(crate) fn give(&mut self, connection: u64, at: TileAt) {
         self.turns.give(connection);

@@ -364,6 +364,10 @@ impl<D: Sectors + Drop> PreparingReplies<D> {
             return Some(Preparation::Ready);
         }
         if self.replies.calls.service.tile_in_making() == Some(at) {
+            // One of those who ask for it makes its steps: with steps of its own each of them would keep all others waiting as long.
+            if self.tiles.waits_for_owner(connection, at) {
+                return Some(Preparation::Waits);
+            }
             return Some(self.prepare_tile(connection, at));
         }
         if self.replies.calls.service.is_made(at) {
