@@ -1,4 +1,6 @@
 mod Beginnings
 pub mod Begun
 pub mod Late
+pub mod OverReads
+mod PortKept
 mod Prepared

@@ -1,2 +1,3 @@
 pub mod Begun
 pub mod Beside
+pub mod Moments

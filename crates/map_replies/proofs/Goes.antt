@@ -3,20 +3,19 @@ use Rattle.std.proofs.Common.{◌≡◌, ℕ, List, [], ◌∷◌, ◌++◌, Opt
 use Rattle.std.proofs.Common.{◌∙◌, append_assoc}
 use Rattle.std.proofs.lemmas.List.{append-nil}
 use Rattle.sector_disk.specs.Disk.{History}
-use Rattle.sector_disk.proofs.AskedLaws.{reads_on, reads_none}
+use Rattle.sector_disk.proofs.AskedLaws.{reads_none}
 use Rattle.begin_law.specs.Beside.{IsBeside, AreBeside}
+use Rattle.begin_law.specs.Moments.{WasRead}
 use Rattle.tile_service.specs.declared.fault.ServiceFault.{ServiceFault}
 use Rattle.tile_service.specs.declared.fault.ServiceFault.TheVariants.{Device}
 use Rattle.tile_service.specs.Drafted.{DraftedView}
 use Rattle.tile_service.specs.Machine.{Happening, edit, begin, step, cancel, check}
 use Rattle.tile_service.specs.Runs.{IsDoubtful, Takes, TakesAll}
-use Rattle.tile_service.specs.Service.{ServiceView, IsUp, KeepsDraft}
-use Rattle.tile_service.specs.Stored.{Stored}
+use Rattle.tile_service.specs.Service.{ServiceView, KeepsDraft}
 use Rattle.tile_service.proofs.Publications.Drafts.{up_drafting}
 use Rattle.tile_service.proofs.Runs.Callers.{was_before}
 use Rattle.map_replies.proofs.Apart.{IsApart, AreApart}
-use Rattle.map_replies.proofs.Passing.{Passes, passes_on, passes_read, read_on}
-use Rattle.map_replies.specs.Moments.{WasRead}
+use Rattle.map_replies.proofs.Passing.{Passes, passes_on, passes_read, read_none, read_on}
 use Rattle.map_replies.specs.Preparing.{undrafted}
 
 -- ---- what is no call of a publication, and didn't fail on the disk
@@ -48,25 +47,21 @@ module _ {D : Type 0} (sectors : D → ℕ) (honest : D → Type 0) (history : D
 
   -- ---- between two calls
 
-  -- the service was read, or prepared, and one that continued from a stored state does
-  pub record Rests (old new : ServiceView D) : Type 0 where
-    pub read : WasRead sectors honest history old new
-    pub up : (stored : Stored) → IsUp (sectors old.disk) (history old.disk) stored old → honest new.disk
-        → IsUp (sectors new.disk) (history new.disk) stored new
+  -- the service was read, or prepared
+  abbrev pub Rests : (old new : ServiceView D) → Type 0
+  Rests = WasRead sectors honest history
 
   pub rests_none : (s : ServiceView D) → Rests s s
-  rests_none s = record { read = record { same = refl; disk = reads_none s.disk }; up = λ stored up is_honest. up }
+  rests_none = read_none sectors honest history
 
   pub rests_on : (old middle new : ServiceView D) → Rests old middle → Rests middle new → Rests old new
-  rests_on old middle new first then = record {
-    read = read_on sectors honest history old middle new first.read then.read;
-    up = λ stored up is_honest. then.up stored (first.up stored up (then.read.disk.was_honest is_honest)) is_honest;
-  }
+  rests_on = read_on sectors honest history
 
   -- the publication in the making was dropped
   pub rests_undrafted : (s : ServiceView D) → Rests s (undrafted s)
   rests_undrafted s = record {
-    read = record { same = refl; disk = reads_none s.disk };
+    same = refl;
+    disk = reads_none s.disk;
     up = λ stored up is_honest. up_drafting (sectors s.disk) (history s.disk) stored s up None tt;
   }
 
@@ -101,18 +96,18 @@ module _ {D : Type 0} (sectors : D → ℕ) (honest : D → Type 0) (history : D
       (goes.0, goes.1, goes.2, goes.3, goes_rest goes.1 middle new happenings goes.4 rests)
 
   pub sized : (old new : ServiceView D) (happenings : List Happening) → Goes old happenings new → new.size ≡ old.size
-  sized old new [] rests = ap (λ (s : ServiceView D). s.size) rests.read.same
+  sized old new [] rests = ap (λ (s : ServiceView D). s.size) rests.same
   sized old new (happening ∷ happenings) goes =
-      sized goes.1 new happenings goes.4 ∙ goes.3.size ∙ ap (λ (s : ServiceView D). s.size) goes.2.read.same
+      sized goes.1 new happenings goes.4 ∙ goes.3.size ∙ ap (λ (s : ServiceView D). s.size) goes.2.same
 
   -- A service that isn't broken after them wasn't before, and if none is a call of a publication all are beside one.
   pub all_beside : (old new : ServiceView D) (happenings : List Happening) → AreApart happenings → Goes old happenings new → new.broken ≡ false
       → (old.broken ≡ false) × AreBeside happenings
-  all_beside old new [] apart rests unbroken = (sym (ap (λ (s : ServiceView D). s.broken) rests.read.same) ∙ unbroken, tt)
+  all_beside old new [] apart rests unbroken = (sym (ap (λ (s : ServiceView D). s.broken) rests.same) ∙ unbroken, tt)
   all_beside old new (happening ∷ happenings) apart goes unbroken =
       let later = all_beside goes.1 new happenings apart.1 goes.4 unbroken in
       let here = was_before sectors honest history goes.0 goes.1 happening goes.3 later.0 in (
-        sym (ap (λ (s : ServiceView D). s.broken) goes.2.read.same) ∙ here.0,
+        sym (ap (λ (s : ServiceView D). s.broken) goes.2.same) ∙ here.0,
         (beside happening apart.0 here.1, later.1),
       )
 
@@ -121,9 +116,9 @@ module _ {D : Type 0} (sectors : D → ℕ) (honest : D → Type 0) (history : D
       → Passes sectors honest history first (before ++ more) new
   passes_goes first now new before [] so rests =
       subst (λ (l : List Happening). Passes sectors honest history first l new) (sym (append-nil before))
-      (passes_read sectors honest history first now new before so rests.read.same rests.read.disk rests.up)
+      (passes_read sectors honest history first now new before so rests.same rests.disk rests.up)
   passes_goes first now new before (happening ∷ more) so goes =
       subst (λ (l : List Happening). Passes sectors honest history first l new) (append_assoc before (happening ∷ []) more)
       (passes_goes first goes.1 new (before ++ happening ∷ []) more
       (passes_on sectors honest history first goes.0 goes.1 before happening
-      (passes_read sectors honest history first now goes.0 before so goes.2.read.same goes.2.read.disk goes.2.up) goes.3) goes.4)
+      (passes_read sectors honest history first now goes.0 before so goes.2.same goes.2.disk goes.2.up) goes.3) goes.4)

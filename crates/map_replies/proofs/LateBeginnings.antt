@@ -25,12 +25,13 @@ module _ {D : Type 0} (sectors : D → ℕ) (honest : D → Type 0) (history : D
     rests_beside : (old new : ServiceView D) → old.publication ≡ None → Rests sectors honest history old new
         → Rests sectors honest history (with_it old) (with_it new)
     rests_beside old new none rests = record {
-      read = record { same = ap with_it rests.read.same; disk = rests.read.disk };
+      same = ap with_it rests.same;
+      disk = rests.disk;
       up = λ stored up is_honest.
           let later : IsUp (sectors new.disk) (history new.disk) stored new =
           rests.up stored (up_bare sectors honest history p fresh (sectors old.disk) (history old.disk) stored old none up) is_honest in
           up_with (sectors new.disk) (history new.disk) stored new later (Some p)
-          (subst (λ (n : ℕ). Publishes n stored (history new.disk) p) (sym (ap (λ (s : ServiceView D). s.size) rests.read.same))
+          (subst (λ (n : ℕ). Publishes n stored (history new.disk) p) (sym (ap (λ (s : ServiceView D). s.size) rests.same))
           (publishes_on p fresh old.size stored (history old.disk) up.publication (look 0 no_memory) tt (Some p) (history new.disk)));
     }
 
@@ -38,7 +39,7 @@ module _ {D : Type 0} (sectors : D → ℕ) (honest : D → Type 0) (history : D
         → Goes sectors honest history old happenings new → Goes sectors honest history (with_it old) happenings (with_it new)
     goes_beside old new [] none b rests = rests_beside old new none rests
     goes_beside old new (happening ∷ happenings) none b goes =
-        let still : goes.0.publication ≡ None = ap (λ (s : ServiceView D). s.publication) goes.2.read.same ∙ none in (
+        let still : goes.0.publication ≡ None = ap (λ (s : ServiceView D). s.publication) goes.2.same ∙ none in (
           with_it goes.0,
           with_it goes.1,
           rests_beside old goes.0 none goes.2,

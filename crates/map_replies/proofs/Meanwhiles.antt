@@ -575,12 +575,10 @@ module _ {D : Type 0} (sectors : D → ℕ) (honest : D → Type 0) (history : D
       let now : ServiceView D = inner_service new in
       let same : now.drafting ≡ before.drafting = ap (λ (s : ServiceView D). s.drafting) is.0.0.same in
       let rests : Rests sectors honest history before now = record {
-        read = record {
-          same = is.0.0.same ∙ ap (λ (d : Option DraftedView). record before { disk = now.disk; drafting = d }) (sym same)
-              ∙ ap (λ (p : PublishedView). record before { disk = now.disk; drafting = now.drafting; published = p })
-              (sym (ap (λ (s : ServiceView D). s.published) is.0.0.same));
-          disk = is.0.0.disk;
-        };
+        same = is.0.0.same ∙ ap (λ (d : Option DraftedView). record before { disk = now.disk; drafting = d }) (sym same)
+            ∙ ap (λ (p : PublishedView). record before { disk = now.disk; drafting = now.drafting; published = p })
+            (sym (ap (λ (s : ServiceView D). s.published) is.0.0.same));
+        disk = is.0.0.disk;
         up = is.0.0.up;
       } in
       of_here first old so
@@ -622,12 +620,10 @@ module _ {D : Type 0} (sectors : D → ℕ) (honest : D → Type 0) (history : D
 
       prepared_rests : Rests sectors honest history then there
       prepared_rests = record {
-        read = record {
-          same = service_same ∙ ap (λ (d : D). record then { disk = d; drafting = there.drafting }) (sym disk_same)
-              ∙ ap (λ (p : PublishedView). record then { disk = there.disk; drafting = there.drafting; published = p })
-              (sym (ap (λ (s : ServiceView D). s.published) service_same));
-          disk = subst (λ (d : D). OnlyReads sectors honest history then.disk d) (sym disk_same) (reads_none then.disk);
-        };
+        same = service_same ∙ ap (λ (d : D). record then { disk = d; drafting = there.drafting }) (sym disk_same)
+            ∙ ap (λ (p : PublishedView). record then { disk = there.disk; drafting = there.drafting; published = p })
+            (sym (ap (λ (s : ServiceView D). s.published) service_same));
+        disk = subst (λ (d : D). OnlyReads sectors honest history then.disk d) (sym disk_same) (reads_none then.disk);
         up = λ stored up is_honest. is.up stored up;
       }
 
@@ -753,11 +749,9 @@ module _ {D : Type 0} (sectors : D → ℕ) (honest : D → Type 0) (history : D
         ap (λ (r : MapReplies D). asked_service r) is.same in
         let same : there.drafting ≡ then.drafting = ap (λ (s : ServiceView D). s.drafting) service_same in
         let rests : Rests sectors honest history then there = record {
-          read = record {
-            same = service_same
-                ∙ ap (λ (d : Option DraftedView). record then { disk = there.disk; drafting = d; published = there.published }) (sym same);
-            disk = is.disk;
-          };
+          same = service_same
+              ∙ ap (λ (d : Option DraftedView). record then { disk = there.disk; drafting = d; published = there.published }) (sym same);
+          disk = is.disk;
           up = is.up;
         } in record {
           here = refl;

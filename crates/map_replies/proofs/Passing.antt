@@ -11,8 +11,8 @@ use Rattle.tile_service.specs.Service.{ServiceView, IsUp}
 use Rattle.tile_service.specs.Stored.{Stored}
 use Rattle.tile_service.proofs.Runs.Callers.{HasRun, run_begins, run_on, begins_by, on_by}
 use Rattle.tile_service.proofs.Runs.DiskAfter.{below, last_is, one_more, by_next, by_next_before, by_next_last, by_next_part, run_fits}
-use Rattle.map_replies.proofs.TicketLemmas.{run_reads, reads_by}
-use Rattle.map_replies.specs.Moments.{WasRead, TakesBetweenReads}
+use Rattle.begin_law.specs.Moments.{WasRead, TakesBetweenReads}
+use Rattle.begin_law.proofs.OverReads.{run_reads, reads_by}
 
 module _ {D : Type 0} (sectors : D → ℕ) (honest : D → Type 0) (history : D → History) where
   -- ---- reads
@@ -20,13 +20,14 @@ module _ {D : Type 0} (sectors : D → ℕ) (honest : D → Type 0) (history : D
   abbrev Read : (old new : ServiceView D) → Type 0
   Read old new = WasRead sectors honest history old new
 
-  read_none : (s : ServiceView D) → Read s s
-  read_none s = record { same = refl; disk = reads_none s.disk }
+  pub read_none : (s : ServiceView D) → Read s s
+  read_none s = record { same = refl; disk = reads_none s.disk; up = λ stored up is_honest. up }
 
   pub read_on : (old middle new : ServiceView D) → Read old middle → Read middle new → Read old new
   read_on old middle new first then = record {
     same = then.same ∙ ap (λ (s : ServiceView D). record s { disk = new.disk; drafting = new.drafting; published = new.published }) first.same;
     disk = reads_on first.disk then.disk;
+    up = λ stored up is_honest. then.up stored (first.up stored up (then.disk.was_honest is_honest)) is_honest;
   }
 
   -- ---- a run so far
@@ -156,7 +157,7 @@ module _ {D : Type 0} (sectors : D → ℕ) (honest : D → Type 0) (history : D
     read_now k is =
         let was : Read (so.at k) now = subst (λ (s : ServiceView D). Read (so.at k) s) (ap so.from is ∙ so.ends) (so.reads k (omega (arith, is))) in
         subst (λ (s : ServiceView D). Read (so.at k) s) (sym (then_last k is))
-        (read_on (so.at k) now new was (record { same = same; disk = disk }))
+        (read_on (so.at k) now new was (record { same = same; disk = disk; up = still_up }))
 
     read_then : (k : ℕ) → k < length events → Read (so.at k) (then_from k)
     read_then k lt = subst (λ (s : ServiceView D). Read (so.at k) s) (sym (then_before k lt)) (so.reads k (omega (arith, lt)))

@@ -3,7 +3,6 @@ pub mod Conditions
 pub mod Feed
 pub mod Lists
 pub mod Meanings
-pub mod Moments
 pub mod Pages
 pub mod Parts
 pub mod Preparing

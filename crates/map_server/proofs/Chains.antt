@@ -1,6 +1,7 @@
 -- What happens in stretches of connections, in reads of downloads and in preparations of a publication, one after the other.
 use Rattle.std.proofs.Common.{ℕ, List, [], ◌∷◌, Option, None, Some, Ok, Err, Result, refl, sym, subst}
 use Rattle.std.specs.declared.alloc.AllocError.{AllocError}
+use Rattle.http_requests.specs.Requests.{request_view}
 use Rattle.http_serve.specs.declared.answers.Rest.{Rest}
 use Rattle.http_serve.specs.declared.connection.Answer.{Answer}
 use Rattle.http_serve.specs.declared.connection.Served.{Served}
@@ -12,7 +13,7 @@ use Rattle.map_replies.proofs.Along.{served_along, part_along}
 use Rattle.map_replies.proofs.Goes.{passes_goes}
 use Rattle.map_replies.proofs.Meanwhiles.{GoesMeanwhile, goes_from, replied, read_told, prepared_told}
 use Rattle.map_replies.proofs.Passing.{Passes, passes_none, takes_between}
-use Rattle.map_replies.specs.Moments.{TakesBetweenReads}
+use Rattle.begin_law.specs.Moments.{TakesBetweenReads}
 use Rattle.map_replies.specs.Preparing.{PreparingReplied, PreparingReads, PreparesFor, Meanwhile, meanwhile}
 use Rattle.map_replies.specs.Preparing.{inner_service, inner_ticket, without_draft}
 use Rattle.map_replies.specs.Preparing.{TellsMeanwhile, TellsMeanwhileRead, TellsPreparedFor}
@@ -69,7 +70,7 @@ module _ {D : Type 0} (sectors : D → ℕ) (honest : D → Type 0) (history : D
     event_along (at_part ticket offset count outcome) old new before so is =
         read_told sectors honest history faults first old before ticket offset count outcome new so is
     event_along (at_preparation connection asked) old new before so is =
-        let told = prepared_told sectors honest history faults first old before connection _ new so is.2 in
+        let told = prepared_told sectors honest history faults first old before connection (request_view is.0) new so is.2 in
         (told.0, (is.0, is.1, told.1), told.2)
 
     all_along : (served : List Event) (old new : PreparingReplies D) (before : Meanwhile D) → Along old before
