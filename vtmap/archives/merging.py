@@ -6,7 +6,7 @@ a map of all features.
 """
 from typing import Iterator, NamedTuple
 
-from ..files.protobuf import BYTES, bytes_field, fields, number_field, varint, varint_of
+from ..files.protobuf import bytes_field, fields, number_field, varint, varint_of
 
 LAYER = 3
 NAME, FEATURE, KEY, VALUE, EXTENT, VERSION = 1, 2, 3, 4, 5, 15
