@@ -6,8 +6,9 @@ import resource
 import shutil
 import signal
 import subprocess
+import tempfile
 
-from command_cases import content, failing, killed_after_its_reply, killed_at_each_call, refusal, remove, system, vtserve
+from command_cases import PROGRAM, content, failing, killed_after_its_reply, killed_at_each_call, refusal, remove, system, vtserve
 from command_streams import DELETE, EMPTY, GET, TEXT, TILE, edit, error, put, reply
 
 
@@ -70,6 +71,14 @@ def refuses(cases, folder, disk):
     cases.show("pipe where no request comes", vtserve(["pipe", disk]), (0, b"", b""))
 
 
+def descriptor_of_a_format(path):
+    """The descriptors that a disk's file gets whose program is started without standard streams."""
+    with tempfile.NamedTemporaryFile("r") as told:
+        closes = ["sh", "-c", 'exec "$@" <&- >&- 2>&-', "sh", PROGRAM, "format", path, "--sectors", "64"]
+        subprocess.run(["strace", "-qq", "-o", told.name, "-P", path, "-e", "trace=openat", *closes], check=False, timeout=60)
+        return [int(number) for number in re.findall(r"O_CREAT.*= (\d+)$", told.read(), re.MULTILINE)]
+
+
 def closed_streams(cases, folder):
     """Standard streams that are closed: a disk's file doesn't get their numbers."""
     path = os.path.join(folder, "closed")
@@ -82,6 +91,9 @@ def closed_streams(cases, folder):
     made = vtserve(["format", path, "--sectors", "64"], preexec_fn=lambda: os.close(1))
     cases.show("format where standard output is closed", made, refusal(b"Write"))
     cases.show("the disk is made", vtserve(["pipe", path], GET), (0, EMPTY, b""))
+    os.remove(path)
+    if shutil.which("strace"):
+        cases.show("format where all three are closed: the number of the disk's file", descriptor_of_a_format(path), [3])
 
 
 def runs_out(cases, folder):

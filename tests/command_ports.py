@@ -5,12 +5,17 @@ import re
 import resource
 import signal
 import socket
+import subprocess
 import threading
 import time
 
 from command_cases import Serving, refusal, vtserve
 from command_streams import DELETE, EMPTY, GET, TEXT, TILE, edit, put, reply
 from slow_peers import GET_NOTHING, PUT_LONG, SLOW_PEERS
+
+# A body of as many levels as are read, which needs most of the stack.
+LEVELS = b'{"a":' * 126 + b"1" + b"}" * 126
+NESTED = b"PUT /features/1 HTTP/1.1\r\nhost: x\r\ncontent-length: %d\r\n\r\n%s" % (len(LEVELS), LEVELS)
 
 
 def lost_while_served(folder):
@@ -41,6 +46,25 @@ def out_of_descriptors(disk):
     with contextlib.suppress(OSError):
         serving.ask(GET)
     return serving.port, serving.end()
+
+
+def short_of_memory(cases, folder):
+    """Limits of the address space (`ulimit -v`), from the least one at which the program serves: the request that needs most of the stack ends none."""
+    disk = os.path.join(folder, "short_of_memory")
+    vtserve(["format", disk, "--sectors", "1024"])
+    statuses, limit = [], 2_000_000
+    while len(statuses) < 24 and limit < 40_000_000:
+        serving = Serving(disk, 4294967295, under=["prlimit", f"--as={limit}"])
+        if serving.line:
+            with contextlib.suppress(OSError):
+                serving.ask(NESTED)
+            with contextlib.suppress(subprocess.TimeoutExpired):
+                serving.child.wait(timeout=0.2)
+            statuses.append(serving.child.poll())
+        serving.child.kill()
+        serving.end()
+        limit += 32_768
+    cases.show("at 24 limits of memory a body of many levels doesn't end the process", statuses, [None] * 24)
 
 
 def serves(cases, folder):

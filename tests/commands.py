@@ -19,7 +19,7 @@ from command_copies import appears
 from command_disks import after_a_failed_sync, closed_streams, fails, formats, keeps, refuses, runs_out, stopped_formats
 from command_exports import damaged_exports, exports, stopped_exports
 from command_files import loses, opens, refuses_unusual_files, small_file_systems
-from command_ports import serves, slow_peers
+from command_ports import serves, short_of_memory, slow_peers
 from command_upgrades import stopped_upgrades, upgrades
 from command_words import foreign_paths, told_more, words
 from deaf_peers import deaf_peers
@@ -51,6 +51,7 @@ def main():
         upgrades(cases, folder)
         stopped_upgrades(cases, folder)
         serves(cases, folder)
+        short_of_memory(cases, folder)
         slow_peers(cases, folder)
         begun_requests(cases, folder)
         deaf_peers(cases, folder)

@@ -8,6 +8,7 @@ use crate::place::{OpenPath, identity_of};
 use crate::printing::print_number;
 use crate::regular::{ReadFile, open_regular};
 use crate::serving::{Peers, serve};
+use crate::stack::take_stack;
 use crate::watching::{Watch, Watched};
 use file_disk::{FileDisk, NewFile, Start, SystemFile, Zeros};
 use generations::StoreFault;
@@ -25,15 +26,19 @@ use std::os::unix::fs::PermissionsExt;
 /// How many standard streams a process has. Their descriptors are the first ones.
 const STREAMS: i32 = 3;
 
-/// Creates a disk file of this many sectors with the empty map, and prints a line.
+/// Creates a disk file of this many sectors with the empty map, and prints a line. If standard output was closed, the line can't be written.
 pub(crate) fn format_file(rt: &HostRuntime, path: &str, sectors: u64) -> Result<(), CommandFault> {
+    // What is only read takes no line, so that a standard output that was closed is still a fault.
+    let mut null = OpenOptions::new();
+    null.read(true);
+    let _ = open_closed_streams(rt, &null);
     let NewFile { file, bytes } = match new_disk_file(rt, path, sectors) {
         Ok(new) => new,
         Err(fault) => return Err(CommandFault::of_format(fault)),
     };
     let cause: Cell<Cause> = Cell::new(None);
     let file = Noted::unwatched(SystemFile::new(file), &cause);
-    // The file is closed before the line is printed: where standard output was closed, the file may have its descriptor.
+    // The file is closed before the line is printed: without `/dev/null` it may have the descriptor of standard output.
     match formatted_file(rt, path, file, bytes, Zeros) {
         Ok(disk) => drop(disk),
         Err(fault) => return with_cause(Err(CommandFault::of_format(fault)), &cause),
@@ -41,11 +46,9 @@ pub(crate) fn format_file(rt: &HostRuntime, path: &str, sectors: u64) -> Result<
     print_number(rt, "formatted ", sectors, " sectors")
 }
 
-/// Opens `/dev/null` for each standard stream that was closed, and leaves it open until the process ends, so that no disk file gets the
+/// Opens `/dev/null` in this way for each standard stream that was closed, and leaves it open until the process ends, so that no disk file gets the
 /// stream's descriptor, and no reply is written into it.
-fn open_closed_streams(rt: &HostRuntime) -> io::Result<()> {
-    let mut how = OpenOptions::new();
-    how.read(true).write(true);
+fn open_closed_streams(rt: &HostRuntime, how: &OpenOptions) -> io::Result<()> {
     for _ in 0..STREAMS {
         let null = how.open(rt, "/dev/null")?;
         if null.as_raw_fd() >= STREAMS {
@@ -58,7 +61,9 @@ fn open_closed_streams(rt: &HostRuntime) -> io::Result<()> {
 
 /// Opens the regular file of a disk.
 fn open_disk(rt: &HostRuntime, path: &str, how: &OpenOptions) -> io::Result<(File, Metadata)> {
-    open_closed_streams(rt)?;
+    let mut null = OpenOptions::new();
+    null.read(true).write(true);
+    open_closed_streams(rt, &null)?;
     open_regular(rt, path, how)
 }
 
@@ -168,6 +173,7 @@ pub(crate) fn serve_file<S: Start>(
     peers: Peers,
     start: S,
 ) -> Result<(), CommandFault> {
+    take_stack(rt);
     let OpenedFile { file, place } = opened_file(rt, path, true)?;
     let cause: Cell<Cause> = Cell::new(None);
     let watch = Cell::new(Watch::Off);

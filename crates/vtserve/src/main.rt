@@ -16,6 +16,7 @@ mod place;
 mod printing;
 mod regular;
 mod serving;
+mod stack;
 mod tasks;
 mod watching;
 
