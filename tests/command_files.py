@@ -31,9 +31,9 @@ def opens(cases, folder):
     for name in ["EBADF", "EIO", "ENOLCK", "EAGAIN", "EINVAL"]:
         cases.show(f"pipe where a lock is {name}", failing("flock", path, 1, ["pipe", path], GET, name), refusal(b"File"))
     cases.show("pipe where it stays in the cache", failing("fadvise64", path, 1, ["pipe", path], GET), refusal(b"Device"))
-    calls = asked(path, "statx,pwrite64,fdatasync", ["pipe", path, "--admin"], put(7) + STATUS)
-    wanted = ["statx", "pwrite64", "fdatasync", "statx", "fdatasync"]
-    cases.show("an edit looks at the disk's path once, before its write; so does a sync without one", calls[-5:], wanted)
+    calls = asked(path, "statx,pwrite64,fdatasync", ["pipe", path, "--admin"], put(7) + 3 * STATUS)
+    wanted = ["statx", "pwrite64", "fdatasync", "statx", "statx", "statx"]
+    cases.show("an edit looks at the disk's path once, before its write; so does each status, which syncs nothing", calls[-6:], wanted)
 
 
 def replace(path):

@@ -31,6 +31,8 @@ pub(crate) struct Noted<'a, F> {
     watched: Option<Watched<'a>>,
     /// Whether it was written to since the last sync, and so looked at.
     is_written: bool,
+    /// Whether a sync succeeded and nothing was written since, so that another one has nothing to do.
+    is_synced: bool,
 }
 
 impl<'a, F> Noted<'a, F> {
@@ -50,6 +52,7 @@ impl<'a, F> Noted<'a, F> {
             cause,
             watched,
             is_written: false,
+            is_synced: false,
         }
     }
 
@@ -94,6 +97,7 @@ impl<F: SectorFile> SectorFile for Noted<'_, F> {
             self.file.write_at(from, offset)
         };
         self.is_written = true;
+        self.is_synced = false;
         self.told("write", outcome)
     }
 
@@ -107,9 +111,12 @@ impl<F: SectorFile> SectorFile for Noted<'_, F> {
         self.is_written = false;
         let outcome = if is_lost {
             Err(ErrorKind::NotFound.into())
+        } else if self.is_synced {
+            Ok(())
         } else {
             self.file.sync_data()
         };
+        self.is_synced = outcome.is_ok();
         self.told("sync", outcome)
     }
 }
