@@ -1,13 +1,15 @@
 #!/usr/bin/env python3
-"""Checks the names in docs/PROMISES.md against the crates: functions and the clauses beside them, lemmas, tests and lines of scripts.
+"""Checks the names in docs/PROMISES.md and docs/TESTED.md against the crates: functions and the clauses beside them, lemmas, tests, lines of
+scripts and must-fail edits.
 
     python3 tests/promises.py
 
 It reads the tables' cells. `crate::Type::function` (`clause`, ..) is a function of that crate whose contract has these clauses, lemma `name`
 of `crate` a lemma in its proofs/, `tests_..` (`name`, ..) tests of that crate, `tests_..` (rows `name`, ..) rows of the tables that its
 tests run, `.._runs` (lines `word`, ..) lines of its script that begin with the word, `.._runs` (part `name`, lines `word`, ..) and part `name` of
-`.._runs` (lines `word`, ..) those of that part, and `.._runs` (blocks `name`, ..) functions of the models that write such lines. The section Trusted has to name just the ported crates on
-which a crate of crates.txt stands. It prints what it doesn't find, and ends with 1 then.
+`.._runs` (lines `word`, ..) those of that part, and `.._runs` (blocks `name`, ..) functions of the models that write such lines. The table of
+wrong bodies in TESTED.md has to name just the edits in crates/*/must-fail, and the section Trusted in PROMISES.md just the ported crates on which
+a crate of crates.txt stands. It prints what it doesn't find, and ends with 1 then.
 """
 import functools
 import re
@@ -136,12 +138,25 @@ def untrusted(text):
     yield from (f"use of the ported crate {name}, which the section Trusted names," for name in said - ported())
 
 
+def untried(text):
+    """How the table of wrong bodies differs from the edits that the gate tries."""
+    rows, said, crate = re.search(r"^\| Crate \| Edit \|.*\n\|-.*\n((?:\|.*\n)+)", text, re.M).group(1), set(), ""
+    for row in rows.splitlines():
+        first, edit = (cell.strip(" `") for cell in row.split("|")[1:3])
+        crate = first or crate
+        said.add((crate, edit))
+    kept = {(path.parts[-3], path.stem) for path in CRATES.glob("*/must-fail/*.edit")}
+    yield from (f"must-fail edit {edit} of {crate} in TESTED.md" for crate, edit in kept - said)
+    yield from (f"must-fail edit {edit} of {crate}, which TESTED.md names," for crate, edit in said - kept)
+
+
 def main():
-    text = (ROOT / "docs" / "PROMISES.md").read_text()
-    missing = sorted({*missing_in(text), *untrusted(text)})
+    promises, tested = ((ROOT / "docs" / name).read_text() for name in ("PROMISES.md", "TESTED.md"))
+    missing = sorted({*missing_in(promises), *missing_in(tested), *untrusted(promises), *untried(tested)})
     for name in missing:
         print(name)
-    print(f"{len(missing)} names of docs/PROMISES.md aren't in the crates" if missing else "each name of docs/PROMISES.md is in the crates")
+    pages = "docs/PROMISES.md and docs/TESTED.md"
+    print(f"{len(missing)} names of {pages} aren't in the crates" if missing else f"each name of {pages} is in the crates")
     sys.exit(1 if missing else 0)
 
 
