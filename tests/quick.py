@@ -75,6 +75,7 @@ PARTS = [
     client("tags"),
     client("foreign"),
     client("wfs-hostile"),
+    client("wfs-tables"),
     client("outsiders"),
     client("standby"),
     client("join"),

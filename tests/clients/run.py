@@ -61,6 +61,7 @@ from wfs_deaths import wfs_deaths
 from wfs_hostile import wfs_hostile
 from wfs_qgis import wfs_qgis
 from wfs_random import wfs_random
+from wfs_tables import wfs_tables
 
 
 def main():
@@ -93,6 +94,7 @@ def main():
         "wfs-hostile": wfs_hostile,
         "foreign": foreign,
         "wfs-random": wfs_random,
+        "wfs-tables": wfs_tables,
         "wfs-qgis": wfs_qgis,
         "ogc": ogc,
         "operation": operation,

@@ -125,6 +125,24 @@ place.reload()
 anew = [feature["name"] for feature in place.getFeatures(QgsFeatureRequest(QgsRectangle(834000, 7264000, 834800, 7266000)))]
 say([west, wide, anew])
 """
+EMPTY = QGIS + """
+# All buildings are selected and deleted by mistake, then on purpose; the layer stays, and gets a new one, also once it is loaded anew.
+building = layer("building.areas")
+building.startEditing()
+building.deleteFeatures([feature.id() for feature in building.getFeatures()])
+say(saved(building))
+say(saved(building))
+for made in (building, layer("building.areas")):
+    made.startEditing()
+    new = QgsFeature(made.fields())
+    new["floors"] = 7
+    new.setGeometry(QgsGeometry.fromWkt("MultiPolygon(((834800 7265200, 834840 7265200, 834840 7265240, 834800 7265240, 834800 7265200)))"))
+    made.addFeature(new)
+    say([[field.name() for field in made.fields()], saved(made)])
+    made.startEditing()
+    made.deleteFeatures([feature.id() for feature in made.getFeatures()])
+    say(saved(made))
+"""
 PROJECT = QGIS + """
 path = os.path.join(sys.argv[3], "town.qgs")
 project = QgsProject.instance()
@@ -168,13 +186,15 @@ def wfs_qgis(cases, folder):
             desk.conflict()
             desk.project()
             desk.login(server, gateway)
+            desk.empties()
 
 
 class Desk:
     """A person with QGIS."""
 
     def __init__(self, cases, folder, server, gateway):
-        self.cases, self.folder, self.url, self.gateway = cases, folder, server.url, gateway.url
+        self.cases, self.folder, self.url, self.own = cases, folder, server.url, gateway.url
+        self.gateway = self.own
 
     def show(self, name, found, wanted):
         self.cases.show(f"wfs-qgis: {name}", found, wanted)
@@ -227,6 +247,16 @@ class Desk:
         self.show("and the next Save is put over it", (last, self.tags(453)), (True, {"name": "mine 453", "kind": "school"}))
         wanted = [["Church", "Newer"], ["Church", "Newer"], ["By others", "Newer"]]
         self.show("panned, QGIS shows no feature twice", [sorted(names) for names in panned], wanted)
+
+    def empties(self):
+        self.gateway = self.own
+        found = self.said(EMPTY)
+        told = str(found[0]).partition("nothing of this was saved: ")[2]
+        wanted = "it deletes 318 of the 318 features of building (areas). If that is meant, save once more within ten minutes"
+        self.show("all buildings aren't deleted by one Save", told.startswith(wanted), True)
+        fields = ["feature_id", "floors", "house", "minzoom", "maxzoom"]
+        self.show("saved once more they are, and the layer takes new ones", found[1:], [True, [fields, True], True, [fields, True], True])
+        self.show("it is empty again", [one for one in map_at(self.url).values() if one["layer"] == "building"], [])
 
     def login(self, server, gateway):
         """nginx asks for a password."""

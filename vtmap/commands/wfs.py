@@ -2,6 +2,7 @@
 import argparse
 import signal
 import sys
+import time
 
 from .. import alive
 from ..client.feed import Leader
@@ -12,7 +13,7 @@ from ..gateway.listener import listener
 from ..gateway.live_map import LiveMap
 from ..gateway.ogc_api import OgcApi
 from ..gateway.saves import Saves
-from ..gateway.sessions import Sessions
+from ..gateway.sessions import FORGOTTEN, Sessions
 from ..gateway.wfs import Wfs
 from ..interpreters import look_for
 
@@ -68,9 +69,10 @@ def work(words):
     """Answers until it is stopped, in an interpreter that has GDAL's module if there is one."""
     look_for("osgeo", words.line)
     log, sessions = SaveLog(words.state), Sessions()
+    log.shorten(time.time() - FORGOTTEN)
     for row in log.done:
         sessions.restore(row)
-    live = LiveMap(Leader(words.url, words.publish), dict(words.layer))
+    live = LiveMap(Leader(words.url, words.publish), dict(words.layer), log)
     wfs = Wfs(live, sessions, Saves(live, log, words.log))
     server = listener(words.port, wfs, OgcApi(live, wfs.look), words.behind_nginx)
     begin(wfs)

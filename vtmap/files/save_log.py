@@ -1,7 +1,8 @@
 """The file of `vtmap wfs --state`: what was to be saved before it is sent, and what a GIS has since it was. Needs no package.
 
 Each line is JSON. `{"begun": ID, "session": NAME, "groups": ..}` is on the disk before the first edit of a save is sent; then come `{"sent": ID}` for
-each edit that was made, and `{"saved": ID, ..}` or `{"undone": ID}`. A save that is only begun was cut short.
+each edit that was made, and `{"saved": ID, ..}` or `{"undone": ID}`. A save that is only begun was cut short. `{"emptied": [LAYER, KIND], ..}` has what
+a table had that lost its last feature.
 """
 import fcntl
 import json
@@ -29,6 +30,8 @@ class SaveLog:
         self.before = ""
         # The saves that were cut short: their groups of changes, and how many of them were made, by their ids. The lines of those that were done.
         self.begun, self.sent, self.done = {}, Counter(), []
+        # By layer and kind: what tables had that lost their last feature. The lines of it.
+        self.emptied, self.emptied_rows = {}, {}
         if path:
             self.lock = locked(path + ".lock")
             self.read()
@@ -50,16 +53,27 @@ class SaveLog:
             self.next = max(self.next, row["begun"] + 1)
         elif "sent" in row:
             self.sent[row["sent"]] += 1
+        elif "emptied" in row:
+            self.take_emptied(row)
         else:
             self.begun.pop(row.get("saved", row.get("undone")), None)
             if "saved" in row:
                 self.done.append(row)
 
+    def take_emptied(self, row):
+        """Takes a line about a table that lost its last feature."""
+        layer, kind = row["emptied"]
+        self.emptied.pop((layer, kind), None)
+        self.emptied[layer, kind] = row["forms"], tuple(row["zooms"]), row["is_several"]
+        self.emptied_rows[layer, kind] = row
+
     def shorten(self, oldest):
-        """Writes the log anew, without what was saved before a time."""
+        """Writes the log anew, without what was saved, or emptied, before a time."""
         if self.path:
             self.done = [row for row in self.done if row["time"] >= oldest]
-            rows = [*self.done, *(begun_row(number, groups) for number, groups in self.begun.items())]
+            for key in [key for key, row in self.emptied_rows.items() if row["time"] < oldest]:
+                del self.emptied[key], self.emptied_rows[key]
+            rows = [*self.emptied_rows.values(), *self.done, *(begun_row(number, groups) for number, groups in self.begun.items())]
             rows += [{"sent": number} for number in self.begun for _ in range(self.sent[number])]
             replaced(self.path, "".join(json.dumps(row) + "\n" for row in rows))
             self.file = open(self.path, "ab", buffering=0)
@@ -85,6 +99,10 @@ class SaveLog:
         """Notes that nothing of a save is left."""
         self.write({"undone": number}, True)
         del self.begun[number]
+
+    def empty(self, key, past):
+        """Notes what a table had that has lost its last feature."""
+        self.write({"emptied": key, "time": int(time.time()), **past._asdict()})
 
     def write(self, row, is_kept=False):
         """Appends a line. One that is kept outlives a crash of the machine."""

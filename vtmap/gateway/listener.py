@@ -93,7 +93,8 @@ class Handler(BaseHTTPRequestHandler):
 
     def do_POST(self):
         """Makes a Transaction."""
-        session, length = session_in(self.path.partition("?")[0]), self.length()
+        path, _, query = self.path.partition("?")
+        session, length, is_meant = session_in(path), self.length(), ("delete-many", "true") in urllib.parse.parse_qsl(query)
         if length is None:
             self.refuse(411, "one Content-Length is needed")
         elif length > MOST_BODY:
@@ -108,11 +109,11 @@ class Handler(BaseHTTPRequestHandler):
             self.refuse(503, "others are sending very much just now")
         else:
             try:
-                self.post(session, length)
+                self.post(session, length, is_meant)
             finally:
                 self.server.bodies.take(-length)
 
-    def post(self, session, length):
+    def post(self, session, length, is_meant):
         """Makes a Transaction, once its body is there. The process doesn't end before its reply is sent."""
         body = self.body(length)
         if body is None:
@@ -120,7 +121,7 @@ class Handler(BaseHTTPRequestHandler):
             return
         try:
             with self.server.saving:
-                self.answer_wfs(wfs_texts.V1, "OperationProcessingFailed", lambda: self.wfs.transaction(session, body, self.person()))
+                self.answer_wfs(wfs_texts.V1, "OperationProcessingFailed", lambda: self.wfs.transaction(session, body, self.person(), is_meant))
         except Ending:
             self.refuse(503, "the gateway ends")
 

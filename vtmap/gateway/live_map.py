@@ -6,27 +6,30 @@ from collections import defaultdict
 from ..client.client import changes_in
 from ..client.feed import LeftBehind
 from ..faults import Stopped
+from ..files.save_log import Unwritable
 from ..geometry.wholes import WHOLE, Whole, group_of, joined
-from .tables import Table, View
+from .tables import NO_PAST, Past, Table, View
 
 # How often the map is listed anew where a publication has ended the list of the edits since.
 TRIES = 8
 # Whoever lacks more edits than this, and than the map has features, lists it anew.
 MANY = 1000
-# The most versions of features that are kept to tell what others changed.
-MOST_KNOWN = 200000
+# The most versions of features that are kept to tell what others changed, and the most tables without features.
+MOST_KNOWN, MOST_EMPTIED = 200_000, 1000
 
 
 class LiveMap:
     """The features of the map up to the edit `edits`. `client`: a `Leader`. `further`: types of tags by layer and kind, for tables and columns that the
-    map doesn't have yet. Whoever uses it holds `lock`."""
+    map doesn't have yet. `log`: a `SaveLog`, which keeps the tables that lost their last feature, or None. Whoever uses it holds `lock`."""
 
-    def __init__(self, client, further):
-        self.client, self.further, self.lock = client, further, threading.RLock()
+    def __init__(self, client, further, log=None):
+        self.client, self.further, self.log, self.lock = client, further, log, threading.RLock()
         self.edits = None
         self.now, self.groups = {}, defaultdict(dict)
         self.views, self.members = {}, defaultdict(dict)
-        self.made_tables, self.changed_tables = {}, set(further)
+        # By layer and kind: the tables, and what those had that lost their last feature.
+        self.emptied = {key: Past(*row) for key, row in log.emptied.items()} if log else {}
+        self.made_tables, self.changed_tables = {}, {*further, *self.emptied}
         self.known = {}
 
     # ---- following
@@ -129,14 +132,30 @@ class LiveMap:
 
     def tables(self):
         """The tables by their names."""
-        for key in self.changed_tables:
-            views = self.members[key].values()
-            if views or key in self.further:
-                self.made_tables[key] = Table(key, views, self.further.get(key, {}))
+        changed, self.changed_tables = self.changed_tables, set()
+        for key in changed:
+            views, before = self.members[key].values(), self.made_tables.get(key)
+            if before and before.views and not views:
+                self.empty(key, before.past())
+            if views or key in self.further or key in self.emptied:
+                self.made_tables[key] = Table(key, views, self.further.get(key, {}), NO_PAST if views else self.emptied.get(key, NO_PAST))
             else:
                 self.made_tables.pop(key, None)
-        self.changed_tables.clear()
         return {table.name: table for _, table in sorted(self.made_tables.items())}
+
+    def empty(self, key, past):
+        """Keeps what a table had that has lost its last feature: a GIS that shows it may add features again. Of very many the oldest one goes."""
+        self.emptied.pop(key, None)
+        self.emptied[key] = past
+        while len(self.emptied) > MOST_EMPTIED:
+            oldest = next(iter(self.emptied))
+            del self.emptied[oldest]
+            self.changed_tables.add(oldest)
+        try:
+            if self.log:
+                self.log.empty(key, past)
+        except Unwritable as fault:
+            print(fault, flush=True)
 
     # ---- versions
 

@@ -4,7 +4,6 @@ What is to be sent is noted before it is sent. If an edit isn't made, those befo
 have changed just then stays, and is named. If the gateway or the server ends meanwhile, this is done once both are there again.
 """
 import json
-import time
 
 from ..client.client import CHECKED, refusal
 from ..client.edits import NOTHING, batches, body_of, delete, encoded, fits, sectors
@@ -12,7 +11,6 @@ from ..faults import NoAnswer, Refused, Stopped
 from ..files.proxy_log import line_of
 from ..files.save_log import Unwritable
 from ..shown import shown
-from .sessions import FORGOTTEN
 
 
 class Taken(Exception):
@@ -31,7 +29,6 @@ class Saves:
 
     def __init__(self, live, log, trail=None):
         self.live, self.log, self.client, self.trail = live, log, live.client, trail
-        self.log.shorten(time.time() - FORGOTTEN)
 
     # ---- sending
 

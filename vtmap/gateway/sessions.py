@@ -14,6 +14,8 @@ from .tables import DIGITS, is_within, signed
 
 # Seconds without a request after which a session that has only read is dropped, and the boxes of one that has saved; and after which that one is.
 IDLE, FORGOTTEN = 12 * 3600, 30 * 24 * 3600
+# Seconds within which a GIS says again what it was asked about.
+ASKED = 600
 # The most sessions, the most features in the boxes of all of them, and the most boxes of a table in one. Of those beyond, the ones go first that were
 # used least recently, and of sessions those that have saved nothing.
 MOST_SESSIONS, MOST_SHOWN, MOST_BOXES = 10_000, 5_000_000, 1000
@@ -32,6 +34,8 @@ class Session:
         self.boxes, self.shown = {}, 0
         # What its last Transaction was that added features, and the ids that these got.
         self.mark, self.added = "", []
+        # The features of which it was asked whether they are to be deleted, and when.
+        self.asked, self.asked_at = frozenset(), 0.0
 
     # ---- ids
 
@@ -69,6 +73,12 @@ class Session:
             ids.append(f"{table.name}.{number}.{before}")
         last = self.given.get(number, fid)
         return [(one, number, version) for one in [*(one for one in [*ids, fid] if one != last), last]]
+
+    def says_again(self, numbers):
+        """Whether it was asked about these features just before, and says them again. Otherwise it is asked now."""
+        is_again = numbers == self.asked and time.time() < self.asked_at + ASKED
+        self.asked, self.asked_at = frozenset() if is_again else numbers, time.time()
+        return is_again
 
     # ---- what it is given
 

@@ -1,7 +1,7 @@
 """The features of the map as a GIS sees them: a table for each kind of shapes that a layer has, with a column for each tag. Needs no package."""
 import hashlib
 import secrets
-from collections import Counter, defaultdict
+from collections import Counter, defaultdict, namedtuple
 
 from ..client.edits import encoded
 from ..files.checkout_file import KINDS, ZOOMS, cell_of, form_of
@@ -13,6 +13,9 @@ SHAPE, ID = "geom", "feature_id"
 OWN = (SHAPE, ID, *ZOOMS)
 # The digits of a version, and the bytes of its signature. A feature of a table that has none yet is shown at these zooms.
 DIGITS, SIGNATURE, NEW_ZOOMS = 16, 4, (0, 14)
+# What a table had that has lost its last feature: the types of its tags, the zooms of new features, and whether its points are several.
+Past = namedtuple("Past", "forms zooms is_several")
+NO_PAST = Past({}, NEW_ZOOMS, False)
 
 
 class View:
@@ -34,9 +37,10 @@ class View:
 
 
 class Table:
-    """The features of one kind of one layer. `columns`: the tag and the type of each, by its name. `further`: types of tags that a feature may get."""
+    """The features of one kind of one layer. `columns`: the tag and the type of each, by its name. `further`: types of tags that a feature may get.
+    `past`: what it had, if it has no feature any more."""
 
-    def __init__(self, key, views, further):
+    def __init__(self, key, views, further, past=NO_PAST):
         self.layer, self.kind = key
         self.name, self.title = table_name(*key), f"{self.layer} ({KINDS[self.kind]})"
         self.views = sorted(views, key=lambda view: view.number)
@@ -44,12 +48,16 @@ class Table:
         for view in self.views:
             for tag, value in view.feature["tags"].items():
                 values[tag].append(value)
-        self.columns = named_columns({**further, **{tag: form_of(values[tag]) for tag in values}})
-        self.is_several = self.kind != "points" or any(len(view.feature["geometry"][self.kind]) > 1 for view in self.views)
+        self.columns = named_columns({**past.forms, **further, **{tag: form_of(values[tag]) for tag in values}})
+        self.is_several = self.kind != "points" or past.is_several or any(len(view.feature["geometry"][self.kind]) > 1 for view in self.views)
         zooms = Counter(tuple(view.feature[zoom] for zoom in ZOOMS) for view in self.views)
-        self.zooms = zooms.most_common(1)[0][0] if zooms else NEW_ZOOMS
+        self.zooms = zooms.most_common(1)[0][0] if zooms else past.zooms
         self.box = around([view.box for view in self.views]) if self.views else None
         self.form = self.is_several, tuple(self.columns.items())
+
+    def past(self):
+        """What is kept of it once it has no feature."""
+        return Past(dict(self.columns.values()), self.zooms, self.is_several)
 
     def meeting(self, box):
         """Its features in a box, all if that is None."""

@@ -1,7 +1,8 @@
 """What a GIS saves by one Transaction of WFS: compared with the map of now, then made whole or not at all. Needs no package."""
-from collections import Counter
+from collections import Counter, defaultdict
 
 from ..client.edits import checked, delete, put
+from ..commands.deletions import are_many
 from ..commands.differences import told_change
 from ..faults import Refused
 from ..geometry.pieces import pieces_of
@@ -16,6 +17,9 @@ from .wishes import Wish, changed, fault_of_piece, new_feature
 # How often new features get other ids because somebody else was faster.
 TRIES = 8
 ADVICE = "Load the layer anew (F5) to see them. If you save again then, your edits are put over theirs; or undo yours"
+# How it is said that very many deletions are meant: by a GIS, and by who has no session.
+MEANT = "If that is meant, save once more within ten minutes; if not, undo it (Ctrl+Z)"
+MEANT_ALONE = "If that is meant, send it to an address that ends with ?delete-many=true"
 # What counts new features that were sent again, and aren't made again.
 AGAIN = "again"
 # What is said of an id that this gateway hasn't given: from before an update of it, or made up.
@@ -28,6 +32,10 @@ class Conflict(Refused):
     def __init__(self, features):
         super().__init__(f"nothing of this was saved, since others have changed features meanwhile: {'; '.join(features)}. {ADVICE}")
         self.features = features
+
+
+class Doubted(Refused):
+    """Why nothing is saved: it deletes so much that it may be a mistake."""
 
 
 class Transaction:
@@ -116,6 +124,19 @@ class Transaction:
             self.conflicts.append(text)
         if is_known:
             self.session.told[number] = view and view.version
+
+    # ---- what may be a mistake
+
+    def see_deletions(self, has_name):
+        """Refuses to delete most of a table, until the GIS saves the same again. `has_name`: whether the session is known by then."""
+        gone = defaultdict(set)
+        for wish in self.wishes.values():
+            if wish.feature is None:
+                gone[wish.table].add(wish.number)
+        many = {table: numbers for table, numbers in gone.items() if are_many(len(numbers), len(table.views))}
+        if many and not self.session.says_again(frozenset().union(*many.values())):
+            told = ", ".join(f"{len(numbers):,} of the {len(table.views):,} features of {shown(table.title)}" for table, numbers in many.items())
+            raise Doubted(f"nothing of this was saved: it deletes {told}. {MEANT if has_name else MEANT_ALONE}")
 
     # ---- making it
 

@@ -11,7 +11,7 @@ from ..shown import shown
 from . import wfs_texts
 from .actions import actions_of, parsed, type_in
 from .filters import box_of, test_of
-from .transaction import AGAIN, Conflict, Transaction, is_there
+from .transaction import AGAIN, Conflict, Doubted, Transaction, is_there
 
 # The hexadecimal digits of the name of a session.
 NAME_BYTES = 5
@@ -73,8 +73,9 @@ class Wfs:
 
     # ---- saving
 
-    def transaction(self, name, body, person):
-        """The reply to a Transaction. `person`: who sends it, a name or an address."""
+    def transaction(self, name, body, person, is_meant=False):
+        """The reply to a Transaction. `person`: who sends it, a name or an address. `is_meant`: whatever it deletes, it isn't asked whether that is
+        meant."""
         # One at a time: what is parsed may be several times as large as the body.
         with self.turn:
             root = parsed(body)
@@ -87,18 +88,24 @@ class Wfs:
                 again = session.added if session.mark == mark else []
                 counts, added = {"Insert": len(again), "Update": 0, "Delete": 0}, again
                 if not again or not all(is_there(self.live, session, fid) for fid in again):
-                    counts, added = self.save((name, session), actions_of(root), again, mark, person)
+                    counts, added = self.save((name, session), actions_of(root), again, mark, (person, is_meant))
                 return wfs_texts.transacted(root.get("version", wfs_texts.V1.name), counts, added)
 
-    def save(self, named, actions, again, mark, person):
-        """Makes a Transaction. `named`: the session, and its name before it. Returns its counts and the ids of new features."""
-        name, session = named
+    def save(self, named, actions, again, mark, said):
+        """Makes a Transaction. `named`: the session, and its name before it. `said`: by whom it is, and whether what it deletes is meant. Returns its
+        counts and the ids of new features."""
+        (name, session), (person, is_meant) = named, said
         try:
             task = Transaction(self.live, session, actions, again)
+            if not is_meant:
+                task.see_deletions(bool(name))
             made = task.make(self.saves, person)
         except Conflict as conflict:
             self.sessions.keep(name, session)
             print(f"conflict: {shown(person)}: {'; '.join(conflict.features)}", flush=True)
+            raise
+        except Doubted:
+            self.sessions.keep(name, session)
             raise
         notes, added = task.saved()
         mark = mark if added else ""
