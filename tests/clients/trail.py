@@ -7,6 +7,7 @@ import shutil
 import subprocess
 import time
 
+from gateways import Gateway, Gis
 from import_stand import has_gdal, imported, row, written
 from standby import features, follow, known, waited
 from stand import VTMAP, Nginx, Server, curl, status_of
@@ -188,6 +189,44 @@ def import_undone(cases, office, folder):
                (0, "0 put back, 0 changed back, 150 deleted, 0 in conflict, 0 refused", True))
 
 
+def missed(cases, office, folder):
+    """Edits that were published before the log had them, told and taken back by what nginx and the gateway were sent."""
+    server, log, saved = office.server, os.path.join(folder, "gap.jsonl"), os.path.join(folder, "gap.gateway.log")
+    follows, logs = ["follow", "--log", log, "--once", "--url", server.url], ["--nginx", office.nginx, "--nginx", saved]
+    vtmap(*follows)
+    first = office.last() + 1
+    office.edit("anna", "PUT", "/features/50", shape("one"))
+    vtmap(*follows)
+    office.edit("bob", "PUT", "/features/50", shape("two"))
+    with Gateway(folder, server.url, "--log", saved) as gateway:
+        gis = Gis(gateway, "p.points")
+        gis.rows()
+        gis.save(gis.update(50, name="three"))
+    office.edit("bob", "DELETE", "/features/50")
+    office.last()
+    curl(server.url + "/publish", "-X", "POST")
+    vtmap(*follows)
+    code, lines = vtmap("log", log)
+    gap = f"the edits {first + 1:,} to {first + 3:,} are missing: they were published before they were read"
+    cases.show("trail: edits that the log misses", (code, len(lines), gap in lines[-1]), (0, 2, True))
+    code, lines = vtmap("log", log, *logs)
+    cases.show("trail: are told by nginx's log and the gateway's", [line.split("  ", 1)[1] for line in lines], [
+        f"{first}  anna  new p 50 ('one')",
+        f"{first + 1}  bob  changed p 50 ('two'): name: 'one' -> 'two'",
+        f"{first + 2}  127.0.0.1  changed p 50 ('three'): name: 'two' -> 'three'",
+        f"{first + 3}  bob  deleted p 50 ('three')",
+    ])
+    code, lines = vtmap("undo", f"{first + 2}-{first + 3}", "--log", log, "--url", server.url)
+    cases.show("trail: without them they can't be taken back", (code, lines), (1, [f"the log doesn't have the edits {first + 2}-{first + 3}: nothing is taken back"]))
+    code, lines = vtmap("undo", f"{first + 2}-{first + 3}", "--log", log, *logs, "--url", server.url)
+    now = json.loads(curl(f"{server.url}/features/50")[2])["tags"]
+    cases.show("trail: with them they are", (code, lines[0], now), (0, "put back: p 50 ('two')", {"name": "two"}))
+    told = "nothing is taken back"
+    code, lines = vtmap("undo", f"{first + 1}", "--log", log, "--nginx", saved, "--url", server.url)
+    wanted = f"the log doesn't have the edits {first + 1}, and what nginx and the gateway were sent in that time isn't as many edits, or others: {told}"
+    cases.show("trail: where one of the logs is missing they aren't", (code, lines), (1, [wanted]))
+
+
 def rotated(cases, office):
     """The log is renamed and compressed while it is written."""
     office.last()
@@ -222,6 +261,7 @@ def trail(cases, folder):
         conflicts(cases, office)
         if has_gdal(cases):
             import_undone(cases, office, place)
+        missed(cases, office, place)
         rotated(cases, office)
         office.follower.kill()
         office.follower.communicate()

@@ -5,7 +5,8 @@ from collections import Counter, namedtuple
 from datetime import date, datetime
 
 from ..faults import Refused
-from ..files.edit_log import lines_of
+from ..files.edit_log import lines_in, lines_of
+from ..files.missed_edits import Missed
 from ..files.proxy_log import Senders
 from ..shown import shown, shown_json
 from .differences import named, told_change
@@ -18,7 +19,8 @@ ABOUT = {"log": """Tells who changed what on the map, and when.
 
 FILE is what `vtmap follow --log` writes; of several, those that logrotate has renamed or compressed too, the oldest is first. --nginx names nginx's
 log of edits (docs/nginx.conf), and may be given several times: by it the person is told who sent an edit, or the address without a name, and the
-time at which it was made. Without it, and for edits that didn't come by nginx, the person is `-`, and the time is when the edit was seen.
+time at which it was made. Without it, and for edits that didn't come by nginx, the person is `-`, and the time is when the edit was seen. Edits that
+FILE misses are told by nginx's log, if it has all of them.
 
 It prints a line for each change: the time, the number of the edit, the person, and what was changed. --count prints how many edits and changes
 there were in place of that: by person, day, layer or feature. --numbers prints the numbers of the edits, as `vtmap undo` takes them, and --json the
@@ -64,17 +66,16 @@ def rows_of(paths):
 def senders_of(paths):
     """Who sent which edit, by nginx's logs."""
     senders = Senders()
-    for path in paths:
-        for line in lines_of(path):
-            senders.add(line)
+    for line in lines_in(paths):
+        senders.add(line)
     senders.end()
     return senders
 
 
 def edits_of(paths, nginx):
-    """The edits of a log, each with the person and the time; a row of those that are missing as it is."""
+    """The edits of a log, each with the person and the time, those too that it misses and nginx's has; a row of others that are missing as it is."""
     senders = senders_of(nginx)
-    for row in rows_of(paths):
+    for row in Missed(lambda: rows_of(paths), lines_in(nginx)).rows() if nginx else rows_of(paths):
         if "missed" in row:
             yield row
             continue

@@ -5,7 +5,8 @@ from collections import Counter, namedtuple
 from ..client.client import Client, conflict
 from ..client.edits import NOTHING, delete, encoded, put
 from ..faults import Refused
-from ..files.edit_log import last_of
+from ..files.edit_log import last_of, lines_in
+from ..files.missed_edits import Missed
 from ..progress import with_progress
 from .differences import named, told_change
 from .ids import ranges, told_ranges
@@ -16,27 +17,30 @@ ABOUT = {"undo": """Takes edits back: an edit, several, or a whole import, which
     vtmap undo 41 --log edits.jsonl
     vtmap undo 12-40,57 --log edits.jsonl --dry-run
 
-What each feature was before is in the log that `vtmap follow --log` writes; of several files the oldest is first. The newest edit is taken back first.
+What each feature was before is in the log that `vtmap follow --log` writes; of several files the oldest is first. What that log misses is taken from
+nginx's log of edits and the gateway's, which --nginx names, where these have it. The newest edit is taken back first.
 Each feature is put, or deleted, by a checked edit, only if it still is what the edits have made of it: what somebody has changed since is a conflict,
 is named, and stays as it is. `vtmap log --numbers` finds the edits of a person or a day. To take it back again, undo the edits that this prints.
 
 It ends with 1 if something is in conflict or refused. Interrupted, run it again: what is taken back already stays so."""}
 MOST_NAMED = 20
+NOT_TOLD = ", and what nginx and the gateway were sent in that time isn't as many edits, or others"
 
 # What is to become of a feature: what the edits have made of it, what it was before them, and the name that it is told by.
 Step = namedtuple("Step", "now before")
 
 
-def changes_of(paths, numbers):
-    """The changes of the edits of these numbers, the newest first. Refuses numbers that the log doesn't have."""
+def changes_of(paths, numbers, nginx=()):
+    """The changes of the edits of these numbers, the newest first. Refuses numbers that the log doesn't have. `nginx`: paths of logs that may have what
+    it misses."""
     wanted, found, last = {number for part in numbers for number in part}, {}, 0
-    for row in rows_of(paths):
+    for row in Missed(lambda: rows_of(paths), lines_in(nginx)).rows() if nginx else rows_of(paths):
         last = last_of(row)
         if "edit" in row and row["edit"] in wanted:
             found[row["edit"]] = row["changes"]
     missing = sorted(wanted - set(found))
     if missing:
-        more = f": it ends with edit {last:,}" if missing[-1] > last else ""
+        more = f": it ends with edit {last:,}" if missing[-1] > last else NOT_TOLD if nginx else ""
         raise Refused(f"the log doesn't have the edits {told_ranges(missing)}{more}: nothing is taken back")
     return [change for number in sorted(found, reverse=True) for change in reversed(found[number])]
 
@@ -115,7 +119,7 @@ def looked_at(client, changes):
 
 def work(words):
     """Takes edits back."""
-    undo = Undo(changes_of(words.log, words.edits))
+    undo = Undo(changes_of(words.log, words.edits, words.nginx))
     client, told = Client(words.url, words.publish), Told()
     for change in undo.stopped.values():
         told.counts["in conflict"] += 1
@@ -138,6 +142,8 @@ def options(parser, _):
     """The words of the command."""
     parser.add_argument("edits", type=ranges, metavar="NUMBERS", help="the numbers of the edits, as in 12-40,57")
     parser.add_argument("--log", metavar="FILE", action="append", required=True, help="what `vtmap follow --log` writes; several times, the oldest first")
+    parser.add_argument("--nginx", metavar="FILE", action="append", default=[], help="nginx's log of edits, or the gateway's, for what --log misses; "
+                        "may be given several times")
     parser.add_argument("--dry-run", action="store_true", help="print what would be done, and send nothing")
     parser.add_argument("--publish", action="store_true", help="publish when the journal is full")
 

@@ -165,6 +165,12 @@ def last_of(row):
     return row["edit"] if "edit" in row else row["missed"][1]
 
 
+def lines_in(paths):
+    """The lines of several logs."""
+    for path in paths:
+        yield from lines_of(path)
+
+
 def lines_of(path):
     """The lines of a log, which may be compressed by gzip; a last one that isn't whole is left out."""
     with (gzip.open if path.endswith(".gz") else open)(path, "rb") as file:

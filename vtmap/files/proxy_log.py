@@ -1,7 +1,7 @@
 """nginx's log of edits (`log_format edits` in docs/nginx.conf): who sent which edit. Needs no package.
 
 A line is `{"time":1764420310.123,"person":"anna","address":"192.168.1.7","request":"PUT /features/9","body":"{..}"}`. The reply, which has the number of
-the edit, isn't in it: an edit is found by its content and its time.
+the edit, isn't in it: an edit is found by its content and its time. Lines that the gateway writes have the number as `edit`, if it got a reply.
 """
 import hashlib
 import json
@@ -14,6 +14,7 @@ from ..client.edits import encoded
 # Who sent an edit: a name, else an address; and the time in seconds since 1970.
 Sent = namedtuple("Sent", "person time")
 FEATURE = re.compile(r"(PUT|DELETE) /features/([0-9]+)(?:\?.*)?")
+NUMBERED = re.compile(r"POST /admin/edits/at/([0-9]+)")
 # How many seconds nginx may write a line after the edit was seen, and lines may be in another order than edits.
 SLACK = 1
 
@@ -43,9 +44,17 @@ def changes_of(request, body):
     return [{"put": int(found[2]), "feature": parsed(body)}] if found[1] == "PUT" else [{"delete": int(found[2])}]
 
 
-def line_of(person, body):
-    """The line of a batch that somebody has sent just now, who isn't known by nginx but by what passed it on."""
-    return json.dumps({"time": round(time.time(), 3), "person": person, "address": "", "request": "POST /admin/edits", "body": body.decode()}) + "\n"
+def number_in(row):
+    """The number of the edit that a line is of; None where it doesn't say it."""
+    found = NUMBERED.fullmatch(row["request"])
+    return int(found[1]) if found else row.get("edit")
+
+
+def line_of(person, body, edit=None):
+    """The line of a batch that somebody has sent just now, who isn't known by nginx but by what passed it on. `edit`: its number, if that is known."""
+    number = {} if edit is None else {"edit": edit}
+    said = {"time": round(time.time(), 3), "person": person, "address": "", "request": "POST /admin/edits", **number, "body": body.decode()}
+    return json.dumps(said) + "\n"
 
 
 class Senders:

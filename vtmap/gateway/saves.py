@@ -58,7 +58,8 @@ class Saves:
         try:
             status, content = self.client.send("POST", CHECKED, body_of(group), group)
             if status == 200:
-                self.note(made, group, json.loads(content)["edit"])
+                edit = json.loads(content)["edit"]
+                self.note(made, group, edit, edit)
                 return None, set()
             if status == 409 and content.startswith(b"Changed "):
                 return self.what_changed(group, made, new_ids)
@@ -69,14 +70,14 @@ class Saves:
         except (Unwritable, OSError) as fault:
             return str(fault), set()
 
-    def note(self, made, group, edit):
-        """Notes that a group is made."""
+    def note(self, made, group, edit, told=None):
+        """Notes that a group is made. `told`: the number of its edit, if a reply had it."""
         made.edits.append(edit)
         self.live.made(group, edit)
         self.log.made(made.number)
         if self.trail:
             with open(self.trail, "a", encoding="utf-8") as file:
-                file.write(line_of(made.person, body_of(group)))
+                file.write(line_of(made.person, body_of(group), told))
 
     def what_changed(self, group, made, new_ids):
         """Why a checked edit isn't made, None if it is made, and the new ids that somebody else has."""
