@@ -2,20 +2,25 @@
 import { button, element } from "./panel.js";
 import { text } from "./server.js";
 import { described } from "./shape.js";
+import { texts } from "./texts.js";
 
-const FIXED = { layer: "layer", minzoom: "first zoom", maxzoom: "last zoom", geometry: "shape" };
+// The members of a feature beside its tags, by the names that people see.
+const FIXED = { layer: texts.layer, minzoom: texts.firstZoom, maxzoom: texts.lastZoom, geometry: texts.shape };
 
-/** The parts of a feature by the names that people see, the values as JSON. */
+/** The parts of a feature: its members, and each tag by its name behind a colon. */
 function partsOf(feature) {
-    const fixed = Object.entries(FIXED).map(([key, name]) => [name, feature?.[key]]);
-    const tags = Object.entries(feature?.tags ?? {}).map(([name, value]) => [`tag ${name}`, value]);
+    const fixed = Object.keys(FIXED).map(key => [key, feature?.[key]]);
+    const tags = Object.entries(feature?.tags ?? {}).map(([name, value]) => [`:${name}`, value]);
     return new Map([...(feature ? fixed : []), ...tags]);
 }
 
+/** The name that people see of a part. */
+const shownName = part => part.startsWith(":") ? texts.tagNamed(part.slice(1)) : FIXED[part];
+
 /** The feature that has these parts. */
 function withParts(parts) {
-    const fixed = Object.entries(FIXED).map(([key, name]) => [key, parts.get(name)]);
-    const tags = [...parts].filter(([name, value]) => name.startsWith("tag ") && value !== undefined).map(([name, value]) => [name.slice(4), value]);
+    const fixed = Object.keys(FIXED).map(key => [key, parts.get(key)]);
+    const tags = [...parts].filter(([part, value]) => part.startsWith(":") && value !== undefined).map(([part, value]) => [part.slice(1), value]);
     return { ...Object.fromEntries(fixed), tags: Object.fromEntries(tags) };
 }
 
@@ -24,34 +29,36 @@ function withParts(parts) {
  * no feature. `save(feature)` saves what the author chooses, which replaces `theirs`; `leave()` keeps theirs.
  */
 export function conflictOf({ was, theirs, mine }, save, leave) {
-    const told = text => element("p", {}, `Somebody else has ${text}`);
+    const told = text => element("p", {}, text);
     if (!theirs) {
-        const back = mine ? [button("Put mine back", () => save(mine))] : [];
-        return [told("deleted this feature meanwhile."), ...back, button("Leave it deleted", leave)];
+        const back = mine ? [button(texts.putBack, () => save(mine))] : [];
+        return [told(texts.othersDeleted), ...back, button(texts.leaveDeleted, leave)];
     }
     if (!mine) {
-        return [told("changed this feature meanwhile."), button("Delete it all the same", () => save(null)), button("Keep it", leave)];
+        return [told(texts.othersChanged), button(texts.deleteAllTheSame, () => save(null)), button(texts.keepIt, leave)];
     }
     const versions = [was, theirs, mine].map(partsOf), chosen = new Map();
     const names = [...new Set(versions.slice(1).flatMap(parts => [...parts.keys()]))];
-    const rows = names.map(name => {
-        const values = versions.map(parts => parts.get(name)), [before, now, own] = values.map(value => text(value));
+    const heads = [texts.before, texts.onTheMap, texts.yours];
+    const rows = names.map(part => {
+        const name = shownName(part), values = versions.map(parts => parts.get(part)), [before, now, own] = values.map(value => text(value));
         const isMine = now === before, isOpen = now !== own && !isMine && own !== before;
-        isOpen || chosen.set(name, values[isMine ? 2 : 1]);
-        const cells = values.map((value, at) => element("td", {}, value === undefined ? "–" : name === "shape" ? described(value) : String(value)));
+        isOpen || chosen.set(part, values[isMine ? 2 : 1]);
+        const shown = values.map(value => value === undefined ? "–" : part === "geometry" ? described(value) : String(value));
+        const cells = shown.map(value => element("td", {}, value));
         now === own || [1, 2].forEach(at => cells[at].prepend(element("input", {
-            type: "radio", name, checked: !isOpen && isMine === (at === 2), onchange: () => chosen.set(name, values[at]),
+            type: "radio", name, ariaLabel: `${name}, ${heads[at]}: ${shown[at]}`, checked: !isOpen && isMine === (at === 2),
+            onchange: () => chosen.set(part, values[at]),
         })));
-        return element("tr", { className: now === own ? "" : "differs" }, element("th", {}, name), ...cells);
+        return element("tr", { className: now === own ? "" : "differs" }, element("th", { scope: "row" }, name), ...cells);
     });
-    const heads = ["", "before", "on the map (blue)", "yours (red)"].map(name => element("th", {}, name));
     const saveChosen = () => {
-        const open = names.find(name => !chosen.has(name));
+        const open = names.find(part => !chosen.has(part));
         if (open) {
-            throw new Error(`choose a value of ${open}`);
+            throw new Error(texts.choose(shownName(open)));
         }
         return save(withParts(chosen));
     };
-    return [told("changed this feature meanwhile. Nothing of yours is saved yet: choose for each part that differs."),
-        element("table", {}, element("tr", {}, ...heads), ...rows), button("Save what is chosen", saveChosen), button("Keep theirs", leave)];
+    const head = element("tr", {}, ...["", ...heads].map(name => element("th", { scope: "col" }, name)));
+    return [told(texts.chooseParts), element("table", {}, head, ...rows), button(texts.saveChosen, saveChosen), button(texts.keepTheirs, leave)];
 }

@@ -7,6 +7,7 @@ import { Neighbours } from "./neighbours.js";
 import { Changed, canonical } from "./server.js";
 import { begun, chainsOf, described, grabbed, isLarge, isWhole, listsOf, pointsOf, remove } from "./shape.js";
 import { isOutline } from "./style.js";
+import { texts } from "./texts.js";
 import { bounds, rounded } from "./world.js";
 import { PIECE, changeAll, changedOf, lost, piecesOf, wholeOf } from "./whole.js";
 
@@ -29,7 +30,7 @@ export class Editor {
         // Pieces without the first one, and what only has a tag `whole`, are features of their own.
         const was = pieces ? wholeOf(pieces) : await this.server.feature(own);
         if (!was) {
-            throw new Error("somebody else has deleted this feature");
+            throw new Error(texts.deletedByOthers);
         }
         // A new feature may have been begun meanwhile.
         if (!this.draft) {
@@ -46,9 +47,8 @@ export class Editor {
         const layer = drawn ?? layers[0] ?? { id: "", minzoom: 10, maxzoom: 16 };
         const feature = { layer: layer.id, minzoom: layer.minzoom, maxzoom: layer.maxzoom, geometry: begun(kind), tags: { name: "" } };
         this.draft = { id: null, isNew: true, was: null, sent: [], feature, undo: [], isDrawn: true, neighbours: new Neighbours(this.view, this.server, null) };
-        const how = hint("A double click or Enter ends it, Backspace removes the last point.");
-        const more = kind === "points" ? [] : [how, button("Done", () => this.finish())];
-        open("Click where it is", ...more, button("Cancel", () => this.drop()));
+        const more = kind === "points" ? [] : [hint(texts.drawingEnds), button(texts.done, () => this.finish())];
+        open(texts.clickWhere, ...more, button(texts.cancel, () => this.drop()));
     }
 
     /** Adds a point to what is drawn. */
@@ -102,22 +102,19 @@ export class Editor {
     openForm() {
         const { feature, pieces, was, id } = this.draft;
         this.draft.form = formOf(feature, this.layers().map(layer => layer.id).filter(name => !isOutline(name)), !was);
-        const shape = pieces ? `The import cut it into ${pieces.length} pieces. Its shape can be changed by a desktop GIS (vtmap checkout).`
-            : `${described(feature.geometry)}. Drag a point to move it, or a small one to add it; a right click removes it, Ctrl+Z undoes. `
-                + "A point snaps to a neighbour's, but not with Alt.";
-        const isWrong = !pieces && isLarge(feature);
-        const large = isWrong ? [hint("MapLibre draws it wrong: it is larger than a tile of its last zoom. The import cuts such features.")] : [];
+        const shape = pieces ? texts.cutShape(pieces.length) : `${described(feature.geometry)}. ${texts.shapeHelp}`;
+        const large = !pieces && isLarge(feature) ? [hint(texts.tooLarge)] : [];
         const along = element("input", { type: "checkbox", onchange: ({ target }) => this.bring(target.checked) });
-        const asked = pieces ? [] : [element("label", { className: "along" }, along, "Corners that neighbours share move along")];
-        open(was ? `Edit ${feature.layer} ${id}` : "New feature", this.draft.form, hint(shape), ...asked, ...large,
-            button("Save", () => this.save()), button("Cancel", () => this.drop()));
+        const asked = pieces ? [] : [element("label", { className: "along" }, along, texts.along)];
+        open(was ? texts.editOf(feature.layer, id) : texts.newFeature, this.draft.form, hint(shape), ...asked, ...large,
+            button(texts.save, () => this.save()), button(texts.cancel, () => this.drop()));
         this.uncover(feature);
     }
 
     ask() {
-        const { id, was, pieces } = this.draft, shape = pieces ? `${pieces.length} pieces` : described(was.geometry);
-        open(`Delete ${was.layer} ${id}?`, table(Object.entries(was.tags).map(([name, value]) => [name, String(value)])), hint(shape),
-            button("Delete it", () => this.send(null)), button("Cancel", () => this.drop()));
+        const { id, was, pieces } = this.draft, shape = pieces ? texts.pieces(pieces.length) : described(was.geometry);
+        open(texts.deletes(was.layer, id), table(Object.entries(was.tags).map(([name, value]) => [name, String(value)])), hint(shape),
+            button(texts.deleteIt, () => this.send(null)), button(texts.cancel, () => this.drop()));
     }
 
     /** The feature that shape and form say. */
@@ -125,14 +122,21 @@ export class Editor {
         return { ...this.draft.feature, ...this.draft.form.read() };
     }
 
-    /** Saves a feature, or deletes it (null), as a checked edit. If that is refused, or no reply comes, it can be called again. */
+    /**
+     * Saves a feature, or deletes it (null), as a checked edit. If that is refused, or no reply comes, it can be called again. What is as it was
+     * makes no edit.
+     */
     async send(feature) {
-        const { draft } = this;
+        const { draft } = this, { was, pieces, sent } = draft, isSame = !pieces && !sent.length && canonical(feature) === canonical(was);
         Object.assign(draft, { feature, isSent: true });
         try {
-            const edit = draft.pieces ? await changeAll(this.server, draft.pieces, feature) : await this.put(draft, structuredClone(feature));
+            const edit = isSame ? null : pieces ? await changeAll(this.server, pieces, feature) : await this.put(draft, structuredClone(feature));
             this.drop();
-            tell(`feature ${draft.id} saved${draft.others ? ` with ${draft.others} more` : ""}, edit ${edit}`);
+            if (edit === null) {
+                tell(texts.unchanged(was.layer, draft.id));
+                return;
+            }
+            tell(texts.saved(draft.id, draft.others, edit));
             await this.saved(edit);
         } catch (fault) {
             if (!(fault instanceof Changed)) {
@@ -162,7 +166,7 @@ export class Editor {
             const other = others.find(({ put }) => fault.message === `Changed ${put}`);
             if (other) {
                 neighbours.forget(other.put);
-                throw new Error(`somebody else has just changed feature ${other.put}, which moves along: save again`);
+                throw new Error(texts.neighbourChanged(other.put));
             }
             const now = await this.server.feature(id), isOwn = now && sent.some(one => canonical(one) === canonical(now));
             if (!isOwn && !draft.isNew) {
@@ -213,7 +217,7 @@ export class Editor {
         const theirs = pieces ? changedOf(pieces, draft.pieces) : await this.server.feature(id);
         const mine = draft.feature && { ...draft.feature, ...(pieces && theirs ? { geometry: theirs.geometry } : {}) };
         Object.assign(draft, { was: theirs, theirs, sent: [], pieces: pieces && !theirs ? lost(draft.pieces) : pieces });
-        open(`Changed by two: ${(was ?? mine).layer} ${id}`, ...conflictOf({ was, theirs, mine }, chosen => this.send(chosen), () => this.drop()));
+        open(texts.changedByTwo((was ?? mine).layer, id), ...conflictOf({ was, theirs, mine }, chosen => this.send(chosen), () => this.drop()));
         this.uncover(mine ?? was);
     }
 

@@ -6,6 +6,7 @@ import { search, titleOf } from "./search.js";
 import { Server } from "./server.js";
 import { pointsOf } from "./shape.js";
 import { Style, isOutline, plain } from "./style.js";
+import { language, texts } from "./texts.js";
 import { View } from "./view.js";
 import { WORLD, bounds, distance, isInside } from "./world.js";
 
@@ -51,8 +52,8 @@ function select(point, isFree) {
 /** Shows a feature as a tile has it. */
 function show(feature) {
     const { whole, ...tags } = feature.tags, parts = [table(Object.entries(tags).map(([name, value]) => [name, String(value)]))];
-    whole === undefined || parts.push(element("p", { className: "hint" }, "A large feature, which the import cut into pieces."));
-    refused || parts.push(button("Edit", () => editor.begin(feature, false)), button("Delete", () => editor.begin(feature, true)));
+    whole === undefined || parts.push(element("p", { className: "hint" }, texts.piece));
+    refused || parts.push(button(texts.edit, () => editor.begin(feature, false)), button(texts.delete, () => editor.begin(feature, true)));
     open(`${plain(feature.layer)} ${feature.id}`, ...parts);
 }
 
@@ -70,14 +71,14 @@ function goTo(feature) {
 /** Finds what a text says: the one feature, or a list of them. */
 async function find(text) {
     if (editor.draft) {
-        throw new Error("save or cancel what you edit first");
+        throw new Error(texts.finishFirst);
     }
     const found = await search(refused ? null : server, view, text), more = found.length - MAX_FOUND;
     if (found.length > 1) {
         const rows = found.slice(0, MAX_FOUND).map(feature => Object.assign(button(titleOf(feature, text), () => goTo(feature)), { className: "found" }));
-        open(`${found.length} found`, ...rows, ...(more > 0 ? [element("p", { className: "hint" }, `and ${more} more`)] : []));
+        open(texts.found(found.length), ...rows, ...(more > 0 ? [element("p", { className: "hint" }, texts.more(more))] : []));
     } else {
-        found.length ? goTo(found[0]) : tell(`nothing in view has "${text}"` + (!refused && /^\d+$/.test(text) ? ", and no feature has this id" : ""), true);
+        found.length ? goTo(found[0]) : tell(texts.nothingHas(text) + (!refused && /^\d+$/.test(text) ? texts.noId : ""), true);
     }
 }
 
@@ -101,13 +102,12 @@ async function showEdit(edit) {
         view.backdrop.isHidden = !isShown;
         view.redraw();
     };
-    byId("legend").lastElementChild.replaceChildren(...rows, ...(view.backdrop ? [row(!view.backdrop.isHidden, backdrop, " Backdrop")] : []));
+    byId("legend").lastElementChild.replaceChildren(...rows, ...(view.backdrop ? [row(!view.backdrop.isHidden, backdrop, ` ${texts.backdrop}`)] : []));
 }
 
 /** Says what a look has seen. */
 function tellSeen({ features, edits }) {
-    const why = refused === 401 ? "log in to edit the map" : "this machine may not edit the map";
-    tell(refused ? `view only: ${why}` : `${features} features, edit ${edits}`);
+    tell(refused === 401 ? texts.logInToEdit : refused ? texts.mayNotEdit : texts.seen(features, edits));
 }
 
 /** Looks whether somebody else has edited the map, and shows it. Who may not edit isn't told of edits, and looks at the tags of tiles. */
@@ -115,13 +115,23 @@ async function look() {
     const tags = refused ? await view.tagsAbove() : null;
     const status = refused ? { edits: view.edit + (view.hasSeen(tags) ? 0 : 1) } : await server.status(true), isNew = status.edits > view.edit;
     if (status.refused) {
-        throw new Error("this machine may not edit the map any more");
+        throw new Error(texts.mayNotEditNow);
     }
     isNew && await showEdit(status.edits);
     view.tags = tags ?? view.tags;
     (isAway || isNew && !refused) && tellSeen(status);
     isAway = false;
-    isNew && await editor.isOvertaken() && tell("somebody else has just changed what you edit: when you save, you see both", true);
+    isNew && await editor.isOvertaken() && tell(texts.overtaken, true);
+}
+
+/** Writes the texts of the page's own elements. */
+function translate() {
+    document.documentElement.lang = language;
+    document.title = texts.title;
+    const properties = { text: "textContent", label: "ariaLabel", title: "title", placeholder: "placeholder" };
+    for (const [name, property] of Object.entries(properties)) {
+        document.querySelectorAll(`[data-${name}]`).forEach(each => each[property] = texts[each.dataset[name]]);
+    }
 }
 
 function listen() {
@@ -185,7 +195,7 @@ async function watch() {
         await (!isBegun ? arrive() : document.hidden || look());
     } catch (fault) {
         isAway = true;
-        tell(isBegun ? fault.message : `${fault.message}: the page asks again`, true);
+        tell(isBegun ? fault.message : texts.asksAgain(fault.message), true);
     }
     lookLater();
 }
@@ -196,10 +206,11 @@ function lookLater() {
 }
 
 async function start() {
+    translate();
     style = new Style(await (await fetch("style.json")).json());
     view = new View(byId("map"), server, style, {
         select, grab: point => editor.grab(point), over: context => editor.over(context),
-        failed: fault => isAway || tell(`a tile can't be read: ${fault.message}`, true),
+        failed: fault => isAway || tell(texts.noTile(fault.message), true),
     });
     view.isSelected = ({ id, tags }) => !editor.draft && (tags.whole ?? id) === selected?.id && !byId("panel").hidden;
     editor = new Editor(view, server, () => layers, showEdit);

@@ -11,7 +11,7 @@ export function element(name, properties, ...children) {
 
 /** A table of rows of texts and elements, the first of each row its heading. */
 export function table(rows) {
-    return element("table", {}, ...rows.map(([name, ...cells]) => element("tr", {}, element("th", {}, name), ...cells.map(cell => element("td", {}, cell)))));
+    return element("table", {}, ...rows.map(([name, ...cells]) => element("tr", {}, element("th", { scope: "row" }, name), ...cells.map(cell => element("td", {}, cell)))));
 }
 
 /** Shows at the end of the panel why something failed. */

@@ -1,5 +1,5 @@
 // The server of the map: tiles, features, and checked edits, which are made only if each feature is what its author saw (docs/HTTP.md).
-import { WHY } from "./refusals.js";
+import { texts } from "./texts.js";
 
 // Why a machine may not edit: nobody has logged in, nginx doesn't let this address edit, or the server runs without --admin.
 const MAY_NOT = [401, 403, 404];
@@ -19,7 +19,8 @@ export class Changed extends Error {
 /** A refusal with its cause. Nothing was changed. */
 function refusal(status, word) {
     // nginx refuses with a page of its own.
-    const why = WHY[Object.keys(WHY).find(key => word.startsWith(key)) ?? status], told = word.startsWith("<") ? "" : word.trim();
+    const reasons = texts.refusals, why = reasons[Object.keys(reasons).find(key => word.startsWith(key)) ?? status];
+    const told = word.startsWith("<") ? "" : word.trim();
     return new Error(why ? `${why} (${told || status})` : `${status} ${told}`);
 }
 
@@ -30,7 +31,7 @@ function parse(json) {
             return value;
         }
         if (!context?.source) {
-            throw new Error("it has a number that this browser would round: use a newer browser");
+            throw new Error(texts.rounds);
         }
         return BigInt(context.source);
     });
@@ -60,7 +61,7 @@ export class Server {
             const reply = await fetch(new URL(path, this.base), { cache: "no-store", signal: AbortSignal.timeout(PATIENCE * 1000), ...words });
             return { status: reply.status, tag: reply.headers.get("ETag"), content: await reply.arrayBuffer() };
         } catch (fault) {
-            throw words?.signal?.aborted ? fault : new Error("the server doesn't answer");
+            throw words?.signal?.aborted ? fault : new Error(texts.noAnswer);
         }
     }
 
@@ -117,7 +118,7 @@ export class Server {
             return { refused: status };
         }
         if (status !== 200) {
-            throw new Error(`the server doesn't answer (${status})`);
+            throw new Error(texts.noAnswerOf(status));
         }
         const told = parse(new TextDecoder().decode(content));
         this.known = told.edits;
@@ -156,7 +157,7 @@ export class Server {
             return edit === null ? send() : { edit };
         };
         const { edit, status, content } = await send().catch(sendAgain).catch(() => {
-            throw new Error("the server doesn't answer: the edit may be made or not. Save again: it isn't made twice");
+            throw new Error(texts.madeOrNot);
         });
         if (edit !== undefined) {
             return edit;
@@ -190,7 +191,7 @@ export class Server {
                     return last;
                 }
                 if (changes.some(change => change.was === null)) {
-                    throw new Error("it isn't known whether the edit was made");
+                    throw new Error(texts.madeOrNot);
                 }
                 return null;
             }

@@ -1,11 +1,11 @@
 // The geometry of a feature as lists of points, and what the mouse does to them.
 import { middles } from "./draw.js";
+import { texts } from "./texts.js";
 import { bounds, rounded } from "./world.js";
 
 // Pixels within which the mouse meets a handle.
 const REACH = 9;
 const LEAST = { points: 1, lines: 2, polygons: 3 };
-const NAMES = { points: "point", lines: "line", polygons: "area" };
 
 export const kindOf = geometry => Object.keys(geometry)[0];
 
@@ -28,8 +28,8 @@ export const isWhole = geometry => listsOf(geometry).every(({ points }) => point
 
 /** A geometry in words: `2 lines, 17 points`. */
 export function described(geometry) {
-    const kind = kindOf(geometry), count = geometry[kind].length;
-    return `${count} ${NAMES[kind]}${count > 1 ? "s" : ""}` + (kind === "points" ? "" : `, ${pointsOf(geometry).length} points`);
+    const kind = kindOf(geometry), shown = texts.count[kind](geometry[kind].length);
+    return kind === "points" ? shown : `${shown}, ${texts.count.points(pointsOf(geometry).length)}`;
 }
 
 const finder = (point, toScreen) => place => Math.hypot(...toScreen(place).map((part, axis) => part - point[axis])) <= REACH;
@@ -97,7 +97,7 @@ export function followed(geometry, steps) {
         const twice = kindOf(geometry) === "points" ? [] : points.filter((point, at) => is(point, points[at + 1] ?? (isClosed ? points[0] : null)));
         twice.forEach(point => points.splice(points.indexOf(point), 1));
         if (points.length < LEAST[kindOf(geometry)]) {
-            throw new Error("a neighbour would lose its shape");
+            throw new Error(texts.neighbourLost);
         }
     }
     return made;

@@ -77,9 +77,9 @@ function groupsOf(rows) {
 }
 
 /**
- * Gives all pieces the layer, the zooms and the tags of a feature, or deletes them if it is null. Returns the number of the last edit. Many
- * pieces take several edits, so it looks first whether somebody else has changed one. Whatever a call has done before it failed, another
- * one with the same pieces goes on from there. The first piece is deleted last: by it the others are found.
+ * Gives all pieces the layer, the zooms and the tags of a feature, or deletes them if it is null. Returns the number of the last edit, or null if
+ * nothing was to be changed. Many pieces take several edits, so it looks first whether somebody else has changed one. Whatever a call has done
+ * before it failed, another one with the same pieces goes on from there. The first piece is deleted last: by it the others are found.
  */
 export async function changeAll(server, pieces, feature) {
     await lookAt(server, pieces);
@@ -90,5 +90,5 @@ export async function changeAll(server, pieces, feature) {
         edit = await server.edit(group.map(changeOf));
         group.forEach(({ piece, feature }) => piece.was = feature);
     }
-    return edit ?? server.lastEdit();
+    return edit ?? (pieces.some(({ sent }) => sent.length) ? server.lastEdit() : null);
 }

@@ -37,6 +37,7 @@ from meanwhile import meanwhile
 from ogc import ogc
 from operation import operation
 from outsiders import outsiders
+from page_hands import page_hands
 from page_tools import page_tools
 from pages import page
 from refusals import refused_features, refused_requests
@@ -79,6 +80,7 @@ def main():
         "screens": screens,
         "page": page,
         "page-tools": page_tools,
+        "page-hands": page_hands,
         "desktop": desktop,
         "checkins": checkins,
         "lost-replies": lost_replies,

@@ -1,0 +1,146 @@
+// Every text that the page shows, in each of its languages: the browser's language chooses. A text that has values in it is a function of them.
+// The reasons of refusals are those of the commands (refusals.js) in English, and here in German.
+import { WHY } from "./refusals.js";
+
+const some = (count, one, many) => `${count} ${count === 1 ? one : many}`;
+
+const EN = {
+    title: "Map", map: "The map", zoomIn: "Zoom in", zoomOut: "Zoom out", logIn: "Log in",
+    newPoint: "New point", newLine: "New line", newArea: "New area",
+    search: "Search", searchFor: "Id, or text in view", find: "Find", layers: "Layers", backdrop: "Backdrop",
+
+    edit: "Edit", delete: "Delete", save: "Save", cancel: "Cancel", done: "Done",
+    piece: "A large feature, which the import cut into pieces.",
+    found: count => `${count} found`, more: count => `and ${count} more`,
+    nothingHas: text => `nothing in view has "${text}"`, noId: ", and no feature has this id",
+    finishFirst: "save or cancel what you edit first",
+    logInToEdit: "view only: log in to edit the map", mayNotEdit: "view only: this machine may not edit the map",
+    mayNotEditNow: "this machine may not edit the map any more",
+    seen: (features, edits) => `${features} features, edit ${edits}`,
+    overtaken: "somebody else has just changed what you edit: when you save, you see both",
+    asksAgain: why => `${why}: the page asks again`, noTile: why => `a tile can't be read: ${why}`,
+
+    deletedByOthers: "somebody else has deleted this feature",
+    clickWhere: "Click where it is", drawingEnds: "A double click or Enter ends it, Backspace removes the last point.",
+    editOf: (layer, id) => `Edit ${layer} ${id}`, newFeature: "New feature", deleteIt: "Delete it", deletes: (layer, id) => `Delete ${layer} ${id}?`,
+    shapeHelp: "Drag a point to move it, or a small one to add it; a right click removes it, Ctrl+Z undoes. A point snaps to a neighbour's, but not "
+        + "with Alt.",
+    cutShape: count => `The import cut it into ${count} pieces. Its shape can be changed by a desktop GIS (vtmap checkout).`,
+    pieces: count => `${count} pieces`,
+    tooLarge: "MapLibre draws it wrong: it is larger than a tile of its last zoom. The import cuts such features.",
+    along: "Corners that neighbours share move along",
+    unchanged: (layer, id) => `${layer} ${id} is as it was: nothing was saved`,
+    saved: (id, others, edit) => `feature ${id} saved${others ? ` with ${others} more` : ""}, edit ${edit}`,
+    neighbourChanged: id => `somebody else has just changed feature ${id}, which moves along: save again`,
+    neighbourLost: "a neighbour would lose its shape",
+    count: {
+        points: count => some(count, "point", "points"), lines: count => some(count, "line", "lines"), polygons: count => some(count, "area", "areas"),
+    },
+
+    layer: "layer", firstZoom: "first zoom", lastZoom: "last zoom", shape: "shape", tag: "tag", value: "value", kindOfValue: "kind of value",
+    tagNamed: name => `tag ${name}`, addTag: "Add a tag", removeTag: name => `Remove the tag ${name}`,
+    text: "text", number: "number", yesNo: "yes/no", yes: "yes", no: "no",
+    noInteger: (what, shown) => `${what}: "${shown}" is no whole number`, twice: name => `two tags have the name ${name}`,
+
+    changedByTwo: (layer, id) => `Changed by two: ${layer} ${id}`,
+    othersDeleted: "Somebody else has deleted this feature meanwhile.", othersChanged: "Somebody else has changed this feature meanwhile.",
+    chooseParts: "Somebody else has changed this feature meanwhile. Nothing of yours is saved yet: choose for each part that differs.",
+    putBack: "Put mine back", leaveDeleted: "Leave it deleted", deleteAllTheSame: "Delete it all the same", keepIt: "Keep it",
+    before: "before", onTheMap: "on the map (blue)", yours: "yours (red)",
+    choose: part => `choose a value of ${part}`, saveChosen: "Save what is chosen", keepTheirs: "Keep theirs",
+
+    noAnswer: "the server doesn't answer", noAnswerOf: status => `the server doesn't answer (${status})`,
+    madeOrNot: "the server doesn't answer: the edit may be made or not. Save again: it isn't made twice",
+    rounds: "it has a number that this browser would round: use a newer browser",
+    refusals: WHY,
+};
+
+const DE = {
+    title: "Karte", map: "Die Karte", zoomIn: "Vergrößern", zoomOut: "Verkleinern", logIn: "Anmelden",
+    newPoint: "Neuer Punkt", newLine: "Neue Linie", newArea: "Neue Fläche",
+    search: "Suche", searchFor: "Nummer, oder Text im Bild", find: "Suchen", layers: "Ebenen", backdrop: "Hintergrund",
+
+    edit: "Bearbeiten", delete: "Löschen", save: "Speichern", cancel: "Abbrechen", done: "Fertig",
+    piece: "Ein großes Objekt, das der Import in Stücke geteilt hat.",
+    found: count => `${count} gefunden`, more: count => `und ${count} weitere`,
+    nothingHas: text => `nichts im Bild hat „${text}“`, noId: ", und kein Objekt hat diese Nummer",
+    finishFirst: "erst speichern oder abbrechen, was in Arbeit ist",
+    logInToEdit: "nur ansehen: zum Bearbeiten anmelden", mayNotEdit: "nur ansehen: dieser Rechner darf die Karte nicht bearbeiten",
+    mayNotEditNow: "dieser Rechner darf die Karte nicht mehr bearbeiten",
+    seen: (features, edits) => `${some(features, "Objekt", "Objekte")}, Änderung ${edits}`,
+    overtaken: "jemand anderes hat eben geändert, was du bearbeitest: beim Speichern siehst du beides",
+    asksAgain: why => `${why}: die Seite fragt wieder nach`, noTile: why => `eine Kachel ist nicht zu lesen: ${why}`,
+
+    deletedByOthers: "jemand anderes hat dieses Objekt gelöscht",
+    clickWhere: "Klick, wo es ist", drawingEnds: "Ein Doppelklick oder Enter beendet es, die Rücktaste entfernt den letzten Punkt.",
+    editOf: (layer, id) => `${layer} ${id} bearbeiten`, newFeature: "Neues Objekt", deleteIt: "Wirklich löschen", deletes: (layer, id) => `${layer} ${id} löschen?`,
+    shapeHelp: "Einen Punkt ziehen verschiebt ihn, einen kleinen ziehen fügt ihn hinzu; ein Rechtsklick entfernt ihn, Strg+Z nimmt zurück. Ein Punkt "
+        + "rastet auf dem eines Nachbarn ein, mit Alt nicht.",
+    cutShape: count => `Der Import hat es in ${count} Stücke geteilt. Seine Form lässt sich in einem GIS ändern (vtmap checkout).`,
+    pieces: count => some(count, "Stück", "Stücke"),
+    tooLarge: "MapLibre zeichnet es falsch: es ist größer als eine Kachel seiner letzten Zoomstufe. Der Import teilt solche Objekte.",
+    along: "Gemeinsame Ecken der Nachbarn ziehen mit",
+    unchanged: (layer, id) => `${layer} ${id} ist wie zuvor: nichts wurde gespeichert`,
+    saved: (id, others, edit) => `Objekt ${id} gespeichert${others ? ` mit ${others} weiteren` : ""}, Änderung ${edit}`,
+    neighbourChanged: id => `jemand anderes hat eben Objekt ${id} geändert, das mitzieht: noch einmal speichern`,
+    neighbourLost: "ein Nachbar verlöre seine Form",
+    count: {
+        points: count => some(count, "Punkt", "Punkte"), lines: count => some(count, "Linie", "Linien"), polygons: count => some(count, "Fläche", "Flächen"),
+    },
+
+    layer: "Ebene", firstZoom: "erste Zoomstufe", lastZoom: "letzte Zoomstufe", shape: "Form", tag: "Merkmal", value: "Wert",
+    kindOfValue: "Art des Werts", tagNamed: name => `Merkmal ${name}`, addTag: "Merkmal hinzufügen", removeTag: name => `Das Merkmal ${name} entfernen`,
+    text: "Text", number: "Zahl", yesNo: "ja/nein", yes: "ja", no: "nein",
+    noInteger: (what, shown) => `${what}: „${shown}“ ist keine ganze Zahl`, twice: name => `zwei Merkmale haben den Namen ${name}`,
+
+    changedByTwo: (layer, id) => `Von zweien geändert: ${layer} ${id}`,
+    othersDeleted: "Jemand anderes hat dieses Objekt inzwischen gelöscht.", othersChanged: "Jemand anderes hat dieses Objekt inzwischen geändert.",
+    chooseParts: "Jemand anderes hat dieses Objekt inzwischen geändert. Von dir ist noch nichts gespeichert: wähle bei jedem Teil, der sich unterscheidet.",
+    putBack: "Meines wieder anlegen", leaveDeleted: "Gelöscht lassen", deleteAllTheSame: "Trotzdem löschen", keepIt: "Behalten",
+    before: "vorher", onTheMap: "auf der Karte (blau)", yours: "deines (rot)",
+    choose: part => `wähle einen Wert: ${part}`, saveChosen: "Gewähltes speichern", keepTheirs: "Das andere behalten",
+
+    noAnswer: "der Server antwortet nicht", noAnswerOf: status => `der Server antwortet nicht (${status})`,
+    madeOrNot: "der Server antwortet nicht: die Änderung ist gemacht oder nicht. Noch einmal speichern: sie wird nicht zweimal gemacht",
+    rounds: "darin ist eine Zahl, die dieser Browser runden würde: ein neuerer Browser hilft",
+    refusals: {
+        Json: "der Inhalt ist kein JSON",
+        Body: "der Inhalt hat über 65.536 Bytes",
+        "E1 Member": "ein Teil fehlt, ist unbekannt oder von anderer Art",
+        "E3 Layer": "der Name der Ebene hat nicht 1 bis 64 Bytes",
+        "E4 Zoom": "Zoomstufen gehen von 0 bis 19, die erste höchstens gleich der letzten",
+        "E5 Geometry": "eine Linie, ein Ring oder eine Liste ist zu kurz oder hat über 65.535 Teile",
+        "E6 Tags": "über 64 Merkmale, oder ein Name hat nicht 1 bis 64 Bytes",
+        "E7 Value": "ein Text eines Merkmals hat über 1.024 Bytes, oder eine Zahl liegt nicht zwischen -2^63 und 2^64 - 1",
+        "E8 Long": "der Text des Objekts hat über 32.768 Bytes: weniger Punkte oder kürzere Texte helfen",
+        "E9 Reach": "es bedeckt über 262.144 Kacheln: mit einer größeren Zoomstufe beginnen oder mit einer kleineren enden",
+        JournalFull: "kein Platz für Änderungen, bis die Karte veröffentlicht ist: veröffentlichen oder der Verwaltung sagen, und noch einmal",
+        AreaFull: "die Karte passt nicht mehr auf ihren Datenträger: heute noch der Verwaltung sagen",
+        TooManyTiles: "die Karte hat zu viele Kacheln für ein Archiv: heute noch der Verwaltung sagen",
+        NeedsUpgrade: "der Datenträger des Servers hat Version 1: der Verwaltung sagen",
+        Device: "der Datenträger des Servers hat versagt: die letzte Änderung ist gespeichert oder nicht: sofort der Verwaltung sagen. Was bestätigt wurde, "
+            + "ist sicher",
+        Broken: "der Datenträger des Servers hat vorhin versagt: sofort der Verwaltung sagen. Was bestätigt wurde, ist sicher",
+        NumbersSpent: "der Server kann keine weitere Änderung annehmen: der Verwaltung sagen",
+        Memory: "der Server hat keinen Speicher frei: später noch einmal versuchen, und der Verwaltung sagen",
+        401: "Name und Passwort sind nötig: auf Anmelden drücken und die eingeben, die du von der Verwaltung hast",
+        403: "der Proxy vor dem Server lässt diesen Rechner die Karte nicht bearbeiten: die Verwaltung bitten, ihn zuzulassen",
+        404: "der Server oder der Proxy davor hat diesen Pfad nicht: der Server nimmt hier keine Änderungen an: er braucht --admin",
+        413: "das Objekt ist zu lang für eine Anfrage: mit vtmap checkout und vtmap checkin ändern",
+        421: "der Proxy vor dem Server kennt diesen Namen nicht: die Adresse nehmen, die du von der Verwaltung hast, oder darum bitten, den Namen aufzunehmen",
+        429: "zu viele Abrufe des Archivs auf einmal: noch einmal versuchen, wenn einer zu Ende ist",
+        502: "der Server läuft nicht, oder startet gerade: noch einmal versuchen, und sonst der Verwaltung sagen",
+        503: "der Server läuft nicht, oder startet gerade: noch einmal versuchen, und sonst der Verwaltung sagen",
+        504: "der Proxy vor dem Server hat zu lange auf ihn gewartet: noch einmal versuchen",
+    },
+};
+
+export const LANGUAGES = { en: EN, de: DE };
+
+/** The first of a browser's languages that the page has, or English. */
+export function languageOf(wanted) {
+    return wanted.map(name => name.toLowerCase().split("-")[0]).find(name => Object.hasOwn(LANGUAGES, name)) ?? "en";
+}
+
+export const language = languageOf(globalThis.navigator?.languages ?? []);
+export const texts = LANGUAGES[language];
